@@ -2,8 +2,7 @@
 use Rattle.std.proofs.Common.{◌≡◌, ◌≤◌, ◌-◌, ◌+◌, ℕ, List, length, take, drop, Option, Some, None, ap, sym, ◌∙◌, arith}
 use Rattle.std.proofs.lemmas.List.{drop-take, take-take, drop-drop}
 use Rattle.uimg_texts.specs.Slices.{slice}
-use Rattle.uimg_base.specs.declared.windows.Window.{Window}
-use Rattle.uimg_base.specs.Streams.{Stream, HoldsFrom}
+use Rattle.uimg_base.specs.{declared.windows.Window.Window, Streams.{Stream, HoldsFrom}}
 use Rattle.uimg_base.specs.Ahead.{IsAhead}
 
 -- a part of the front of a list

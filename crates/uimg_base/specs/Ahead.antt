@@ -1,9 +1,7 @@
 -- The windows that are read ahead of a file.
 use Rattle.std.specs.Prelude.{◌≡◌, take, Option, IfSome}
 use Rattle.uimg_texts.specs.Slices.{slice}
-use Rattle.uimg_base.specs.Streams.{Stream}
-use Rattle.uimg_base.specs.declared.windows.Window.{Window}
-use Rattle.uimg_base.specs.declared.windows.Windows.{Windows}
+use Rattle.uimg_base.specs.{Streams.Stream, declared.windows.{Window.Window, Windows.Windows}}
 
 -- The window has the file's bytes at its offset, if they are known.
 abbrev pub IsAhead : Window → Option Stream → Type 0

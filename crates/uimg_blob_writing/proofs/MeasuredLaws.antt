@@ -1,16 +1,12 @@
 -- The first bad name, one step at a time.
 use Rattle.std.proofs.Common.{◌≡◌, ℕ, List, [], ◌∷◌, length, Option, Some, None, Result, Ok, Err, Bool, true, false, is_none, nat_le, ◌&&◌, if◌then◌else◌, refl, ap, sym, ◌∙◌}
-use Rattle.std.proofs.lemmas.Bool.{leb-true}
-use Rattle.std.specs.Option.{option_or}
-use Rattle.std.specs.Result.{IsErrAnd}
-use Rattle.uimg_blob_reading.specs.declared.fault.BlobFault.{BlobFault}
-use Rattle.uimg_blob_reading.specs.declared.fault.BlobFault.TheVariants.{BadNodeName, BadPropertyName, OutOfMemory}
-use Rattle.uimg_blob_reading.specs.Faults.{refuses_memory}
-use Rattle.uimg_texts.specs.Nul.{before_nul}
-use Rattle.uimg_blob_writing.specs.declared.tree.Node.{Node}
+use Rattle.std.{proofs.lemmas.Bool.leb-true, specs.{Option.option_or, Result.IsErrAnd}}
 use Rattle.std.specs.List.{AllByRecursion}
+use Rattle.uimg_blob_reading.specs.{declared.fault.BlobFault.BlobFault, Faults.refuses_memory}
 use Rattle.uimg_blob_reading.specs.Plain.{NamedOf, NodesOf, no_node, a_node, IsName, AreNamed}
-use Rattle.uimg_blob_writing.specs.Content.{Content, Unread}
+use Rattle.uimg_blob_reading.specs.declared.fault.BlobFault.TheVariants.{BadNodeName, BadPropertyName, OutOfMemory}
+use Rattle.uimg_texts.specs.Nul.{before_nul}
+use Rattle.uimg_blob_writing.specs.{declared.tree.Node.Node, Content.{Content, Unread}}
 use Rattle.uimg_blob_writing.specs.Trees.{siblings, node_of}
 use Rattle.uimg_blob_writing.specs.Measured.{is_name, bad_property, bad_name, fault_in}
 

@@ -2,10 +2,8 @@
 use Rattle.std.proofs.Common.{◌≡◌, ◌<◌, ◌++◌, ℕ, zero, suc, List, [], ◌∷◌, length, get_or, refl, ap, ◌∙◌, append_assoc, arith}
 use Rattle.std.specs.List.{flat_map}
 use Rattle.uimg_blob_reading.specs.Plain.{AllValues}
-use Rattle.uimg_blob_writing.specs.declared.tree.Node.{Node}
-use Rattle.uimg_blob_writing.specs.Content.{Content, bytes, count}
-use Rattle.uimg_blob_writing.specs.Encoding.{word}
-use Rattle.uimg_blob_writing.specs.Trees.{siblings, node_of}
+use Rattle.uimg_blob_writing.specs.{declared.tree.Node.Node, Content.{Content, bytes, count}}
+use Rattle.uimg_blob_writing.specs.{Encoding.word, Trees.{siblings, node_of}}
 use Rattle.uimg_blob_writing.specs.Pieces.{begin_bytes, property_pieces, nodes_pieces}
 
 -- the pieces of nodes are those of each

@@ -1,10 +1,8 @@
 //! Writing of a value with its padding.
 
 ghost use Rattle.std.specs.Prelude.{◌≡◌, ◌∷◌, []};
-ghost use Rattle.uimg_blob_writing.specs.Alignment.{padding_by};
-ghost use Rattle.uimg_blob_writing.specs.Content.{bytes, size_of};
-ghost use Rattle.uimg_blob_writing.specs.Pieces.{padding, WritesPieces};
-ghost use Rattle.uimg_blob_writing.specs.Properties.{content};
+ghost use Rattle.uimg_blob_writing.specs.{Alignment.padding_by, Content.{bytes, size_of}};
+ghost use Rattle.uimg_blob_writing.specs.{Pieces.{padding, WritesPieces}, Properties.content};
 
 use crate::alignment::put_gap;
 use crate::fault::TreeFault;

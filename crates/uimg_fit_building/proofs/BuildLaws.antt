@@ -1,36 +1,27 @@
 -- What building does, step by step.
 use Rattle.std.proofs.Common.{◌≡◌, ◌≤◌, ◌<◌, ℕ, List, [], ◌∷◌, length, Option, Some, None, Result, Ok, Err, Bool, true, false, IsTrue, nat_lt, if◌then◌else◌, refl, ap, sym, subst, ◌∙◌}
-use Rattle.std.specs.Option.{option_or}
-use Rattle.std.proofs.lemmas.Bool.{lt-ltb, ltb-true}
+use Rattle.std.{specs.Option.option_or, proofs.lemmas.Bool.{lt-ltb, ltb-true}}
 use Rattle.std.specs.Result.{IsErrAnd, OnOk}
-use Rattle.uimg_base.specs.Named.{FileMap, SameFiles}
-use Rattle.uimg_base.specs.Sink.{Sink}
+use Rattle.uimg_base.specs.{Named.{FileMap, SameFiles}, Sink.Sink}
 use Rattle.uimg_blob_reading.specs.declared.fault.BlobFault.{BlobFault}
-use Rattle.uimg_blob_reading.specs.declared.fault.BlobFault.TheVariants as blob
 use Rattle.uimg_blob_reading.specs.Plain.{NamedOf, NodesOf, no_node, a_node}
-use Rattle.uimg_blob_writing.specs.declared.fault.TreeFault.{TreeFault}
-use Rattle.uimg_blob_writing.specs.declared.fault.TreeFault.TheVariants as tree
+use Rattle.uimg_blob_reading.specs.declared.fault.BlobFault.TheVariants as blob
+use Rattle.uimg_blob_writing.specs.{declared.fault.TreeFault.TreeFault, Encoding.encode_by}
 use Rattle.uimg_blob_writing.specs.Content.{Unread, AreKept, IsKept, content_bytes, in_full}
-use Rattle.uimg_blob_writing.specs.Encoding.{encode_by}
 use Rattle.uimg_blob_writing.specs.Layouts.{Plan, plan_of, totalsize}
-use Rattle.uimg_blob_writing.specs.Measured.{is_name, bad_property, bad_name, measured_with, measured, Measures}
 use Rattle.uimg_blob_writing.proofs.TotalLaws.{encode-size}
-use Rattle.uimg_fit_base.specs.declared.fault.Fault.{Fault}
-use Rattle.uimg_fit_base.specs.declared.fault.Fault.TheVariants.{Blob, Fit, Read, Put}
-use Rattle.uimg_fit_base.specs.declared.fault.FitFault.{FitFault}
-use Rattle.uimg_fit_base.specs.declared.fault.FitFault.TheVariants.{NoImages, NoData, DataOutside, NoSuchImage, UnknownAlgo, PositionTooLow, TooLarge, OutOfMemory, NoFile, ReadFailed}
+use Rattle.uimg_blob_writing.specs.declared.fault.TreeFault.TheVariants as tree
+use Rattle.uimg_blob_writing.specs.Measured.{is_name, bad_property, bad_name, measured_with, measured, Measures}
+use Rattle.uimg_fit_base.specs.declared.fault.Fault.{Fault, TheVariants.{Blob, Fit, Read, Put}}
+use Rattle.uimg_fit_base.specs.{declared.fault.FitFault.FitFault, Placements.align_of}
 use Rattle.uimg_fit_base.specs.declared.placement.AlignedPlacement.{AlignedPlacement}
-use Rattle.uimg_fit_base.specs.Placements.{align_of}
+use Rattle.uimg_fit_base.specs.declared.fault.FitFault.TheVariants.{NoImages, NoData, DataOutside, NoSuchImage, UnknownAlgo, PositionTooLow, TooLarge, OutOfMemory, NoFile, ReadFailed}
 use Rattle.uimg_fit_building.specs.Behind.{images_in, padded_sizes, file_size, end_fault}
-use Rattle.uimg_fit_building.specs.BuildAnswers.{CanBuild, BuildsAnswer}
-use Rattle.uimg_fit_building.specs.Building.{placed_blob, built}
+use Rattle.uimg_fit_building.specs.{BuildAnswers.{CanBuild, BuildsAnswer}, Filling.IsFilled}
+use Rattle.uimg_fit_building.specs.{Building.{placed_blob, built}, ReadsBack.ReadsBack}
+use Rattle.uimg_fit_building.specs.{Refusing.{is_low, build_fault}, UnreadTrees.moved_unread}
 use Rattle.uimg_fit_building.specs.BuildSteps.{of_measure, of_writing, MeasuresTree, WritesTextBetween, BuildsBetween}
-use Rattle.uimg_fit_building.specs.Filling.{IsFilled}
-use Rattle.uimg_fit_building.specs.ReadsBack.{ReadsBack}
-use Rattle.uimg_fit_building.specs.Refusing.{is_low, build_fault}
-use Rattle.uimg_fit_building.specs.UnreadTrees.{moved_unread}
-use Rattle.uimg_fit_building.proofs.BehindLaws.{fault-same}
-use Rattle.uimg_fit_building.proofs.BuiltLaw.{reads_back}
+use Rattle.uimg_fit_building.proofs.{BehindLaws.fault-same, BuiltLaw.reads_back}
 use Rattle.uimg_fit_building.proofs.NamesLaw.{name-values, placed-names, placed-values}
 use Rattle.uimg_fit_building.proofs.UnreadLaws.{moved-unread}
 

@@ -1,26 +1,17 @@
 -- The images of an indexed tree, by their numbers.
 use Rattle.std.proofs.Common.{◌≡◌, ◌<◌, ◌≤◌, ◌+◌, ℕ, zero, suc, List, [], ◌∷◌, length, drop, map, Option, Some, None, Bool, true, false, IsTrue, codes, refl, ap, sym, ◌∙◌, subst, arith}
-use Rattle.std.specs.List.{slice_get}
-use Rattle.std.specs.Option.{option_map}
-use Rattle.std.specs.Str.{bytes_eq}
-use Rattle.std.proofs.lemmas.Slice.Eq.{bytes_eq-Decides}
-use Rattle.uimg_blob_reading.specs.declared.keys.Key.TheVariants.{Default}
-use Rattle.std.proofs.Math.ListN.{length-map}
-use Rattle.std.proofs.Math.Nat.{suc-ne-zero}
+use Rattle.std.specs.{List.slice_get, Option.option_map, Str.bytes_eq}
+use Rattle.std.proofs.{lemmas.Slice.Eq.bytes_eq-Decides, Math.{ListN.length-map, Nat.suc-ne-zero}}
 use Rattle.std.proofs.lemmas.List.{length-drop, drop-drop}
 use Rattle.std.proofs.lemmas.Option.{slice_get_within, slice_get_past}
-use Rattle.uimg_blob_reading.specs.declared.nodes.Blob.{Blob}
-use Rattle.uimg_blob_reading.specs.Grammar.{Siblings, none, node}
-use Rattle.uimg_blob_reading.specs.Roles.{Level, role_at, level_in, level_after, in_root, in_images, in_configurations, is_images, is_configurations}
-use Rattle.uimg_blob_reading.specs.Rows.{Row, first_of, table, size, child_number}
-use Rattle.uimg_blob_reading.specs.Kept.{kept_of, entry_of}
-use Rattle.uimg_blob_reading.specs.Standing.{Stand}
-use Rattle.uimg_blob_reading.specs.Indexed.{IsIndexed, IsRow, keeps}
+use Rattle.uimg_blob_reading.specs.declared.{keys.Key.TheVariants.Default, nodes.Blob.Blob}
+use Rattle.uimg_blob_reading.specs.{Grammar.{Siblings, none, node}, Kept.{kept_of, entry_of}}
+use Rattle.uimg_blob_reading.specs.{Rows.{Row, first_of, table, size, child_number}, Standing.Stand}
+use Rattle.uimg_blob_reading.specs.{Indexed.{IsIndexed, IsRow, keeps}, Spots.{Spot, spot_of, spots}}
 use Rattle.uimg_blob_reading.specs.LookUps.{NodeOf, listed, images, configurations}
-use Rattle.uimg_blob_reading.specs.Spots.{Spot, spot_of, spots}
-use Rattle.uimg_blob_reading.proofs.LookLaws.{length_rows}
-use Rattle.uimg_blob_reading.proofs.PhaseLaws.{some_none, some_some}
+use Rattle.uimg_blob_reading.proofs.{LookLaws.length_rows, PhaseLaws.{some_none, some_some}}
 use Rattle.uimg_blob_reading.proofs.SoFarLaws.{length_kept}
+use Rattle.uimg_blob_reading.specs.Roles.{Level, role_at, level_in, level_after, in_root, in_images, in_configurations, is_images, is_configurations}
 use Rattle.uimg_blob_reading.proofs.StandLaws.{row_of, row_stands, below_stand, after_stand, images_stand, no_images, configurations_stand, no_configurations}
 use Rattle.uimg_fit_reading.specs.Nodes.{HasImages, HasImage, LacksImage, AreFrom, IsNode, HasConfigurations, TellsConfigurations}
 

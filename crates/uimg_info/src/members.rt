@@ -1,7 +1,6 @@
 //! Members of objects, by the forms of properties' values.
 
-ghost use Rattle.std.specs.Prelude.{◌≡◌, ◌<◌, ◌∷◌, length, map, true, false};
-ghost use Rattle.std.specs.List.{list_all};
+ghost use Rattle.std.specs.{Prelude.{◌≡◌, ◌<◌, ◌∷◌, length, map, true, false}, List.list_all};
 ghost use Rattle.std.specs.Str.{is_utf8};
 ghost use Rattle.json.specs.Tree.{json_tokens};
 ghost use Rattle.uimg_fit_reading.specs.Values.{pieces};

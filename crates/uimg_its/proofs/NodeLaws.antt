@@ -2,11 +2,9 @@
 use Rattle.std.proofs.Common.{◌≡◌, ℕ, zero, suc, ◌<◌, ◌≤◌, ◌-◌, List, [], ◌∷◌, Bool, true, false, Option, Some, None, length, refl, sym, ap, arith}
 use Rattle.std.specs.Prelude.{cond}
 use Rattle.uimg_its.specs.declared.tokens.Mark.TheVariants.{BraceClose, Semicolon, Colon}
+use Rattle.uimg_its.specs.{Parts.{FileBytes, NodeParts, chain}, Words.{Word, name, mark}}
+use Rattle.uimg_its.specs.{Options.◌>>=◌, Steps.{Parses, Step, all}}
 use Rattle.uimg_blob_reading.specs.Plain.{Named}
-use Rattle.uimg_its.specs.Parts.{FileBytes, NodeParts, chain}
-use Rattle.uimg_its.specs.Words.{Word, name, mark}
-use Rattle.uimg_its.specs.Options.{◌>>=◌}
-use Rattle.uimg_its.specs.Steps.{Parses, Step, all}
 use Rattle.uimg_its.specs.Reader.{take_word, Item, empty, assigned, opens, closes, is_mark, word_name, item_after, label_first, unlabelled, item, expect, values, named_property, property_step, properties, inside, child_named, child_step, node_within, children}
 use Rattle.uimg_its.proofs.StepLaws.{Shrinks}
 use Rattle.uimg_its.proofs.Shrinking.{Within, all_within, bind_some, next_shrinks, expect_shrinks, values_within, leads_to, pair_leads, some_is}

@@ -1,16 +1,11 @@
 -- Each step but the last takes a word.
 use Rattle.std.proofs.Common.{◌≡◌, ℕ, zero, suc, ◌<◌, ◌≤◌, List, [], ◌∷◌, Bool, true, false, Option, Some, None, length, refl, ap, arith}
-use Rattle.std.specs.Prelude.{cond, codes}
-use Rattle.std.specs.Str.{bytes_eq}
-use Rattle.uimg_its.specs.declared.tokens.Mark.{Mark}
-use Rattle.uimg_its.specs.declared.tokens.Mark.TheVariants.{Less, ParenOpen, ParenClose, BracketOpen}
-use Rattle.uimg_its.specs.Parts.{FileBytes}
-use Rattle.uimg_its.specs.Words.{Word, directive, text, mark, stray}
-use Rattle.uimg_its.specs.declared.lists.Listed.{Listed}
-use Rattle.uimg_its.specs.declared.lists.Listed.TheVariants.{Cells, Bytes}
-use Rattle.uimg_its.specs.Options.{◌>>=◌}
+use Rattle.std.specs.{Prelude.{cond, codes}, Str.bytes_eq}
+use Rattle.uimg_its.specs.{declared.tokens.Mark.Mark, Parts.FileBytes, Cells.element}
+use Rattle.uimg_its.specs.{Words.{Word, directive, text, mark, stray}, declared.lists.Listed.Listed}
+use Rattle.uimg_its.specs.{declared.lists.Listed.TheVariants.{Cells, Bytes}, Options.◌>>=◌}
 use Rattle.uimg_its.specs.Steps.{Parses, Step, Steps, with_front, and_on, at_most, all}
-use Rattle.uimg_its.specs.Cells.{element}
+use Rattle.uimg_its.specs.declared.tokens.Mark.TheVariants.{Less, ParenOpen, ParenClose, BracketOpen}
 use Rattle.uimg_its.specs.Reader.{take_word, element_word, element_step, list_items, expect, is_mark, string, string_in, file, spelled_value, value, value_step, values, is_last_value}
 use Rattle.uimg_its.proofs.StepLaws.{Shrinks}
 

@@ -1,12 +1,10 @@
 -- Files stand where they may.
 use Rattle.std.proofs.Common.{◌≡◌, ℕ, List, [], ◌∷◌, ◌++◌, Bool, IsTrue, refl, ap, subst, ◌∙◌}
-use Rattle.std.proofs.lemmas.List.{map-append}
-use Rattle.std.specs.List.{AllByRecursion}
+use Rattle.std.{proofs.lemmas.List.map-append, specs.List.AllByRecursion}
 use Rattle.uimg_base.specs.Named.{FileMap, SameFiles}
 use Rattle.uimg_blob_reading.specs.Plain.{NamedOf, Nodes, no_node, a_node, with_values}
-use Rattle.uimg_blob_writing.specs.declared.tree.Node.{Node}
+use Rattle.uimg_blob_writing.specs.{declared.tree.Node.Node, Trees.{siblings, node_of}}
 use Rattle.uimg_blob_writing.specs.Content.{Content, Unread, bytes, file, IsKept, AreKept, in_full, StandsAtData, FilesAtData}
-use Rattle.uimg_blob_writing.specs.Trees.{siblings, node_of}
 use Rattle.uimg_its.specs.Parts.{FileBytes, parts_of, all_parts_of, chain, one_node, props_in_full}
 use Rattle.uimg_its.specs.FileValues.{IsSoundValue, AreSound, IsSoundTree, IsSoundNode, AreSoundNodes}
 

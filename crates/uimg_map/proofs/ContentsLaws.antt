@@ -1,12 +1,9 @@
 -- Contents that grow by one thing and by the next.
 use Rattle.std.proofs.Common.{◌≡◌, ◌≤◌, ℕ, ◌+◌, List, [], ◌∷◌, ◌++◌, length, map, length-append, append_assoc, append-nil, add-zero, Bool, false, Option, Some, None, Result, Ok, Err, OnOk, IfErr, IsTrue, ◌∙◌, ap, sym, refl, subst, arith}
 use Rattle.std.proofs.lemmas.List.{map-append, length-map}
-use Rattle.uimg_base.specs.Device.{Device, RisesIf}
-use Rattle.uimg_base.specs.Using.{Asks, UsesAtMost}
-use Rattle.uimg_map.specs.declared.contents.Contents.{Contents}
-use Rattle.uimg_map.specs.declared.fault.MapFault.{MapFault}
-use Rattle.uimg_map.specs.declared.fault.MapFault.TheVariants.{OutOfMemory}
-use Rattle.uimg_map.specs.declared.thing.Thing.{Thing}
+use Rattle.uimg_base.specs.{Device.{Device, RisesIf}, Using.{Asks, UsesAtMost}}
+use Rattle.uimg_map.specs.declared.{contents.Contents.Contents, fault.MapFault.MapFault}
+use Rattle.uimg_map.specs.declared.{fault.MapFault.TheVariants.OutOfMemory, thing.Thing.Thing}
 use Rattle.uimg_map.specs.Contents.{numbered_things, GrowsBy, AddsFound, Gathers}
 use Rattle.uimg_map.specs.Faults.{is_read, stops}
 use Rattle.uimg_map.specs.Found.{What, Found, Told, read_label, earlier_fault, found_then, nothing}

@@ -1,9 +1,8 @@
 -- A reservation block is gone over an entry at a time.
 use Rattle.std.proofs.Common.{◌≡◌, ◌≤◌, ◌<◌, ℕ, zero, suc, ◌+◌, ◌-◌, ◌*◌, ◌/◌, List, length, Bool, true, false, nat_lt, Option, Some, None, ◌∙◌, ap, sym, refl, subst, lit<, arith}
-use Rattle.std.proofs.Math.Nat.{le-div_iff_mul-le}
-use Rattle.std.proofs.lemmas.Bool.{ltb-true, ltb-false}
-use Rattle.uimg_texts.specs.Slices.{slice}
+use Rattle.std.proofs.{Math.Nat.le-div_iff_mul-le, lemmas.Bool.{ltb-true, ltb-false}}
 use Rattle.std.specs.Prelude.{IsTrue}
+use Rattle.uimg_texts.specs.Slices.{slice}
 use Rattle.uimg_base.specs.Device.{Device, SameDevice}
 use Rattle.uimg_map.specs.Reservations.{is_zero_entry, GoesOn, EndsBlock, end_among, block_end}
 

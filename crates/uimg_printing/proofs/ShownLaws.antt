@@ -1,14 +1,10 @@
 -- A name as it is printed has no control character of ASCII.
 use Rattle.std.proofs.Common.{◌≡◌, ℕ, zero, suc, ◌+◌, ◌/◌, ◌%◌, ◌<◌, ◌≤◌, ◌==◌, Bool, true, false, not, ◌&&◌, ◌||◌, nat_lt, if◌then◌else◌, List, [], ◌∷◌, ◌++◌, inl, inr, refl, ap, ap₂, sym, ◌∙◌, arith, codes, decimal, ltb-true, lt-ltb, eqb-true}
-use Rattle.std.specs.Prelude.{chars}
-use Rattle.std.specs.Fmt.{digit_glyph, digits, digits_onto}
-use Rattle.std.specs.List.{flat_map}
-use Rattle.std.specs.Str.{is_utf8}
-use Rattle.std.proofs.lemmas.Bool.{and_parts, cases_lt, cases_eq, le-leb}
+use Rattle.std.specs.{Prelude.chars, Fmt.{digit_glyph, digits, digits_onto}, List.flat_map}
+use Rattle.std.{specs.Str.is_utf8, proofs.lemmas.Bool.{and_parts, cases_lt, cases_eq, le-leb}}
 use Rattle.std.proofs.lemmas.List.Folds.{list_all-append}
 use lib.Utf8.{encode, next}
-use Rattle.uimg_printing.specs.Counting.{counted}
-use Rattle.uimg_printing.specs.Hidden.{is_hidden}
+use Rattle.uimg_printing.specs.{Counting.counted, Hidden.is_hidden}
 use Rattle.uimg_printing.specs.Printing.{byte_text, ends_word, letter_text, odd_text, printed, is_shown}
 use Rattle.uimg_printing.proofs.PrintingLaws.{by_bool, printed_letters, printed_odd}
 

@@ -1,10 +1,7 @@
 -- Steps of writing, one after another.
 use Rattle.std.proofs.Common.{◌≡◌, ℕ, List, [], ◌∷◌, ◌++◌, ap, sym, ◌∙◌, refl, append_assoc, append-nil}
 use Rattle.std.proofs.lemmas.Grind.{flat_map-append}
-use Rattle.json.specs.Json.{Json}
-use Rattle.json.specs.Token.{Token}
-use Rattle.json.specs.Tree.{json_tokens, members_tokens}
-use Rattle.json.specs.Written.{Written}
+use Rattle.json.specs.{Json.Json, Token.Token, Tree.{json_tokens, members_tokens}, Written.Written}
 use Rattle.uimg_printing.specs.Members.{Member, members_of, object_of, member_tokens, tokens_of}
 use Rattle.uimg_printing.specs.Steps.{Appended}
 
