@@ -21,6 +21,7 @@ import sys
 import functions
 import kit
 import test
+import uses
 
 CLAUSE = re.compile(r"(?:requires|ensures)\b")
 NO_CODE = re.compile(r"$|//|(?:pub(?:\([a-z]+\))? )?(?:ghost )?use ")
@@ -94,8 +95,8 @@ def functions_of(crate):
 
 def imports_of(text):
     """Returns where the names are defined that a file imports from specs/."""
-    found = [(name.strip(), f"{it[1]}.{it[2]}") for it in IMPORT.finditer(text) for name in it[3].split(",")]
-    return {name: (module, name) for name, module in found}
+    found = [(new, it.partition(".specs."), name) for it, name, new in uses.imported(text)]
+    return {new: (f"{it[0]}.{it[2]}", name) for new, it, name in found if name and it[2]}
 
 
 def definitions():

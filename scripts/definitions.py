@@ -9,9 +9,10 @@ be a little too high."""
 import glob
 import re
 
+import uses
+
 THEOREMS = {"reading": ("uimg_engine", "engine", "run"), "making": ("uimg_engine", "making", "make")}
 TEXT = "docs/DEFINITIONS.md"
-USE = re.compile(r"^(?:ghost )?use Rattle\.([\w.]+?)(?:\.\{(.*)\})?(?: as (\w+))?;?$", re.M)
 # The first line of a definition, and its name.
 HEAD = re.compile(r"(?:abbrev |unfoldable )?(?:pub )?(?:record |data |(?=\S+ : ))(\S+)")
 NAME = re.compile(r"[A-Za-z_][\w']*(?:\.[A-Za-z_][\w']*)?|◌[^\s(){}]*◌|>>=|\bdo\b")
@@ -64,14 +65,7 @@ class File:
 
 def imports_of(text):
     """Returns where each imported name comes from: a module and its name there, or a module alone."""
-    found = {}
-    for module, names, alias in USE.findall(text):
-        for name in (it.strip() for it in names.split(",") if it.strip()):
-            old, _, new = name.partition(" as ")
-            found[new or old] = (module, old)
-        if alias:
-            found[alias] = (module, None)
-    return found
+    return {new: (module, name) for module, name, new in uses.imported(text)}
 
 
 class Definitions:

@@ -2,10 +2,8 @@
 use Rattle.std.proofs.Common.{◌≡◌, ◌≤◌, ◌-◌, ◌+◌, ℕ, List, length, take, drop, Option, Some, None, ap, sym, ◌∙◌, arith}
 use Rattle.std.proofs.lemmas.List.{drop-take, take-take, drop-drop}
 use Rattle.uimg_texts.specs.Slices.{slice}
-use Rattle.uimg_base.specs.declared.piece.Piece.{Piece}
-use Rattle.uimg_base.specs.declared.windows.Window.{Window}
-use Rattle.uimg_base.specs.Streams.{Stream, HoldsFrom}
-use Rattle.uimg_base.specs.Ahead.{IsAhead, IsPieceAhead}
+use Rattle.uimg_base.specs.declared.{piece.Piece.Piece, windows.Window.Window}
+use Rattle.uimg_base.specs.{Streams.{Stream, HoldsFrom}, Ahead.{IsAhead, IsPieceAhead}}
 
 -- a part of the front of a list
 of_front : (xs : List ℕ) (c start len : ℕ) → start + len ≤ c → slice xs start len ≡ slice (take c xs) start len

@@ -2,11 +2,9 @@
 use Rattle.std.proofs.Common.{◌≡◌, ◌+◌, ℕ, List, [], ◌++◌, length-append, Bool, IsTrue, refl, ap, sym, subst, ◌∙◌, arith}
 use Rattle.std.proofs.KnownBytes.{Appends-nil}
 use Rattle.uimg_texts.specs.Slices.{slice}
-use Rattle.uimg_base.specs.Device.{Device, SameDevice}
-use Rattle.uimg_base.specs.Sink.{Sink, AppendsAll}
+use Rattle.uimg_base.specs.{Device.{Device, SameDevice}, Sink.{Sink, AppendsAll}}
 use Rattle.uimg_base.specs.Ranges.{SumsRange, TakesRange}
-use Rattle.uimg_base.proofs.SinkLaws.{all_then}
-use Rattle.uimg_base.proofs.Slices.{slice-add}
+use Rattle.uimg_base.proofs.{SinkLaws.all_then, Slices.slice-add}
 
 pub nothing_summed : {T : Type 0} (fed : T → T → List ℕ → Type 0) → ((x : T) → fed x x []) → (d : Device) (at : ℕ) (a : T) → SumsRange fed d at 0 a a
 nothing_summed fed nothing d at a = record { piece = []; size = refl; summed = nothing a; right = λ honest. refl }

@@ -1,11 +1,6 @@
 -- The pieces of a size's line, joined.
 use Rattle.std.proofs.Common.{◌≡◌, ℕ, ◌/◌, ◌%◌, List, [], ◌++◌, codes, decimal, append_assoc, append-nil}
-use Rattle.uimg_texts.specs.Digits.{two_digits}
-use Rattle.uimg_texts.specs.Sizes.{hundredths, two_decimals, size_text}
-
--- a number of hundredths among other parts
-two_decimals-parts : (h : ℕ) (rest : List ℕ) → decimal (h / 100) ++ (codes "." ++ (two_digits (h % 100) ++ rest)) ≡ two_decimals h ++ rest
-two_decimals-parts h rest = simp append_assoc
+use Rattle.uimg_texts.specs.{Digits.two_digits, Sizes.{hundredths, size_text}}
 
 pub size_text-parts : (n k m : ℕ) (a b c d e : List ℕ) → k ≡ hundredths n 1024 → m ≡ hundredths n 1048576 → a ≡ decimal n → b ≡ decimal (k / 100) → c ≡ two_digits (k % 100) → d ≡ decimal (m / 100) → e ≡ two_digits (m % 100)
     → a ++ (codes " Bytes = " ++ (b ++ (codes "." ++ (c ++ (codes " KiB = " ++ (d ++ (codes "." ++ (e ++ (codes " MiB" ++ []))))))))) ≡ size_text n

@@ -1,7 +1,6 @@
 -- Slices of a list of bytes, one after another.
 use Rattle.std.proofs.Common.{◌≡◌, ◌≤◌, ℕ, ◌+◌, List, length, ◌++◌, take, drop, length-take, length-drop, ◌∙◌, ap, sym, subst, arith}
-use Rattle.std.proofs.Math.Seq.{take-add}
-use Rattle.std.proofs.lemmas.List.{take-take, drop-drop}
+use Rattle.std.proofs.{Math.Seq.take-add, lemmas.List.{take-take, drop-drop}}
 use Rattle.std.specs.Io.KnownBytes.{Appends}
 use Rattle.uimg_texts.specs.Slices.{slice}
 use Rattle.uimg_base.specs.Sink.{Sink, AppendsFirst, AppendsAll}

@@ -1,22 +1,11 @@
 -- Several reads, one after another.
-use Rattle.std.proofs.Common.{◌≡◌, ◌≤◌, ℕ, ◌+◌, List, ◌++◌, length, take, Option, Some, None, ◌∙◌, ap, sym, refl, subst, arith}
-use Rattle.std.specs.Option.{option_map}
+use Rattle.std.proofs.Common.{◌≡◌, ◌≤◌, ℕ, ◌+◌, List, ◌++◌, length, take, Option, Some, None, ◌∙◌, ap, sym, subst, arith}
 use Rattle.std.proofs.Math.Seq.{take-append-add}
 use Rattle.std.proofs.lemmas.List.{take-take, length-take-le}
 use Rattle.std.proofs.lemmas.Slice.{take-put_mid}
 use borrow.Rule.Slice.PartMut.{put_mid}
-use Rattle.uimg_base.specs.Streams.{Stream, moved_to, ReadsOn, SameBytes}
+use Rattle.uimg_base.specs.Streams.{Stream, moved_to, ReadsOn}
 use Rattle.uimg_base.proofs.Slices.{slice-add}
-
--- what was read keeps the bytes
-pub reads_same : (n : ℕ) (old new : Option Stream) (to : List ℕ) → ReadsOn n old new to → SameBytes old new
-reads_same n None new to r = ap (option_map (λ (s : Stream). s.bytes)) r
-reads_same n (Some s) new to r = ap (option_map (λ (s : Stream). s.bytes)) r.0
-
--- nothing was read yet
-pub reads_none : (s : Option Stream) (to : List ℕ) → ReadsOn 0 s s to
-reads_none None to = refl
-reads_none (Some s) to = (ap (λ k. Some (moved_to k s)) (omega arith), refl)
 
 -- a slice that is written behind `at` bytes: those, and its first n
 pub take-written : (at k n : ℕ) (to more : List ℕ) → at ≤ length to → length more ≡ k → n ≤ k → take (at + n) (put_mid at k to more) ≡ take at to ++ take n more

@@ -1,8 +1,6 @@
 -- What is written in two steps is written in one.
 use Rattle.std.proofs.Common.{◌≡◌, ◌<◌, ℕ, ◌-◌, ◌^◌, List, ◌++◌, Bool, true, false, arith, ◌∙◌}
-use Rattle.uimg_base.specs.Device.{RisesIf}
-use Rattle.uimg_base.specs.Sink.{Sink, AppendsPrefix, AppendsAll}
-use Rattle.uimg_base.specs.Writing.{Writes, Written}
+use Rattle.uimg_base.specs.{Device.RisesIf, Sink.{Sink, AppendsAll}, Writing.{Writes, Written}}
 use Rattle.uimg_base.proofs.SinkLaws.{prefix_first, prefix_then, all_then}
 
 -- a counter that stood, and then rose or stood

@@ -2,9 +2,7 @@
 use Rattle.std.specs.Prelude.{◌≡◌, length, take, Option, IfSome}
 use Rattle.uimg_texts.specs.Slices.{slice}
 use Rattle.uimg_base.specs.Streams.{Stream}
-use Rattle.uimg_base.specs.declared.piece.Piece.{Piece}
-use Rattle.uimg_base.specs.declared.windows.Window.{Window}
-use Rattle.uimg_base.specs.declared.windows.Windows.{Windows}
+use Rattle.uimg_base.specs.declared.{piece.Piece.Piece, windows.{Window.Window, Windows.Windows}}
 
 -- The window has the file's bytes at its offset, if they are known.
 abbrev pub IsAhead : Window → Option Stream → Type 0

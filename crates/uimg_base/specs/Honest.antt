@@ -1,7 +1,6 @@
 -- A source that is honest: each read returns the bytes that it has there.
 use Rattle.std.specs.Prelude.{ℕ, List, IsTrue}
-use Rattle.uimg_base.specs.Device.{Device}
-use Rattle.uimg_base.specs.Lent.{Lent}
+use Rattle.uimg_base.specs.{Device.Device, Lent.Lent}
 
 -- the source is honest
 abbrev pub HonestSource : {S : Type 0} → (S → Device) → Lent S → Type 0

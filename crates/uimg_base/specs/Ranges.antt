@@ -1,12 +1,9 @@
 -- What a copy from a source to an output does, or a sum over a range of a source.
 use Rattle.std.specs.Prelude.{◌≡◌, ℕ, ◌+◌, ◌≤◌, List, length, Result, Err, Bool, true, false}
-use Rattle.std.specs.Prelude.{IsTrue}
-use Rattle.std.specs.Bool.{OnFalse}
+use Rattle.std.specs.{Prelude.IsTrue, Bool.OnFalse}
 use Rattle.uimg_texts.specs.Slices.{slice}
-use Rattle.uimg_base.specs.Device.{Device}
-use Rattle.uimg_base.specs.Sink.{Sink, AppendsFirst, AppendsAll}
-use Rattle.uimg_base.specs.declared.ranges.MoveFault.{MoveFault}
-use Rattle.uimg_base.specs.declared.ranges.MoveFault.TheVariants.{Read, Put}
+use Rattle.uimg_base.specs.{Device.Device, Sink.{Sink, AppendsFirst, AppendsAll}}
+use Rattle.uimg_base.specs.declared.ranges.MoveFault.{MoveFault, TheVariants.{Read, Put}}
 
 -- the result is a failed read
 abbrev pub is_read : {X : Type 0} → Result X MoveFault → Bool

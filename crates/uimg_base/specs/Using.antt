@@ -1,8 +1,6 @@
 -- What a reading call does to a device.
-use Rattle.std.specs.Prelude.{◌≡◌, ℕ, ◌+◌, ◌≤◌, List, Bool, IsTrue}
-use Rattle.std.specs.Bool.{OnFalse}
-use Rattle.uimg_base.specs.Device.{Device, SameDevice, RisesIf, asked_more}
-use Rattle.uimg_base.specs.Lent.{Lent}
+use Rattle.std.specs.{Prelude.{◌≡◌, ℕ, ◌+◌, ◌≤◌, List, Bool, IsTrue}, Bool.OnFalse}
+use Rattle.uimg_base.specs.{Device.{Device, SameDevice, RisesIf, asked_more}, Lent.Lent}
 
 -- Bytes and honesty are unchanged, and a failure was counted if and only if a read failed.
 pub record Uses (failed : Bool) (old new : Device) : Type 0 where

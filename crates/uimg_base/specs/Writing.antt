@@ -1,8 +1,6 @@
 -- What a writing call does to an output.
-use Rattle.std.specs.Prelude.{ℕ, List, Bool}
-use Rattle.std.specs.Bool.{OnFalse}
-use Rattle.uimg_base.specs.Device.{RisesIf}
-use Rattle.uimg_base.specs.Sink.{Sink, AppendsAll, AppendsPrefix}
+use Rattle.std.specs.{Prelude.{ℕ, List, Bool}, Bool.OnFalse}
+use Rattle.uimg_base.specs.{Device.RisesIf, Sink.{Sink, AppendsAll, AppendsPrefix}}
 
 -- All the bytes were written, or a prefix of them if a write failed.
 pub record Writes (failed : Bool) (old new : Sink) (bytes : List ℕ) : Type 0 where

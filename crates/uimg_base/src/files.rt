@@ -1,8 +1,7 @@
 //! Files that are opened by name.
 
 ghost use Rattle.std.specs.Prelude.{◌≡◌, ◌≤◌, ◌+◌, None, OnErr, IfOk, IsTrue, is_err};
-ghost use Rattle.uimg_base.specs.Device.{RisesIf};
-ghost use Rattle.uimg_base.specs.Named.{FileMap, SameFiles, Opens};
+ghost use Rattle.uimg_base.specs.{Device.RisesIf, Named.{FileMap, SameFiles, Opens}};
 
 use crate::source::{Source, SourceFault};
 

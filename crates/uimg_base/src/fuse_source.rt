@@ -1,7 +1,6 @@
 //! A source that fails from some call on, for tests.
 
-ghost use Rattle.std.proofs.Common.{rules};
-ghost use Rattle.std.specs.Prelude.{◌≡◌, ◌-◌, ◌==◌};
+ghost use Rattle.std.{proofs.Common.rules, specs.Prelude.{◌≡◌, ◌-◌, ◌==◌}};
 
 use crate::source::{Source, SourceFault};
 

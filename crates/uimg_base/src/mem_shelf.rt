@@ -1,10 +1,8 @@
 //! A shelf in memory.
 
 ghost use Rattle.std.specs.Prelude.{◌≡◌, ◌^◌, ◌<◌, [], true, Some, length, IsOk, IfOk, IfErr, IsTrue};
-ghost use Rattle.std.specs.Io.{WritesAtMost};
-ghost use Rattle.std.specs.Io.KnownBytes.{Keeps, WriteAppends};
-ghost use Rattle.std.specs.IoError.{error_kind};
-ghost use Rattle.std.proofs.Common.{refl};
+ghost use Rattle.std.specs.Io.{WritesAtMost, KnownBytes.{Keeps, WriteAppends}};
+ghost use Rattle.std.{specs.IoError.error_kind, proofs.Common.refl};
 ghost use Rattle.uimg_base.specs.Device.{IsFresh};
 
 use crate::shelves::Shelf;

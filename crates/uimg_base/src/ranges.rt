@@ -1,14 +1,11 @@
 //! Ranges of a source, copied to an output or fed to a sum, one window at a time.
 
 ghost use Rattle.std.specs.Prelude.{◌≡◌, ◌+◌, ◌≤◌, ⊤, length, OnOk, OnErr, IfOk, is_err};
-ghost use Rattle.uimg_base.specs.Honest.{HonestSource};
-ghost use Rattle.uimg_base.specs.Device.{RisesIf, asked_more};
-ghost use Rattle.uimg_texts.specs.Slices.{slice};
-ghost use Rattle.uimg_base.specs.Sink.{AppendsPrefix};
-ghost use Rattle.uimg_base.specs.Using.{Asks, AsksAll, Uses};
-ghost use Rattle.uimg_sums.specs.Crc.{crc};
-ghost use Rattle.uimg_sums.specs.Digest.{PutsDigest};
+ghost use Rattle.uimg_base.specs.{Honest.HonestSource, Device.{RisesIf, asked_more}};
+ghost use Rattle.uimg_base.specs.{Sink.AppendsPrefix, Using.{Asks, AsksAll, Uses}};
 ghost use Rattle.uimg_base.specs.Ranges.{is_read, is_put, Copies, SumsRange, TakesRange};
+ghost use Rattle.uimg_texts.specs.Slices.{slice};
+ghost use Rattle.uimg_sums.specs.{Crc.crc, Digest.PutsDigest};
 
 use crate::output::Out;
 use crate::room::{Room, WINDOW};

@@ -1,8 +1,7 @@
 //! All the memory of an engine: a window, and a list of entries.
 
 ghost use Rattle.std.specs.Prelude.{◌≡◌, ◌+◌, ◌-◌, ◌^◌, ◌<◌, min, max, [], ◌∷◌, ◌++◌, length, is_ok, is_err, if◌then◌else◌, Some, slice_get, slice_set};
-ghost use Rattle.uimg_base.specs.Device.{RisesIf};
-ghost use Rattle.uimg_base.specs.Held.{held_bytes};
+ghost use Rattle.uimg_base.specs.{Device.RisesIf, Held.held_bytes};
 
 use std::alloc::{AllocError, Allocator};
 use std::marker::Model;
@@ -26,8 +25,7 @@ pub struct Room<A: Allocator> {
 }
 
 impl<A: Allocator> Model for Room<A> {
-    ghost use Rattle.std.specs.Prelude.{◌≤◌};
-    ghost use Rattle.std.specs.Vec.{vec_capacity};
+    ghost use Rattle.std.specs.{Prelude.◌≤◌, Vec.vec_capacity};
     ghost use Rattle.uimg_base.specs.Held.{Held, held_bytes};
 
     ghost Value = { Held };

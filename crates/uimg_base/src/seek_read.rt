@@ -1,9 +1,7 @@
 //! Files with a position, from which they are read.
 
-ghost use Rattle.std.specs.Prelude.{◌≡◌, pos, None, Some, Option, IfSome, OnOk};
-ghost use Rattle.std.specs.Io.{ReadsAtMost};
-ghost use Rattle.std.specs.Io.Cursor.{cursor_inner, cursor_position};
-ghost use Rattle.std.specs.Io.KnownBytes.{ReadConsumes};
+ghost use Rattle.std.specs.{Prelude.{◌≡◌, pos, None, Some, Option, IfSome, OnOk}, Io.ReadsAtMost};
+ghost use Rattle.std.specs.Io.{Cursor.{cursor_inner, cursor_position}, KnownBytes.ReadConsumes};
 ghost use Rattle.std.specs.Io.Seek.{SeekMoves};
 ghost use Rattle.uimg_base.specs.Streams.{Stream, ReadsSome, MovesTo, MovesToEnd};
 

@@ -1,6 +1,6 @@
 //! Sources: devices with a fixed list of bytes, read at any offset; and a slice as a source.
 
-ghost use Rattle.std.specs.Prelude.{◌≡◌, ℕ, ◌+◌, ◌^◌, ◌<◌, ◌≤◌, List, Bool, true, false, length, IsTrue, OnOk, IfOk, is_err};
+ghost use Rattle.std.specs.Prelude.{◌≡◌, ◌+◌, ◌^◌, ◌<◌, ◌≤◌, Bool, true, false, length, IsTrue, OnOk, IfOk, is_err};
 ghost use Rattle.std.proofs.Common.{refl};
 ghost use Rattle.uimg_base.specs.Device.{Device, RisesIf, SameDevice, asked_more};
 ghost use Rattle.uimg_texts.specs.Slices.{slice};

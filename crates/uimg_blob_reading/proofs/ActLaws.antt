@@ -2,21 +2,15 @@
 use Rattle.std.proofs.Common.{◌≡◌, ◌+◌, ℕ, List, length, Option, Some, None, Result, Ok, Err, Bool, true, false, IsTrue, OnOk, is_ok, is_err, refl, ap, sym, ◌∙◌, ◌++◌, ◌∷◌, [], subst, arith}
 use Rattle.uimg_texts.specs.Numbers.{up4}
 use Rattle.uimg_base.specs.Held.{Held, SameSize, AddsOne, Grows}
-use Rattle.uimg_blob_reading.specs.declared.fault.IndexFault.{IndexFault}
-use Rattle.uimg_blob_reading.specs.declared.fault.IndexFault.TheVariants.{Blob, Read}
-use Rattle.uimg_blob_reading.specs.declared.keys.Key.{Key}
-use Rattle.uimg_blob_reading.specs.declared.labels.Label.{Label}
-use Rattle.uimg_blob_reading.specs.declared.states.State.{State}
-use Rattle.uimg_blob_reading.specs.declared.tokens.ReadToken.{ReadToken}
+use Rattle.uimg_blob_reading.specs.declared.fault.IndexFault.{IndexFault, TheVariants.{Blob, Read}}
+use Rattle.uimg_blob_reading.specs.declared.{keys.Key.Key, labels.Label.Label, states.State.State}
+use Rattle.uimg_blob_reading.specs.{declared.tokens.ReadToken.ReadToken, Labels.label_of}
 use Rattle.uimg_blob_reading.specs.declared.tokens.ReadToken.TheVariants.{BeginNode, EndNode, Prop}
-use Rattle.uimg_blob_reading.specs.Labels.{label_of}
-use Rattle.uimg_blob_reading.specs.Tokens.{Property, Token, Blocks, token_at, next}
+use Rattle.uimg_blob_reading.specs.{Tokens.{Property, Token, Blocks, token_at, next}, Acting.Does}
 use Rattle.uimg_blob_reading.specs.ReadTokens.{IsReadAs, IsSound, Stands}
 use Rattle.uimg_blob_reading.specs.Entering.{Enters, IsKeyOf}
 use Rattle.uimg_blob_reading.specs.Passes.{Phase, InPhase, PassStep, PassesToken, Acts, RefusesMemory, TokenLies, on, step, begins_in, ends_in, prop_in, is_done, Goes}
-use Rattle.uimg_blob_reading.specs.Acting.{Does}
-use Rattle.uimg_blob_reading.proofs.PhaseLaws.{true_false, done_goes}
-use Rattle.uimg_blob_reading.proofs.KeyLaws.{a_token}
+use Rattle.uimg_blob_reading.proofs.{PhaseLaws.{true_false, done_goes}, KeyLaws.a_token}
 use Rattle.uimg_blob_reading.proofs.LieLaws.{token_lies}
 
 -- a node begins

@@ -1,25 +1,16 @@
 -- What a pass costs, by the tokens that are met.
 use Rattle.std.proofs.Common.{◌≡◌, ◌<◌, ◌≤◌, ◌+◌, ◌-◌, ◌*◌, ℕ, zero, suc, List, [], ◌∷◌, ◌++◌, Option, Some, None, Result, Ok, Err, Bool, true, false, cond, if◌then◌else◌, nat_lt, refl, ap, sym, ◌∙◌, subst, length, arith}
-use Rattle.std.specs.Prelude.{◌==◌}
-use Rattle.std.specs.List.{sum_by, count_by}
-use Rattle.std.proofs.lemmas.List.Sums.{sum_by-cons}
+use Rattle.std.{specs.{Prelude.◌==◌, List.{sum_by, count_by}}, proofs.lemmas.List.Sums.sum_by-cons}
 use Rattle.std.proofs.lemmas.Bool.{le-ltb, ltb-false}
-use Rattle.uimg_blob_reading.specs.declared.fault.BlobFault.{BlobFault}
-use Rattle.uimg_blob_reading.specs.declared.fault.BlobFault.TheVariants.{Truncated}
-use Rattle.uimg_blob_reading.specs.Reading.{Fault}
+use Rattle.uimg_blob_reading.specs.declared.fault.BlobFault.{BlobFault, TheVariants.Truncated}
+use Rattle.uimg_blob_reading.specs.{Reading.Fault, Grammar.{Siblings, none, node}, ReadTokens.cost}
+use Rattle.uimg_blob_reading.specs.{Blob.{met_in, up_to}, Walk.{opened, close}, Kept.kept_of}
+use Rattle.uimg_blob_reading.specs.{Counts.{is_begin, is_prop, is_nop, weight, begun_by}, Roles.top}
+use Rattle.uimg_blob_reading.specs.SoFar.{next_number}
 use Rattle.uimg_texts.specs.Numbers.{be32, up4}
 use Rattle.uimg_blob_reading.specs.Tokens.{Property, Token, Blocks, begin_node, end_node, prop, nop, last, stray, offset, next, token_at, by_word, property_at, tokens_from}
-use Rattle.uimg_blob_reading.specs.Grammar.{Siblings, none, node}
-use Rattle.uimg_blob_reading.specs.Blob.{met_in, up_to}
-use Rattle.uimg_blob_reading.specs.Counts.{is_begin, is_prop, is_nop, weight, begun_by}
-use Rattle.uimg_blob_reading.specs.ReadTokens.{cost}
-use Rattle.uimg_blob_reading.specs.Walk.{opened, close}
-use Rattle.uimg_blob_reading.specs.Kept.{kept_of}
-use Rattle.uimg_blob_reading.specs.Roles.{top}
-use Rattle.uimg_blob_reading.specs.SoFar.{next_number}
 use Rattle.uimg_blob_reading.specs.Passes.{Phase, inside, after, left_after, PassStep, on, stop, step, then_left, stack, entries_at}
-use Rattle.uimg_blob_reading.proofs.SoFarLaws.{size_join, length_kept}
-use Rattle.uimg_blob_reading.proofs.EntryLaws.{length_entries}
+use Rattle.uimg_blob_reading.proofs.{SoFarLaws.{size_join, length_kept}, EntryLaws.length_entries}
 use Rattle.uimg_blob_reading.proofs.PhaseLaws.{left_is, count_is, some_none, some_some, by_bool}
 
 pub on_stop : {p : Phase} {r : Result Siblings Fault} → on p ≡ stop r → ⊥

@@ -1,16 +1,12 @@
 -- A change of a row is a store of its entry.
 use Rattle.std.proofs.Common.{◌≡◌, ◌+◌, ℕ, suc, List, [], ◌∷◌, ◌++◌, length, map, Option, Some, refl, ap, sym, ◌∙◌, set, get_or}
-use Rattle.std.specs.List.{slice_get}
-use Rattle.std.proofs.lemmas.List.{map-append}
-use Rattle.std.proofs.lemmas.Option.{get_or_from_slice_get}
+use Rattle.std.{specs.List.slice_get, proofs.lemmas.{List.map-append, Option.get_or_from_slice_get}}
 use Rattle.std.proofs.Math.Seq.{set-append_seam, get_or-append_seam}
-use Rattle.uimg_blob_reading.specs.declared.roles.Role.{Role}
-use Rattle.uimg_blob_reading.specs.declared.roles.Role.TheVariants.{Root, Images, Image, Hash, Configurations, Configuration, Other}
-use Rattle.uimg_blob_reading.specs.Grammar.{none}
-use Rattle.uimg_blob_reading.specs.Roles.{role_at, keys_of}
-use Rattle.uimg_blob_reading.specs.Walk.{Open, opened, close, as_node}
-use Rattle.uimg_blob_reading.specs.Kept.{Kept, entry_of, entries, value_words, span_word, number_word, role_word}
+use Rattle.uimg_blob_reading.specs.{declared.roles.Role.Role, Grammar.none}
+use Rattle.uimg_blob_reading.specs.{Roles.{role_at, keys_of}, Walk.{Open, opened, close, as_node}}
 use Rattle.uimg_blob_reading.specs.Entering.{begun_entry, ended_entries}
+use Rattle.uimg_blob_reading.specs.declared.roles.Role.TheVariants.{Root, Images, Image, Hash, Configurations, Configuration, Other}
+use Rattle.uimg_blob_reading.specs.Kept.{Kept, entry_of, entries, value_words, span_word, number_word, role_word}
 use Rattle.uimg_blob_reading.specs.SoFar.{next_number, innermost, next_level, open_row, so_far, entries_so_far}
 use Rattle.uimg_blob_reading.proofs.SoFarLaws.{Seam, begin_row, end_row, root_row, length_so_far}
 

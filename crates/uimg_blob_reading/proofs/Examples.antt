@@ -1,22 +1,16 @@
 -- Definitions tried on worked cases.
 use Rattle.std.proofs.Common.{sym}
 use Rattle.std.specs.Prelude.{◌≡◌, ℕ, List, [], ◌∷◌, ◌++◌, refl, Ok, Err, Some, None, map, replicate, codes}
-use Rattle.uimg_blob_reading.specs.declared.fault.BlobFault.TheVariants.{BadNesting}
-use Rattle.uimg_blob_reading.specs.declared.fault.IndexFault.TheVariants.{Blob}
+use Rattle.uimg_blob_reading.specs.{declared.fault.BlobFault.TheVariants.BadNesting, Keys.key_named}
+use Rattle.uimg_blob_reading.specs.{declared.fault.IndexFault.TheVariants.Blob, Rows.{rows, table}}
+use Rattle.uimg_blob_reading.specs.Tokens.{tokens_from, token_at, begin_node, end_node, prop, last}
+use Rattle.uimg_blob_reading.specs.{Blob.{tree, blocks, up_to}, Passes.{inside, IsSoFar}}
+use Rattle.uimg_blob_reading.specs.{Counts.{nodes_met, nops_met, meta, tokens_before}, Walk.opened}
+use Rattle.uimg_blob_reading.specs.{Kept.{kept, span_word}, SoFar.{so_far, next_level, next_number}}
 use Rattle.uimg_blob_reading.specs.declared.keys.Key.TheVariants as key
 use Rattle.uimg_blob_reading.specs.declared.roles.Role.TheVariants as role
-use Rattle.uimg_texts.specs.Numbers.{be32}
-use Rattle.uimg_texts.specs.Nul.{before_nul}
-use Rattle.uimg_blob_reading.specs.Tokens.{tokens_from, token_at, begin_node, end_node, prop, last}
+use Rattle.uimg_texts.specs.{Numbers.be32, Nul.before_nul}
 use Rattle.uimg_blob_reading.specs.Grammar.{Siblings, none, node, root, properties, children, without_nops}
-use Rattle.uimg_blob_reading.specs.Blob.{tree, blocks, up_to}
-use Rattle.uimg_blob_reading.specs.Counts.{nodes_met, nops_met, meta, tokens_before}
-use Rattle.uimg_blob_reading.specs.Keys.{key_named}
-use Rattle.uimg_blob_reading.specs.Rows.{rows, table}
-use Rattle.uimg_blob_reading.specs.Walk.{opened}
-use Rattle.uimg_blob_reading.specs.Kept.{kept, span_word}
-use Rattle.uimg_blob_reading.specs.SoFar.{so_far, next_level, next_number}
-use Rattle.uimg_blob_reading.specs.Passes.{inside, IsSoFar}
 use Rattle.uimg_blob_reading.proofs.PhaseLaws.{true_false}
 
 -- a blob of 112 bytes: the root with the properties v and e

@@ -1,39 +1,24 @@
 -- One step of a pass, and its end.
 use Rattle.std.proofs.Common.{append_assoc, append-nil, map, ◌++◌, ◌∷◌, ◌≡◌, ◌<◌, ◌≤◌, ◌+◌, ◌-◌, ℕ, zero, suc, List, [], Option, Some, None, Result, Ok, Err, Bool, false, IsTrue, IfErr, refl, ap, sym, ◌∙◌, subst, length, arith}
-use Rattle.uimg_blob_reading.specs.declared.fault.IndexFault.{IndexFault}
-use Rattle.uimg_blob_reading.specs.declared.fault.IndexFault.TheVariants.{Blob, Read}
-use Rattle.uimg_blob_reading.specs.declared.states.State.{State}
-use Rattle.uimg_base.specs.Device.{Device, SameDevice}
-use Rattle.uimg_blob_reading.specs.declared.extent.Extent.{Extent}
-use Rattle.uimg_blob_reading.specs.Extents.{blocks_of, GivesBlocks}
-use Rattle.uimg_blob_reading.specs.Blob.{tree, blocks}
-use Rattle.uimg_blob_reading.proofs.WalkLaws.{begun_is}
-use Rattle.uimg_base.specs.Results.{◌>>=◌}
-use Rattle.uimg_blob_reading.specs.Reading.{Fault}
+use Rattle.uimg_blob_reading.specs.declared.fault.IndexFault.{IndexFault, TheVariants.{Blob, Read}}
+use Rattle.uimg_blob_reading.specs.declared.{states.State.State, extent.Extent.Extent}
+use Rattle.uimg_blob_reading.specs.{Extents.{blocks_of, GivesBlocks, IsInside}, SoFar.so_far}
+use Rattle.uimg_blob_reading.specs.Blob.{tree, blocks, met_in, met_from, met}
+use Rattle.uimg_blob_reading.specs.{Reading.Fault, Counts.{weight, begun_by, index_cost, nodes_met}}
 use Rattle.uimg_blob_reading.specs.Tokens.{Token, Blocks, token_at, tokens_from, tokens, next}
-use Rattle.uimg_blob_reading.specs.Grammar.{Siblings, root, without_nops}
-use Rattle.uimg_blob_reading.specs.Walk.{as_node, begun}
-use Rattle.uimg_blob_reading.specs.SoFar.{so_far}
-use Rattle.uimg_blob_reading.specs.Passes.{Phase, inside, left_after, PassStep, on, stop, step, then_left, then_step, in_turn, PassesToken, Indexes, Pass, IsRefused, StopsAt, IsSoFar}
-use Rattle.std.specs.List.{sum_by}
-use Rattle.uimg_blob_reading.specs.Blob.{met_in, met_from, met}
-use Rattle.uimg_blob_reading.specs.Counts.{weight, begun_by, index_cost, nodes_met}
-use Rattle.uimg_blob_reading.specs.ReadTokens.{cost}
-use Rattle.uimg_blob_reading.specs.Passes.{sum_from, Within, entries_at}
-use Rattle.uimg_blob_reading.specs.Tokens.{offset}
-use Rattle.uimg_blob_reading.proofs.PhaseLaws.{left_is, true_false}
-use Rattle.uimg_blob_reading.specs.Faults.{is_out_of_memory}
-use Rattle.uimg_blob_reading.specs.Kept.{entry_of, kept_of, LiesIn, number_of_role}
-use Rattle.uimg_blob_reading.specs.Walk.{Open}
-use Rattle.uimg_blob_reading.specs.Roles.{is_images_role, is_configurations_role}
-use Rattle.uimg_blob_reading.specs.Passes.{Passed}
-use Rattle.uimg_blob_reading.specs.Indexed.{Finds}
-use Rattle.uimg_blob_reading.specs.Extents.{IsInside}
-use Rattle.std.specs.List.{AllByRecursion}
+use Rattle.uimg_blob_reading.specs.{Tokens.offset, Kept.{entry_of, kept_of, LiesIn, number_of_role}}
+use Rattle.uimg_blob_reading.specs.{Grammar.{Siblings, root, without_nops}, Faults.is_out_of_memory}
+use Rattle.uimg_blob_reading.specs.Walk.{as_node, begun, Open}
+use Rattle.uimg_blob_reading.specs.{ReadTokens.cost, Roles.{is_images_role, is_configurations_role}}
+use Rattle.uimg_blob_reading.specs.{Passes.{sum_from, Within, entries_at, Passed}, Indexed.Finds}
+use Rattle.uimg_base.specs.{Device.{Device, SameDevice}, Results.◌>>=◌}
+use Rattle.uimg_blob_reading.proofs.{WalkLaws.begun_is, PhaseLaws.{left_is, true_false}}
 use Rattle.uimg_blob_reading.proofs.LieLaws.{lies_more, last_nodes, lies_within}
 use Rattle.uimg_blob_reading.proofs.NumberedLaws.{images_number, configurations_number}
-use Rattle.uimg_blob_reading.specs.Passes.{after, tokens_in, nodes_at, begin_place, begin_places, IsPrefix}
 use Rattle.uimg_blob_reading.proofs.PlaceLaws.{places_more}
+use Rattle.uimg_blob_reading.specs.Passes.{Phase, inside, left_after, PassStep, on, stop, step, then_left, then_step, in_turn, PassesToken, Indexes, Pass, IsRefused, StopsAt, IsSoFar}
+use Rattle.std.specs.List.{sum_by, AllByRecursion}
+use Rattle.uimg_blob_reading.specs.Passes.{after, tokens_in, nodes_at, begin_place, begin_places, IsPrefix}
 use Rattle.uimg_blob_reading.proofs.CostLaws.{Moves, moves, sum_more, fault_past, offset_at, cost_weight, weight_counts}
 
 by_fuel : (b : Blocks) (whole : Result Siblings Fault) (p : Phase) (at : ℕ) (t : Token) → t ≡ token_at b at → (fuel : ℕ) → b.structure_end - at < fuel

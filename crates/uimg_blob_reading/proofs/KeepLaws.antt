@@ -1,24 +1,17 @@
 -- What a property more changes of the entries.
 use Rattle.std.proofs.Common.{◌≡◌, ◌<◌, ◌+◌, ◌-◌, ℕ, suc, List, [], ◌∷◌, ◌++◌, length, map, replicate, Option, Some, None, IfSome, refl, ap, sym, ◌∙◌, arith, set, get_or, Bool, true, false, cond}
-use Rattle.std.specs.Str.{bytes_eq}
-use Rattle.std.specs.List.{slice_get, AllByRecursion}
-use Rattle.std.proofs.lemmas.List.{set-append_left, map-append}
-use Rattle.std.proofs.lemmas.Option.{get_or_from_slice_get}
-use Rattle.std.proofs.Math.ListN.{get_or-append}
-use Rattle.std.proofs.Math.Seq.{get_or-append_seam}
-use Rattle.uimg_blob_reading.specs.declared.roles.Role.{Role}
-use Rattle.uimg_blob_reading.specs.declared.roles.Role.TheVariants.{Root, Images, Image, Hash, Configurations, Configuration, Other}
-use Rattle.uimg_blob_reading.specs.declared.keys.Key.{Key}
-use Rattle.uimg_blob_reading.specs.Tokens.{Property}
-use Rattle.uimg_blob_reading.specs.Grammar.{none}
-use Rattle.uimg_blob_reading.specs.Keys.{name_of}
-use Rattle.uimg_blob_reading.specs.Roles.{role_at, keys_of}
+use Rattle.std.specs.{Str.bytes_eq, List.{slice_get, AllByRecursion}}
+use Rattle.std.proofs.lemmas.{List.{set-append_left, map-append}, Option.get_or_from_slice_get}
+use Rattle.std.proofs.Math.{ListN.get_or-append, Seq.get_or-append_seam}
+use Rattle.uimg_blob_reading.specs.{declared.{roles.Role.Role, keys.Key.Key}, Tokens.Property}
+use Rattle.uimg_blob_reading.specs.{Grammar.none, Keys.name_of, Roles.{role_at, keys_of}}
 use Rattle.uimg_blob_reading.specs.Walk.{Open, opened}
-use Rattle.uimg_blob_reading.specs.Kept.{property_named, Kept, kept, entry_of, slot, value_word, span_word, number_word, role_word}
 use Rattle.uimg_blob_reading.specs.SoFar.{next_number, next_level, open_row, so_far, entries_so_far}
+use Rattle.uimg_blob_reading.specs.declared.roles.Role.TheVariants.{Root, Images, Image, Hash, Configurations, Configuration, Other}
+use Rattle.uimg_blob_reading.specs.Kept.{property_named, Kept, kept, entry_of, slot, value_word, span_word, number_word, role_word}
 use Rattle.uimg_blob_reading.proofs.SoFarLaws.{Seam, length_so_far}
-use Rattle.uimg_blob_reading.proofs.ValueLaws.{words_of, are_apart, repeated, stored, word_at, slot_below}
 use Rattle.uimg_blob_reading.proofs.EntryLaws.{seam_put, length_entries}
+use Rattle.uimg_blob_reading.proofs.ValueLaws.{words_of, are_apart, repeated, stored, word_at, slot_below}
 
 last_row : (ls : List Open) (at : ℕ) (name : List ℕ) (own : List Property) → so_far (opened at name own none ∷ ls) ≡ so_far ls ++ open_row ls at name own ∷ []
 unfolding so_far kept

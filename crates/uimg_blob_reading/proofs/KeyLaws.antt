@@ -1,27 +1,17 @@
 -- The keys of names, and the tokens that were read.
 use Rattle.std.proofs.Common.{◌≡◌, ◌+◌, ℕ, suc, List, [], ◌∷◌, ◌++◌, find, Option, Some, None, Result, Ok, Err, Bool, true, false, IsTrue, refl, ap, sym, ◌∙◌, subst, cond, if◌then◌else◌, OnOk, is_ok, replicate}
-use Rattle.std.specs.Prelude.{IsErrAnd}
-use Rattle.std.proofs.lemmas.Result.{err_from_is_err_and}
-use Rattle.uimg_blob_reading.specs.declared.fault.IndexFault.{IndexFault}
-use Rattle.std.specs.Option.{option_map, is_some}
-use Rattle.std.specs.Str.{bytes_eq}
-use Rattle.std.proofs.lemmas.List.{length-replicate}
+use Rattle.std.{specs.{Prelude.IsErrAnd, Str.bytes_eq}, proofs.lemmas.Result.err_from_is_err_and}
+use Rattle.std.{specs.Option.{option_map, is_some}, proofs.lemmas.List.length-replicate}
 use Rattle.std.proofs.lemmas.Slice.Eq.{bytes_eq-Decides}
-use Rattle.uimg_blob_reading.specs.declared.keys.Key.{Key}
-use Rattle.uimg_blob_reading.specs.declared.keys.Key.TheVariants as key
-use Rattle.uimg_blob_reading.specs.declared.tokens.ReadToken.{ReadToken}
-use Rattle.uimg_blob_reading.specs.declared.tokens.ReadToken.TheVariants as read
-use Rattle.uimg_blob_reading.specs.ReadTokens.{IsReadAs, IsSound}
-use Rattle.uimg_blob_reading.specs.Tokens.{Property, Token, Blocks, token_at, begin_node, end_node, prop, nop, last, stray}
-use Rattle.uimg_blob_reading.specs.Grammar.{none}
-use Rattle.uimg_blob_reading.specs.Keys.{name_of, key_named, all_keys}
-use Rattle.uimg_blob_reading.specs.Roles.{role_at, keys_of}
-use Rattle.uimg_blob_reading.specs.Rows.{size}
-use Rattle.uimg_blob_reading.specs.Walk.{Open, opened}
-use Rattle.uimg_blob_reading.specs.Kept.{slot}
+use Rattle.uimg_blob_reading.specs.{declared.{fault.IndexFault.IndexFault, keys.Key.Key}, Rows.size}
+use Rattle.uimg_blob_reading.specs.{declared.tokens.ReadToken.ReadToken, Grammar.none}
+use Rattle.uimg_blob_reading.specs.{ReadTokens.{IsReadAs, IsSound}, Walk.{Open, opened}, Kept.slot}
+use Rattle.uimg_blob_reading.specs.{Keys.{name_of, key_named, all_keys}, Roles.{role_at, keys_of}}
 use Rattle.uimg_blob_reading.specs.SoFar.{next_level, entries_so_far}
-use Rattle.uimg_blob_reading.proofs.KeepLaws.{unchanged}
-use Rattle.uimg_blob_reading.proofs.ValueLaws.{absent}
+use Rattle.uimg_blob_reading.specs.declared.keys.Key.TheVariants as key
+use Rattle.uimg_blob_reading.specs.declared.tokens.ReadToken.TheVariants as read
+use Rattle.uimg_blob_reading.specs.Tokens.{Property, Token, Blocks, token_at, begin_node, end_node, prop, nop, last, stray}
+use Rattle.uimg_blob_reading.proofs.{KeepLaws.unchanged, ValueLaws.absent}
 use Rattle.uimg_blob_reading.proofs.PhaseLaws.{some_none, by_bool, some_some, true_false}
 
 find_some : {X : Type 0} (f : X → Bool) (xs : List X) (y : X) → find f xs ≡ Some y → f y ≡ true

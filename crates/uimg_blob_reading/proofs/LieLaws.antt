@@ -1,14 +1,11 @@
 -- Where the names and values of the nodes so far end.
 use Rattle.std.proofs.Common.{◌≡◌, ◌<◌, ◌≤◌, ◌+◌, ℕ, List, [], ◌∷◌, ◌++◌, length, Ok, Err, ap, sym, subst, arith}
 use Rattle.std.specs.List.{AllByRecursion}
-use Rattle.uimg_blob_reading.specs.declared.tokens.ReadToken.{ReadToken}
+use Rattle.uimg_blob_reading.specs.{declared.tokens.ReadToken.ReadToken, Walk.{opened, as_node}}
+use Rattle.uimg_blob_reading.specs.{ReadTokens.{IsReadAs, Stands}, Grammar.{Siblings, none, node}}
+use Rattle.uimg_blob_reading.specs.{Kept.{Kept, kept_of, LiesIn}, SoFar.{so_far, open_row}}
 use Rattle.uimg_blob_reading.specs.declared.tokens.ReadToken.TheVariants as read
-use Rattle.uimg_blob_reading.specs.ReadTokens.{IsReadAs, Stands}
 use Rattle.uimg_blob_reading.specs.Tokens.{Property, Token, begin_node, end_node, prop, nop, last, stray}
-use Rattle.uimg_blob_reading.specs.Grammar.{Siblings, none, node}
-use Rattle.uimg_blob_reading.specs.Walk.{opened, as_node}
-use Rattle.uimg_blob_reading.specs.Kept.{Kept, kept_of, LiesIn}
-use Rattle.uimg_blob_reading.specs.SoFar.{so_far, open_row}
 use Rattle.uimg_blob_reading.specs.Passes.{Phase, inside, after, on, stop, step, nodes_at, TokenLies}
 use Rattle.uimg_blob_reading.proofs.SoFarLaws.{Seam, begin_row, property_row, end_row, root_row}
 use Rattle.uimg_blob_reading.proofs.CostLaws.{on_stop, on_same, stop_ok}

@@ -1,10 +1,8 @@
 -- The links of a tree's nodes: parents stand before, ends after.
 use Rattle.std.proofs.Common.{◌≡◌, ◌<◌, ◌≤◌, ◌+◌, ℕ, suc, List, [], ◌∷◌, ◌++◌, Option, Some, None, IfSome, length, subst, arith}
 use Rattle.std.specs.Prelude.{⊤}
-use Rattle.uimg_blob_reading.specs.Grammar.{Siblings, none, node}
-use Rattle.uimg_blob_reading.specs.Rows.{size}
-use Rattle.uimg_blob_reading.specs.Roles.{Level, top, role_at, level_in, level_after}
-use Rattle.uimg_blob_reading.specs.Kept.{Kept, kept, kept_of}
+use Rattle.uimg_blob_reading.specs.{Grammar.{Siblings, none, node}, Kept.{Kept, kept, kept_of}}
+use Rattle.uimg_blob_reading.specs.{Rows.size, Roles.{Level, top, role_at, level_in, level_after}}
 use Rattle.uimg_blob_reading.proofs.SoFarLaws.{length_kept}
 
 -- The nodes from number i on have their parents before them, and end after themselves, at most at n.

@@ -1,30 +1,20 @@
 -- What the entries of a tree say of each of its rows.
 use Rattle.std.proofs.Common.{◌≡◌, ◌<◌, ◌≤◌, ◌+◌, ◌-◌, ◌^◌, ℕ, zero, suc, List, [], ◌∷◌, ◌++◌, length, map, replicate, find, Option, Some, None, IfSome, Bool, true, false, cond, if◌then◌else◌, refl, ap, sym, ◌∙◌, subst, append_assoc, get_or, arith}
-use Rattle.std.specs.Prelude.{⊤, ◌==◌}
-use Rattle.std.specs.List.{slice_get, AllByRecursion}
-use Rattle.std.specs.Option.{option_map, is_some}
-use Rattle.std.specs.Str.{bytes_eq}
-use Rattle.std.proofs.lemmas.List.{length-append}
-use Rattle.std.proofs.lemmas.Option.{slice_get-map, slice_get_past}
-use Rattle.std.proofs.lemmas.Bool.{eq-eqb, ne_eqb}
+use Rattle.std.specs.{Prelude.{⊤, ◌==◌}, List.{slice_get, AllByRecursion}, Str.bytes_eq}
+use Rattle.std.{specs.Option.{option_map, is_some}, proofs.lemmas.List.length-append}
+use Rattle.std.proofs.lemmas.{Option.{slice_get-map, slice_get_past}, Bool.{eq-eqb, ne_eqb}}
 use Rattle.std.proofs.Math.ListN.{get_or-append}
-use Rattle.uimg_blob_reading.specs.declared.keys.Key.{Key}
-use Rattle.uimg_blob_reading.specs.declared.roles.Role.{Role}
-use Rattle.uimg_blob_reading.specs.declared.roles.Role.TheVariants.{Root, Images, Image, Hash, Configurations, Configuration, Other}
-use Rattle.uimg_blob_reading.specs.declared.nodes.Blob.{Blob}
-use Rattle.uimg_blob_reading.specs.Tokens.{Property}
-use Rattle.uimg_blob_reading.specs.Grammar.{Siblings, none, node}
-use Rattle.uimg_blob_reading.specs.Keys.{name_of}
-use Rattle.uimg_blob_reading.specs.Roles.{Level, top, role_at, level_in, level_after, keys_of, is_hash_role}
-use Rattle.uimg_blob_reading.specs.Rows.{Row, size, first_of, rows, table}
-use Rattle.uimg_blob_reading.specs.LookUps.{first}
+use Rattle.uimg_blob_reading.specs.declared.{keys.Key.Key, roles.Role.Role, nodes.Blob.Blob}
+use Rattle.uimg_blob_reading.specs.{Tokens.Property, Grammar.{Siblings, none, node}, Keys.name_of}
+use Rattle.uimg_blob_reading.specs.{Rows.{Row, size, first_of, rows, table}, LookUps.first}
 use Rattle.uimg_blob_reading.specs.Spots.{spot_of}
+use Rattle.uimg_blob_reading.specs.Indexed.{IsIndexed, IsRow, property_span, value_span, value_of}
+use Rattle.uimg_blob_reading.specs.declared.roles.Role.TheVariants.{Root, Images, Image, Hash, Configurations, Configuration, Other}
+use Rattle.uimg_blob_reading.specs.Roles.{Level, top, role_at, level_in, level_after, keys_of, is_hash_role}
 use Rattle.uimg_blob_reading.specs.Kept.{Kept, kept, kept_of, entry_of, slot, value_word, span_word, number_word, property_named, LiesIn, entry_under}
 use Rattle.uimg_base.specs.declared.spans.Span.{Span}
-use Rattle.uimg_blob_reading.specs.Indexed.{IsIndexed, IsRow, property_span, value_span, value_of}
-use Rattle.uimg_blob_reading.proofs.SoFarLaws.{length_kept}
+use Rattle.uimg_blob_reading.proofs.{SoFarLaws.length_kept, KeepLaws.length_words}
 use Rattle.uimg_blob_reading.proofs.ValueLaws.{words_of, word_at, slot_below}
-use Rattle.uimg_blob_reading.proofs.KeepLaws.{length_words}
 use Rattle.uimg_blob_reading.proofs.PhaseLaws.{some_none, some_some, by_bool}
 use Rattle.uimg_blob_reading.proofs.LinkLaws.{AreLinked, tree_linked}
 

@@ -1,18 +1,14 @@
 -- The numbers of the root's `images` and `configurations`, of the nodes so far.
 use Rattle.std.proofs.Common.{◌≡◌, ◌+◌, ℕ, suc, List, [], ◌∷◌, ◌++◌, length, Option, Some, None, Bool, true, false, ◌||◌, if◌then◌else◌, refl, ap, sym, ◌∙◌, arith}
-use Rattle.std.specs.Option.{is_some, option_or}
-use Rattle.std.specs.Prelude.{codes}
+use Rattle.std.specs.{Option.{is_some, option_or}, Prelude.codes}
 use Rattle.std.proofs.lemmas.Slice.Eq.{bytes_eq-Decides}
-use Rattle.uimg_blob_reading.specs.declared.roles.Role.{Role}
-use Rattle.uimg_blob_reading.specs.declared.roles.Role.TheVariants.{Root, Images, Image, Hash, Configurations, Configuration, Other}
-use Rattle.uimg_blob_reading.specs.Grammar.{none}
-use Rattle.uimg_blob_reading.specs.Roles.{Level, in_root, role_at, root_child, level_after, is_images, is_configurations, is_hash, is_images_role, is_configurations_role}
-use Rattle.uimg_blob_reading.specs.Walk.{Open, opened}
+use Rattle.uimg_blob_reading.specs.{declared.roles.Role.Role, Grammar.none, Walk.{Open, opened}}
 use Rattle.uimg_blob_reading.specs.Kept.{Kept, number_of_role}
 use Rattle.uimg_blob_reading.specs.SoFar.{next_level, level_past, so_far, open_row}
+use Rattle.uimg_blob_reading.specs.declared.roles.Role.TheVariants.{Root, Images, Image, Hash, Configurations, Configuration, Other}
+use Rattle.uimg_blob_reading.specs.Roles.{Level, in_root, role_at, root_child, level_after, is_images, is_configurations, is_hash, is_images_role, is_configurations_role}
 use Rattle.uimg_blob_reading.specs.Passes.{root_level, child_level, noted_images, noted_configurations}
-use Rattle.uimg_blob_reading.proofs.SoFarLaws.{Seam, begin_row}
-use Rattle.uimg_blob_reading.proofs.KeyLaws.{none_from}
+use Rattle.uimg_blob_reading.proofs.{SoFarLaws.{Seam, begin_row}, KeyLaws.none_from}
 use Rattle.uimg_blob_reading.proofs.PhaseLaws.{true_false}
 use Rattle.uimg_blob_reading.proofs.RoleLaws.{is_root, level_is, inner_not_root}
 

@@ -1,12 +1,9 @@
 -- Slices of slices, and the numbers in them.
 use Rattle.std.proofs.Common.{◌≡◌, ◌≤◌, ℕ, ◌+◌, ◌-◌, List, take, drop, min, inl, inr, length-take, ◌∙◌, ap, sym, arith}
 use Rattle.std.specs.Int.{from_be_bytes, w32}
-use Rattle.std.proofs.lemmas.List.{take-take, take_all, drop-take, drop-drop}
-use Rattle.std.proofs.lemmas.Bool.{cases_lt}
-use Rattle.uimg_texts.specs.Slices.{slice}
-use Rattle.uimg_texts.specs.Numbers.{be32}
-use Rattle.uimg_blob_reading.specs.Tokens.{reach}
-use Rattle.uimg_blob_reading.specs.Extents.{HeadsFile}
+use Rattle.std.proofs.lemmas.{List.{take-take, take_all, drop-take, drop-drop}, Bool.cases_lt}
+use Rattle.uimg_texts.specs.{Slices.slice, Numbers.be32}
+use Rattle.uimg_blob_reading.specs.{Tokens.reach, Extents.HeadsFile}
 
 -- a slice of a slice is a slice of the whole
 pub slice-slice : (xs : List ℕ) (at n k m : ℕ) → k + m ≤ n → slice (slice xs at n) k m ≡ slice xs (at + k) m

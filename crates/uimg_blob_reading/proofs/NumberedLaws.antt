@@ -1,17 +1,13 @@
 -- The first node of a role is the root's first child of a name.
 use Rattle.std.proofs.Common.{◌≡◌, ◌+◌, ℕ, suc, List, [], ◌∷◌, ◌++◌, length, Option, Some, None, Bool, true, false, ◌||◌, if◌then◌else◌, refl, ap, sym, ◌∙◌, arith}
-use Rattle.std.specs.Option.{option_or}
-use Rattle.std.specs.Prelude.{not, codes}
+use Rattle.std.specs.{Option.option_or, Prelude.{not, codes}}
 use Rattle.std.proofs.lemmas.Slice.Eq.{bytes_eq-Decides}
-use Rattle.uimg_blob_reading.specs.declared.roles.Role.{Role}
-use Rattle.uimg_blob_reading.specs.declared.roles.Role.TheVariants.{Root, Hash, Other}
-use Rattle.uimg_blob_reading.specs.Grammar.{Siblings, none, node}
+use Rattle.uimg_blob_reading.specs.declared.roles.Role.{Role, TheVariants.{Root, Hash, Other}}
+use Rattle.uimg_blob_reading.specs.{Grammar.{Siblings, none, node}, Walk.{Open, opened, as_node}}
 use Rattle.uimg_blob_reading.specs.Rows.{size, number_named, child_number}
-use Rattle.uimg_blob_reading.specs.Roles.{Level, top, in_root, in_images, in_image, in_configurations, elsewhere, role_at, root_child, level_in, level_after, is_images, is_configurations, is_hash, is_images_role, is_configurations_role}
-use Rattle.uimg_blob_reading.specs.Walk.{Open, opened, as_node}
 use Rattle.uimg_blob_reading.specs.Kept.{Kept, kept, kept_of, number_of_role}
-use Rattle.uimg_blob_reading.proofs.SoFarLaws.{length_kept}
-use Rattle.uimg_blob_reading.proofs.PhaseLaws.{true_false, by_bool}
+use Rattle.uimg_blob_reading.specs.Roles.{Level, top, in_root, in_images, in_image, in_configurations, elsewhere, role_at, root_child, level_in, level_after, is_images, is_configurations, is_hash, is_images_role, is_configurations_role}
+use Rattle.uimg_blob_reading.proofs.{SoFarLaws.length_kept, PhaseLaws.{true_false, by_bool}}
 use Rattle.uimg_blob_reading.proofs.NoteLaws.{first_or, hash_images, hash_configurations}
 
 number_append : (is_it : Role → Bool) (j : ℕ) (a b : List Kept) → number_of_role is_it j (a ++ b) ≡ option_or (number_of_role is_it j a) (number_of_role is_it (j + length a) b)

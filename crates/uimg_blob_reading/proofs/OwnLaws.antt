@@ -1,19 +1,15 @@
 -- The tokens behind a node's name are its properties.
 use Rattle.std.proofs.Common.{◌≡◌, ◌+◌, ℕ, zero, suc, List, [], ◌∷◌, ◌++◌, length, drop, Option, Some, None, Result, Ok, Err, refl, ap, sym, ◌∙◌, subst, cond, append_assoc, arith}
-use Rattle.std.specs.Bool.{⊤}
-use Rattle.std.specs.List.{AllByRecursion, slice_get, count_by}
-use Rattle.std.specs.Option.{option_map}
+use Rattle.std.specs.{Bool.⊤, List.{AllByRecursion, slice_get, count_by}, Option.option_map}
 use Rattle.std.proofs.lemmas.List.Sums.{sum_by-append}
 use Rattle.uimg_texts.specs.Numbers.{up4}
 use Rattle.uimg_base.specs.Results.{◌>>=◌}
-use Rattle.uimg_blob_reading.specs.Reading.{Fault}
+use Rattle.uimg_blob_reading.specs.{Reading.Fault, Blob.{tree, blocks, met_in, met_from, met}}
+use Rattle.uimg_blob_reading.specs.{Counts.{is_nop, nops_met}, Rows.{Row, size, rows, table}}
+use Rattle.uimg_blob_reading.specs.Roles.{Level, top, role_at, level_in, level_after}
+use Rattle.uimg_blob_reading.specs.Owns.{own_of, LeftFrom}
 use Rattle.uimg_blob_reading.specs.Tokens.{Property, Token, Blocks, begin_node, end_node, prop, nop, last, stray, token_at, next, tokens_from, tokens}
 use Rattle.uimg_blob_reading.specs.Grammar.{Siblings, none, node, properties, end, inside, children, ended, root, without_nops}
-use Rattle.uimg_blob_reading.specs.Blob.{tree, blocks, met_in, met_from, met}
-use Rattle.uimg_blob_reading.specs.Counts.{is_nop, nops_met}
-use Rattle.uimg_blob_reading.specs.Roles.{Level, top, role_at, level_in, level_after}
-use Rattle.uimg_blob_reading.specs.Rows.{Row, size, rows, table}
-use Rattle.uimg_blob_reading.specs.Owns.{own_of, LeftFrom}
 use Rattle.uimg_blob_reading.proofs.PhaseLaws.{some_none, some_some}
 
 err_ok : {A F : Type 0} {e : F} {x : A} → (let r : Result A F = Err e in r) ≡ Ok x → ⊥

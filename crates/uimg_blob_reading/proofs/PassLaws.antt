@@ -1,26 +1,21 @@
 -- What a token does to the phase of a pass.
 use Rattle.std.proofs.Common.{◌≡◌, ◌<◌, ◌≤◌, ◌+◌, ℕ, List, [], ◌∷◌, ◌++◌, length, Option, Some, None, Result, Ok, Err, Bool, false, refl, ap, sym, ◌∙◌, subst, get_or, set, length-append, arith}
-use Rattle.std.proofs.lemmas.List.{length-set}
-use Rattle.std.specs.List.{slice_get, AllByRecursion}
+use Rattle.std.{proofs.lemmas.List.length-set, specs.List.{slice_get, AllByRecursion}}
 use Rattle.std.specs.Option.{is_some}
-use Rattle.uimg_blob_reading.specs.declared.fault.IndexFault.{IndexFault}
-use Rattle.uimg_blob_reading.specs.declared.fault.IndexFault.TheVariants.{Read}
-use Rattle.uimg_blob_reading.specs.declared.states.State.{State}
-use Rattle.uimg_blob_reading.specs.declared.roles.Role.{Role}
-use Rattle.uimg_blob_reading.specs.declared.roles.Role.TheVariants.{Root}
-use Rattle.uimg_blob_reading.specs.Tokens.{Property, Token}
-use Rattle.uimg_blob_reading.specs.Grammar.{Siblings, none, node}
-use Rattle.uimg_blob_reading.specs.Roles.{Level, top, in_root, role_at, level_in, level_after, is_images_role, is_configurations_role}
-use Rattle.uimg_blob_reading.specs.Walk.{Open, opened, close, join}
+use Rattle.uimg_blob_reading.specs.declared.fault.IndexFault.{IndexFault, TheVariants.Read}
+use Rattle.uimg_blob_reading.specs.{declared.states.State.State, Walk.{Open, opened, close, join}}
+use Rattle.uimg_blob_reading.specs.{declared.roles.Role.Role, Grammar.{Siblings, none, node}}
+use Rattle.uimg_blob_reading.specs.{declared.roles.Role.TheVariants.Root, Tokens.{Property, Token}}
 use Rattle.uimg_blob_reading.specs.Kept.{entry_of, number_word, role_word, number_of_role}
 use Rattle.uimg_blob_reading.specs.Entering.{begun_entry, ended_entries, GainsProperty}
 use Rattle.uimg_blob_reading.specs.SoFar.{next_number, level_past, next_level, open_row, so_far}
+use Rattle.uimg_blob_reading.specs.Roles.{Level, top, in_root, role_at, level_in, level_after, is_images_role, is_configurations_role}
 use Rattle.uimg_blob_reading.specs.Passes.{Phase, inside, after, stack, child_level, PassStep, on, begins_in, ends_in, prop_in, is_after, bare, root_level, noted_images, noted_configurations, InPhase, Acts, RefusesMemory, IsPlaced}
 use Rattle.uimg_blob_reading.proofs.SoFarLaws.{length_so_far, property_row, end_row, root_row}
 use Rattle.uimg_blob_reading.proofs.PhaseLaws.{some_none, some_some, true_false, count_is}
-use Rattle.uimg_blob_reading.proofs.NoteLaws.{seam_number, images_begun, configurations_begun, marks_begin}
 use Rattle.uimg_blob_reading.proofs.RoleLaws.{row_at, level_is}
 use Rattle.uimg_blob_reading.proofs.EntryLaws.{entered, left_inner, left_root}
+use Rattle.uimg_blob_reading.proofs.NoteLaws.{seam_number, images_begun, configurations_begun, marks_begin}
 
 -- the entries stay as many
 pub length_ended : (n : ℕ) (es : List (List ℕ)) → length (ended_entries n es) ≡ length es

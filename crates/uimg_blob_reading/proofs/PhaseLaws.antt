@@ -1,15 +1,13 @@
 -- What a phase of a pass is, and what a token may do in it.
 use Rattle.std.proofs.Common.{◌≡◌, ◌<◌, ◌+◌, ℕ, List, [], ◌∷◌, length, Option, Some, None, Ok, Err, Bool, true, false, refl, ap, sym, ◌∙◌, subst, nat_lt, IfSome, arith}
 use Rattle.std.proofs.lemmas.Bool.{lt-ltb}
-use Rattle.uimg_blob_reading.specs.declared.states.State.{State}
+use Rattle.uimg_blob_reading.specs.{declared.states.State.State, Grammar.{none, node}}
 use Rattle.uimg_blob_reading.specs.Tokens.{Token, begin_node, end_node, prop, nop, last, stray}
-use Rattle.uimg_blob_reading.specs.Grammar.{none, node}
 use Rattle.uimg_blob_reading.specs.Walk.{Open, opened, as_node, walk, begun, finished}
 use Rattle.uimg_blob_reading.specs.Kept.{kept, kept_of, entries}
 use Rattle.uimg_blob_reading.specs.SoFar.{next_number, so_far, entries_so_far}
 use Rattle.uimg_blob_reading.specs.Passes.{Phase, inside, after, left_after, step, then_left, stop, is_after, is_done, bare, InPhase}
-use Rattle.uimg_blob_reading.proofs.SoFarLaws.{length_so_far}
-use Rattle.uimg_blob_reading.proofs.EntryLaws.{length_entries}
+use Rattle.uimg_blob_reading.proofs.{SoFarLaws.length_so_far, EntryLaws.length_entries}
 
 -- A token, and then the tokens after it.
 pub left_is : (p : Phase) (t : Token) (ts : List Token) → left_after p (t ∷ ts) ≡ then_left (step p t) ts

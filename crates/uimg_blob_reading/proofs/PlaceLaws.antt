@@ -2,9 +2,7 @@
 use Rattle.std.proofs.Common.{◌≡◌, ℕ, List, [], ◌∷◌, ◌++◌, map, Ok, Err, refl, ap, sym, ◌∙◌, subst}
 use Rattle.std.proofs.lemmas.List.{map-append}
 use Rattle.uimg_blob_reading.specs.Tokens.{Token, begin_node, end_node, prop, nop, last, stray}
-use Rattle.uimg_blob_reading.specs.Grammar.{none, node}
-use Rattle.uimg_blob_reading.specs.Walk.{opened}
-use Rattle.uimg_blob_reading.specs.Kept.{Kept}
+use Rattle.uimg_blob_reading.specs.{Grammar.{none, node}, Walk.opened, Kept.Kept}
 use Rattle.uimg_blob_reading.specs.SoFar.{so_far, next_number, open_row}
 use Rattle.uimg_blob_reading.specs.Passes.{Phase, inside, after, on, step, nodes_at, begin_places}
 use Rattle.uimg_blob_reading.proofs.SoFarLaws.{Seam, begin_row, property_row, end_row, root_row}

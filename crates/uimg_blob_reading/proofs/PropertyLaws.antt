@@ -1,24 +1,14 @@
 -- What is read of a node's properties.
 use Rattle.std.proofs.Common.{◌≡◌, ◌≤◌, ◌<◌, ◌+◌, ◌-◌, ℕ, List, length, take, drop, min, Option, Some, None, Ok, IfSome, Bool, IsTrue, refl, ap, sym, ◌∙◌, subst, length-take, length-drop, arith}
-use Rattle.std.specs.Option.{MatchOption, option_map}
-use Rattle.std.proofs.lemmas.Bool.{lt-ltb, le-ltb}
+use Rattle.std.{specs.Option.{MatchOption, option_map}, proofs.lemmas.Bool.{lt-ltb, le-ltb}}
 use Rattle.std.proofs.lemmas.List.{take-take}
-use Rattle.uimg_texts.specs.Numbers.{be32}
-use Rattle.uimg_texts.specs.Nul.{before_nul}
-use Rattle.uimg_texts.specs.Slices.{slice}
-use Rattle.uimg_base.specs.declared.spans.Span.{Span}
-use Rattle.uimg_base.specs.Device.{Device, SameDevice}
-use Rattle.uimg_blob_reading.specs.declared.extent.Extent.{Extent}
-use Rattle.uimg_blob_reading.specs.declared.keys.Key.{Key}
-use Rattle.uimg_blob_reading.specs.declared.tokens.Head.{Head}
+use Rattle.uimg_texts.specs.{Numbers.be32, Nul.before_nul, Slices.slice}
+use Rattle.uimg_base.specs.{declared.spans.Span.Span, Device.{Device, SameDevice}}
+use Rattle.uimg_blob_reading.specs.declared.{extent.Extent.Extent, keys.Key.Key, tokens.Head.Head}
 use Rattle.uimg_blob_reading.specs.Tokens.{Blocks, prop, reach, property_with_name, property_at}
-use Rattle.uimg_blob_reading.specs.Keys.{key_named}
-use Rattle.uimg_blob_reading.specs.Extents.{blocks_of}
-use Rattle.uimg_blob_reading.specs.ReadTokens.{ReadsProp}
-use Rattle.uimg_blob_reading.specs.Plain.{NamedOf}
-use Rattle.uimg_blob_reading.specs.Places.{IsHead, NameIs, FindsPlace}
-use Rattle.uimg_blob_reading.proofs.NumberLaws.{reach-slice}
-use Rattle.uimg_blob_reading.proofs.PhaseLaws.{some_none, some_some}
+use Rattle.uimg_blob_reading.specs.{Keys.key_named, Extents.blocks_of, ReadTokens.ReadsProp}
+use Rattle.uimg_blob_reading.specs.{Plain.NamedOf, Places.{IsHead, NameIs, FindsPlace}}
+use Rattle.uimg_blob_reading.proofs.{NumberLaws.reach-slice, PhaseLaws.{some_none, some_some}}
 
 -- what is so over a source that is what it was
 pub over : (d e : Device) (P : List ℕ → Type 0) → SameDevice d e → (IsTrue e.honest → P e.bytes) → IsTrue d.honest → P d.bytes

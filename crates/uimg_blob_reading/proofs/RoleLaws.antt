@@ -1,20 +1,14 @@
 -- The roles of the nodes that a pass enters.
 use Rattle.std.proofs.Common.{◌≡◌, ◌+◌, ℕ, List, [], ◌∷◌, ◌++◌, length, map, Some, Bool, true, false, refl, ap, sym, ◌∙◌, if◌then◌else◌, get_or}
-use Rattle.std.specs.List.{slice_get}
-use Rattle.std.proofs.lemmas.List.{map-append}
-use Rattle.std.proofs.lemmas.Option.{get_or_from_slice_get}
+use Rattle.std.{specs.List.slice_get, proofs.lemmas.{List.map-append, Option.get_or_from_slice_get}}
 use Rattle.std.proofs.Math.Seq.{get_or-append_seam}
-use Rattle.uimg_blob_reading.specs.declared.roles.Role.{Role}
-use Rattle.uimg_blob_reading.specs.declared.roles.Role.TheVariants.{Root, Images, Image, Hash, Configurations, Configuration, Other}
-use Rattle.uimg_blob_reading.specs.Tokens.{Property}
-use Rattle.uimg_blob_reading.specs.Grammar.{Siblings, none, node}
-use Rattle.uimg_blob_reading.specs.Roles.{Level, top, in_root, in_images, in_image, in_configurations, elsewhere, role_at, root_child, level_in, level_after, is_images, is_configurations, is_hash}
-use Rattle.uimg_blob_reading.specs.Walk.{Open, opened}
-use Rattle.uimg_blob_reading.specs.Kept.{Kept, kept, entry_of}
-use Rattle.uimg_blob_reading.specs.SoFar.{next_number, level_past, next_level, open_row, so_far, entries_so_far}
+use Rattle.uimg_blob_reading.specs.{declared.roles.Role.Role, Tokens.Property, Walk.{Open, opened}}
+use Rattle.uimg_blob_reading.specs.{Grammar.{Siblings, none, node}, Kept.{Kept, kept, entry_of}}
 use Rattle.uimg_blob_reading.specs.Passes.{root_level, child_level}
-use Rattle.uimg_blob_reading.proofs.SoFarLaws.{length_so_far}
-use Rattle.uimg_blob_reading.proofs.EntryLaws.{length_entries}
+use Rattle.uimg_blob_reading.specs.declared.roles.Role.TheVariants.{Root, Images, Image, Hash, Configurations, Configuration, Other}
+use Rattle.uimg_blob_reading.specs.Roles.{Level, top, in_root, in_images, in_image, in_configurations, elsewhere, role_at, root_child, level_in, level_after, is_images, is_configurations, is_hash}
+use Rattle.uimg_blob_reading.specs.SoFar.{next_number, level_past, next_level, open_row, so_far, entries_so_far}
+use Rattle.uimg_blob_reading.proofs.{SoFarLaws.length_so_far, EntryLaws.length_entries}
 use Rattle.uimg_blob_reading.proofs.PhaseLaws.{true_false}
 
 -- the entry of the innermost node

@@ -1,12 +1,9 @@
 -- What each token changes of the nodes so far.
 use Rattle.std.proofs.Common.{◌≡◌, ◌+◌, ℕ, List, [], ◌∷◌, ◌++◌, length, Option, Some, None, refl, ap, sym, ◌∙◌, append_assoc, arith}
 use Rattle.std.proofs.lemmas.List.{length-append}
-use Rattle.uimg_blob_reading.specs.Tokens.{Property}
-use Rattle.uimg_blob_reading.specs.Grammar.{Siblings, none, node}
-use Rattle.uimg_blob_reading.specs.Walk.{Open, opened, join, close, as_node}
-use Rattle.uimg_blob_reading.specs.Roles.{Level, top, role_at, level_in, level_after}
-use Rattle.uimg_blob_reading.specs.Rows.{size}
-use Rattle.uimg_blob_reading.specs.Kept.{Kept, kept, kept_of}
+use Rattle.uimg_blob_reading.specs.{Tokens.Property, Walk.{Open, opened, join, close, as_node}}
+use Rattle.uimg_blob_reading.specs.{Grammar.{Siblings, none, node}, Kept.{Kept, kept, kept_of}}
+use Rattle.uimg_blob_reading.specs.{Roles.{Level, top, role_at, level_in, level_after}, Rows.size}
 use Rattle.uimg_blob_reading.specs.SoFar.{level_past, next_level, next_number, open_row, so_far}
 
 -- one row, at a place, is changed

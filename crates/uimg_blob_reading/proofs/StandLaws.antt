@@ -1,16 +1,11 @@
 -- From a node to its children and siblings, by the rows of a tree: for loops over an indexed blob.
 use Rattle.std.proofs.Common.{◌≡◌, ◌+◌, ℕ, List, [], ◌∷◌, ◌++◌, length, map, find, Option, Some, None, Bool, true, false, ◌||◌, cond, if◌then◌else◌, codes, refl, ap, sym, ◌∙◌, subst, append_assoc, arith}
-use Rattle.std.specs.List.{slice_get}
-use Rattle.std.specs.Str.{bytes_eq}
-use Rattle.std.proofs.lemmas.List.{length-append}
+use Rattle.std.{specs.{List.slice_get, Str.bytes_eq}, proofs.lemmas.List.length-append}
 use Rattle.std.proofs.lemmas.Slice.Eq.{bytes_eq-Decides}
-use Rattle.uimg_blob_reading.specs.Tokens.{Property}
-use Rattle.uimg_blob_reading.specs.Grammar.{Siblings, none, node}
+use Rattle.uimg_blob_reading.specs.{Tokens.Property, Grammar.{Siblings, none, node}, Standing.Stand}
+use Rattle.uimg_blob_reading.specs.{Spots.{Spot, spot_of, spots}, LookUps.{NodeOf, listed, child}}
 use Rattle.uimg_blob_reading.specs.Roles.{Level, top, in_root, role_at, level_in, level_after, is_images, is_configurations}
 use Rattle.uimg_blob_reading.specs.Rows.{Row, size, first_of, rows, table, number_named, child_number}
-use Rattle.uimg_blob_reading.specs.Spots.{Spot, spot_of, spots}
-use Rattle.uimg_blob_reading.specs.LookUps.{NodeOf, listed, child}
-use Rattle.uimg_blob_reading.specs.Standing.{Stand}
 use Rattle.uimg_blob_reading.proofs.PhaseLaws.{some_none, some_some, true_false, by_bool}
 use Rattle.uimg_blob_reading.proofs.LookLaws.{length_rows, slice_after}
 

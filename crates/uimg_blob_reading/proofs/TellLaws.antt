@@ -1,39 +1,24 @@
 -- What is told of a node's properties, token by token.
 use Rattle.std.proofs.Common.{◌≡◌, ◌≤◌, ◌+◌, ◌*◌, ℕ, zero, suc, List, [], ◌∷◌, ◌++◌, length, map, Option, Some, None, Result, Ok, Err, true, refl, ap, sym, ◌∙◌, subst, cond, append_assoc, append-nil, IsTrue, arith}
-use Rattle.std.specs.Prelude.{IsErrAnd, Vec}
-use Rattle.std.specs.List.{count_by, slice_get}
-use Rattle.std.specs.Option.{option_map}
-use Rattle.std.proofs.lemmas.Result.{err_from_is_err_and}
-use Rattle.std.proofs.lemmas.List.{map-append}
-use Rattle.std.proofs.lemmas.List.Sums.{sum_by-cons}
+use Rattle.std.specs.{Prelude.{IsErrAnd, Vec}, List.{count_by, slice_get}, Option.option_map}
+use Rattle.std.proofs.lemmas.{Result.err_from_is_err_and, List.{map-append, Sums.sum_by-cons}}
 use Rattle.uimg_texts.specs.Numbers.{up4}
-use Rattle.uimg_base.specs.declared.spans.Span.{Span}
-use Rattle.uimg_base.specs.Device.{Device, SameDevice}
-use Rattle.uimg_base.specs.Results.{◌>>=◌}
-use Rattle.uimg_blob_reading.specs.Reading.{Fault}
-use Rattle.uimg_blob_reading.specs.declared.fault.BlobFault.{BlobFault}
-use Rattle.uimg_blob_reading.specs.declared.fault.IndexFault.{IndexFault}
-use Rattle.uimg_blob_reading.specs.declared.fault.IndexFault.TheVariants.{Blob}
-use Rattle.uimg_blob_reading.specs.declared.extent.Extent.{Extent}
-use Rattle.uimg_blob_reading.specs.declared.places.PropertyPlace.{PropertyPlace}
-use Rattle.uimg_blob_reading.specs.declared.places.Met.TheVariants as met
+use Rattle.uimg_base.specs.{declared.spans.Span.Span, Device.{Device, SameDevice}, Results.◌>>=◌}
+use Rattle.uimg_blob_reading.specs.{Reading.Fault, Blob.{tree, blocks}, Spots.spot_of}
+use Rattle.uimg_blob_reading.specs.{declared.fault.BlobFault.BlobFault, Plain.{NamedOf, with_value}}
+use Rattle.uimg_blob_reading.specs.declared.fault.IndexFault.{IndexFault, TheVariants.Blob}
+use Rattle.uimg_blob_reading.specs.{declared.extent.Extent.Extent, Extents.{blocks_of, GivesBlocks}}
+use Rattle.uimg_blob_reading.specs.{declared.places.PropertyPlace.PropertyPlace, Rows.{Row, table}}
 use Rattle.uimg_blob_reading.specs.declared.properties.PropertiesFault.{PropertiesFault}
+use Rattle.uimg_blob_reading.specs.{Grammar.{Siblings, root, without_nops}, Owns.{own_of, LeftFrom}}
+use Rattle.uimg_blob_reading.specs.{Counts.{is_nop, nops_met}, Indexed.{name_span, value_span}}
+use Rattle.uimg_blob_reading.specs.declared.places.Met.TheVariants as met
 use Rattle.uimg_blob_reading.specs.declared.properties.PropertiesFault.TheVariants.{Read, OutOfMemory, Changed}
 use Rattle.uimg_blob_reading.specs.Tokens.{Property, Token, Blocks, begin_node, end_node, prop, nop, last, stray, token_at, next, tokens_from, tokens}
-use Rattle.uimg_blob_reading.specs.Grammar.{Siblings, root, without_nops}
-use Rattle.uimg_blob_reading.specs.Blob.{tree, blocks}
-use Rattle.uimg_blob_reading.specs.Counts.{is_nop, nops_met}
-use Rattle.uimg_blob_reading.specs.Extents.{blocks_of, GivesBlocks}
-use Rattle.uimg_blob_reading.specs.Plain.{NamedOf, with_value}
-use Rattle.uimg_blob_reading.specs.Spots.{spot_of}
-use Rattle.uimg_blob_reading.specs.Indexed.{name_span, value_span}
-use Rattle.uimg_blob_reading.specs.Rows.{Row, table}
-use Rattle.uimg_blob_reading.specs.Owns.{own_of, LeftFrom}
 use Rattle.uimg_blob_reading.specs.Places.{read_place, placed, is_edge, is_strange, IsMet, meeting_cost}
 use Rattle.uimg_blob_reading.specs.Properties.{places_of, telling_cost, TellsPlaces, TookFrom, TookAll, TakesOne, FindsBlocks}
 use Rattle.uimg_blob_reading.proofs.PhaseLaws.{some_none, some_some, true_false}
-use Rattle.uimg_blob_reading.proofs.OwnLaws.{own_stands}
-use Rattle.uimg_blob_reading.proofs.PropertyLaws.{over}
+use Rattle.uimg_blob_reading.proofs.{OwnLaws.own_stands, PropertyLaws.over}
 
 -- The first token, and what stands from the next place on.
 record First (b : Blocks) (at : ℕ) (t : Token) (own : List Property) (nops : ℕ) : Type 0 where

@@ -1,12 +1,9 @@
 -- A text of several parts.
 use Rattle.std.proofs.Common.{◌≡◌, ◌<◌, ◌≤◌, ◌+◌, ◌-◌, ℕ, zero, suc, List, [], ◌∷◌, ◌++◌, length, take, Option, Some, None, Bool, true, false, nat_lt, if◌then◌else◌, refl, ap, sym, ◌∙◌, subst, append-nil, length-append, arith}
-use Rattle.std.specs.Option.{option_map, is_some}
+use Rattle.std.{specs.Option.{option_map, is_some}, proofs.lemmas.List.{take-append-le, take_all}}
 use Rattle.std.proofs.lemmas.Bool.{lt-ltb, le-ltb, ltb-true, ltb-false}
-use Rattle.std.proofs.lemmas.List.{take-append-le, take_all}
-use Rattle.uimg_texts.specs.Nul.{before_nul, text}
-use Rattle.uimg_texts.specs.Slices.{slice}
-use Rattle.uimg_base.proofs.Slices.{slice-add}
-use Rattle.uimg_base.specs.Sink.{Sink, AppendsAll, AppendsPrefix}
+use Rattle.uimg_texts.specs.{Nul.{before_nul, text}, Slices.slice}
+use Rattle.uimg_base.{proofs.Slices.slice-add, specs.Sink.{Sink, AppendsAll, AppendsPrefix}}
 use Rattle.uimg_base.specs.Writing.{Written}
 use Rattle.uimg_base.proofs.SinkLaws.{prefix_first, prefix_then, all_then, prefix_all}
 use Rattle.uimg_blob_reading.specs.Texts.{GivesShort}

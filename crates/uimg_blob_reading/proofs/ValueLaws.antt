@@ -1,12 +1,8 @@
 -- What a property more changes of the words of a node's values.
 use Rattle.std.proofs.Common.{◌≡◌, ◌<◌, ℕ, suc, List, [], ◌∷◌, ◌++◌, length, map, cond, if◌then◌else◌, Option, Some, None, Bool, true, false, refl, ap, sym, ◌∙◌, arith, set, get_or}
-use Rattle.std.specs.Option.{option_map, option_or}
-use Rattle.std.specs.Str.{bytes_eq}
-use Rattle.std.proofs.lemmas.List.Folds.{find-append}
-use Rattle.std.proofs.lemmas.Slice.Eq.{bytes_eq-Decides}
-use Rattle.uimg_blob_reading.specs.declared.keys.Key.{Key}
-use Rattle.uimg_blob_reading.specs.Tokens.{Property}
-use Rattle.uimg_blob_reading.specs.Keys.{name_of}
+use Rattle.std.specs.{Option.{option_map, option_or}, Str.bytes_eq}
+use Rattle.std.proofs.lemmas.{List.Folds.find-append, Slice.Eq.bytes_eq-Decides}
+use Rattle.uimg_blob_reading.specs.{declared.keys.Key.Key, Tokens.Property, Keys.name_of}
 use Rattle.uimg_blob_reading.specs.Kept.{property_named, slot, value_word}
 
 -- the words of the values of keys

@@ -1,24 +1,17 @@
 -- What a pass does at a token, and the source and room afterwards.
 use Rattle.std.specs.Prelude.{◌≡◌, ◌+◌, ◌*◌, ◌<◌, ◌≤◌, ℕ, List, length, Option, Result, Ok, Err}
 use Rattle.std.specs.Prelude.{IfOk, IfErr, IfSome, Bool, true, false, IsTrue}
-use Rattle.uimg_base.specs.Device.{Device}
-use Rattle.uimg_base.specs.Held.{Held, AddsOne, Grows}
-use Rattle.uimg_base.specs.Using.{Uses, UsesAtMost}
-use Rattle.uimg_blob_reading.specs.declared.fault.IndexFault.{IndexFault}
-use Rattle.uimg_blob_reading.specs.declared.extent.Extent.{Extent}
-use Rattle.uimg_blob_reading.specs.declared.states.State.{State}
-use Rattle.uimg_blob_reading.specs.declared.tokens.ReadToken.{ReadToken}
+use Rattle.uimg_base.specs.{Device.Device, Held.{Held, AddsOne, Grows}, Using.{Uses, UsesAtMost}}
+use Rattle.uimg_blob_reading.specs.declared.{fault.IndexFault.IndexFault, extent.Extent.Extent}
+use Rattle.uimg_blob_reading.specs.declared.{states.State.State, tokens.ReadToken.ReadToken}
 use Rattle.uimg_blob_reading.specs.declared.tokens.ReadToken.TheVariants.{BeginNode, BadBeginNode}
 use Rattle.uimg_blob_reading.specs.declared.tokens.ReadToken.TheVariants.{EndNode, Prop, BadProp}
 use Rattle.uimg_blob_reading.specs.declared.tokens.ReadToken.TheVariants.{Nop, End, Stray}
-use Rattle.uimg_blob_reading.specs.Faults.{is_read, is_out_of_memory, is_of_making}
-use Rattle.uimg_blob_reading.specs.Extents.{blocks_of}
-use Rattle.uimg_blob_reading.specs.Tokens.{Token, token_at, tokens, next}
-use Rattle.uimg_blob_reading.specs.Walk.{begun}
+use Rattle.uimg_blob_reading.specs.{Faults.{is_read, is_out_of_memory, is_of_making}, Walk.begun}
+use Rattle.uimg_blob_reading.specs.{Extents.blocks_of, Tokens.{Token, token_at, tokens, next}}
 use Rattle.uimg_blob_reading.specs.ReadTokens.{IsReadAs, Stands, cost}
 use Rattle.uimg_blob_reading.specs.Passes.{Phase, InPhase, step, is_done, Goes, RefusesMemory}
-use Rattle.uimg_blob_reading.specs.Passes.{PassesToken}
-use Rattle.uimg_blob_reading.specs.Passes.{Indexes, Passed, Within, IsPrefix, StopsAt}
+use Rattle.uimg_blob_reading.specs.Passes.{PassesToken, Indexes, Passed, Within, IsPrefix, StopsAt}
 
 -- The innermost node has an entry, and each entry at least eight bytes before the state's offset.
 pub record Suits (s : State) (es : List (List ℕ)) : Type 0 where

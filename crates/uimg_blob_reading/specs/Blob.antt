@@ -3,11 +3,10 @@ use Rattle.std.specs.Prelude.{ℕ, ◌+◌, ◌%◌, List, [], ◌∷◌, length
 use Rattle.std.specs.Prelude.{◌==◌, if◌then◌else◌, not}
 use Rattle.uimg_blob_reading.specs.declared.fault.BlobFault.TheVariants.{TooShort, BadMagic}
 use Rattle.uimg_blob_reading.specs.declared.fault.BlobFault.TheVariants.{BadVersion, BlockOutside}
+use Rattle.uimg_blob_reading.specs.{Reading.Fault, Tokens.{Token, Blocks, offset, tokens}}
+use Rattle.uimg_blob_reading.specs.Grammar.{Siblings, root, without_nops}
 use Rattle.uimg_texts.specs.Numbers.{be32}
 use Rattle.uimg_base.specs.Results.{◌>>=◌}
-use Rattle.uimg_blob_reading.specs.Reading.{Fault}
-use Rattle.uimg_blob_reading.specs.Tokens.{Token, Blocks, offset, tokens}
-use Rattle.uimg_blob_reading.specs.Grammar.{Siblings, root, without_nops}
 
 -- the magic number
 abbrev pub magic : ℕ

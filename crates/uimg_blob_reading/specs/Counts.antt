@@ -1,14 +1,9 @@
 -- The counts that bound the reading of a blob.
 use Rattle.std.specs.Prelude.{ℕ, ◌+◌, ◌*◌, List, [], ◌∷◌, length, Result, Ok, Err, Bool, true}
-use Rattle.std.specs.Prelude.{false, nat_lt, if◌then◌else◌, cond}
-use Rattle.std.specs.List.{count_by, sum_by}
-use Rattle.uimg_blob_reading.specs.declared.fault.BlobFault.{BlobFault}
-use Rattle.uimg_blob_reading.specs.Reading.{Fault}
+use Rattle.std.specs.{Prelude.{false, nat_lt, if◌then◌else◌, cond}, List.{count_by, sum_by}}
+use Rattle.uimg_blob_reading.specs.{declared.fault.BlobFault.BlobFault, Reading.Fault, Keys.is_text}
 use Rattle.uimg_blob_reading.specs.Tokens.{Token, Property, begin_node, end_node, prop, nop, last}
-use Rattle.uimg_blob_reading.specs.Tokens.{stray, offset}
-use Rattle.uimg_blob_reading.specs.Grammar.{Siblings}
-use Rattle.uimg_blob_reading.specs.Blob.{tree, met}
-use Rattle.uimg_blob_reading.specs.Keys.{is_text}
+use Rattle.uimg_blob_reading.specs.{Tokens.{stray, offset}, Grammar.Siblings, Blob.{tree, met}}
 
 -- the token begins a node
 abbrev pub is_begin : Token → Bool

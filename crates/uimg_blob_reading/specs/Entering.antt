@@ -1,14 +1,9 @@
 -- How the entries of a room change.
 use Rattle.std.specs.Prelude.{◌≡◌, ◌+◌, ◌<◌, ℕ, List, [], ◌∷◌, ◌++◌, length, Option, Bool}
-use Rattle.std.specs.Prelude.{if◌then◌else◌, get_or, slice_set}
-use Rattle.std.specs.List.{AllByRecursion}
+use Rattle.std.specs.{Prelude.{if◌then◌else◌, get_or, slice_set}, List.AllByRecursion}
 use Rattle.uimg_base.specs.Held.{Held, SameSize, AddsOne}
-use Rattle.uimg_blob_reading.specs.declared.keys.Key.{Key}
-use Rattle.uimg_blob_reading.specs.declared.roles.Role.{Role}
-use Rattle.uimg_blob_reading.specs.Tokens.{Property}
-use Rattle.uimg_blob_reading.specs.Grammar.{none}
-use Rattle.uimg_blob_reading.specs.Keys.{key_named}
-use Rattle.uimg_blob_reading.specs.Walk.{Open, opened}
+use Rattle.uimg_blob_reading.specs.{declared.{keys.Key.Key, roles.Role.Role}, Tokens.Property}
+use Rattle.uimg_blob_reading.specs.{Grammar.none, Keys.key_named, Walk.{Open, opened}}
 use Rattle.uimg_blob_reading.specs.Kept.{span_word, number_word, role_word}
 use Rattle.uimg_blob_reading.specs.SoFar.{next_number, entries_so_far}
 

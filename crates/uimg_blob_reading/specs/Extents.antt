@@ -1,11 +1,8 @@
 -- The offsets of a blob's blocks.
 use Rattle.std.specs.Prelude.{◌≡◌, ℕ, ◌+◌, ◌%◌, ◌^◌, ◌<◌, ◌≤◌, List, Result, Ok, Err, ⊤}
-use Rattle.uimg_blob_reading.specs.declared.fault.IndexFault.{IndexFault}
-use Rattle.uimg_blob_reading.specs.declared.fault.IndexFault.TheVariants.{Blob, Read}
-use Rattle.uimg_blob_reading.specs.declared.extent.Extent.{Extent}
+use Rattle.uimg_blob_reading.specs.declared.fault.IndexFault.{IndexFault, TheVariants.{Blob, Read}}
+use Rattle.uimg_blob_reading.specs.{declared.extent.Extent.Extent, Tokens.Blocks, Blob.blocks}
 use Rattle.uimg_texts.specs.Numbers.{be32}
-use Rattle.uimg_blob_reading.specs.Tokens.{Blocks}
-use Rattle.uimg_blob_reading.specs.Blob.{blocks}
 
 -- the blocks at these offsets in a file
 abbrev pub blocks_of : List ℕ → Extent → Blocks

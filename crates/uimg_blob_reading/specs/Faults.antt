@@ -1,8 +1,7 @@
 -- Results of this crate.
 use Rattle.std.specs.Prelude.{Result, Ok, Err, Bool, true, false}
-use Rattle.uimg_blob_reading.specs.declared.fault.BlobFault.{BlobFault}
+use Rattle.uimg_blob_reading.specs.declared.fault.{BlobFault.BlobFault, IndexFault.IndexFault}
 use Rattle.uimg_blob_reading.specs.declared.fault.BlobFault.TheVariants.{TooLarge, OutOfMemory}
-use Rattle.uimg_blob_reading.specs.declared.fault.IndexFault.{IndexFault}
 use Rattle.uimg_blob_reading.specs.declared.fault.IndexFault.TheVariants.{Blob, Read}
 
 -- the result is a failed read

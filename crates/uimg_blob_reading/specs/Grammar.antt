@@ -1,10 +1,9 @@
 -- The grammar of the structure block (Devicetree Specification, section 5.4.2).
 use Rattle.std.specs.Prelude.{ℕ, suc, List, [], ◌∷◌, length, Result, Ok, Err}
-use Rattle.uimg_blob_reading.specs.declared.fault.BlobFault.TheVariants.{BadNesting}
-use Rattle.uimg_base.specs.Results.{◌>>=◌}
-use Rattle.uimg_blob_reading.specs.Reading.{Fault}
+use Rattle.uimg_blob_reading.specs.{declared.fault.BlobFault.TheVariants.BadNesting, Reading.Fault}
 use Rattle.uimg_blob_reading.specs.Tokens.{Property, Token, begin_node, end_node, prop, nop, last}
 use Rattle.uimg_blob_reading.specs.Tokens.{stray}
+use Rattle.uimg_base.specs.Results.{◌>>=◌}
 
 -- Siblings: none, or a node (offset, name, properties, children) and the nodes after it.
 pub data Siblings : Type 0 where

@@ -1,25 +1,15 @@
 -- The result of indexing: entries and a blob that are those of a tree.
 use Rattle.std.specs.Prelude.{◌≡◌, ◌^◌, ◌<◌, ◌≤◌, ◌+◌, ◌*◌, ℕ, List, length, map, Option, Some}
 use Rattle.std.specs.Prelude.{None, Result, Ok, IfErr, IsTrue, max, Bool, if◌then◌else◌}
-use Rattle.std.specs.List.{AllByRecursion, slice_get}
-use Rattle.std.specs.Option.{is_some}
-use Rattle.uimg_base.specs.Device.{Device, RisesIf}
-use Rattle.uimg_base.specs.Held.{Held, held_bytes}
-use Rattle.uimg_blob_reading.specs.declared.fault.IndexFault.{IndexFault}
-use Rattle.uimg_blob_reading.specs.declared.nodes.Blob.{Blob}
+use Rattle.std.specs.{List.{AllByRecursion, slice_get}, Option.is_some}
+use Rattle.uimg_base.specs.{Device.{Device, RisesIf}, Held.{Held, held_bytes}}
 use Rattle.uimg_base.specs.declared.spans.Span.{Span}
-use Rattle.uimg_blob_reading.specs.declared.keys.Key.{Key}
-use Rattle.uimg_blob_reading.specs.declared.roles.Role.{Role}
-use Rattle.uimg_blob_reading.specs.Tokens.{Property}
-use Rattle.uimg_blob_reading.specs.Grammar.{Siblings}
-use Rattle.uimg_blob_reading.specs.Blob.{tree, blocks}
-use Rattle.uimg_blob_reading.specs.Counts.{nodes_met}
-use Rattle.uimg_blob_reading.specs.Roles.{is_images, is_configurations, keys_of}
-use Rattle.uimg_blob_reading.specs.Rows.{Row, table, child_number}
-use Rattle.uimg_blob_reading.specs.LookUps.{first}
-use Rattle.uimg_blob_reading.specs.Spots.{Spot, spot_of}
-use Rattle.uimg_blob_reading.specs.Keys.{name_of}
-use Rattle.uimg_blob_reading.specs.Kept.{kept_of, entries, slot, LiesIn}
+use Rattle.uimg_blob_reading.specs.declared.{fault.IndexFault.IndexFault, nodes.Blob.Blob}
+use Rattle.uimg_blob_reading.specs.{declared.{keys.Key.Key, roles.Role.Role}, Tokens.Property}
+use Rattle.uimg_blob_reading.specs.{Grammar.Siblings, Blob.{tree, blocks}, Counts.nodes_met}
+use Rattle.uimg_blob_reading.specs.{Roles.{is_images, is_configurations, keys_of}, LookUps.first}
+use Rattle.uimg_blob_reading.specs.{Rows.{Row, table, child_number}, Spots.{Spot, spot_of}}
+use Rattle.uimg_blob_reading.specs.{Keys.name_of, Kept.{kept_of, entries, slot, LiesIn}}
 use Rattle.uimg_blob_reading.specs.Passes.{Indexes, IsPrefix, IsSoFar, tokens_in}
 
 -- The entries are those of a tree, the blob has the numbers of its `images` and `configurations`,

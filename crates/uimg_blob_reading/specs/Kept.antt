@@ -1,18 +1,12 @@
 -- What is kept of a tree: an entry of 16 words for each node, in reading order.
-use Rattle.std.specs.List.{AllByRecursion}
-use Rattle.std.specs.Option.{option_map}
-use Rattle.std.specs.Str.{bytes_eq}
+use Rattle.std.specs.{List.AllByRecursion, Option.option_map, Str.bytes_eq}
 use Rattle.std.specs.Prelude.{◌≡◌, ℕ, suc, ◌<◌, ◌≤◌, Bool, if◌then◌else◌, ◌+◌, ◌*◌, ◌-◌, ◌^◌, List}
 use Rattle.std.specs.Prelude.{[], ◌∷◌, ◌++◌, length, map, replicate, Option, Some, None, IfSome}
 use Rattle.std.specs.Prelude.{find, get_or, ◌==◌}
-use Rattle.uimg_blob_reading.specs.declared.keys.Key.{Key}
-use Rattle.uimg_blob_reading.specs.declared.roles.Role.{Role}
+use Rattle.uimg_blob_reading.specs.declared.{keys.Key.Key, roles.Role.{Role, TheVariants.Other}}
 use Rattle.uimg_blob_reading.specs.declared.roles.Role.TheVariants.{Root, Images, Image, Hash}
 use Rattle.uimg_blob_reading.specs.declared.roles.Role.TheVariants.{Configurations, Configuration}
-use Rattle.uimg_blob_reading.specs.declared.roles.Role.TheVariants.{Other}
-use Rattle.uimg_blob_reading.specs.Tokens.{Property}
-use Rattle.uimg_blob_reading.specs.Grammar.{Siblings, none, node}
-use Rattle.uimg_blob_reading.specs.Keys.{name_of}
+use Rattle.uimg_blob_reading.specs.{Tokens.Property, Grammar.{Siblings, none, node}, Keys.name_of}
 use Rattle.uimg_blob_reading.specs.Roles.{Level, top, role_at, level_in, level_after, keys_of}
 use Rattle.uimg_blob_reading.specs.Rows.{size}
 

@@ -1,15 +1,11 @@
 -- The properties to which FIT gives a meaning (Flattened Image Tree format, "Root node", "'/images'
 -- node", "'/configurations' node").
-use Rattle.std.specs.Prelude.{ℕ, List, [], ◌∷◌, Option, Bool, codes, find}
-use Rattle.std.specs.Borrow.{Bor}
-use Rattle.std.specs.List.{list_any}
-use Rattle.std.specs.Option.{option_map}
-use Rattle.std.specs.Str.{bytes_eq}
-use Rattle.uimg_blob_reading.specs.declared.keys.Key.{Key}
+use Rattle.std.specs.{Prelude.{ℕ, List, [], ◌∷◌, Option, Bool, codes, find}, Borrow.Bor}
+use Rattle.std.specs.{List.list_any, Option.option_map, Str.bytes_eq}
+use Rattle.uimg_blob_reading.specs.declared.keys.Key.{Key, TheVariants.{DataPosition, Algo, Value}}
 use Rattle.uimg_blob_reading.specs.declared.keys.Key.TheVariants.{Description, Timestamp, Data}
 use Rattle.uimg_blob_reading.specs.declared.keys.Key.TheVariants.{Kind, Arch, Os, Compression, Load}
 use Rattle.uimg_blob_reading.specs.declared.keys.Key.TheVariants.{Entry, DataSize, DataOffset}
-use Rattle.uimg_blob_reading.specs.declared.keys.Key.TheVariants.{DataPosition, Algo, Value}
 use Rattle.uimg_blob_reading.specs.declared.keys.Key.TheVariants.{Default, Kernel, Ramdisk, Fdt}
 use Rattle.uimg_blob_reading.specs.declared.keys.Key.TheVariants.{Loadables, Firmware, Fpga, Setup}
 use Rattle.uimg_blob_reading.specs.declared.keys.Key.TheVariants.{Standalone, Script}

@@ -1,8 +1,7 @@
 -- What a node's name says about its role.
 use Rattle.std.specs.Prelude.{ℕ, List, if◌then◌else◌}
-use Rattle.uimg_blob_reading.specs.declared.labels.Label.{Label}
+use Rattle.uimg_blob_reading.specs.declared.labels.Label.{Label, TheVariants.Other}
 use Rattle.uimg_blob_reading.specs.declared.labels.Label.TheVariants.{Images, Configurations, Hash}
-use Rattle.uimg_blob_reading.specs.declared.labels.Label.TheVariants.{Other}
 use Rattle.uimg_blob_reading.specs.Roles.{is_images, is_configurations, is_hash}
 
 -- the label of a name

@@ -1,11 +1,8 @@
 -- Queries on a tree of nodes (Flattened Image Tree format, "Root node", "'/images' node",
 -- "'/configurations' node", "Hash nodes").
-use Rattle.std.specs.Prelude.{ℕ, List, [], ◌∷◌, Option, None, codes, find}
-use Rattle.std.specs.List.{filter}
-use Rattle.std.specs.Option.{option_map}
-use Rattle.std.specs.Str.{bytes_eq}
-use Rattle.uimg_blob_reading.specs.Roles.{is_hash}
-use Rattle.uimg_blob_reading.specs.Plain.{NamedOf, NodesOf, no_node, a_node}
+use Rattle.std.specs.{Prelude.{ℕ, List, [], ◌∷◌, Option, None, codes, find}, List.filter}
+use Rattle.std.specs.{Option.option_map, Str.bytes_eq}
+use Rattle.uimg_blob_reading.specs.{Roles.is_hash, Plain.{NamedOf, NodesOf, no_node, a_node}}
 
 -- A node: its name, properties and children.
 pub record NodeOf (V : Type 0) : Type 0 where

@@ -1,10 +1,8 @@
 -- The properties of a node, from the tokens after its name (Devicetree Specification, section 5.4).
 use Rattle.std.specs.Prelude.{◌≡◌, ℕ, ◌≤◌, List, [], ◌∷◌, Option, Some, None, Ok, Err}
-use Rattle.std.specs.List.{count_by}
-use Rattle.std.specs.Option.{option_map}
+use Rattle.std.specs.{List.count_by, Option.option_map}
 use Rattle.uimg_blob_reading.specs.Tokens.{Property, Token, Blocks, begin_node, end_node, prop, nop}
-use Rattle.uimg_blob_reading.specs.Tokens.{last, stray, tokens_from}
-use Rattle.uimg_blob_reading.specs.Counts.{is_nop}
+use Rattle.uimg_blob_reading.specs.{Tokens.{last, stray, tokens_from}, Counts.is_nop}
 
 -- the properties at the start of the tokens, FDT_NOP skipped, up to a token that begins or ends a
 -- node; none if another token comes first

@@ -1,33 +1,23 @@
 -- The phases of a pass over the tokens, and what a token does.
-use Rattle.std.specs.Prelude.{map, ◌≡◌, ◌+◌, ℕ, ◌*◌, ◌-◌, ◌≤◌, ◌<◌, List, [], ◌∷◌, ◌++◌, length}
+use Rattle.std.specs.Prelude.{map, ◌≡◌, ◌+◌, ℕ, ◌*◌, ◌-◌, ◌≤◌, ◌<◌, List, [], ◌∷◌, ◌++◌, length, ⊤}
 use Rattle.std.specs.Prelude.{Option, Some, None, Result, Ok, Err, Bool, true, false, IsTrue, OnOk}
-use Rattle.std.specs.Prelude.{⊤}
-use Rattle.std.specs.List.{AllByRecursion, sum_by}
-use Rattle.std.specs.Option.{is_some}
-use Rattle.uimg_blob_reading.specs.declared.fault.BlobFault.{BlobFault}
-use Rattle.uimg_blob_reading.specs.declared.fault.BlobFault.TheVariants.{BadNesting}
-use Rattle.uimg_blob_reading.specs.declared.fault.IndexFault.{IndexFault}
-use Rattle.uimg_blob_reading.specs.declared.fault.IndexFault.TheVariants.{Blob, Read}
-use Rattle.uimg_blob_reading.specs.declared.states.State.{State}
-use Rattle.uimg_blob_reading.specs.Reading.{Fault}
+use Rattle.std.specs.{List.{AllByRecursion, sum_by}, Option.is_some}
+use Rattle.uimg_blob_reading.specs.declared.fault.BlobFault.{BlobFault, TheVariants.BadNesting}
+use Rattle.uimg_blob_reading.specs.declared.fault.IndexFault.{IndexFault, TheVariants.{Blob, Read}}
+use Rattle.uimg_blob_reading.specs.{declared.states.State.State, Reading.Fault, Blob.met_in}
 use Rattle.uimg_blob_reading.specs.Tokens.{Property, Token, Blocks, token_at, tokens_from, tokens}
 use Rattle.uimg_blob_reading.specs.Tokens.{next, begin_node, end_node, prop, nop, last, stray}
-use Rattle.uimg_blob_reading.specs.Grammar.{Siblings, none, node}
-use Rattle.uimg_blob_reading.specs.Blob.{met_in}
-use Rattle.uimg_blob_reading.specs.Counts.{weight, begun_by}
-use Rattle.uimg_blob_reading.specs.Faults.{refuses_memory}
+use Rattle.uimg_blob_reading.specs.{Grammar.{Siblings, none, node}, Counts.{weight, begun_by}}
+use Rattle.uimg_blob_reading.specs.{Faults.refuses_memory, Rows.child_number, SoFar.entries_so_far}
 use Rattle.uimg_blob_reading.specs.Roles.{Level, in_root, in_images, in_image, in_configurations}
 use Rattle.uimg_blob_reading.specs.Roles.{elsewhere, level_after, is_images, is_configurations}
 use Rattle.uimg_blob_reading.specs.Roles.{is_images_role, is_configurations_role}
-use Rattle.uimg_blob_reading.specs.Rows.{child_number}
-use Rattle.uimg_blob_reading.specs.declared.roles.Role.{Role}
+use Rattle.uimg_blob_reading.specs.declared.roles.Role.{Role, TheVariants.Other}
 use Rattle.uimg_blob_reading.specs.declared.roles.Role.TheVariants.{Root, Images, Image, Hash}
 use Rattle.uimg_blob_reading.specs.declared.roles.Role.TheVariants.{Configurations, Configuration}
-use Rattle.uimg_blob_reading.specs.declared.roles.Role.TheVariants.{Other}
 use Rattle.uimg_blob_reading.specs.Walk.{Open, opened, close, as_node, walk, begun, finished}
 use Rattle.uimg_blob_reading.specs.Kept.{Kept, kept_of, entry_of, entries, LiesIn, number_of_role}
 use Rattle.uimg_blob_reading.specs.SoFar.{so_far, next_number, innermost, next_level}
-use Rattle.uimg_blob_reading.specs.SoFar.{entries_so_far}
 
 -- inside open nodes, at first none, or after the root
 pub data Phase : Type 0 where

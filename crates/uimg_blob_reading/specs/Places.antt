@@ -1,25 +1,16 @@
 -- The spans of a node's properties, and what is met after its name.
 use Rattle.std.specs.Prelude.{◌≡◌, ℕ, ◌+◌, ◌≤◌, List, Option, Some, None, Result, Ok, Err, IfOk}
 use Rattle.std.specs.Prelude.{IsTrue, Bool, true, false, is_ok, is_err, cond, ⊤}
-use Rattle.uimg_texts.specs.Nul.{before_nul}
-use Rattle.uimg_texts.specs.Slices.{slice}
-use Rattle.uimg_base.specs.declared.source.SourceFault.{SourceFault}
-use Rattle.uimg_base.specs.declared.spans.Span.{Span}
-use Rattle.uimg_base.specs.Device.{Device}
-use Rattle.uimg_base.specs.Held.{Held}
-use Rattle.uimg_base.specs.Using.{UsesAtMost}
-use Rattle.uimg_blob_reading.specs.declared.fault.BlobFault.{BlobFault}
-use Rattle.uimg_blob_reading.specs.declared.extent.Extent.{Extent}
-use Rattle.uimg_blob_reading.specs.declared.tokens.Head.{Head}
-use Rattle.uimg_blob_reading.specs.declared.places.PropertyPlace.{PropertyPlace}
-use Rattle.uimg_blob_reading.specs.declared.places.Met.{Met}
+use Rattle.uimg_texts.specs.{Nul.before_nul, Slices.slice}
+use Rattle.uimg_base.specs.{declared.{source.SourceFault.SourceFault, spans.Span.Span}, Held.Held}
+use Rattle.uimg_base.specs.{Device.Device, Using.UsesAtMost}
+use Rattle.uimg_blob_reading.specs.declared.{fault.BlobFault.BlobFault, extent.Extent.Extent}
+use Rattle.uimg_blob_reading.specs.declared.{tokens.Head.Head, places.PropertyPlace.PropertyPlace}
+use Rattle.uimg_blob_reading.specs.{declared.places.Met.Met, Counts.is_prop, Plain.NamedOf}
 use Rattle.uimg_blob_reading.specs.declared.places.Met.TheVariants.{Place, Nop, Edge, Strange}
 use Rattle.uimg_blob_reading.specs.Tokens.{Property, Token, begin_node, end_node, prop, nop, last}
 use Rattle.uimg_blob_reading.specs.Tokens.{stray, reach, property_with_name, property_at, token_at}
-use Rattle.uimg_blob_reading.specs.Counts.{is_prop}
-use Rattle.uimg_blob_reading.specs.Plain.{NamedOf}
-use Rattle.uimg_blob_reading.specs.Indexed.{property_span}
-use Rattle.uimg_blob_reading.specs.Extents.{blocks_of}
+use Rattle.uimg_blob_reading.specs.{Indexed.property_span, Extents.blocks_of}
 
 -- the name and the value's span that these spans give in a file
 abbrev pub read_place : List ℕ → PropertyPlace → NamedOf Span

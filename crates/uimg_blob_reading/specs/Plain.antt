@@ -1,10 +1,8 @@
 -- Trees of nodes without offsets, as written to a blob and as read back.
 use Rattle.std.specs.Prelude.{◌≡◌, ℕ, ◌≤◌, List, length, map, Result, Ok, Err, None, ⊤}
 use Rattle.std.specs.List.{AllByRecursion}
-use Rattle.uimg_blob_reading.specs.Reading.{Fault}
+use Rattle.uimg_blob_reading.specs.{Reading.Fault, Tokens.Property, Grammar.{Siblings, none, node}}
 use Rattle.uimg_texts.specs.Nul.{before_nul}
-use Rattle.uimg_blob_reading.specs.Tokens.{Property}
-use Rattle.uimg_blob_reading.specs.Grammar.{Siblings, none, node}
 
 -- A property: its name and its value.
 pub record NamedOf (V : Type 0) : Type 0 where

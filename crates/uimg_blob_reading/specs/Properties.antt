@@ -1,31 +1,18 @@
 -- What is returned of a node's properties.
 use Rattle.std.specs.Prelude.{◌≡◌, ℕ, ◌+◌, ◌-◌, ◌*◌, ◌<◌, ◌≤◌, List, ◌++◌, length, map, Option}
 use Rattle.std.specs.Prelude.{Some, None, Result, Ok, Err, IfOk, IfSome, IsTrue, Bool, true, false}
-use Rattle.std.specs.Prelude.{Vec, ⊤}
-use Rattle.std.specs.List.{All, slice_get}
-use Rattle.std.specs.Option.{MatchOption}
+use Rattle.std.specs.{Prelude.{Vec, ⊤}, List.{All, slice_get}, Option.MatchOption}
 use Rattle.uimg_texts.specs.Numbers.{be32}
-use Rattle.uimg_base.specs.declared.spans.Span.{Span}
-use Rattle.uimg_base.specs.Device.{Device}
-use Rattle.uimg_base.specs.Held.{Held}
-use Rattle.uimg_base.specs.Using.{Uses}
-use Rattle.uimg_blob_reading.specs.declared.extent.Extent.{Extent}
-use Rattle.uimg_blob_reading.specs.declared.nodes.Blob.{Blob}
-use Rattle.uimg_blob_reading.specs.declared.places.PropertyPlace.{PropertyPlace}
+use Rattle.uimg_base.specs.{declared.spans.Span.Span, Device.Device, Held.Held, Using.Uses}
+use Rattle.uimg_blob_reading.specs.{declared.{extent.Extent.Extent, nodes.Blob.Blob}, Spots.spot_of}
+use Rattle.uimg_blob_reading.specs.{declared.places.PropertyPlace.PropertyPlace, Grammar.Siblings}
 use Rattle.uimg_blob_reading.specs.declared.properties.PropertiesFault.{PropertiesFault}
-use Rattle.uimg_blob_reading.specs.declared.properties.PropertiesFault.TheVariants.{Read}
+use Rattle.uimg_blob_reading.specs.declared.properties.PropertiesFault.TheVariants.{Read, Changed}
 use Rattle.uimg_blob_reading.specs.declared.properties.PropertiesFault.TheVariants.{OutOfMemory}
-use Rattle.uimg_blob_reading.specs.declared.properties.PropertiesFault.TheVariants.{Changed}
-use Rattle.uimg_blob_reading.specs.Tokens.{Property, Blocks}
-use Rattle.uimg_blob_reading.specs.Grammar.{Siblings}
-use Rattle.uimg_blob_reading.specs.Blob.{tree, blocks}
-use Rattle.uimg_blob_reading.specs.Rows.{Row, table}
-use Rattle.uimg_blob_reading.specs.Plain.{NamedOf, with_value}
-use Rattle.uimg_blob_reading.specs.Spots.{spot_of}
-use Rattle.uimg_blob_reading.specs.Indexed.{IsIndexed, value_span}
-use Rattle.uimg_blob_reading.specs.Extents.{blocks_of}
+use Rattle.uimg_blob_reading.specs.{Tokens.{Property, Blocks}, Blob.{tree, blocks}, Owns.LeftFrom}
+use Rattle.uimg_blob_reading.specs.{Rows.{Row, table}, Plain.{NamedOf, with_value}}
+use Rattle.uimg_blob_reading.specs.{Indexed.{IsIndexed, value_span}, Extents.blocks_of}
 use Rattle.uimg_blob_reading.specs.Places.{read_place, placed, EndsBy}
-use Rattle.uimg_blob_reading.specs.Owns.{LeftFrom}
 
 -- the names of a node's properties, and the spans of their values
 abbrev pub places_of : Row → List (NamedOf Span)

@@ -1,24 +1,16 @@
 -- What is read of a token, and what that costs.
 use Rattle.std.specs.Prelude.{◌≡◌, ℕ, ◌+◌, ◌<◌, ◌≤◌, List, length, Option, Result, Ok, Err, IfOk}
 use Rattle.std.specs.Prelude.{IsTrue, is_err, false, ⊤}
-use Rattle.uimg_base.specs.declared.source.SourceFault.{SourceFault}
-use Rattle.uimg_base.specs.Device.{Device}
-use Rattle.uimg_base.specs.Held.{Held}
+use Rattle.uimg_base.specs.{declared.source.SourceFault.SourceFault, Device.Device, Held.Held}
 use Rattle.uimg_base.specs.Using.{Asks, UsesAtMost}
-use Rattle.uimg_blob_reading.specs.declared.extent.Extent.{Extent}
-use Rattle.uimg_blob_reading.specs.declared.keys.Key.{Key}
-use Rattle.uimg_blob_reading.specs.declared.labels.Label.{Label}
-use Rattle.uimg_blob_reading.specs.declared.tokens.ReadToken.{ReadToken}
+use Rattle.uimg_blob_reading.specs.declared.{extent.Extent.Extent, keys.Key.Key, labels.Label.Label}
+use Rattle.uimg_blob_reading.specs.declared.{tokens.ReadToken.ReadToken, fault.BlobFault.BlobFault}
 use Rattle.uimg_blob_reading.specs.declared.tokens.ReadToken.TheVariants.{BeginNode, BadBeginNode}
 use Rattle.uimg_blob_reading.specs.declared.tokens.ReadToken.TheVariants.{EndNode, Prop, BadProp}
 use Rattle.uimg_blob_reading.specs.declared.tokens.ReadToken.TheVariants.{Nop, End, Stray}
-use Rattle.uimg_blob_reading.specs.Keys.{key_named}
-use Rattle.uimg_blob_reading.specs.declared.fault.BlobFault.{BlobFault}
-use Rattle.uimg_blob_reading.specs.Faults.{refuses_memory, is_too_large}
-use Rattle.uimg_blob_reading.specs.Labels.{label_of}
-use Rattle.uimg_blob_reading.specs.Extents.{blocks_of}
+use Rattle.uimg_blob_reading.specs.{Keys.key_named, Labels.label_of, Extents.blocks_of}
+use Rattle.uimg_blob_reading.specs.{Faults.{refuses_memory, is_too_large}, Tokens.{stray, token_at}}
 use Rattle.uimg_blob_reading.specs.Tokens.{Token, Property, begin_node, end_node, prop, nop, last}
-use Rattle.uimg_blob_reading.specs.Tokens.{stray, token_at}
 
 -- the most bytes requested to read a token: its word, 256 of a name, a property's two fields
 abbrev pub cost : Token → ℕ

@@ -1,20 +1,17 @@
 -- What a node is by its place in the tree (Flattened Image Tree format, "Root node", "'/images'
 -- node", "'/configurations' node", "Hash nodes").
 use Rattle.std.specs.Prelude.{ℕ, ◌==◌, ◌||◌, List, [], ◌∷◌, Bool, true, false, codes, if◌then◌else◌}
-use Rattle.std.specs.List.{starts_with}
-use Rattle.std.specs.Str.{bytes_eq}
-use Rattle.uimg_blob_reading.specs.declared.keys.Key.{Key}
+use Rattle.std.specs.{List.starts_with, Str.bytes_eq}
+use Rattle.uimg_blob_reading.specs.declared.keys.Key.{Key, TheVariants.{DataPosition, Algo, Value}}
 use Rattle.uimg_blob_reading.specs.declared.keys.Key.TheVariants.{Description, Timestamp, Data}
 use Rattle.uimg_blob_reading.specs.declared.keys.Key.TheVariants.{Kind, Arch, Os, Compression, Load}
 use Rattle.uimg_blob_reading.specs.declared.keys.Key.TheVariants.{Entry, DataSize, DataOffset}
-use Rattle.uimg_blob_reading.specs.declared.keys.Key.TheVariants.{DataPosition, Algo, Value}
 use Rattle.uimg_blob_reading.specs.declared.keys.Key.TheVariants.{Default, Kernel, Ramdisk, Fdt}
 use Rattle.uimg_blob_reading.specs.declared.keys.Key.TheVariants.{Loadables, Firmware, Fpga, Setup}
 use Rattle.uimg_blob_reading.specs.declared.keys.Key.TheVariants.{Standalone, Script}
-use Rattle.uimg_blob_reading.specs.declared.roles.Role.{Role}
+use Rattle.uimg_blob_reading.specs.declared.roles.Role.{Role, TheVariants.Other}
 use Rattle.uimg_blob_reading.specs.declared.roles.Role.TheVariants.{Root, Images, Image, Hash}
 use Rattle.uimg_blob_reading.specs.declared.roles.Role.TheVariants.{Configurations, Configuration}
-use Rattle.uimg_blob_reading.specs.declared.roles.Role.TheVariants.{Other}
 
 -- The level of siblings: the root alone, the root's children (and whether an `images` and a
 -- `configurations` come before), the children of these two, those of an image, and all others.

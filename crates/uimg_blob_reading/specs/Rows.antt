@@ -1,7 +1,6 @@
 -- The nodes of a tree in reading order, with their links.
 use Rattle.std.specs.Prelude.{ℕ, ◌+◌, List, [], ◌∷◌, ◌++◌, Option, Some, None, Bool, if◌then◌else◌}
-use Rattle.uimg_blob_reading.specs.declared.roles.Role.{Role}
-use Rattle.uimg_blob_reading.specs.Tokens.{Property}
+use Rattle.uimg_blob_reading.specs.{declared.roles.Role.Role, Tokens.Property}
 use Rattle.uimg_blob_reading.specs.Grammar.{Siblings, none, node}
 use Rattle.uimg_blob_reading.specs.Roles.{Level, top, role_at, level_in, level_after}
 

@@ -1,11 +1,8 @@
 -- What is kept of the nodes so far, while some are open. The innermost open node comes first.
 use Rattle.std.specs.Prelude.{ℕ, ◌+◌, List, [], ◌∷◌, ◌++◌, map, Option, Some, None}
-use Rattle.uimg_blob_reading.specs.Tokens.{Property}
-use Rattle.uimg_blob_reading.specs.Grammar.{Siblings, none, node}
-use Rattle.uimg_blob_reading.specs.Walk.{Open, opened}
-use Rattle.uimg_blob_reading.specs.Roles.{Level, top, role_at, level_in, level_after}
-use Rattle.uimg_blob_reading.specs.Rows.{size}
-use Rattle.uimg_blob_reading.specs.Kept.{Kept, kept, entry_of}
+use Rattle.uimg_blob_reading.specs.{Tokens.Property, Grammar.{Siblings, none, node}}
+use Rattle.uimg_blob_reading.specs.{Walk.{Open, opened}, Kept.{Kept, kept, entry_of}}
+use Rattle.uimg_blob_reading.specs.{Roles.{Level, top, role_at, level_in, level_after}, Rows.size}
 
 -- the level of the nodes after some siblings
 unfoldable pub level_past : Level → Siblings → Level

@@ -1,7 +1,6 @@
 -- The nodes of a file, each value with its offset.
 use Rattle.std.specs.Prelude.{ℕ, List, map}
-use Rattle.uimg_blob_reading.specs.Tokens.{Property}
-use Rattle.uimg_blob_reading.specs.Grammar.{Siblings, none, node}
+use Rattle.uimg_blob_reading.specs.{Tokens.Property, Grammar.{Siblings, none, node}}
 use Rattle.uimg_blob_reading.specs.Plain.{NamedOf, NodesOf, no_node, a_node}
 
 -- A value and its offset in the file.

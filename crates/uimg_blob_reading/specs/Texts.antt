@@ -1,14 +1,9 @@
 -- Texts as written, and short texts as read.
 use Rattle.std.specs.Prelude.{◌≡◌, ◌<◌, ℕ, List, length, take, Option, Some, None, Result, is_err}
 use Rattle.std.specs.Prelude.{IsTrue}
-use Rattle.uimg_texts.specs.Nul.{text}
-use Rattle.uimg_texts.specs.Slices.{slice}
-use Rattle.uimg_base.specs.declared.ranges.MoveFault.{MoveFault}
-use Rattle.uimg_base.specs.Device.{Device, RisesIf}
-use Rattle.uimg_base.specs.Sink.{Sink}
-use Rattle.uimg_base.specs.Using.{Asks}
-use Rattle.uimg_base.specs.Writing.{Written}
-use Rattle.uimg_base.specs.Ranges.{is_read, is_put}
+use Rattle.uimg_texts.specs.{Nul.text, Slices.slice}
+use Rattle.uimg_base.specs.{declared.ranges.MoveFault.MoveFault, Device.{Device, RisesIf}}
+use Rattle.uimg_base.specs.{Sink.Sink, Using.Asks, Writing.Written, Ranges.{is_read, is_put}}
 
 -- The text in these bytes was written, at most these bytes were requested, faults were counted.
 pub record PutsText {X : Type 0} (at count : ℕ) (result : Result X MoveFault) (d e : Device)

@@ -1,13 +1,10 @@
 -- The structure block as a list of tokens (Devicetree Specification, section 5.4.1).
 use Rattle.std.specs.Prelude.{ℕ, zero, suc, ◌+◌, ◌-◌, List, [], ◌∷◌, length, take, drop, Option}
 use Rattle.std.specs.Prelude.{Some, None, Result, Ok, Err, nat_lt, ◌==◌, if◌then◌else◌}
-use Rattle.uimg_texts.specs.Nul.{before_nul}
-use Rattle.uimg_texts.specs.Slices.{slice}
-use Rattle.uimg_blob_reading.specs.declared.fault.BlobFault.{BlobFault}
+use Rattle.uimg_texts.specs.{Nul.before_nul, Slices.slice, Numbers.{be32, up4}}
+use Rattle.uimg_blob_reading.specs.declared.fault.BlobFault.{BlobFault, TheVariants.BadNodeName}
 use Rattle.uimg_blob_reading.specs.declared.fault.BlobFault.TheVariants.{BadToken, Truncated}
-use Rattle.uimg_blob_reading.specs.declared.fault.BlobFault.TheVariants.{BadNodeName}
 use Rattle.uimg_blob_reading.specs.declared.fault.BlobFault.TheVariants.{BadPropertyName}
-use Rattle.uimg_texts.specs.Numbers.{be32, up4}
 
 -- A property: its name, the offset of its value in the file, and the value.
 pub record Property : Type 0 where

@@ -1,11 +1,8 @@
 -- The grammar as one pass over the tokens, with a stack of open nodes.
 use Rattle.std.specs.Prelude.{ℕ, List, [], ◌∷◌, ◌++◌, Result, Ok, Err}
-use Rattle.uimg_blob_reading.specs.declared.fault.BlobFault.{BlobFault}
-use Rattle.uimg_blob_reading.specs.declared.fault.BlobFault.TheVariants.{BadNesting}
-use Rattle.uimg_blob_reading.specs.Reading.{Fault}
+use Rattle.uimg_blob_reading.specs.declared.fault.BlobFault.{BlobFault, TheVariants.BadNesting}
+use Rattle.uimg_blob_reading.specs.{Reading.Fault, Tokens.stray, Grammar.{Siblings, none, node}}
 use Rattle.uimg_blob_reading.specs.Tokens.{Property, Token, begin_node, end_node, prop, nop, last}
-use Rattle.uimg_blob_reading.specs.Tokens.{stray}
-use Rattle.uimg_blob_reading.specs.Grammar.{Siblings, none, node}
 
 -- An open node: its offset, its name, and its properties and children so far.
 pub data Open : Type 0 where

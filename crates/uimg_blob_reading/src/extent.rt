@@ -3,8 +3,7 @@
 ghost use Rattle.std.specs.Prelude.{◌≡◌, ℕ, ◌+◌, ◌≤◌, List, length, false, IfOk};
 ghost use Rattle.uimg_blob_reading.specs.Extents.{IsInside, HeadsFile, GivesBlocks};
 ghost use Rattle.uimg_blob_reading.specs.Faults.{is_read, is_out_of_memory, is_of_making};
-ghost use Rattle.uimg_base.specs.Honest.{HonestSource};
-ghost use Rattle.uimg_base.specs.Using.{Asks};
+ghost use Rattle.uimg_base.specs.{Honest.HonestSource, Using.Asks};
 
 use crate::fault::{BlobFault, IndexFault};
 use uimg_base::{Source, be32_at};

@@ -1,14 +1,12 @@
 //! The pass over the tokens that gives each node an entry.
 
 ghost use Rattle.std.specs.Prelude.{◌≡◌, [], ◌^◌, ◌<◌, length, IfOk, false};
-ghost use Rattle.uimg_base.specs.Honest.{HonestSource};
-ghost use Rattle.uimg_base.specs.Using.{UsesWithin};
+ghost use Rattle.uimg_base.specs.{Honest.HonestSource, Using.UsesWithin};
 ghost use Rattle.uimg_texts.specs.Numbers.{be32};
-ghost use Rattle.uimg_blob_reading.specs.Counts.{index_cost, nodes_met};
-ghost use Rattle.uimg_blob_reading.specs.Extents.{IsInside};
+ghost use Rattle.uimg_blob_reading.specs.{Counts.{index_cost, nodes_met}, Extents.IsInside};
 ghost use Rattle.uimg_blob_reading.specs.Faults.{is_read, is_out_of_memory, is_of_making};
-ghost use Rattle.uimg_blob_reading.specs.Indexed.{Finds, KeepsWithin, TakesNodes, IndexesTree, LeavesPrefix, LeavesSoFar};
 ghost use Rattle.uimg_blob_reading.specs.Acting.{Suits, TakesStep, GoesOver};
+ghost use Rattle.uimg_blob_reading.specs.Indexed.{Finds, KeepsWithin, TakesNodes, IndexesTree, LeavesPrefix, LeavesSoFar};
 
 use crate::extent::{Extent, read_extent};
 use crate::fault::IndexFault;

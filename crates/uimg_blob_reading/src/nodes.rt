@@ -1,10 +1,8 @@
 //! The indexed blob, and queries on it.
 
-ghost use Rattle.std.specs.Prelude.{◌≡◌, ℕ, ◌+◌, ◌*◌, ◌^◌, ◌<◌, ◌≤◌, List, length, Option, IfSome};
-ghost use Rattle.std.specs.List.{slice_get};
-ghost use Rattle.std.specs.Option.{option_map};
-ghost use Rattle.uimg_blob_reading.specs.Tokens.{Property};
-ghost use Rattle.uimg_blob_reading.specs.Roles.{is_hash_role};
+ghost use Rattle.std.specs.Prelude.{◌≡◌, ℕ, ◌+◌, ◌^◌, ◌<◌, ◌≤◌, length, Option, IfSome};
+ghost use Rattle.std.specs.{List.slice_get, Option.option_map};
+ghost use Rattle.uimg_blob_reading.specs.{Tokens.Property, Roles.is_hash_role};
 ghost use Rattle.uimg_blob_reading.specs.Kept.{span_word, value_word, entry_under};
 ghost use Rattle.uimg_blob_reading.specs.Indexed.{OfRow, WhereIndexed, name_span, property_span, value_span, value_of};
 

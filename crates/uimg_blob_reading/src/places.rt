@@ -1,8 +1,7 @@
 //! The spans of a property, read from its token.
 
 ghost use Rattle.std.specs.Prelude.{◌≡◌, ◌+◌, ◌^◌, ◌<◌, ◌≤◌, length, IfOk, IfSome};
-ghost use Rattle.uimg_blob_reading.specs.Extents.{IsInside, blocks_of};
-ghost use Rattle.uimg_blob_reading.specs.Tokens.{property_at};
+ghost use Rattle.uimg_blob_reading.specs.{Extents.{IsInside, blocks_of}, Tokens.property_at};
 ghost use Rattle.uimg_blob_reading.specs.ReadTokens.{Answers};
 ghost use Rattle.uimg_blob_reading.specs.Places.{NameIs, FindsPlace, Lies, MeetsToken};
 

@@ -2,11 +2,8 @@
 
 ghost use Rattle.std.specs.Prelude.{◌≡◌, ◌+◌, ◌*◌, ◌^◌, ◌<◌, ◌≤◌, length, Ok, IfOk};
 ghost use Rattle.uimg_texts.specs.Numbers.{be32};
-ghost use Rattle.uimg_base.specs.Honest.{HonestSource};
-ghost use Rattle.uimg_base.specs.Using.{Asks, Uses};
-ghost use Rattle.uimg_blob_reading.specs.Grammar.{Siblings};
-ghost use Rattle.uimg_blob_reading.specs.Blob.{tree};
-ghost use Rattle.uimg_blob_reading.specs.Counts.{nops_met};
+ghost use Rattle.uimg_base.specs.{Honest.HonestSource, Using.{Asks, Uses}};
+ghost use Rattle.uimg_blob_reading.specs.{Grammar.Siblings, Blob.tree, Counts.nops_met};
 ghost use Rattle.uimg_blob_reading.specs.Extents.{IsInside};
 ghost use Rattle.uimg_blob_reading.specs.Properties.{is_unread, places_of, TellsPlaces, LieInside, OfRowRead, TakesToken, TakesTokens, FindsBlocks};
 

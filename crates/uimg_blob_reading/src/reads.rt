@@ -2,8 +2,7 @@
 
 ghost use Rattle.std.specs.Prelude.{◌≡◌, ◌+◌, ◌≤◌, length, take, IfOk};
 ghost use Rattle.uimg_texts.specs.Numbers.{be32};
-ghost use Rattle.uimg_blob_reading.specs.Tokens.{reach};
-ghost use Rattle.uimg_blob_reading.specs.ReadTokens.{Answers};
+ghost use Rattle.uimg_blob_reading.specs.{Tokens.reach, ReadTokens.Answers};
 
 use uimg_base::{Source, SourceFault, WINDOW, be32_at};
 

@@ -1,13 +1,10 @@
 //! The state of a pass, and what each token does to it.
 
 ghost use Rattle.std.specs.Prelude.{◌≡◌, ◌+◌, ◌-◌, ◌^◌, ◌<◌, ℕ, List, length, IfSome};
-ghost use Rattle.uimg_blob_reading.specs.Tokens.{Token};
-ghost use Rattle.uimg_blob_reading.specs.Labels.{label_of};
-ghost use Rattle.uimg_blob_reading.specs.Roles.{role_at};
-ghost use Rattle.uimg_blob_reading.specs.SoFar.{next_level};
-ghost use Rattle.uimg_blob_reading.specs.ReadTokens.{IsReadAs, Stands, IsSound};
-ghost use Rattle.uimg_blob_reading.specs.Passes.{Phase, InPhase, stack, is_done, bare, is_after, child_level, noted_images, noted_configurations};
+ghost use Rattle.uimg_blob_reading.specs.{Tokens.Token, Labels.label_of, Roles.role_at};
+ghost use Rattle.uimg_blob_reading.specs.{SoFar.next_level, ReadTokens.{IsReadAs, Stands, IsSound}};
 ghost use Rattle.uimg_blob_reading.specs.Acting.{Suits, Does};
+ghost use Rattle.uimg_blob_reading.specs.Passes.{Phase, InPhase, stack, is_done, bare, is_after, child_level, noted_images, noted_configurations};
 ghost use Rattle.uimg_blob_reading.specs.declared.tokens.ReadToken.TheVariants.{BeginNode, EndNode, Prop};
 
 use crate::entries::{PARENT, ROLE, enter, keep, leave, number_in, role_in};

@@ -2,13 +2,9 @@
 
 ghost use Rattle.std.specs.Prelude.{◌≡◌, ◌+◌, ◌<◌, ◌≤◌, length, is_err, nat_lt, Some, None, IfOk, IfSome, if◌then◌else◌};
 ghost use Rattle.std.specs.Option.{is_some};
-ghost use Rattle.uimg_texts.specs.Nul.{before_nul, text};
-ghost use Rattle.uimg_texts.specs.Slices.{slice};
-ghost use Rattle.uimg_base.specs.Honest.{HonestSource};
-ghost use Rattle.uimg_base.specs.Device.{RisesIf};
-ghost use Rattle.uimg_base.specs.Ranges.{is_read, is_put};
-ghost use Rattle.uimg_base.specs.Using.{Asks};
-ghost use Rattle.uimg_base.specs.Writing.{Written};
+ghost use Rattle.uimg_texts.specs.{Nul.{before_nul, text}, Slices.slice};
+ghost use Rattle.uimg_base.specs.{Honest.HonestSource, Device.RisesIf, Ranges.{is_read, is_put}};
+ghost use Rattle.uimg_base.specs.{Using.Asks, Writing.Written};
 ghost use Rattle.uimg_blob_reading.specs.Texts.{PutsText, GivesShort};
 
 use std::alloc::Allocator;

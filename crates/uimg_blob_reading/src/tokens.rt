@@ -3,8 +3,7 @@
 ghost use Rattle.std.specs.Prelude.{◌≡◌, ℕ, ◌+◌, ◌^◌, ◌<◌, ◌≤◌, length, IfOk, IfErr};
 ghost use Rattle.std.specs.Option.{option_map};
 ghost use Rattle.uimg_texts.specs.Nul.{before_nul};
-ghost use Rattle.uimg_blob_reading.specs.Extents.{IsInside, blocks_of};
-ghost use Rattle.uimg_blob_reading.specs.Keys.{key_named};
+ghost use Rattle.uimg_blob_reading.specs.{Extents.{IsInside, blocks_of}, Keys.key_named};
 ghost use Rattle.uimg_blob_reading.specs.Tokens.{reach, begins, property_at, prop};
 ghost use Rattle.uimg_blob_reading.specs.Places.{IsHead, HeadWithin};
 ghost use Rattle.uimg_blob_reading.specs.ReadTokens.{IsReadAs, IsSound, IsOfToken, Stands, Answers, ReadsToken, ReadsTokenAt};

@@ -1,9 +1,8 @@
 -- What rounding up by an alignment gives.
-use Rattle.std.proofs.Common.{◌≡◌, ◌≤◌, ◌<◌, ◌^◌, ◌⊎◌, inl, inr, ℕ, ◌+◌, ◌-◌, ◌*◌, ◌/◌, ◌%◌, List, ◌++◌, length, replicate, ◌∙◌, length-append, subst, ap, arith}
-use Rattle.std.proofs.lemmas.Bool.{cases_lt}
-use lib.Bits.{bit_and, and_self}
-use Rattle.std.proofs.lemmas.Nat.{and_le_r, and_mask, pow_pos, div-add-mod'}
+use Rattle.std.proofs.Common.{◌≡◌, ◌≤◌, ◌<◌, ◌^◌, ◌⊎◌, inl, inr, ℕ, ◌+◌, ◌-◌, ◌*◌, ◌/◌, ◌%◌, List, length, replicate, ◌∙◌, length-append, subst, ap, arith}
+use Rattle.std.proofs.lemmas.{Bool.cases_lt, Nat.{and_le_r, and_mask, pow_pos, div-add-mod'}}
 use Rattle.std.proofs.lemmas.List.{length-replicate}
+use lib.Bits.{bit_and, and_self}
 use Rattle.uimg_texts.specs.Numbers.{up4}
 use Rattle.uimg_blob_writing.specs.Alignment.{rounded, aligned, padded_by}
 

@@ -1,10 +1,8 @@
 -- Definitions tried on worked cases.
 use Rattle.std.specs.Prelude.{◌≡◌, [], ◌∷◌, refl, Ok}
-use Rattle.uimg_texts.specs.Nul.{before_nul}
-use Rattle.uimg_blob_reading.specs.Tokens.{tokens_from, token_at}
-use Rattle.uimg_texts.specs.Numbers.{be32}
+use Rattle.uimg_texts.specs.{Nul.before_nul, Numbers.be32}
+use Rattle.uimg_blob_reading.specs.{Tokens.{tokens_from, token_at}, Blob.{tree, blocks}}
 use Rattle.uimg_blob_reading.specs.Grammar.{root, properties, children, without_nops}
-use Rattle.uimg_blob_reading.specs.Blob.{tree, blocks}
 use Rattle.uimg_blob_reading.specs.Plain.{Nodes, no_node, a_node, unplaced_in}
 use Rattle.uimg_blob_writing.specs.Alignment.{aligned}
 use Rattle.uimg_blob_writing.specs.Encoding.{with_names, with_names_in, name_offset, property_bytes, nodes_bytes, blob, encode}

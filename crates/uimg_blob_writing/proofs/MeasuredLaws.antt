@@ -1,36 +1,14 @@
 -- The first bad name, one step at a time.
-use Rattle.std.proofs.Common.{◌≡◌, ℕ, zero, suc, List, [], ◌∷◌, length, Option, Some, None, Result, Ok, Err, Bool, true, false, is_none, nat_le, ◌&&◌, if◌then◌else◌, refl, ap, sym, ◌∙◌, arith}
-use Rattle.std.proofs.lemmas.Bool.{leb-true}
-use Rattle.std.specs.Option.{option_or}
-use Rattle.std.specs.Result.{IsErrAnd}
-use Rattle.uimg_blob_reading.specs.declared.fault.BlobFault.{BlobFault}
-use Rattle.uimg_blob_reading.specs.declared.fault.BlobFault.TheVariants.{BadNodeName, BadPropertyName, OutOfMemory}
-use Rattle.uimg_blob_reading.specs.Faults.{refuses_memory}
-use Rattle.uimg_texts.specs.Nul.{before_nul}
-use Rattle.uimg_blob_writing.specs.declared.tree.Node.{Node}
+use Rattle.std.proofs.Common.{◌≡◌, ℕ, List, [], ◌∷◌, length, Option, Some, None, Result, Ok, Err, Bool, true, false, is_none, nat_le, ◌&&◌, if◌then◌else◌, refl, ap, sym, ◌∙◌}
+use Rattle.std.{proofs.lemmas.Bool.leb-true, specs.{Option.option_or, Result.IsErrAnd}}
 use Rattle.std.specs.List.{AllByRecursion}
+use Rattle.uimg_blob_reading.specs.{declared.fault.BlobFault.BlobFault, Faults.refuses_memory}
 use Rattle.uimg_blob_reading.specs.Plain.{NamedOf, NodesOf, no_node, a_node, IsName, AreNamed}
-use Rattle.uimg_blob_writing.specs.Content.{Content, Unread}
+use Rattle.uimg_blob_reading.specs.declared.fault.BlobFault.TheVariants.{BadNodeName, BadPropertyName, OutOfMemory}
+use Rattle.uimg_texts.specs.Nul.{before_nul}
+use Rattle.uimg_blob_writing.specs.{declared.tree.Node.Node, Content.{Content, Unread}}
 use Rattle.uimg_blob_writing.specs.Trees.{siblings, node_of}
 use Rattle.uimg_blob_writing.specs.Measured.{is_name, bad_property, bad_name, fault_in}
-
-pub nul-first : (b : ℕ) (rest : List ℕ) → b ≡ 0 → is_none (before_nul (b ∷ rest)) ≡ false
-unfolding before_nul
-nul-first zero rest e = refl
-nul-first (suc b) rest e = absurd (omega (arith, e))
-
-nul-before : (b : ℕ) (found : Option (List ℕ)) → is_none (elim found as (λ _. Option (List ℕ)) [ None ↦ None | Some name ↦ Some (suc b ∷ name) ]) ≡ is_none found
-nul-before b None = refl
-nul-before b (Some name) = refl
-
-pub nul-other : (b : ℕ) (rest : List ℕ) → (b ≡ 0 → ⊥) → is_none (before_nul (b ∷ rest)) ≡ is_none (before_nul rest)
-unfolding before_nul
-nul-other zero rest h = absurd (h refl)
-nul-other (suc b) rest h = nul-before b (before_nul rest)
-
-pub nul-none : is_none (before_nul []) ≡ true
-unfolding before_nul
-nul-none = refl
 
 pub property-good : {V : Type 0} (p : NamedOf V) (own : List (NamedOf V)) → is_name p.name ≡ true → bad_property (p ∷ own) ≡ bad_property own
 unfolding bad_property
@@ -47,11 +25,6 @@ property-none = refl
 pub node-bad : {V : Type 0} (name : List ℕ) (own : List (NamedOf V)) (below after : NodesOf V) → is_name name ≡ false → bad_name (a_node name own below after) ≡ Some BadNodeName
 unfolding bad_name
 node-bad name own below after e = rw e refl
-
-pub node-good : {V : Type 0} (name : List ℕ) (own : List (NamedOf V)) (below after : NodesOf V) → is_name name ≡ true
-    → bad_name (a_node name own below after) ≡ option_or (bad_property own) (option_or (bad_name below) (bad_name after))
-unfolding bad_name
-node-good name own below after e = rw e refl
 
 or-none : (o : Option BlobFault) → option_or o None ≡ o
 or-none None = refl

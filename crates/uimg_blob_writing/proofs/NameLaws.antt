@@ -1,13 +1,8 @@
 -- Each name stands among the strings at its offset.
 use Rattle.std.proofs.Common.{◌≡◌, ◌≤◌, ℕ, ◌+◌, List, [], ◌∷◌, ◌++◌, length, drop, Bool, true, false, if◌then◌else◌, refl, ap, sym, ◌∙◌, append_assoc, length-append, arith, Result, Ok, Err}
-use Rattle.std.specs.Bool.{⊤}
-use Rattle.std.specs.List.{list_any, AllByRecursion}
-use Rattle.std.specs.Str.{bytes_eq}
-use Rattle.std.proofs.lemmas.Bool.{or_left, or_right}
-use Rattle.std.proofs.lemmas.Slice.Eq.{bytes_eq-Decides}
-use Rattle.std.proofs.lemmas.List.Folds.{list_any-append}
-use Rattle.std.proofs.Math.Seq.{drop-append-add}
-use Rattle.std.specs.Result.{OnErr}
+use Rattle.std.specs.{Bool.⊤, List.{list_any, AllByRecursion}, Str.bytes_eq, Result.OnErr}
+use Rattle.std.proofs.lemmas.{Bool.{or_left, or_right}, Slice.Eq.bytes_eq-Decides}
+use Rattle.std.proofs.{lemmas.List.Folds.list_any-append, Math.Seq.drop-append-add}
 use Rattle.uimg_blob_reading.specs.Plain.{Named, NamedOf, Nodes, NodesOf, no_node, a_node}
 use Rattle.uimg_blob_writing.specs.Encoding.{with_nul, strings, name_offset, with_name, with_names, with_names_in}
 

@@ -2,17 +2,9 @@
 use Rattle.std.proofs.Common.{◌≡◌, ◌<◌, ◌++◌, ℕ, zero, suc, List, [], ◌∷◌, length, get_or, refl, ap, ◌∙◌, append_assoc, arith}
 use Rattle.std.specs.List.{flat_map}
 use Rattle.uimg_blob_reading.specs.Plain.{AllValues}
-use Rattle.uimg_blob_writing.specs.declared.tree.Node.{Node}
-use Rattle.uimg_blob_writing.specs.Content.{Content, bytes, count}
-use Rattle.uimg_blob_writing.specs.Encoding.{word}
-use Rattle.uimg_blob_writing.specs.Trees.{siblings, node_of}
+use Rattle.uimg_blob_writing.specs.{declared.tree.Node.Node, Content.{Content, bytes, count}}
+use Rattle.uimg_blob_writing.specs.{Encoding.word, Trees.{siblings, node_of}}
 use Rattle.uimg_blob_writing.specs.Pieces.{begin_bytes, property_pieces, nodes_pieces}
-
--- the pieces of a node
-pub node-pieces : {A : Type 0} (names : List (List ℕ)) (n : Node A)
-    → bytes (begin_bytes n.name) ∷ (flat_map (property_pieces names) n.props ++ (nodes_pieces names n.children ++ bytes (word 2) ∷ [])) ≡ nodes_pieces names (node_of n)
-unfolding nodes_pieces
-node-pieces names n = refl
 
 -- the pieces of nodes are those of each
 pub siblings-pieces : {A : Type 0} (names : List (List ℕ)) (ns : List (Node A)) → flat_map (λ n. nodes_pieces names (node_of n)) ns ≡ nodes_pieces names (siblings ns)

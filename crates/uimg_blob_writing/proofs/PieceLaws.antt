@@ -3,9 +3,8 @@ use Rattle.std.proofs.Common.{◌≡◌, ◌+◌, ◌++◌, ℕ, List, [], ◌�
 use Rattle.std.specs.List.{flat_map, AllByRecursion}
 use Rattle.uimg_blob_reading.specs.Plain.{NamedOf, no_node, a_node, with_value, with_values, AllValues}
 use Rattle.uimg_blob_writing.specs.Content.{Content, Unread, bytes, size_of, content_bytes, in_full, IsKept, AreKept}
-use Rattle.uimg_blob_writing.specs.Alignment.{padding_by}
+use Rattle.uimg_blob_writing.specs.{Alignment.padding_by, Layouts.{nodes_size, plan_of}}
 use Rattle.uimg_blob_writing.specs.Encoding.{word, padded, header, strings, blob_size, blob, encode_by, with_nul, names_of, name_offset, property_bytes, nodes_bytes}
-use Rattle.uimg_blob_writing.specs.Layouts.{nodes_size, plan_of}
 use Rattle.uimg_blob_writing.specs.Pieces.{padding, begin_bytes, head_bytes, property_pieces, nodes_pieces, blob_pieces}
 use Rattle.uimg_blob_writing.proofs.SizeLaws.{kept-size, length-nodes, names_of-values}
 use Rattle.uimg_blob_writing.proofs.WritesLaws.{all-first, all-second, all-both, flat_map-both}

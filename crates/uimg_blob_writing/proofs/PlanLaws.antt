@@ -1,11 +1,9 @@
 -- What measuring answers, from its parts.
 use Rattle.std.proofs.Common.{◌≡◌, ◌≤◌, ◌<◌, ℕ, Some, None, Result, Ok, Err, true, false, nat_lt, is_err, refl, ap, sym, ◌∙◌}
-use Rattle.std.proofs.lemmas.Bool.{le-ltb, lt-ltb}
-use Rattle.std.specs.Result.{IsErrAnd, OnOk}
+use Rattle.std.{proofs.lemmas.Bool.{le-ltb, lt-ltb}, specs.Result.{IsErrAnd, OnOk}}
 use Rattle.uimg_blob_reading.specs.declared.fault.BlobFault.{BlobFault}
 use Rattle.uimg_blob_reading.specs.declared.fault.BlobFault.TheVariants.{TooLarge, OutOfMemory}
-use Rattle.uimg_blob_writing.specs.Content.{Unread}
-use Rattle.uimg_blob_writing.specs.Layouts.{Plan, plan_of, totalsize}
+use Rattle.uimg_blob_writing.specs.{Content.Unread, Layouts.{Plan, plan_of, totalsize}}
 use Rattle.uimg_blob_writing.specs.Measured.{bad_name, measured, Measures}
 
 pub on-ok : {X E P : Type 0} (r : Result X E) → is_err r ≡ false → OnOk r P → P

@@ -1,13 +1,11 @@
 -- The tree of a tree's blob, and of a file that begins with it, is that tree with its places.
 use Rattle.std.proofs.Common.{◌≡◌, ◌≤◌, ◌<◌, ℕ, suc, ◌+◌, ◌-◌, ◌^◌, List, [], ◌∷◌, ◌++◌, length, drop, replicate, Some, Result, Ok, false, nat_lt, refl, ap, sym, ◌∙◌, append_assoc, length-append, arith}
-use Rattle.std.specs.List.{AllByRecursion}
-use Rattle.std.proofs.lemmas.Bool.{le-ltb}
+use Rattle.std.{specs.List.AllByRecursion, proofs.lemmas.Bool.le-ltb}
 use Rattle.std.proofs.lemmas.List.{drop-drop, drop-append-le}
 use Rattle.uimg_texts.specs.Numbers.{be32}
 use Rattle.uimg_base.specs.Results.{◌>>=◌}
-use Rattle.uimg_blob_reading.specs.Reading.{Fault}
+use Rattle.uimg_blob_reading.specs.{Reading.Fault, Grammar.{root, without_nops}}
 use Rattle.uimg_blob_reading.specs.Tokens.{Token, Blocks, last, token_at, tokens_from, tokens}
-use Rattle.uimg_blob_reading.specs.Grammar.{root, without_nops}
 use Rattle.uimg_blob_reading.specs.Blob.{magic, blocks, tree}
 use Rattle.uimg_blob_reading.specs.Plain.{Named, Nodes, no_node, a_node, IsName, AreNamed, unplaced_in}
 use Rattle.uimg_blob_writing.specs.Alignment.{aligned, padding_by}

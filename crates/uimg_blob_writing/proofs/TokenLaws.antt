@@ -1,15 +1,10 @@
 -- The tokens of the bytes of a tree are its tokens.
 use Rattle.std.proofs.Common.{◌≡◌, ◌≤◌, ◌<◌, ℕ, zero, suc, ◌+◌, ◌-◌, ◌^◌, List, [], ◌∷◌, ◌++◌, length, take, drop, replicate, Option, Some, None, Ok, true, false, nat_lt, refl, ap, sym, ◌∙◌, append_assoc, length-append, arith}
-use Rattle.std.specs.Bool.{⊤}
-use Rattle.std.specs.Int.{from_be_bytes, w32}
-use Rattle.std.specs.List.{flat_map, AllByRecursion}
-use Rattle.std.proofs.lemmas.Nat.{from_be_bytes-to_be_bytes_4}
-use Rattle.std.proofs.lemmas.List.{drop-drop, length-replicate}
+use Rattle.std.specs.{Bool.⊤, Int.{from_be_bytes, w32}, List.{flat_map, AllByRecursion}}
+use Rattle.std.proofs.lemmas.{Nat.from_be_bytes-to_be_bytes_4, List.{drop-drop, length-replicate}}
 use Rattle.std.proofs.lemmas.Bool.{le-ltb, lt-ltb}
 use Rattle.std.proofs.Math.Seq.{drop-append_seam, take-append_seam, take-append-add}
-use Rattle.uimg_texts.specs.Slices.{slice}
-use Rattle.uimg_texts.specs.Numbers.{be32, up4}
-use Rattle.uimg_texts.specs.Nul.{before_nul}
+use Rattle.uimg_texts.specs.{Slices.slice, Numbers.{be32, up4}, Nul.before_nul}
 use Rattle.uimg_blob_reading.specs.Tokens.{Blocks, begin_node, end_node, prop, last, reach, node_name, by_word, token_at, tokens_from}
 use Rattle.uimg_blob_reading.specs.Plain.{Named, Nodes, no_node, a_node, IsName}
 use Rattle.uimg_blob_writing.specs.Encoding.{word, padded, with_nul, name_offset, property_bytes, nodes_bytes}

@@ -2,9 +2,8 @@
 use Rattle.std.proofs.Common.{◌≡◌, ◌<◌, ◌^◌, ◌+◌, ℕ, List, length, map, Option, ap, ◌∙◌, length-append, arith}
 use Rattle.uimg_blob_reading.specs.Plain.{NamedOf, no_node, a_node, with_value, with_values, AreNamed}
 use Rattle.uimg_blob_writing.specs.Content.{Content, Unread, content_bytes, in_full, AreKept}
+use Rattle.uimg_blob_writing.specs.{Layouts.{nodes_size, totalsize, plan_of}, ReadsBack.ReadsBack}
 use Rattle.uimg_blob_writing.specs.Encoding.{word, strings, structure, blob_size, encode_by, names_of, nodes_bytes}
-use Rattle.uimg_blob_writing.specs.Layouts.{nodes_size, totalsize, plan_of}
-use Rattle.uimg_blob_writing.specs.ReadsBack.{ReadsBack}
 use Rattle.uimg_blob_writing.proofs.SizeLaws.{length-nodes, names_of-values, named-values}
 use Rattle.uimg_blob_writing.proofs.ReadsBackLaw.{length-encode, reads_back}
 

@@ -1,20 +1,13 @@
 -- Pieces that are written in two steps are written in one.
 use Rattle.std.proofs.Common.{◌≡◌, ◌≤◌, ◌<◌, ◌+◌, ℕ, zero, suc, List, [], ◌∷◌, ◌++◌, length, map, take, drop, get_or, Option, Result, Ok, Err, Bool, true, false, IsTrue, is_err, refl, ap, sym, subst, ◌∙◌, append_assoc, append-nil, arith}
-use Rattle.std.specs.Bool.{OnFalse}
-use Rattle.std.proofs.lemmas.List.{take_all}
-use Rattle.std.specs.List.{flat_map, AllByRecursion}
+use Rattle.std.{specs.{Bool.OnFalse, List.{flat_map, AllByRecursion}}, proofs.lemmas.List.take_all}
 use Rattle.std.specs.Result.{IsErrAnd, OnOk}
-use Rattle.uimg_base.specs.Device.{RisesIf}
-use Rattle.uimg_base.specs.Sink.{Sink}
-use Rattle.uimg_base.specs.Named.{FileMap, SameFiles}
-use Rattle.uimg_base.specs.Writing.{Writes, Written}
-use Rattle.uimg_base.proofs.SinkLaws.{prefix_first, prefix_none, Appends-none}
+use Rattle.uimg_base.specs.{Device.RisesIf, Sink.Sink, Named.{FileMap, SameFiles}}
+use Rattle.uimg_base.{specs.Writing.{Writes, Written}, proofs.SinkLaws.prefix_first}
 use Rattle.uimg_base.proofs.WritingLaws.{written_then}
-use Rattle.uimg_blob_writing.specs.declared.fault.TreeFault.{TreeFault}
-use Rattle.uimg_blob_writing.specs.declared.fault.TreeFault.TheVariants.{Put}
+use Rattle.uimg_blob_writing.specs.declared.fault.TreeFault.{TreeFault, TheVariants.Put}
 use Rattle.uimg_blob_writing.specs.Content.{Content, bytes, content_bytes, IsKept, IsBytes}
-use Rattle.uimg_blob_writing.specs.Faults.{is_put, is_no_file, is_read}
-use Rattle.uimg_blob_writing.specs.Pieces.{WritesPieces}
+use Rattle.uimg_blob_writing.specs.{Faults.{is_put, is_no_file, is_read}, Pieces.WritesPieces}
 
 -- the answer of a call that writes
 abbrev pub Answer : Type 0
@@ -93,18 +86,6 @@ stops steady f m n s t xs ys p = record {
     all = (p.written honest).all;
     prefix = prefix_first s t (flat_map (content_bytes m.bytes) xs) (flat_map (content_bytes m.bytes) ys) (p.written honest).prefix;
   });
-}
-
--- nothing is written, and no file opened
-pub nothing : (steady : Bool) (m : FileMap) (s : Sink) → WritesPieces steady went_well m m s s []
-nothing steady m s = record {
-  files = record { same = record { bytes = refl; honest = refl; complete = refl }; refusals = refl };
-  faults = refl;
-  found = λ complete kept. refl;
-  reads = λ always honest kept. refl;
-  in_memory = λ embedded. refl;
-  kept = λ honest. tt;
-  written = λ honest. record { all = record { appended = Appends-none s.contents }; prefix = prefix_none s [] };
 }
 
 -- bytes that are put are a piece

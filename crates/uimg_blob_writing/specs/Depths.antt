@@ -1,12 +1,9 @@
 -- What is below a node of a list is smaller than the list.
-use Rattle.std.specs.Prelude.{◌≡◌, ◌≤◌, ◌+◌, max, List, [], ◌∷◌, refl}
-use Rattle.std.proofs.Common.{arith}
-use denote.Param.Weighed.{most}
+use Rattle.std.{specs.Prelude.{◌≡◌, ◌≤◌, ◌+◌, max, List, [], ◌∷◌, refl}, proofs.Common.arith}
 use Rattle.std.specs.declared.alloc.Allocator.{Ghosts}
-use Rattle.uimg_blob_writing.specs.declared.tree.Node.{Node}
-use Rattle.uimg_blob_writing.specs.declared.tree.Nodes.TheDeep.{deep-Node}
-use Rattle.uimg_blob_writing.specs.Content.{count}
-use Rattle.uimg_blob_writing.specs.Trees.{siblings}
+use denote.Param.Weighed.{most}
+use Rattle.uimg_blob_writing.specs.declared.tree.{Node.Node, Nodes.TheDeep.deep-Node}
+use Rattle.uimg_blob_writing.specs.{Content.count, Trees.siblings}
 
 -- the measure of a node is that of its children and one more
 pub deep-node : (A : Type 0) (g : Ghosts A) (n : Node A)

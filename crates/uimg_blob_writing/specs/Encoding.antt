@@ -1,8 +1,6 @@
 -- The blob of a tree (Devicetree Specification, chapter 5).
 use Rattle.std.specs.Prelude.{ℕ, ◌+◌, ◌-◌, List, [], ◌∷◌, ◌++◌, length, replicate, if◌then◌else◌}
-use Rattle.std.specs.Int.{to_be_bytes, w32}
-use Rattle.std.specs.List.{flat_map, list_any}
-use Rattle.std.specs.Str.{bytes_eq}
+use Rattle.std.specs.{Int.{to_be_bytes, w32}, List.{flat_map, list_any}, Str.bytes_eq}
 use Rattle.uimg_texts.specs.Numbers.{up4}
 use Rattle.uimg_blob_reading.specs.Blob.{magic}
 use Rattle.uimg_blob_reading.specs.Plain.{NamedOf, NodesOf, Named, Nodes, no_node, a_node}

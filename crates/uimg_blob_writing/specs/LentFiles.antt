@@ -1,8 +1,7 @@
 -- Claims about files that were lent to a call, given the bytes at their names. `map` is what
 -- contracts see of the files.
 use Rattle.std.specs.Prelude.{ℕ, List, Bool, IsTrue, Option}
-use Rattle.uimg_base.specs.Lent.{Lent}
-use Rattle.uimg_base.specs.Named.{FileMap}
+use Rattle.uimg_base.specs.{Lent.Lent, Named.FileMap}
 use Rattle.uimg_blob_reading.specs.Plain.{Nodes}
 use Rattle.uimg_blob_writing.specs.Content.{Unread, AreKept, in_full}
 

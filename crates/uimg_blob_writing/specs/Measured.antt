@@ -3,13 +3,11 @@ use Rattle.std.specs.Prelude.{◌≡◌, ℕ, List, [], ◌∷◌, length, Optio
 use Rattle.std.specs.Prelude.{Bool, ⊤, nat_le, nat_lt, is_none, ◌&&◌, if◌then◌else◌}
 use Rattle.std.specs.Option.{option_or}
 use Rattle.uimg_texts.specs.Nul.{before_nul}
-use Rattle.uimg_blob_reading.specs.declared.fault.BlobFault.{BlobFault}
-use Rattle.uimg_blob_reading.specs.declared.fault.BlobFault.TheVariants.{BadNodeName}
+use Rattle.uimg_blob_reading.specs.declared.fault.BlobFault.{BlobFault, TheVariants.BadNodeName}
 use Rattle.uimg_blob_reading.specs.declared.fault.BlobFault.TheVariants.{BadPropertyName, TooLarge}
 use Rattle.uimg_blob_reading.specs.declared.fault.BlobFault.TheVariants.{OutOfMemory}
 use Rattle.uimg_blob_reading.specs.Plain.{NamedOf, NodesOf, no_node, a_node}
-use Rattle.uimg_blob_writing.specs.Content.{Unread}
-use Rattle.uimg_blob_writing.specs.Layouts.{Plan, plan_of, totalsize}
+use Rattle.uimg_blob_writing.specs.{Content.Unread, Layouts.{Plan, plan_of, totalsize}}
 
 -- whether a name has at most 255 bytes and no NUL
 abbrev pub is_name : List ℕ → Bool

@@ -1,22 +1,15 @@
 -- A blob as pieces in order, each of them bytes or a file.
 use Rattle.std.specs.Prelude.{◌≡◌, ℕ, ◌+◌, ◌-◌, List, [], ◌∷◌, ◌++◌, length, replicate, Result}
-use Rattle.std.specs.Prelude.{Bool, IsTrue, is_err, false}
-use Rattle.std.specs.Bool.{OnFalse}
+use Rattle.std.specs.{Prelude.{Bool, IsTrue, is_err, false}, Bool.OnFalse}
 use Rattle.std.specs.List.{flat_map, AllByRecursion}
 use Rattle.uimg_texts.specs.Numbers.{up4}
-use Rattle.uimg_base.specs.Device.{RisesIf}
-use Rattle.uimg_base.specs.Sink.{Sink}
-use Rattle.uimg_base.specs.Named.{FileMap}
-use Rattle.uimg_base.specs.Writing.{Written}
+use Rattle.uimg_base.specs.{Device.RisesIf, Sink.Sink, Named.FileMap, Writing.Written}
 use Rattle.uimg_blob_reading.specs.Plain.{NamedOf, no_node, a_node}
-use Rattle.uimg_blob_writing.specs.declared.fault.TreeFault.{TreeFault}
+use Rattle.uimg_blob_writing.specs.{declared.fault.TreeFault.TreeFault, Content.IsBytes}
 use Rattle.uimg_blob_writing.specs.Content.{Content, Unread, bytes, size_of, content_bytes, IsKept}
-use Rattle.uimg_blob_writing.specs.Content.{IsBytes}
 use Rattle.uimg_blob_writing.specs.Encoding.{word, padded, with_nul, name_offset, strings, header}
-use Rattle.uimg_blob_writing.specs.Alignment.{padding_by}
-use Rattle.uimg_blob_writing.specs.Layouts.{Plan, totalsize}
-use Rattle.uimg_blob_writing.specs.Faults.{is_put, is_no_file, is_read}
-use Rattle.uimg_blob_writing.specs.UsingFiles.{UsesFiles}
+use Rattle.uimg_blob_writing.specs.{Alignment.padding_by, Layouts.{Plan, totalsize}}
+use Rattle.uimg_blob_writing.specs.{Faults.{is_put, is_no_file, is_read}, UsingFiles.UsesFiles}
 
 -- the zeros that pad n bytes to a multiple of 4
 abbrev pub padding : ℕ → List ℕ

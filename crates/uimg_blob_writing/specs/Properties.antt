@@ -1,9 +1,7 @@
 -- What contracts see of properties.
-use Rattle.uimg_blob_writing.specs.declared.props.Value.{Value}
-use Rattle.uimg_blob_writing.specs.declared.props.Value.TheVariants.{Bytes, File}
-use Rattle.uimg_blob_writing.specs.declared.props.Prop.{Prop}
+use Rattle.uimg_blob_writing.specs.declared.props.Value.{Value, TheVariants.{Bytes, File}}
+use Rattle.uimg_blob_writing.specs.{declared.props.Prop.Prop, Content.{Content, bytes, file}}
 use Rattle.uimg_blob_reading.specs.Plain.{NamedOf}
-use Rattle.uimg_blob_writing.specs.Content.{Content, bytes, file}
 
 -- the value of a property
 abbrev pub content : {A : Type 0} → Value A → Content

@@ -1,18 +1,10 @@
 -- What writing a tree's blob does.
-use Rattle.std.specs.Prelude.{◌≡◌, ℕ, Bool, IsTrue, Result, is_err, false}
-use Rattle.std.specs.Result.{OnOk}
-use Rattle.uimg_base.specs.Device.{RisesIf}
-use Rattle.uimg_base.specs.Lent.{Lent}
-use Rattle.uimg_base.specs.Named.{FileMap}
-use Rattle.uimg_base.specs.Sink.{Sink}
-use Rattle.uimg_base.specs.Writing.{Written}
+use Rattle.std.specs.{Prelude.{◌≡◌, ℕ, Bool, IsTrue, Result, is_err, false}, Result.OnOk}
+use Rattle.uimg_base.specs.{Device.RisesIf, Lent.Lent, Named.FileMap, Sink.Sink, Writing.Written}
 use Rattle.uimg_blob_reading.specs.Plain.{AllValues, AreNamed}
-use Rattle.uimg_blob_writing.specs.declared.fault.TreeFault.{TreeFault}
-use Rattle.uimg_blob_writing.specs.Content.{Unread, in_full, AreKept, IsBytes}
-use Rattle.uimg_blob_writing.specs.Encoding.{encode_by}
-use Rattle.uimg_blob_writing.specs.Faults.{is_put, is_no_file, is_read}
-use Rattle.uimg_blob_writing.specs.ReadsBack.{ReadsBack}
-use Rattle.uimg_blob_writing.specs.UsingFiles.{UsesFiles}
+use Rattle.uimg_blob_writing.specs.{declared.fault.TreeFault.TreeFault, UsingFiles.UsesFiles}
+use Rattle.uimg_blob_writing.specs.{Content.{Unread, in_full, AreKept, IsBytes}, Encoding.encode_by}
+use Rattle.uimg_blob_writing.specs.{Faults.{is_put, is_no_file, is_read}, ReadsBack.ReadsBack}
 
 -- What writing the blob of a tree, with an alignment, does to files and to an output.
 pub record WritesTreeBetween {X : Type 0} (always : Bool) (align : ℕ) (t : Unread)

@@ -1,8 +1,7 @@
 -- What contracts see of nodes.
 use Rattle.std.specs.Prelude.{List, [], ◌∷◌}
-use Rattle.uimg_blob_writing.specs.declared.tree.Node.{Node}
+use Rattle.uimg_blob_writing.specs.{declared.tree.Node.Node, Content.Unread}
 use Rattle.uimg_blob_reading.specs.Plain.{no_node, a_node}
-use Rattle.uimg_blob_writing.specs.Content.{Unread}
 
 -- nodes as siblings
 abbrev pub siblings : {A : Type 0} → List (Node A) → Unread

@@ -1,11 +1,8 @@
 //! Files as values of a blob, copied through a window.
 
 ghost use Rattle.std.specs.Prelude.{◌≡◌, ◌∷◌, [], length, OnOk, is_err, false};
-ghost use Rattle.uimg_base.specs.Honest.{HonestSource};
-ghost use Rattle.uimg_base.specs.Device.{RisesIf};
-ghost use Rattle.uimg_base.specs.Writing.{Written};
-ghost use Rattle.uimg_blob_writing.specs.Content.{file};
-ghost use Rattle.uimg_blob_writing.specs.Faults.{is_put, is_read, is_no_file};
+ghost use Rattle.uimg_base.specs.{Honest.HonestSource, Device.RisesIf, Writing.Written};
+ghost use Rattle.uimg_blob_writing.specs.{Content.file, Faults.{is_put, is_read, is_no_file}};
 ghost use Rattle.uimg_blob_writing.specs.Pieces.{WritesPieces};
 
 use crate::fault::TreeFault;

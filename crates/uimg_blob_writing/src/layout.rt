@@ -1,8 +1,7 @@
 //! The result of measuring: the names and sizes of a blob.
 
 ghost use Rattle.std.specs.Prelude.{◌≡◌, ◌+◌, length};
-ghost use Rattle.uimg_blob_writing.specs.Encoding.{strings};
-ghost use Rattle.uimg_blob_writing.specs.Layouts.{totalsize};
+ghost use Rattle.uimg_blob_writing.specs.{Encoding.strings, Layouts.totalsize};
 
 use crate::alignment::aligned;
 use std::alloc::Allocator;
@@ -30,8 +29,7 @@ impl<'a, A: Allocator> Model for Layout<'a, A> {
     ghost Value = { Plan };
 
     ghost use Rattle.std.specs.Prelude.{◌≡◌, ◌+◌, ◌<◌, ◌^◌, length};
-    ghost use Rattle.uimg_blob_writing.specs.Encoding.{strings};
-    ghost use Rattle.uimg_blob_writing.specs.Layouts.{totalsize};
+    ghost use Rattle.uimg_blob_writing.specs.{Encoding.strings, Layouts.totalsize};
     ghost use Rattle.uimg_blob_writing.specs.Names.{name_texts};
 
     ghost view = { λ l. record {

@@ -2,12 +2,10 @@
 
 ghost use Rattle.std.specs.Prelude.{◌≡◌, ◌≢◌, ℕ, List, [], length, Option, Err, OnOk, IfOk};
 ghost use Rattle.uimg_blob_reading.specs.Plain.{AreNamed};
-ghost use Rattle.uimg_blob_writing.specs.Content.{in_full, AreKept};
 ghost use Rattle.uimg_blob_reading.specs.declared.fault.BlobFault.TheVariants.{OutOfMemory};
-ghost use Rattle.uimg_blob_writing.specs.Encoding.{names_of, encode_by};
-ghost use Rattle.uimg_blob_writing.specs.Layouts.{totalsize};
-ghost use Rattle.uimg_blob_writing.specs.Measured.{measured, Measures};
-ghost use Rattle.uimg_blob_writing.specs.Trees.{node_of};
+ghost use Rattle.uimg_blob_writing.specs.Content.{in_full, AreKept};
+ghost use Rattle.uimg_blob_writing.specs.{Encoding.{names_of, encode_by}, Layouts.totalsize};
+ghost use Rattle.uimg_blob_writing.specs.{Measured.{measured, Measures}, Trees.node_of};
 
 use crate::alignment::{WORD_ALIGNMENT, aligned};
 use crate::checking::check_names;

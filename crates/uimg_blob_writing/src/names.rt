@@ -1,11 +1,9 @@
 //! The distinct names of properties, and their offsets.
 
-ghost use Rattle.std.specs.Prelude.{◌≡◌, ◌^◌, ◌<◌, length, OnOk, OnErr};
-ghost use Rattle.std.specs.List.{list_any};
+ghost use Rattle.std.specs.{Prelude.{◌≡◌, ◌^◌, ◌<◌, length, OnOk, OnErr}, List.list_any};
 ghost use Rattle.std.specs.Str.{bytes_eq};
 ghost use Rattle.uimg_blob_writing.specs.Encoding.{strings, name_offset, with_name, with_names, with_names_in};
-ghost use Rattle.uimg_blob_writing.specs.Names.{name_texts};
-ghost use Rattle.uimg_blob_writing.specs.Trees.{node_of};
+ghost use Rattle.uimg_blob_writing.specs.{Names.name_texts, Trees.node_of};
 
 use crate::nodes::ThisNode;
 use crate::props::Props;

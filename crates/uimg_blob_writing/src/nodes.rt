@@ -1,12 +1,9 @@
 //! Writing of nodes, by recursion.
 
-ghost use Rattle.std.specs.Prelude.{◌≡◌, ◌^◌, ◌<◌, length};
+ghost use Rattle.std.specs.Prelude.{◌^◌, ◌<◌, length};
 ghost use Rattle.uimg_blob_reading.specs.Plain.{AllValues};
-ghost use Rattle.uimg_blob_writing.specs.Content.{size_of};
-ghost use Rattle.uimg_blob_writing.specs.Encoding.{strings};
-ghost use Rattle.uimg_blob_writing.specs.Names.{name_texts};
-ghost use Rattle.uimg_blob_writing.specs.Pieces.{nodes_pieces, WritesPieces};
-ghost use Rattle.uimg_blob_writing.specs.Trees.{node_of};
+ghost use Rattle.uimg_blob_writing.specs.{Content.size_of, Encoding.strings, Names.name_texts};
+ghost use Rattle.uimg_blob_writing.specs.{Pieces.{nodes_pieces, WritesPieces}, Trees.node_of};
 
 use crate::fault::TreeFault;
 use crate::properties::put_properties;

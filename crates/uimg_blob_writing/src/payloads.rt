@@ -1,16 +1,13 @@
 //! Writing of a value with its padding.
 
-ghost use Rattle.std.specs.Prelude.{◌≡◌, ◌∷◌, [], length};
-ghost use Rattle.uimg_blob_writing.specs.Alignment.{padding_by};
-ghost use Rattle.uimg_blob_writing.specs.Content.{bytes, size_of};
-ghost use Rattle.uimg_blob_writing.specs.Pieces.{padding, WritesPieces};
-ghost use Rattle.uimg_blob_writing.specs.Properties.{content};
+ghost use Rattle.std.specs.Prelude.{◌≡◌, ◌∷◌, []};
+ghost use Rattle.uimg_blob_writing.specs.{Alignment.padding_by, Content.{bytes, size_of}};
+ghost use Rattle.uimg_blob_writing.specs.{Pieces.WritesPieces, Properties.content};
 
 use crate::alignment::put_gap;
 use crate::fault::TreeFault;
 use crate::file_pieces::put_file;
 use crate::props::Value;
-use crate::tokens::put_padding;
 use std::alloc::Allocator;
 use std::io::Write;
 use uimg_base::{Files, Out, WINDOW};
@@ -42,21 +39,6 @@ pub fn value_size<A: Allocator>(value: &Value<A>) -> u64
         Value::Bytes(list) => list.items().len() as u64,
         Value::File { name: _, size } => *size,
     }
-}
-
-// Writes a value and the zeros that pad it to a multiple of 4.
-pub(crate) fn put_padded<F: Files, W: Write, A: Allocator>(
-    value: &Value<A>,
-    files: &mut F,
-    window: &mut [u8; WINDOW],
-    out: &mut Out<W>,
-) -> Result<(), TreeFault>
-    ensures { WritesPieces F.Opened.steady result (F.map files.old) (F.map files.new)
-        out.old out.new (content value.now ∷ bytes (padding (size_of (content value.now))) ∷ []) }
-{
-    put_value(value, files, window, out)?;
-    put_padding(value_size(value), out)?;
-    Ok(())
 }
 
 /// Writes a value and the zeros that pad it to an alignment.

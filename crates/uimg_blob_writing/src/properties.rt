@@ -1,13 +1,9 @@
 //! Writing of properties.
 
-ghost use Rattle.std.specs.Prelude.{◌≡◌, ◌^◌, ◌<◌, ◌++◌, ◌∷◌, [], length, is_err};
-ghost use Rattle.std.specs.List.{flat_map, AllByRecursion};
-ghost use Rattle.uimg_base.specs.Writing.{Writes};
-ghost use Rattle.uimg_blob_writing.specs.Content.{bytes, file, size_of};
-ghost use Rattle.uimg_blob_writing.specs.Encoding.{strings};
-ghost use Rattle.uimg_blob_writing.specs.Names.{name_texts};
+ghost use Rattle.std.specs.{Prelude.{◌^◌, ◌<◌, ◌∷◌, [], length}, List.{flat_map, AllByRecursion}};
+ghost use Rattle.uimg_blob_writing.specs.{Content.{bytes, file, size_of}, Encoding.strings};
+ghost use Rattle.uimg_blob_writing.specs.{Names.name_texts, Properties.{content, property}};
 ghost use Rattle.uimg_blob_writing.specs.Pieces.{head_bytes, padding, property_pieces, WritesPieces};
-ghost use Rattle.uimg_blob_writing.specs.Properties.{content, property};
 
 use crate::fault::TreeFault;
 use crate::file_pieces::put_file;

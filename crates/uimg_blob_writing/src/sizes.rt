@@ -1,10 +1,8 @@
 //! The sizes in bytes of nodes and properties.
 
 ghost use Rattle.std.specs.Prelude.{◌≡◌, ◌^◌, min, length};
-ghost use Rattle.uimg_blob_writing.specs.Encoding.{strings};
-ghost use Rattle.uimg_blob_writing.specs.Layouts.{properties_size, nodes_size};
-ghost use Rattle.uimg_blob_writing.specs.Names.{name_texts};
-ghost use Rattle.uimg_blob_writing.specs.Trees.{node_of};
+ghost use Rattle.uimg_blob_writing.specs.{Encoding.strings, Layouts.{properties_size, nodes_size}};
+ghost use Rattle.uimg_blob_writing.specs.{Names.name_texts, Trees.node_of};
 
 use crate::nodes::ThisNode;
 use crate::payloads::value_size;

@@ -3,8 +3,7 @@
 ghost use Rattle.std.specs.Prelude.{◌≡◌, ◌++◌, ◌-◌, ◌^◌, ◌<◌, length, is_err};
 ghost use Rattle.uimg_base.specs.Writing.{Writes};
 ghost use Rattle.uimg_texts.specs.Numbers.{up4};
-ghost use Rattle.uimg_blob_writing.specs.Encoding.{word};
-ghost use Rattle.uimg_blob_writing.specs.Pieces.{begin_bytes, head_bytes, padding};
+ghost use Rattle.uimg_blob_writing.specs.{Encoding.word, Pieces.{begin_bytes, head_bytes, padding}};
 
 use std::io::Write;
 use uimg_base::{Out, PutFault};

@@ -27,8 +27,7 @@ pub struct Nodes<A: Allocator> {
 }
 
 impl<A: Allocator> Model for Nodes<A> {
-    ghost use Rattle.uimg_blob_writing.specs.Content.{Unread, count};
-    ghost use Rattle.uimg_blob_writing.specs.Coding.{unread_code};
+    ghost use Rattle.uimg_blob_writing.specs.{Content.{Unread, count}, Coding.unread_code};
 
     ghost Value = { Unread };
 

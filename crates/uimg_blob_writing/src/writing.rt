@@ -2,12 +2,9 @@
 
 ghost use Rattle.std.specs.Prelude.{◌≡◌, ◌<◌, ◌^◌, ◌++◌, length, replicate, is_err};
 ghost use Rattle.uimg_base.specs.Writing.{Writes};
-ghost use Rattle.uimg_blob_writing.specs.Encoding.{with_nul, header, strings};
-ghost use Rattle.uimg_blob_writing.specs.Layouts.{plan_of, totalsize};
-ghost use Rattle.uimg_blob_writing.specs.Names.{name_texts};
-ghost use Rattle.uimg_blob_writing.specs.Pieces.{blob_pieces, WritesPieces};
-ghost use Rattle.uimg_blob_writing.specs.TreeWriting.{WritesTree};
-ghost use Rattle.uimg_blob_writing.specs.Trees.{node_of};
+ghost use Rattle.uimg_blob_writing.specs.{Encoding.{with_nul, header, strings}, Names.name_texts};
+ghost use Rattle.uimg_blob_writing.specs.{Layouts.{plan_of, totalsize}, TreeWriting.WritesTree};
+ghost use Rattle.uimg_blob_writing.specs.{Pieces.{blob_pieces, WritesPieces}, Trees.node_of};
 
 use crate::alignment::put_gap;
 use crate::fault::TreeFault;

@@ -1,27 +1,19 @@
 -- What the exports report of the outcome of a command.
 use Rattle.std.specs.Prelude.{◌≡◌, ◌≢◌, ◌≤◌, ◌+◌, ℕ, min, List, ◌++◌, length, take, drop, Option}
-use Rattle.std.specs.Prelude.{Some, None}
-use Rattle.std.specs.Prelude.{Result, Ok, Err}
+use Rattle.std.specs.Prelude.{Some, None, Result, Ok, Err}
 use Rattle.uimg_sums.specs.declared.algo.Algo.{Algo}
 use Rattle.uimg_texts.specs.Slices.{slice}
-use Rattle.uimg_base.specs.Outcome.{Outcome, End, done, not_right, refused}
-use Rattle.uimg_base.specs.declared.status.Status.{Status}
-use Rattle.uimg_base.specs.declared.status.Status.TheVariants.{Done, NotRight}
-use Rattle.uimg_c.specs.declared.codes.Code.{Code}
-use Rattle.uimg_engine.specs.declared.fault.Fault.{Fault}
-use Rattle.uimg_c.specs.declared.reports.UimgReport.{UimgReport}
-use Rattle.uimg_c.specs.declared.reports.UimgPayload.{UimgPayload}
-use Rattle.uimg_c.specs.declared.reports.UimgCount.{UimgCount}
-use Rattle.uimg_fit_base.specs.declared.fault.Fault.{Fault as FitEngineFault}
-use Rattle.uimg_base.specs.Held.{held_bytes}
-use Rattle.uimg_names.specs.declared.naming.Naming.TheVariants.{Profile}
-use Rattle.uimg_requests.specs.declared.command.Action.{Action}
-use Rattle.uimg_requests.specs.declared.command.Form.{Form}
-use Rattle.uimg_checks.specs.declared.finding.Checked.{Checked}
-use Rattle.uimg_checks.specs.Finding.{check_of, status_of}
-use Rattle.uimg_requests.specs.declared.command.Form.TheVariants as form
-use Rattle.uimg_engine.specs.Headline.{is_fit, nodes_in, outcome_of}
+use Rattle.uimg_base.specs.{Outcome.{Outcome, End, done, not_right, refused}, Held.held_bytes}
+use Rattle.uimg_base.specs.declared.status.Status.{Status, TheVariants.{Done, NotRight}}
+use Rattle.uimg_c.specs.declared.{codes.Code.Code, reports.UimgReport.UimgReport}
+use Rattle.uimg_c.specs.declared.reports.{UimgPayload.UimgPayload, UimgCount.UimgCount}
 use Rattle.uimg_c.specs.Codes.{code_of_end, code_of_answer, code_of_fault, code_of_found, strength}
+use Rattle.uimg_engine.specs.{declared.fault.Fault.Fault, Headline.{is_fit, nodes_in, outcome_of}}
+use Rattle.uimg_fit_base.specs.declared.fault.Fault.{Fault as FitEngineFault}
+use Rattle.uimg_names.specs.declared.naming.Naming.TheVariants.{Profile}
+use Rattle.uimg_requests.specs.declared.command.{Action.Action, Form.Form}
+use Rattle.uimg_checks.specs.{declared.finding.Checked.Checked, Finding.{check_of, status_of}}
+use Rattle.uimg_requests.specs.declared.command.Form.TheVariants as form
 
 -- the most bytes that the table of an image's nodes takes: a window of 8192 bytes, and 128 for each
 -- node of a FIT image

@@ -1,19 +1,15 @@
 -- The numbers by which callers in C see how a command ended.
 use Rattle.std.specs.Prelude.{ℕ, ◌+◌, ◌*◌, ◌==◌, find, Option, Some, None, Result, Ok, Err}
-use Rattle.uimg_sums.specs.Algorithms.{all_algos, number}
-use Rattle.uimg_sums.specs.declared.algo.Algo.{Algo}
-use Rattle.uimg_base.specs.Outcome.{End, done, not_right, refused}
-use Rattle.uimg_base.specs.declared.status.Status.{Status}
+use Rattle.uimg_sums.specs.{Algorithms.{all_algos, number}, declared.algo.Algo.Algo}
+use Rattle.uimg_base.specs.{Outcome.{End, done, not_right, refused}, declared.status.Status.Status}
 use Rattle.uimg_base.specs.declared.status.Status.TheVariants.{Done, NotRight}
 use Rattle.uimg_blob_reading.specs.declared.fault.BlobFault.{BlobFault}
 use Rattle.uimg_blob_reading.specs.declared.fault.BlobFault.TheVariants as blob
-use Rattle.uimg_fit_base.specs.declared.fault.FitFault.{FitFault}
+use Rattle.uimg_fit_base.specs.declared.fault.{FitFault.FitFault, Fault.Fault as FitEngineFault}
 use Rattle.uimg_fit_base.specs.declared.fault.FitFault.TheVariants as fit
 use Rattle.uimg_legacy.specs.declared.fault.LegacyFault.{LegacyFault}
 use Rattle.uimg_legacy.specs.declared.fault.LegacyFault.TheVariants as legacy
-use Rattle.uimg_fit_base.specs.declared.fault.Fault.{Fault as FitEngineFault}
-use Rattle.uimg_engine.specs.Faults.{of_fit}
-use Rattle.uimg_engine.specs.declared.fault.Fault.{Fault}
+use Rattle.uimg_engine.specs.{Faults.of_fit, declared.fault.Fault.Fault}
 use Rattle.uimg_engine.specs.declared.fault.Fault.TheVariants.{Legacy, Blob, Fit}
 use Rattle.uimg_c.specs.declared.codes.Code.{Code}
 

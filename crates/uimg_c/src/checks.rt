@@ -2,8 +2,7 @@
 
 ghost use Rattle.std.specs.Prelude.{◌≡◌, ◌≢◌, ◌≤◌, Some, false};
 ghost use Rattle.uimg_requests.specs.declared.command.Form.TheVariants as form;
-ghost use Rattle.uimg_engine.specs.Faults.{is_put, is_no_memory, end_of};
-ghost use Rattle.uimg_engine.specs.Headline.{InMemory};
+ghost use Rattle.uimg_engine.specs.{Faults.{is_put, is_no_memory, end_of}, Headline.InMemory};
 ghost use Rattle.uimg_c.specs.Answers.{ReportsCheck, end_of_check, no_report, table_most};
 ghost use Rattle.uimg_c.specs.Codes.{code_of_answer, strength};
 

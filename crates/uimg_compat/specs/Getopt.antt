@@ -1,6 +1,5 @@
 -- The unread part of a command line.
-use Rattle.std.specs.Prelude.{◌+◌, ℕ, List, length, drop, suc}
-use Rattle.std.specs.List.{sum_by}
+use Rattle.std.specs.{Prelude.{◌+◌, ℕ, length, drop, suc}, List.sum_by}
 use Rattle.uimg_compat.specs.declared.getopt.Words.{Words}
 
 -- Each option and each operand makes it less (getopt_long of the GNU C library): the unread letters

@@ -1,27 +1,20 @@
 -- What a making says, by its command.
 use Rattle.std.proofs.Common.{◌≡◌, ◌≤◌, max, ◌∙◌, ℕ, List, [], Option, Some, Result, Ok, Err, Bool, false, None, IsSome, IsTrue, IfErr, map, ap, sym, subst, refl}
-use Rattle.std.specs.Bool.{⊤}
-use Rattle.std.specs.Io.KnownBytes.{Appends}
+use Rattle.std.specs.{Bool.⊤, Io.KnownBytes.Appends}
 use Rattle.std.specs.Io.KnownBytes as Io
-use Rattle.uimg_base.specs.Device.{Device, SameDevice, RisesIf}
-use Rattle.uimg_base.specs.Held.{Held, held_bytes}
-use Rattle.uimg_base.specs.Named.{FileMap}
-use Rattle.uimg_base.specs.Sink.{Sink}
-use Rattle.uimg_base.specs.Outcome.{Tells}
-use Rattle.uimg_base.specs.declared.status.Status.{Status}
+use Rattle.uimg_base.specs.{Device.{Device, SameDevice, RisesIf}, Held.{Held, held_bytes}}
+use Rattle.uimg_base.specs.{Named.FileMap, Sink.Sink, Outcome.Tells, declared.status.Status.Status}
 use Rattle.uimg_blob_reading.specs.Counts.{nodes_met}
-use Rattle.uimg_fit_base.specs.Faults.{of_making}
-use Rattle.uimg_fit_base.specs.Placements.{aligned_by}
+use Rattle.uimg_fit_base.specs.{Faults.of_making, Placements.aligned_by}
 use Rattle.uimg_fit_base.specs.declared.fault.FitFault.{FitFault}
 use Rattle.uimg_fit_base.specs.declared.fault.FitFault.TheVariants as fit_fault
 use Rattle.uimg_names.specs.declared.naming.Naming.{Naming}
-use Rattle.uimg_engine.specs.declared.fault.Fault.{Fault}
+use Rattle.uimg_engine.specs.{declared.fault.Fault.Fault, Making.{timed, KeepsBuilt}}
+use Rattle.uimg_engine.specs.MakingTrees.{KeepsTree, only_cleared, for_nodes}
 use Rattle.uimg_engine.specs.declared.fault.Fault.TheVariants.{Legacy, Blob, Fit, Its, Read, Put, NoFile, Keep, OutOfMemory}
 use Rattle.uimg_requests.specs.declared.make_command.MakeCommand.{MakeCommand}
 use Rattle.uimg_requests.specs.declared.make_command.MakeCommand.TheVariants.{Parts, Tree}
 use Rattle.uimg_engine.specs.Faults.{end_of, is_lost_payload, loses_payload, is_keep, is_of_making, is_no_memory, is_no_payload}
-use Rattle.uimg_engine.specs.Making.{timed, KeepsBuilt}
-use Rattle.uimg_engine.specs.MakingTrees.{KeepsTree, only_cleared, for_nodes}
 use Rattle.uimg_engine.specs.Commands.{LacksSource, LacksPayload, LacksFile, OpensToBuild, BuildsCommand, MakesCommandBetween, LeavesRoomBetween, HoldsCommandBetween, listing_of, TakesListing}
 use Rattle.uimg_engine.proofs.MakingLaws.{building_stops, keeping, listing_makes, listing_stops}
 use Rattle.uimg_engine.proofs.TreeListing.{building_stops_tree, keeping_tree, listing_makes_tree, listing_stops_tree, no_memory_built}

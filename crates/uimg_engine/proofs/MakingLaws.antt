@@ -1,28 +1,20 @@
 -- The files of names, and what a making leaves.
 use Rattle.std.proofs.Common.{◌≡◌, ◌∷◌, [], ℕ, List, Option, IsSome, None, Some, Ok, Err, Bool, true, false, IsTrue, zero, suc, map, length, drop, get_or, All, ◌∙◌, ap, sym, subst, refl}
-use Rattle.std.proofs.Math.Nat.{suc-ne-zero}
-use Rattle.std.proofs.lemmas.List.Elements.{All-nil, All-cons}
-use Rattle.uimg_base.specs.Device.{Device, SameDevice}
-use Rattle.uimg_base.specs.Sink.{Sink, AppendsAll, AppendsPrefix}
-use Rattle.uimg_base.specs.Outcome.{Outcome, done, refused, Tells}
-use Rattle.uimg_base.specs.declared.status.Status.{Status}
+use Rattle.std.proofs.{Math.Nat.suc-ne-zero, lemmas.List.Elements.{All-nil, All-cons}}
+use Rattle.uimg_base.specs.{Device.{Device, SameDevice}, Sink.{Sink, AppendsAll, AppendsPrefix}}
+use Rattle.uimg_base.specs.{Outcome.{Outcome, done, refused, Tells}, declared.status.Status.Status}
 use Rattle.uimg_base.specs.declared.status.Status.TheVariants.{Done, NotRight}
-use Rattle.uimg_base.proofs.SinkLaws.{prefix_none, appended_to_nothing}
-use Rattle.uimg_base.proofs.DeviceLaws.{never_rises}
+use Rattle.uimg_base.proofs.{SinkLaws.{prefix_none, appended_to_nothing}, DeviceLaws.never_rises}
 use Rattle.uimg_blob_reading.specs.Faults.{refuses_memory}
-use Rattle.uimg_legacy.specs.declared.fault.LegacyFault.{LegacyFault}
-use Rattle.uimg_legacy.specs.declared.options.Options.{Options}
-use Rattle.uimg_legacy.specs.Building.{legacy_built}
-use Rattle.uimg_legacy.specs.Devices.{failures_of, OneRisesIf}
-use Rattle.uimg_legacy.specs.Listing.{list_of}
+use Rattle.uimg_legacy.specs.declared.{fault.LegacyFault.LegacyFault, options.Options.Options}
+use Rattle.uimg_legacy.specs.{Building.legacy_built, Devices.{failures_of, OneRisesIf}}
+use Rattle.uimg_legacy.specs.{Listing.list_of, declared.fault.Fault.Fault as LegacyEngineFault}
+use Rattle.uimg_legacy.specs.Faults.{is_read as legacy_is_read}
 use Rattle.uimg_names.specs.declared.naming.Naming.{Naming}
-use Rattle.uimg_engine.specs.declared.fault.Fault.{Fault}
+use Rattle.uimg_engine.specs.{declared.fault.Fault.Fault, Headline.{end_as, outcome_as}}
 use Rattle.uimg_engine.specs.declared.fault.Fault.TheVariants.{Legacy, Blob, Fit, Its, Read, Put, NoFile, Keep, OutOfMemory}
 use Rattle.uimg_legacy.specs.declared.fault.Fault.TheVariants as legacy
-use Rattle.uimg_legacy.specs.declared.fault.Fault.{Fault as LegacyEngineFault}
-use Rattle.uimg_legacy.specs.Faults.{is_read as legacy_is_read}
 use Rattle.uimg_engine.specs.Faults.{end_of, unless_memory, is_unread, is_keep, is_no_memory, is_of_making, of_legacy}
-use Rattle.uimg_engine.specs.Headline.{end_as, outcome_as}
 use Rattle.uimg_engine.specs.Making.{HaveParts, KeepsBuilt, MakesParts, Breaks, BuildsNames, StopsMaking}
 
 -- names that have parts have files

@@ -1,31 +1,23 @@
 -- The tree of a source, and what its reading and its building say.
 use Rattle.std.proofs.Common.{◌≡◌, ℕ, length, nat_lt, List, Option, None, Some, IfSome, Err, Bool, true, false, IsTrue, if◌then◌else◌, ◌∙◌, sym, subst, refl}
 use Rattle.std.specs.Bool.{OnFalse, ⊤}
-use Rattle.uimg_base.specs.Device.{Rose, RisesIf}
-use Rattle.uimg_base.specs.Named.{FileMap, SameFiles}
+use Rattle.uimg_base.specs.{Device.{Rose, RisesIf}, Named.{FileMap, SameFiles}}
 use Rattle.uimg_base.specs.Sink.{Sink, AppendsAll}
 use Rattle.uimg_blob_reading.specs.Plain.{Nodes}
-use Rattle.uimg_blob_writing.specs.Content.{Unread, AreKept, in_full}
-use Rattle.uimg_blob_writing.specs.UsingFiles.{UsesFiles}
-use Rattle.uimg_its.specs.Answers.{is_outside_text}
-use Rattle.uimg_its.specs.Grammar.{Spells}
-use Rattle.uimg_its.specs.Words.{words}
+use Rattle.uimg_blob_writing.specs.{Content.{Unread, AreKept, in_full}, UsingFiles.UsesFiles}
+use Rattle.uimg_its.specs.{Answers.is_outside_text, Grammar.Spells, Words.words}
 use Rattle.uimg_its.specs.declared.fault.FaultKind.{FaultKind}
-use Rattle.uimg_fit_base.specs.declared.fault.Fault.{Fault as FitEngineFault}
-use Rattle.uimg_fit_base.specs.declared.fault.Fault.TheVariants as fit
-use Rattle.uimg_fit_base.specs.declared.fault.FitFault.{FitFault}
-use Rattle.uimg_fit_base.specs.declared.fault.FitFault.TheVariants as fit_fault
+use Rattle.uimg_fit_base.specs.declared.fault.{Fault.Fault as FitEngineFault, FitFault.FitFault}
 use Rattle.uimg_fit_base.specs.declared.placement.AlignedPlacement.{AlignedPlacement}
-use Rattle.uimg_fit_building.specs.BuildAnswers.{is_no_file as fit_is_no_file, CanBuild, BuildsAnswer}
-use Rattle.uimg_fit_building.specs.Building.{placed_blob, built}
 use Rattle.uimg_fit_base.specs.Faults.{is_read as fit_is_read}
+use Rattle.uimg_fit_base.specs.declared.fault.Fault.TheVariants as fit
+use Rattle.uimg_fit_base.specs.declared.fault.FitFault.TheVariants as fit_fault
+use Rattle.uimg_fit_building.specs.BuildAnswers.{is_no_file as fit_is_no_file, CanBuild, BuildsAnswer}
+use Rattle.uimg_fit_building.specs.{Building.{placed_blob, built}, Filling.IsFilled}
 use Rattle.uimg_fit_building.specs.FillAnswers.{opens_no_file, fails_to_read, Fills, FillsAnswer}
-use Rattle.uimg_fit_building.specs.Filling.{IsFilled}
-use Rattle.uimg_fit_building.specs.ReadsBack.{ReadsBack}
-use Rattle.uimg_fit_building.specs.Refusing.{is_low, build_fault}
-use Rattle.uimg_engine.specs.declared.fault.Fault.{Fault}
+use Rattle.uimg_fit_building.specs.{ReadsBack.ReadsBack, Refusing.{is_low, build_fault}}
+use Rattle.uimg_engine.specs.{declared.fault.Fault.Fault, Commands.{LacksSource, OpensSource}}
 use Rattle.uimg_engine.specs.Faults.{of_fit, is_unread, is_no_text, is_no_payload, refuses_payload, is_lost_payload, loses_payload}
-use Rattle.uimg_engine.specs.Commands.{LacksSource, OpensSource}
 use Rattle.uimg_engine.specs.MakingTrees.{SpellsTree, RefusesText, FillsTree, Unfilled, FillsSource, BuildsTree, BuildsSource, unbuilt, unwritten}
 
 -- files that are the same

@@ -1,41 +1,31 @@
 -- What was made of a source is kept and listed.
 use Rattle.std.proofs.Common.{◌≡◌, ◌≤◌, ℕ, length, arith, List, [], ◌∷◌, Option, IfSome, None, Some, Result, Ok, Err, Bool, true, false, IsTrue, if◌then◌else◌, ◌∙◌, ap, sym, subst, refl}
-use Rattle.std.specs.Bool.{⊤}
-use Rattle.std.specs.Option.{option_or}
-use Rattle.std.proofs.lemmas.Bool.{le-ltb}
-use Rattle.uimg_base.specs.Device.{Device, SameDevice}
-use Rattle.uimg_base.specs.Results.{◌>>=◌}
-use Rattle.uimg_base.specs.Sink.{Sink, AppendsPrefix}
+use Rattle.std.{specs.{Bool.⊤, Option.option_or}, proofs.lemmas.Bool.le-ltb}
+use Rattle.uimg_base.specs.{Device.{Device, SameDevice}, Results.◌>>=◌, Sink.{Sink, AppendsPrefix}}
 use Rattle.uimg_base.specs.Outcome.{Outcome, done, refused, Tells, unless_refused, after}
 use Rattle.uimg_base.specs.declared.status.Status.{Status}
 use Rattle.uimg_base.proofs.SinkLaws.{prefix_none, appended_to_nothing}
 use Rattle.uimg_texts.specs.Numbers.{be32}
-use Rattle.uimg_blob_reading.specs.Faults.{refuses_memory}
-use Rattle.uimg_blob_reading.specs.Plain.{NamedOf, NodesOf, Nodes, no_node, a_node}
-use Rattle.uimg_blob_reading.specs.LookUps.{NodeOf, images}
-use Rattle.uimg_blob_reading.specs.Spots.{Spot}
+use Rattle.uimg_blob_reading.specs.{Faults.refuses_memory, LookUps.{NodeOf, images}}
+use Rattle.uimg_blob_reading.specs.{Plain.{NamedOf, NodesOf, Nodes, no_node, a_node}, Spots.Spot}
 use Rattle.uimg_blob_reading.specs.declared.fault.BlobFault.{BlobFault}
 use Rattle.uimg_blob_reading.specs.declared.fault.BlobFault.TheVariants.{BadNodeName, BadPropertyName}
-use Rattle.uimg_blob_writing.specs.Encoding.{blob}
-use Rattle.uimg_blob_writing.specs.Measured.{is_name, bad_property, bad_name}
-use Rattle.uimg_fit_base.specs.declared.fault.Fault.{Fault as FitEngineFault}
-use Rattle.uimg_fit_base.specs.declared.fault.Fault.TheVariants as fit
-use Rattle.uimg_fit_base.specs.declared.fault.FitFault.{FitFault}
-use Rattle.uimg_fit_base.specs.declared.fault.FitFault.TheVariants as fit_fault
+use Rattle.uimg_blob_writing.specs.{Encoding.blob, Measured.{is_name, bad_property, bad_name}}
+use Rattle.uimg_fit_base.specs.declared.fault.{Fault.Fault as FitEngineFault, FitFault.FitFault}
 use Rattle.uimg_fit_base.specs.declared.placement.AlignedPlacement.{AlignedPlacement}
-use Rattle.uimg_fit_building.specs.BuildAnswers.{BuildsAnswer}
-use Rattle.uimg_fit_building.specs.Building.{built}
-use Rattle.uimg_fit_base.specs.Files.{tree_of, root_own, listed_or}
-use Rattle.uimg_fit_reading.specs.Listing.{head_lines, lists, list_of}
+use Rattle.uimg_fit_base.specs.Files.{tree_of, root_own, listed_or, begins_as_blob}
 use Rattle.uimg_fit_base.specs.Report.{report, verify_of}
+use Rattle.uimg_fit_base.specs.declared.fault.Fault.TheVariants as fit
+use Rattle.uimg_fit_base.specs.declared.fault.FitFault.TheVariants as fit_fault
+use Rattle.uimg_fit_building.specs.{BuildAnswers.BuildsAnswer, Building.built}
+use Rattle.uimg_fit_reading.specs.Listing.{head_lines, lists, list_of}
 use Rattle.uimg_requests.specs.declared.command.Action.TheVariants as action
 use Rattle.uimg_requests.specs.declared.command.Form.TheVariants as form
 use Rattle.uimg_names.specs.declared.naming.Naming.{Naming}
 use Rattle.uimg_engine.specs.declared.fault.Fault.{Fault}
-use Rattle.uimg_engine.specs.declared.fault.Fault.TheVariants.{Legacy, Blob, Fit, Its, Read, Put, NoFile, Keep, OutOfMemory}
 use Rattle.uimg_engine.specs.Faults.{end_of, unless_memory, of_fit, is_of_making, is_no_memory}
-use Rattle.uimg_fit_base.specs.Files.{begins_as_blob}
 use Rattle.uimg_engine.specs.Headline.{end_as, outcome_as, outcome_in, outcome_of}
+use Rattle.uimg_engine.specs.declared.fault.Fault.TheVariants.{Legacy, Blob, Fit, Its, Read, Put, NoFile, Keep, OutOfMemory}
 use Rattle.uimg_engine.specs.MakingTrees.{BuildsTree, StopsAtImages, unfilled, unbuilt, StopsAtRead, before, unwritten, StopsReading, unread, unlisted, BuildsSource, KeepsTree, MakesTree, BreaksTree, StopsAtBlob, unnamed, no_table, StopsSource}
 use Rattle.uimg_engine.proofs.MakingLaws.{all_told}
 

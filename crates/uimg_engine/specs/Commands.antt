@@ -1,31 +1,23 @@
 -- What the making of an image gives, by its command.
-use Rattle.std.specs.Borrow.{Bor}
-use Rattle.std.specs.Prelude.{◌≡◌, ℕ, List, [], map, Option, Some, None, Result, Ok, Err, IsTrue}
-use Rattle.std.specs.Prelude.{IfOk, IfErr, Bool, false, ⊤}
-use Rattle.std.specs.Bool.{OnFalse}
-use Rattle.uimg_base.specs.Device.{Device, Rose, RisesIf}
-use Rattle.uimg_base.specs.Held.{Held}
-use Rattle.uimg_base.specs.Lent.{Lent}
-use Rattle.uimg_base.specs.Named.{FileMap, SameFiles, bytes_named}
-use Rattle.uimg_base.specs.Outcome.{Outcome, Tells}
-use Rattle.uimg_base.specs.Sink.{Sink}
-use Rattle.uimg_base.specs.Using.{Uses}
-use Rattle.uimg_base.specs.declared.status.Status.{Status}
+use Rattle.std.specs.{Borrow.Bor, Prelude.{IfErr, Bool, false, ⊤}, Bool.OnFalse}
+use Rattle.std.specs.Prelude.{◌≡◌, ℕ, List, [], map, Option, None, Result, Ok, Err, IsTrue, IfOk}
+use Rattle.uimg_base.specs.{Device.{Device, Rose, RisesIf}, Held.Held, Lent.Lent, Sink.Sink}
+use Rattle.uimg_base.specs.{Named.{FileMap, SameFiles, bytes_named}, Outcome.{Outcome, Tells}}
+use Rattle.uimg_base.specs.{Using.Uses, declared.status.Status.Status}
 use Rattle.uimg_fit_base.specs.Placements.{aligned_by}
 use Rattle.uimg_blob_reading.specs.Indexed.{TakesNodes}
 use Rattle.uimg_names.specs.declared.naming.Naming.{Naming}
-use Rattle.uimg_engine.specs.declared.fault.Fault.{Fault}
-use Rattle.uimg_engine.specs.declared.fault.Fault.TheVariants.{NoFile, Fit}
-use Rattle.uimg_requests.specs.declared.command.Action.TheVariants as Action
-use Rattle.uimg_requests.specs.declared.command.Form.TheVariants as Form
-use Rattle.uimg_requests.specs.declared.make_command.MakeCommand.{MakeCommand}
-use Rattle.uimg_requests.specs.declared.make_command.MakeCommand.TheVariants.{Parts, Tree}
+use Rattle.uimg_engine.specs.declared.fault.Fault.{Fault, TheVariants.{NoFile, Fit}}
 use Rattle.uimg_engine.specs.Faults.{end_of, is_read, is_put, is_no_memory, is_of_making}
 use Rattle.uimg_engine.specs.Faults.{is_no_text, is_no_payload, refuses_payload, is_unread}
 use Rattle.uimg_engine.specs.Faults.{is_lost_payload, is_keep}
 use Rattle.uimg_engine.specs.Headline.{outcome_in, outcome_of, TakesTable, Stays}
 use Rattle.uimg_engine.specs.Making.{timed, OpensNames, Lacks, BuildsNames, MakesAnswer}
 use Rattle.uimg_engine.specs.MakingTrees.{BuildsSource, MakesSource, HoldsSource}
+use Rattle.uimg_requests.specs.declared.command.Action.TheVariants as Action
+use Rattle.uimg_requests.specs.declared.command.Form.TheVariants as Form
+use Rattle.uimg_requests.specs.declared.make_command.MakeCommand.{MakeCommand}
+use Rattle.uimg_requests.specs.declared.make_command.MakeCommand.TheVariants.{Parts, Tree}
 
 -- the files are honest
 abbrev pub HonestFiles : {F : Type 0} → (F → FileMap) → Lent F → Type 0

@@ -1,21 +1,18 @@
 -- What the results of a command mean.
 use Rattle.std.specs.Prelude.{◌≡◌, Result, Ok, Err, Option, Some, None, Bool, true, false, not}
-use Rattle.uimg_base.specs.Outcome.{End, done, not_right, refused}
-use Rattle.uimg_base.specs.declared.status.Status.{Status}
+use Rattle.uimg_base.specs.{Outcome.{End, done, not_right, refused}, declared.status.Status.Status}
 use Rattle.uimg_base.specs.declared.status.Status.TheVariants.{Done, NotRight}
 use Rattle.uimg_blob_reading.specs.Faults.{refuses_memory, is_too_large}
-use Rattle.uimg_fit_base.specs.Faults.{of_making as fit_of_making}
-use Rattle.uimg_fit_base.specs.declared.fault.Fault.TheVariants as fit
+use Rattle.uimg_fit_base.specs.{Faults.of_making as fit_of_making, declared.fault.FitFault.FitFault}
 use Rattle.uimg_fit_base.specs.declared.fault.Fault.{Fault as FitEngineFault}
-use Rattle.uimg_fit_base.specs.declared.fault.FitFault.{FitFault}
+use Rattle.uimg_fit_base.specs.declared.fault.Fault.TheVariants as fit
 use Rattle.uimg_fit_base.specs.declared.fault.FitFault.TheVariants as fit_fault
 use Rattle.uimg_its.specs.Answers.{tells_no_file, tells_unread}
 use Rattle.uimg_legacy.specs.Faults.{of_making as legacy_of_making}
-use Rattle.uimg_legacy.specs.declared.fault.Fault.TheVariants as legacy
 use Rattle.uimg_legacy.specs.declared.fault.Fault.{Fault as LegacyEngineFault}
-use Rattle.uimg_engine.specs.declared.fault.Fault.{Fault}
+use Rattle.uimg_legacy.specs.declared.fault.Fault.TheVariants as legacy
+use Rattle.uimg_engine.specs.declared.fault.Fault.{Fault, TheVariants.{NoFile, Keep, OutOfMemory}}
 use Rattle.uimg_engine.specs.declared.fault.Fault.TheVariants.{Legacy, Blob, Fit, Its, Read, Put}
-use Rattle.uimg_engine.specs.declared.fault.Fault.TheVariants.{NoFile, Keep, OutOfMemory}
 
 -- a fault of the engine of legacy images, as one of the command
 abbrev pub of_legacy : LegacyEngineFault → Fault

@@ -1,20 +1,14 @@
 -- What a command on an image has to write, how it has to end, how many bytes it may request, and
 -- what memory it may take.
-use Rattle.std.specs.Prelude.{◌≡◌, ◌↔◌, ℕ, ◌+◌, ◌-◌, ◌^◌, ◌<◌, ◌≤◌, max, List, []}
-use Rattle.std.specs.Prelude.{Result, Some, ⊤, Bool, true, false, IsTrue}
-use Rattle.uimg_base.specs.Device.{Device, RisesIf}
-use Rattle.uimg_base.specs.Held.{Held, held_bytes}
-use Rattle.uimg_base.specs.Lent.{Lent}
-use Rattle.uimg_base.specs.Ranges.{ReadsAhead}
-use Rattle.uimg_base.specs.Sink.{Sink, AppendsAll, AppendsPrefix}
+use Rattle.std.specs.Prelude.{◌≡◌, ◌↔◌, ℕ, ◌+◌, ◌-◌, ◌^◌, ◌<◌, ◌≤◌, max, List, [], Result, Some, ⊤}
+use Rattle.std.specs.Prelude.{Bool, true, false, IsTrue}
+use Rattle.uimg_base.specs.{Device.{Device, RisesIf}, Held.{Held, held_bytes}, Lent.Lent}
+use Rattle.uimg_base.specs.{Ranges.ReadsAhead, Sink.{Sink, AppendsAll, AppendsPrefix}}
 use Rattle.uimg_base.specs.Outcome.{End, Outcome, done, not_right, refused, Tells}
-use Rattle.uimg_base.specs.Using.{UsesAtMost}
-use Rattle.uimg_base.specs.declared.status.Status.{Status}
-use Rattle.uimg_blob_reading.specs.Counts.{nodes_met}
-use Rattle.uimg_fit_base.specs.declared.fault.Fault.{Fault as FitEngineFault}
-use Rattle.uimg_blob_reading.specs.Indexed.{TakesNodes}
+use Rattle.uimg_base.specs.{Using.UsesAtMost, declared.status.Status.Status}
+use Rattle.uimg_blob_reading.specs.{Counts.nodes_met, Indexed.TakesNodes}
+use Rattle.uimg_fit_base.specs.{declared.fault.Fault.Fault as FitEngineFault, Files.begins_as_blob}
 use Rattle.uimg_fit_reading.specs.Listing as fit_listing
-use Rattle.uimg_fit_base.specs.Files.{begins_as_blob}
 use Rattle.uimg_fit_base.specs.Report as fit_report
 use Rattle.uimg_fit_base.specs.Extraction as fit_extraction
 use Rattle.uimg_fit_reading.specs.Work as fit
@@ -23,16 +17,12 @@ use Rattle.uimg_legacy.specs.Listing as legacy_listing
 use Rattle.uimg_legacy.specs.Report as legacy_report
 use Rattle.uimg_legacy.specs.Extraction as legacy_extraction
 use Rattle.uimg_legacy.specs.Work as legacy
-use Rattle.uimg_engine.specs.declared.fault.Fault.{Fault}
-use Rattle.uimg_engine.specs.declared.fault.Fault.TheVariants.{Legacy}
-use Rattle.uimg_names.specs.declared.naming.Naming.{Naming}
-use Rattle.uimg_requests.specs.declared.command.Action.{Action}
-use Rattle.uimg_requests.specs.declared.command.Action.TheVariants as action
-use Rattle.uimg_requests.specs.declared.command.Command.{Command}
-use Rattle.uimg_requests.specs.declared.command.Form.{Form}
-use Rattle.uimg_requests.specs.declared.command.Form.TheVariants as form
+use Rattle.uimg_engine.specs.{declared.fault.Fault.{Fault, TheVariants.Legacy}, Faults.is_of_making}
 use Rattle.uimg_engine.specs.Faults.{end_of, of_fit, is_read, is_put, is_no_memory, is_refused}
-use Rattle.uimg_engine.specs.Faults.{is_of_making}
+use Rattle.uimg_names.specs.declared.naming.Naming.{Naming}
+use Rattle.uimg_requests.specs.declared.command.{Action.Action, Command.Command, Form.Form}
+use Rattle.uimg_requests.specs.declared.command.Action.TheVariants as action
+use Rattle.uimg_requests.specs.declared.command.Form.TheVariants as form
 
 -- The file is read as a FIT image: that is the given format, or the format is to be guessed and the
 -- file begins as a blob. Any other file is read as a legacy image.

@@ -2,12 +2,8 @@
 use Rattle.std.specs.Prelude.{◌≡◌, ℕ, ◌+◌, ◌≤◌, List, length, Result, Ok, Err, Option, Some, Bool}
 use Rattle.std.specs.Prelude.{false, IsTrue, IfOk, IfSome}
 use Rattle.uimg_texts.specs.Slices.{slice}
-use Rattle.uimg_base.specs.Device.{Device}
-use Rattle.uimg_base.specs.Held.{Held}
-use Rattle.uimg_base.specs.Lent.{Lent}
-use Rattle.uimg_base.specs.Outcome.{End, Outcome, done}
-use Rattle.uimg_base.specs.Using.{UsesAtMost}
-use Rattle.uimg_base.specs.declared.spans.Span.{Span}
+use Rattle.uimg_base.specs.{Device.Device, Held.Held, Lent.Lent, Outcome.{End, Outcome, done}}
+use Rattle.uimg_base.specs.{Using.UsesAtMost, declared.spans.Span.Span}
 use Rattle.uimg_names.specs.declared.naming.Naming.TheVariants.{Profile}
 use Rattle.uimg_requests.specs.declared.command.Action.TheVariants as action
 use Rattle.uimg_requests.specs.declared.command.Form.{Form}

@@ -1,23 +1,15 @@
 -- What the making of an image gives.
-use Rattle.std.specs.Prelude.{◌≡◌, ℕ, ⊤, ◌<◌, List, length, map, take, Result, Ok, Err, Option}
+use Rattle.std.specs.Prelude.{◌≡◌, ℕ, ⊤, ◌<◌, List, length, map, take, Result, Ok, Err, Option, Vec}
 use Rattle.std.specs.Prelude.{Some, IsSome, IsTrue, IfErr, All, false, slice_index_or, [], None}
-use Rattle.std.specs.Prelude.{Vec}
-use Rattle.uimg_base.specs.Device.{Device, RisesIf}
-use Rattle.uimg_base.specs.Lent.{Lent}
-use Rattle.uimg_base.specs.Named.{FileMap, SameFiles}
-use Rattle.uimg_base.specs.Sink.{Sink, AppendsAll, AppendsPrefix}
-use Rattle.uimg_base.specs.Outcome.{done}
-use Rattle.uimg_legacy.specs.declared.fault.LegacyFault.{LegacyFault}
-use Rattle.uimg_legacy.specs.declared.options.Options.{Options}
-use Rattle.uimg_legacy.specs.Parts.{has_parts}
-use Rattle.uimg_legacy.specs.Listing.{list_of}
+use Rattle.uimg_base.specs.{Device.{Device, RisesIf}, Lent.Lent, Named.{FileMap, SameFiles}}
+use Rattle.uimg_base.specs.{Sink.{Sink, AppendsAll, AppendsPrefix}, Outcome.done}
+use Rattle.uimg_legacy.specs.declared.{fault.LegacyFault.LegacyFault, options.Options.Options}
+use Rattle.uimg_legacy.specs.{Parts.has_parts, Listing.list_of, Devices.{bytes_of, AreHonest}}
 use Rattle.uimg_legacy.specs.Building.{data_of, data_to_build, legacy_built, build_of}
-use Rattle.uimg_legacy.specs.Devices.{bytes_of, AreHonest}
 use Rattle.uimg_legacy.specs.ReadsBack.{ReadsBack}
 use Rattle.uimg_names.specs.declared.naming.Naming.{Naming}
-use Rattle.uimg_engine.specs.declared.fault.Fault.{Fault}
+use Rattle.uimg_engine.specs.declared.fault.Fault.{Fault, TheVariants.{NoFile, Keep, OutOfMemory}}
 use Rattle.uimg_engine.specs.declared.fault.Fault.TheVariants.{Legacy, Blob, Fit, Its, Read, Put}
-use Rattle.uimg_engine.specs.declared.fault.Fault.TheVariants.{NoFile, Keep, OutOfMemory}
 use Rattle.uimg_engine.specs.Faults.{is_no_file, is_put, is_keep, is_before_building}
 
 -- the options at the time of the making

@@ -1,36 +1,24 @@
 -- What the making of a FIT image from its source gives.
 use Rattle.std.specs.Prelude.{◌≡◌, ◌≤◌, ℕ, max, List, [], Option, Some, IsSome, Result, Ok, Err}
-use Rattle.std.specs.Prelude.{IsTrue, true, ⊤}
-use Rattle.std.specs.Bool.{OnFalse}
-use Rattle.uimg_base.specs.Device.{Device}
-use Rattle.uimg_base.specs.Held.{Held, held_bytes}
+use Rattle.std.specs.{Prelude.{IsTrue, true, ⊤}, Bool.OnFalse}
+use Rattle.uimg_base.specs.{Device.Device, Held.{Held, held_bytes}, Outcome.done}
 use Rattle.uimg_base.specs.Sink.{Sink, AppendsAll, AppendsPrefix}
-use Rattle.uimg_base.specs.Outcome.{done}
-use Rattle.uimg_blob_reading.specs.Counts.{nodes_met}
-use Rattle.uimg_blob_reading.specs.Faults.{refuses_memory}
-use Rattle.uimg_blob_reading.specs.Plain.{Nodes}
+use Rattle.uimg_blob_reading.specs.{Counts.nodes_met, Faults.refuses_memory, Plain.Nodes}
 use Rattle.uimg_blob_reading.specs.declared.fault.BlobFault.{BlobFault}
 use Rattle.uimg_blob_writing.specs.Content.{Unread, AreKept, in_full}
-use Rattle.uimg_its.specs.Answers.{is_outside_text}
-use Rattle.uimg_its.specs.Grammar.{Spells}
-use Rattle.uimg_its.specs.Words.{words}
+use Rattle.uimg_its.specs.{Answers.is_outside_text, Grammar.Spells, Words.words}
 use Rattle.uimg_its.specs.declared.fault.FaultKind.{FaultKind}
-use Rattle.uimg_fit_building.specs.BuildAnswers.{CanBuild, BuildsAnswer}
-use Rattle.uimg_fit_building.specs.Building.{built}
-use Rattle.uimg_fit_building.specs.FillAnswers.{FillsAnswer}
-use Rattle.uimg_fit_building.specs.Filling.{IsFilled}
-use Rattle.uimg_fit_reading.specs.Listing.{list_of}
-use Rattle.uimg_fit_building.specs.ReadsBack.{ReadsBack}
+use Rattle.uimg_fit_building.specs.{BuildAnswers.{CanBuild, BuildsAnswer}, Building.built}
+use Rattle.uimg_fit_building.specs.{FillAnswers.FillsAnswer, Filling.IsFilled, ReadsBack.ReadsBack}
 use Rattle.uimg_fit_building.specs.Refusing.{fill_of}
-use Rattle.uimg_fit_base.specs.declared.fault.Fault.{Fault as FitEngineFault}
-use Rattle.uimg_fit_base.specs.declared.fault.Fault.TheVariants as fit
-use Rattle.uimg_fit_base.specs.declared.fault.FitFault.{FitFault}
+use Rattle.uimg_fit_reading.specs.Listing.{list_of}
+use Rattle.uimg_fit_base.specs.declared.fault.{Fault.Fault as FitEngineFault, FitFault.FitFault}
 use Rattle.uimg_fit_base.specs.declared.placement.AlignedPlacement.{AlignedPlacement}
-use Rattle.uimg_names.specs.declared.naming.Naming.{Naming}
-use Rattle.uimg_engine.specs.declared.fault.Fault.{Fault}
-use Rattle.uimg_engine.specs.declared.fault.Fault.TheVariants.{Legacy, Blob, Fit, Its, Read, Put}
-use Rattle.uimg_engine.specs.declared.fault.Fault.TheVariants.{NoFile, Keep, OutOfMemory}
 use Rattle.uimg_fit_base.specs.Files.{begins_as_blob}
+use Rattle.uimg_fit_base.specs.declared.fault.Fault.TheVariants as fit
+use Rattle.uimg_names.specs.declared.naming.Naming.{Naming}
+use Rattle.uimg_engine.specs.declared.fault.Fault.{Fault, TheVariants.{NoFile, Keep, OutOfMemory}}
+use Rattle.uimg_engine.specs.declared.fault.Fault.TheVariants.{Legacy, Blob, Fit, Its, Read, Put}
 
 -- The source has a text, whose words spell a tree.
 pub record SpellsTree (files : List ℕ → Option (List ℕ)) (source : List ℕ) (t : Nodes)

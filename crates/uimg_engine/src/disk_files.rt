@@ -1,7 +1,6 @@
 //! The files of a folder.
 
-ghost use Rattle.std.specs.Prelude.{◌≡◌, None, false, IfOk};
-ghost use Rattle.std.specs.Path.{path_buf_bytes, path_join};
+ghost use Rattle.std.specs.{Prelude.{◌≡◌, None, false, IfOk}, Path.{path_buf_bytes, path_join}};
 ghost use Rattle.uimg_base.specs.Device.{IsFresh};
 
 use crate::same_files::is_same_file;

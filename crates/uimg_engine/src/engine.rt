@@ -1,9 +1,7 @@
 //! Commands on an image, carried out by the engine of its format.
 
 ghost use Rattle.std.specs.Prelude.{◌≡◌, ◌+◌, ◌*◌, true, false, length, Err};
-ghost use Rattle.uimg_base.specs.Honest.{HonestSource};
-ghost use Rattle.uimg_base.specs.Device.{SameDevice};
-ghost use Rattle.uimg_base.specs.Held.{held_bytes};
+ghost use Rattle.uimg_base.specs.{Honest.HonestSource, Device.SameDevice, Held.held_bytes};
 ghost use Rattle.uimg_engine.specs.Faults.{is_no_memory, is_refused, is_of_making};
 ghost use Rattle.uimg_engine.specs.Headline.{outcome_of, work, nodes_of, CarriesOut, Runs, NoReadFails, NoWriteFails, GrowthsSucceed, Meets, WritesPrefix, ExactlyIfRose, AsksAtMost, ExtractsAhead, KeepsOutput, PeaksAtMost, IsLegacy, OnlyClears};
 

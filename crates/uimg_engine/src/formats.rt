@@ -1,8 +1,7 @@
 //! The format that a file is read in.
 
 ghost use Rattle.std.specs.Prelude.{◌≡◌, false, IfOk, is_err};
-ghost use Rattle.uimg_base.specs.Honest.{HonestSource};
-ghost use Rattle.uimg_base.specs.Using.{Asks};
+ghost use Rattle.uimg_base.specs.{Honest.HonestSource, Using.Asks};
 ghost use Rattle.uimg_engine.specs.Headline.{is_fit};
 
 use uimg_base::{Source, SourceFault};

@@ -1,9 +1,8 @@
 //! `run_by`, `locate` and `make_by` over images and files in memory.
-ghost use Rattle.std.specs.Prelude.{◌≡◌, true, false, IfOk, IfErr};
-ghost use Rattle.std.specs.Io.{StartsWith};
+ghost use Rattle.std.specs.{Prelude.{◌≡◌, true, false, IfOk, IfErr}, Io.StartsWith};
 ghost use Rattle.uimg_engine.specs.Faults.{LosesNothing, is_put, is_refused, is_keep};
-ghost use Rattle.uimg_engine.specs.Headline.{outcome_of, is_fit, GivesOutcome, InMemory, TakesNone, WritesNone};
 ghost use Rattle.uimg_engine.specs.Locating.{FindsSpan, StandsIn};
+ghost use Rattle.uimg_engine.specs.Headline.{outcome_of, is_fit, GivesOutcome, InMemory, TakesNone, WritesNone};
 ghost use Rattle.uimg_requests.specs.Commands.{HasFitNames};
 ghost use Rattle.uimg_engine.specs.Commands.{bytes_among, LacksFile, MakesCommand, ListsLast, LeavesRoom, HoldsCommand};
 

@@ -4,8 +4,7 @@ ghost use Rattle.std.specs.Prelude.{◌≡◌, false, Some, [], IsTrue, IsOk, If
 ghost use Rattle.std.specs.Io.KnownBytes.{Keeps};
 ghost use Rattle.uimg_base.specs.Device.{IsFresh};
 ghost use Rattle.uimg_engine.specs.Faults.{is_unread, is_lost_payload, is_put, is_keep, is_of_making};
-ghost use Rattle.uimg_engine.specs.Headline.{NoWriteFails};
-ghost use Rattle.uimg_engine.specs.Making.{KeepsBytes, WritesImage};
+ghost use Rattle.uimg_engine.specs.{Headline.NoWriteFails, Making.{KeepsBytes, WritesImage}};
 ghost use Rattle.uimg_requests.specs.Commands.{HasFitNames};
 ghost use Rattle.uimg_engine.specs.Commands.{HonestFiles, KeepsSizes, OpensToBuild, BuildsCommand, MakesCommand, ListsKept, LeavesRoom, HoldsCommand, Makes};
 

@@ -1,10 +1,9 @@
 //! Legacy images that are made from files.
 ghost use Rattle.std.specs.Prelude.{◌≡◌, ◌≢◌, false, length, map, IsTrue, IfOk};
-ghost use Rattle.uimg_legacy.specs.Parts.{has_parts};
-ghost use Rattle.uimg_legacy.specs.Devices.{bytes_of, AreHonest};
+ghost use Rattle.uimg_legacy.specs.{Parts.has_parts, Devices.{bytes_of, AreHonest}};
 ghost use Rattle.uimg_engine.specs.Faults.{is_unread, is_put, is_keep, is_no_file};
-ghost use Rattle.uimg_requests.specs.Commands.{FitNames};
 ghost use Rattle.uimg_engine.specs.Commands.{HonestFiles};
+ghost use Rattle.uimg_requests.specs.Commands.{FitNames};
 ghost use Rattle.uimg_engine.specs.Making.{texts, OpensNames, OpensAnswer, BuildsParts, BuildsNames, WritesImage};
 
 use crate::fault::Fault;

@@ -1,8 +1,7 @@
 //! FIT images that are made from image-tree source.
-ghost use Rattle.std.specs.Prelude.{◌≡◌, false, Some, IsTrue, IsSome, IfErr};
+ghost use Rattle.std.specs.Prelude.{◌≡◌, false, Some, IsTrue, IfErr};
 ghost use Rattle.uimg_base.specs.Honest.{HonestSource};
-ghost use Rattle.uimg_blob_writing.specs.Trees.{node_of};
-ghost use Rattle.uimg_blob_writing.specs.UsingFiles.{UsesFiles};
+ghost use Rattle.uimg_blob_writing.specs.{Trees.node_of, UsingFiles.UsesFiles};
 ghost use Rattle.uimg_engine.specs.Faults.{LosesNothing, is_unread, is_lost_payload, is_put, is_keep, is_no_file, is_no_text, is_no_payload};
 ghost use Rattle.uimg_engine.specs.Commands.{HonestFiles, LacksSource, OpensSource};
 ghost use Rattle.uimg_engine.specs.Making.{WritesImage};

@@ -1,13 +1,9 @@
 -- The algorithms in use, and the places of their sums.
 use Rattle.std.proofs.Common.{◌≡◌, ◌≢◌, ℕ, zero, suc, ◌+◌, ◌^◌, ◌≤◌, ◌<◌, List, [], ◌∷◌, length, take, length-take, Some, Bool, true, false, cond, refl, ap, sym, ◌∙◌, arith}
-use Rattle.std.specs.Int.{bit_at}
-use Rattle.std.specs.List.{filter, count_by, slice_get}
-use Rattle.std.specs.Prelude.{bit_or}
-use Rattle.std.proofs.lemmas.Bool.{eqb-true}
+use Rattle.std.specs.{Int.bit_at, List.{filter, count_by, slice_get}, Prelude.bit_or}
+use Rattle.std.proofs.lemmas.{Bool.eqb-true, Nat.Bits.{bit_at_or, bit_at-zero}}
 use Rattle.std.proofs.lemmas.List.Sums.{sum_by-cons, length-filter, count_by-le-length}
-use Rattle.std.proofs.lemmas.Nat.Bits.{bit_at_or, bit_at-zero}
-use Rattle.uimg_sums.specs.Algorithms.{all_algos, number}
-use Rattle.uimg_sums.specs.declared.algo.Algo.{Algo}
+use Rattle.uimg_sums.specs.{Algorithms.{all_algos, number}, declared.algo.Algo.Algo}
 use Rattle.uimg_fit_base.specs.declared.algo_sets.AlgoSet.{AlgoSet}
 use Rattle.uimg_fit_base.specs.AlgoSets.{has, marked, no_algos, is_empty, chosen}
 

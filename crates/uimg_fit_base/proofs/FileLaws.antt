@@ -1,12 +1,8 @@
 -- The images of a file.
 use Rattle.std.proofs.Common.{◌≡◌, ℕ, List, Option, Ok, Result, ap, ◌∙◌}
 use Rattle.uimg_base.specs.Results.{◌>>=◌}
-use Rattle.uimg_blob_reading.specs.Reading.{Fault as BlobFaultAt}
-use Rattle.uimg_blob_reading.specs.Blob.{tree}
-use Rattle.uimg_blob_reading.specs.Grammar.{Siblings}
-use Rattle.uimg_blob_reading.specs.Plain.{NodesOf}
-use Rattle.uimg_blob_reading.specs.LookUps.{NodeOf, images}
-use Rattle.uimg_blob_reading.specs.Spots.{Spot, spots}
+use Rattle.uimg_blob_reading.specs.{Reading.Fault as BlobFaultAt, Blob.tree, Grammar.Siblings}
+use Rattle.uimg_blob_reading.specs.{Plain.NodesOf, LookUps.{NodeOf, images}, Spots.{Spot, spots}}
 use Rattle.uimg_fit_base.specs.Files.{spots_in, listed_or, images_of}
 
 -- the images of a file whose tree is known

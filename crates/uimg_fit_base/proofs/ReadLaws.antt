@@ -1,21 +1,15 @@
 -- In every file whose blob is accepted, each name and each value stands at its place.
 use Rattle.std.proofs.Common.{◌≡◌, ◌≤◌, ℕ, zero, suc, ◌+◌, ◌-◌, ◌%◌, List, [], ◌∷◌, length, take, drop, Option, Some, None, Result, Ok, Err, Bool, true, false, nat_lt, not, ◌==◌, if◌then◌else◌, refl, ap, sym, subst, ◌∙◌, arith}
-use Rattle.std.specs.Bool.{⊤}
-use Rattle.std.specs.List.{AllByRecursion}
-use Rattle.std.specs.Result.{IfOk}
-use Rattle.std.proofs.lemmas.Bool.{ltb-false}
+use Rattle.std.{specs.{Bool.⊤, List.AllByRecursion, Result.IfOk}, proofs.lemmas.Bool.ltb-false}
 use Rattle.std.proofs.lemmas.List.{length-take, length-take-le, length-drop, take-take}
-use Rattle.uimg_texts.specs.Slices.{slice}
-use Rattle.uimg_texts.specs.Nul.{before_nul}
-use Rattle.uimg_texts.specs.Numbers.{be32}
+use Rattle.uimg_texts.specs.{Slices.slice, Nul.before_nul, Numbers.be32}
 use Rattle.uimg_base.specs.Results.{◌>>=◌}
-use Rattle.uimg_blob_reading.specs.declared.fault.BlobFault.{BlobFault}
-use Rattle.uimg_blob_reading.specs.declared.fault.BlobFault.TheVariants.{TooShort, BadMagic, BadVersion, BlockOutside, BadNodeName, Truncated, BadPropertyName, BadToken}
-use Rattle.uimg_blob_reading.specs.Reading.{Fault}
-use Rattle.uimg_blob_reading.specs.Tokens.{Property, Token, Blocks, begin_node, end_node, prop, nop, last, stray, reach, node_name, property_with_name, property_at, token_at, next, tokens_from, tokens}
-use Rattle.uimg_blob_reading.specs.Grammar.{Siblings, none, node, properties, end, inside, children, ended, root, without_nops}
+use Rattle.uimg_blob_reading.specs.{declared.fault.BlobFault.BlobFault, Reading.Fault}
 use Rattle.uimg_blob_reading.specs.Blob.{magic, ends_outside, blocks_named, blocks, tree}
 use Rattle.uimg_blob_reading.proofs.PhaseLaws.{some_none, some_some}
+use Rattle.uimg_blob_reading.specs.declared.fault.BlobFault.TheVariants.{TooShort, BadMagic, BadVersion, BlockOutside, BadNodeName, Truncated, BadPropertyName, BadToken}
+use Rattle.uimg_blob_reading.specs.Tokens.{Property, Token, Blocks, begin_node, end_node, prop, nop, last, stray, reach, node_name, property_with_name, property_at, token_at, next, tokens_from, tokens}
+use Rattle.uimg_blob_reading.specs.Grammar.{Siblings, none, node, properties, end, inside, children, ended, root, without_nops}
 use Rattle.uimg_fit_base.specs.Lying.{NameLies, ValueLies, Lie}
 
 -- a refusal is passed by

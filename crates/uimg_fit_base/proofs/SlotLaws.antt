@@ -1,11 +1,8 @@
 -- Where the digests of some sums stand.
 use Rattle.std.proofs.Common.{◌≡◌, ◌≤◌, ◌-◌, ◌<◌, ℕ, zero, suc, List, [], ◌∷◌, ◌++◌, length, map, replicate, get_or, Option, Some, None, ap, sym, ◌∙◌, arith}
-use Rattle.std.specs.List.{slice_get}
-use Rattle.std.proofs.lemmas.Option.{slice_get_within}
-use Rattle.uimg_sums.specs.Algorithms.{digest_by}
-use Rattle.uimg_sums.specs.AnySum.{padded_digest}
+use Rattle.std.{specs.List.slice_get, proofs.lemmas.Option.slice_get_within}
+use Rattle.uimg_sums.specs.{Algorithms.digest_by, AnySum.padded_digest, declared.algo.Algo.Algo}
 use Rattle.uimg_sums.specs.Bundle.{digest_at, padded_digests}
-use Rattle.uimg_sums.specs.declared.algo.Algo.{Algo}
 use Rattle.uimg_blob_reading.proofs.PhaseLaws.{some_none, some_some}
 
 -- the digest of an algorithm stands where the algorithm does

@@ -1,12 +1,8 @@
 -- Sets of algorithms, and the digests by them.
-use Rattle.std.specs.Prelude.{◌≡◌, ◌^◌, ◌==◌, ℕ, List, Bool, bit_or}
-use Rattle.std.specs.Int.{bit_at}
-use Rattle.std.specs.List.{filter}
-use Rattle.uimg_sums.specs.Algorithms.{all_algos, number}
-use Rattle.uimg_sums.specs.declared.algo.Algo.{Algo}
+use Rattle.std.specs.{Prelude.{◌≡◌, ◌^◌, ◌==◌, ℕ, List, Bool, bit_or}, Int.bit_at, List.filter}
+use Rattle.uimg_sums.specs.{Algorithms.{all_algos, number}, declared.algo.Algo.Algo}
 use Rattle.uimg_sums.specs.Bundle.{padded_digests}
-use Rattle.uimg_fit_base.specs.declared.algo_sets.AlgoSet.{AlgoSet}
-use Rattle.uimg_fit_base.specs.declared.algo_sets.Digests.{Digests}
+use Rattle.uimg_fit_base.specs.declared.algo_sets.{AlgoSet.AlgoSet, Digests.Digests}
 
 -- whether an algorithm is in a set: the bit of its number is 1
 unfoldable pub has : AlgoSet → Algo → Bool

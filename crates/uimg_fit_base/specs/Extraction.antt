@@ -1,15 +1,9 @@
 -- What an extraction writes.
-use Rattle.std.specs.Prelude.{ℕ, List, Option, Some, None, Result, Ok, Err}
-use Rattle.std.specs.List.{slice_get}
-use Rattle.uimg_base.specs.Outcome.{Outcome, done, told, unless_refused}
-use Rattle.uimg_base.specs.Results.{◌>>=◌}
-use Rattle.uimg_blob_reading.specs.LookUps.{NodeOf}
-use Rattle.uimg_blob_reading.specs.Spots.{Spot}
-use Rattle.uimg_fit_base.specs.declared.fault.Fault.{Fault}
-use Rattle.uimg_fit_base.specs.declared.fault.Fault.TheVariants.{Fit}
-use Rattle.uimg_fit_base.specs.declared.fault.FitFault.{FitFault}
-use Rattle.uimg_fit_base.specs.declared.fault.FitFault.TheVariants.{NoSuchImage}
-use Rattle.uimg_fit_base.specs.Files.{images_of}
+use Rattle.std.specs.{Prelude.{ℕ, List, Option, Some, None, Result, Ok, Err}, List.slice_get}
+use Rattle.uimg_base.specs.{Outcome.{Outcome, done, told, unless_refused}, Results.◌>>=◌}
+use Rattle.uimg_blob_reading.specs.{LookUps.NodeOf, Spots.Spot}
+use Rattle.uimg_fit_base.specs.declared.fault.{Fault.{Fault, TheVariants.Fit}, FitFault.FitFault}
+use Rattle.uimg_fit_base.specs.{declared.fault.FitFault.TheVariants.NoSuchImage, Files.images_of}
 use Rattle.uimg_fit_base.specs.Places.{payload}
 
 -- a fault of images, as one of a command

@@ -1,19 +1,16 @@
 -- What the results of this crate mean.
 use Rattle.std.specs.Prelude.{◌≡◌, ⊤, Result, Ok, Err, Option, Some, None, Bool, true, false}
-use Rattle.uimg_base.specs.Outcome.{End, done, not_right, refused}
-use Rattle.uimg_base.specs.declared.status.Status.{Status}
+use Rattle.uimg_base.specs.{Outcome.{End, done, not_right, refused}, declared.status.Status.Status}
 use Rattle.uimg_base.specs.declared.status.Status.TheVariants.{Done, NotRight}
 use Rattle.uimg_base.specs.declared.ranges.MoveFault.{MoveFault}
 use Rattle.uimg_base.specs.declared.ranges.MoveFault.TheVariants as move
 use Rattle.uimg_blob_reading.specs.Faults.{refuses_memory, is_too_large}
 use Rattle.uimg_blob_reading.specs.declared.fault.IndexFault.{IndexFault}
 use Rattle.uimg_blob_reading.specs.declared.fault.IndexFault.TheVariants as index
-use Rattle.uimg_fit_base.specs.declared.fault.Fault.{Fault}
-use Rattle.uimg_fit_base.specs.declared.fault.Fault.TheVariants.{Blob, Fit, Read, Put}
-use Rattle.uimg_fit_base.specs.declared.fault.FitFault.{FitFault}
+use Rattle.uimg_fit_base.specs.declared.fault.Fault.{Fault, TheVariants.{Blob, Fit, Read, Put}}
+use Rattle.uimg_fit_base.specs.declared.fault.FitFault.{FitFault, TheVariants.ReadFailed}
 use Rattle.uimg_fit_base.specs.declared.fault.FitFault.TheVariants.{UnknownAlgo, PositionTooLow}
 use Rattle.uimg_fit_base.specs.declared.fault.FitFault.TheVariants.{TooLarge, OutOfMemory, NoFile}
-use Rattle.uimg_fit_base.specs.declared.fault.FitFault.TheVariants.{ReadFailed}
 
 -- a fault of indexing, as one of a command
 abbrev pub of_index : IndexFault → Fault

@@ -1,20 +1,13 @@
 -- What a FIT image has (Flattened Image Tree format, "Root node", "'/images' node").
 use Rattle.std.specs.Prelude.{ℕ, List, [], length, Option, Some, None, Result, Ok, Err, ◌==◌}
-use Rattle.std.specs.Prelude.{if◌then◌else◌, nat_lt, Bool, false}
-use Rattle.std.specs.Int.{from_be_bytes, w32}
+use Rattle.std.specs.{Prelude.{if◌then◌else◌, nat_lt, Bool, false}, Int.{from_be_bytes, w32}}
 use Rattle.std.specs.Option.{option_and_then, option_map}
-use Rattle.uimg_texts.specs.Numbers.{be32}
-use Rattle.uimg_texts.specs.Slices.{slice}
-use Rattle.uimg_base.specs.Results.{◌>>=◌}
-use Rattle.uimg_base.specs.declared.spans.Span.{Span}
-use Rattle.uimg_blob_reading.specs.Reading.{Fault as BlobFaultAt}
-use Rattle.uimg_blob_reading.specs.Grammar.{Siblings}
-use Rattle.uimg_blob_reading.specs.Blob.{tree}
-use Rattle.uimg_blob_reading.specs.Plain.{NamedOf, NodesOf, no_node, a_node}
+use Rattle.uimg_texts.specs.{Numbers.be32, Slices.slice}
+use Rattle.uimg_base.specs.{Results.◌>>=◌, declared.spans.Span.Span}
+use Rattle.uimg_blob_reading.specs.{Reading.Fault as BlobFaultAt, Grammar.Siblings, Blob.tree}
+use Rattle.uimg_blob_reading.specs.{Plain.{NamedOf, NodesOf, no_node, a_node}, Spots.{Spot, spots}}
 use Rattle.uimg_blob_reading.specs.LookUps.{NodeOf, first, images}
-use Rattle.uimg_blob_reading.specs.Spots.{Spot, spots}
-use Rattle.uimg_fit_base.specs.declared.fault.Fault.{Fault}
-use Rattle.uimg_fit_base.specs.declared.fault.Fault.TheVariants.{Blob, Fit}
+use Rattle.uimg_fit_base.specs.declared.fault.Fault.{Fault, TheVariants.{Blob, Fit}}
 use Rattle.uimg_fit_base.specs.declared.fault.FitFault.TheVariants.{NoImages}
 
 -- the file begins with the magic number of a devicetree blob (Devicetree Specification, section

@@ -1,9 +1,7 @@
 -- Names and values of a tree, at their offsets in the file.
-use Rattle.std.specs.Prelude.{◌≡◌, ℕ, ◌≤◌, ◌+◌, List, length, ⊤}
-use Rattle.std.specs.List.{AllByRecursion}
+use Rattle.std.specs.{Prelude.{◌≡◌, ℕ, ◌≤◌, ◌+◌, List, length, ⊤}, List.AllByRecursion}
 use Rattle.uimg_texts.specs.Slices.{slice}
-use Rattle.uimg_blob_reading.specs.Tokens.{Property}
-use Rattle.uimg_blob_reading.specs.Grammar.{Siblings, none, node}
+use Rattle.uimg_blob_reading.specs.{Tokens.Property, Grammar.{Siblings, none, node}}
 
 -- A node's name follows the token that begins the node.
 pub record NameLies (file : List ℕ) (at : ℕ) (name : List ℕ) : Type 0 where

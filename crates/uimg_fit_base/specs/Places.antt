@@ -1,19 +1,11 @@
 -- The span of an image's payload (Flattened Image Tree format, "External data").
 use Rattle.std.specs.Prelude.{◌≡◌, ℕ, ⊤, ◌+◌, List, length, nat_lt, if◌then◌else◌, Option, Some}
-use Rattle.std.specs.Prelude.{None, Result, Ok, Err, codes}
-use Rattle.uimg_texts.specs.Slices.{slice}
-use Rattle.uimg_texts.specs.Numbers.{be32, up4}
-use Rattle.uimg_base.specs.Results.{◌>>=◌}
-use Rattle.std.specs.Option.{option_map}
-use Rattle.uimg_base.specs.declared.spans.Span.{Span}
-use Rattle.uimg_blob_reading.specs.Indexed.{value_span}
-use Rattle.uimg_blob_reading.specs.LookUps.{NodeOf, first}
-use Rattle.uimg_blob_reading.specs.Spots.{Spot}
-use Rattle.uimg_fit_base.specs.declared.fault.Fault.{Fault}
-use Rattle.uimg_fit_base.specs.declared.fault.Fault.TheVariants.{Blob, Fit}
-use Rattle.uimg_fit_base.specs.declared.fault.FitFault.{FitFault}
-use Rattle.uimg_fit_base.specs.declared.fault.FitFault.TheVariants.{NoData, DataOutside}
-use Rattle.uimg_fit_base.specs.Files.{cell}
+use Rattle.std.specs.{Prelude.{None, Result, Ok, Err, codes}, Option.option_map}
+use Rattle.uimg_texts.specs.{Slices.slice, Numbers.{be32, up4}}
+use Rattle.uimg_base.specs.{Results.◌>>=◌, declared.spans.Span.Span}
+use Rattle.uimg_blob_reading.specs.{Indexed.value_span, LookUps.{NodeOf, first}, Spots.Spot}
+use Rattle.uimg_fit_base.specs.{declared.fault.Fault.{Fault, TheVariants.{Blob, Fit}}, Files.cell}
+use Rattle.uimg_fit_base.specs.declared.fault.FitFault.{FitFault, TheVariants.{NoData, DataOutside}}
 
 -- a span at an offset from a base, if offset and size are known
 abbrev pub external : ℕ → Option ℕ → Option ℕ → Option Span

@@ -1,24 +1,17 @@
 -- The report on the hashes of images (Flattened Image Tree format, "Hash nodes").
 use Rattle.std.specs.Prelude.{ℕ, List, [], ◌∷◌, ◌++◌, length, ◌==◌, if◌then◌else◌, Option, Some}
 use Rattle.std.specs.Prelude.{None, Result, Ok, Err, Bool, true, false, codes}
-use Rattle.std.specs.List.{flat_map, list_all}
-use Rattle.std.specs.Option.{option_map, option_map_or}
-use Rattle.std.specs.Str.{bytes_eq}
+use Rattle.std.specs.{List.{flat_map, list_all}, Option.{option_map, option_map_or}, Str.bytes_eq}
 use Rattle.uimg_sums.specs.declared.algo.Algo.{Algo}
 use Rattle.uimg_sums.specs.Algorithms.{algo_named, digest_size, digest_by}
 use Rattle.uimg_texts.specs.Nul.{text}
 use Rattle.uimg_base.specs.Outcome.{Outcome, End, done, not_right, refused, told, line}
 use Rattle.uimg_base.specs.Outcome.{unless_refused}
-use Rattle.uimg_blob_reading.specs.LookUps.{NodeOf, hashes}
-use Rattle.uimg_blob_reading.specs.Spots.{Spot}
-use Rattle.uimg_fit_base.specs.declared.fault.Fault.{Fault}
-use Rattle.uimg_fit_base.specs.declared.fault.Fault.TheVariants.{Fit}
-use Rattle.uimg_fit_base.specs.declared.fault.FitFault.{FitFault}
-use Rattle.uimg_fit_base.specs.declared.verdicts.Verdict.{Verdict}
+use Rattle.uimg_blob_reading.specs.{LookUps.{NodeOf, hashes}, Spots.Spot}
+use Rattle.uimg_fit_base.specs.declared.fault.{Fault.{Fault, TheVariants.Fit}, FitFault.FitFault}
+use Rattle.uimg_fit_base.specs.declared.verdicts.Verdict.{Verdict, TheVariants.Wrong}
 use Rattle.uimg_fit_base.specs.declared.verdicts.Verdict.TheVariants.{Malformed, Unsupported, Right}
-use Rattle.uimg_fit_base.specs.declared.verdicts.Verdict.TheVariants.{Wrong}
-use Rattle.uimg_fit_base.specs.Files.{images_of, value_bytes}
-use Rattle.uimg_fit_base.specs.Places.{payload}
+use Rattle.uimg_fit_base.specs.{Files.{images_of, value_bytes}, Places.payload}
 
 -- the text of a word
 abbrev pub word_text : Verdict → List ℕ

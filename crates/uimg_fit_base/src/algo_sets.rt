@@ -1,10 +1,8 @@
 //! Sets of algorithms, and the digests by them of one pass over some bytes.
 ghost use Rattle.std.specs.Prelude.{◌≡◌, ◌<◌, ◌≤◌, ◌++◌, ◌∷◌, ℕ, [], List, length, take, true, Some, slice_get, if◌then◌else◌};
 ghost use Rattle.std.specs.List.{count_by};
-ghost use Rattle.uimg_sums.specs.Algorithms.{all_algos, number, digest_by};
-ghost use Rattle.uimg_sums.specs.AnySum.{padded_digest};
-ghost use Rattle.uimg_sums.specs.declared.algo.Algo.{Algo};
-ghost use Rattle.uimg_sums.specs.Bundle.{Holds, padded_digests};
+ghost use Rattle.uimg_sums.specs.{Algorithms.{all_algos, number, digest_by}, AnySum.padded_digest};
+ghost use Rattle.uimg_sums.specs.{declared.algo.Algo.Algo, Bundle.{Holds, padded_digests}};
 ghost use Rattle.uimg_fit_base.specs.AlgoSets.{is_empty, has, marked, no_algos, chosen, set_of, AreDigests};
 
 use uimg_base::{ALGOS, Algo, Bundle};

@@ -1,8 +1,7 @@
 //! The format of an image's file, by its first bytes.
 
 ghost use Rattle.std.specs.Prelude.{◌≡◌, is_err, IfOk};
-ghost use Rattle.uimg_base.specs.Honest.{HonestSource};
-ghost use Rattle.uimg_base.specs.Using.{Asks};
+ghost use Rattle.uimg_base.specs.{Honest.HonestSource, Using.Asks};
 ghost use Rattle.uimg_fit_base.specs.Files.{begins_as_blob};
 
 use uimg_base::{Source, SourceFault, be32_at};

@@ -1,12 +1,10 @@
 -- The algorithms of hash nodes that are all known are in use.
-use Rattle.std.proofs.Common.{◌≡◌, List, [], ◌∷◌, Option, Some, None, Bool, true, false, cond, is_some, refl, ap, sym, subst}
-use Rattle.std.specs.List.{list_all, AllByRecursion}
-use Rattle.std.specs.Option.{option_and_then, IfSome}
+use Rattle.std.proofs.Common.{◌≡◌, List, [], ◌∷◌, Option, Some, None, true, false, is_some, refl, ap, sym, subst}
+use Rattle.std.specs.{List.{list_all, AllByRecursion}, Option.{option_and_then, IfSome}}
 use Rattle.uimg_sums.specs.declared.algo.Algo.{Algo}
 use Rattle.uimg_blob_reading.specs.LookUps.{NodeOf}
 use Rattle.uimg_blob_writing.specs.Content.{Content}
-use Rattle.uimg_fit_base.specs.declared.algo_sets.AlgoSet.{AlgoSet}
-use Rattle.uimg_fit_base.specs.AlgoSets.{has, marked}
+use Rattle.uimg_fit_base.specs.{declared.algo_sets.AlgoSet.AlgoSet, AlgoSets.{has, marked}}
 use Rattle.uimg_fit_base.proofs.AlgoSetLaws.{marked-has, marked-keeps}
 use Rattle.uimg_fit_building.specs.Filling.{algo_by}
 use Rattle.uimg_fit_building.specs.PayloadSums.{in_memory, all_marked, CoversHash}
@@ -19,9 +17,6 @@ pub record Marks (old new : AlgoSet) (hs : List (NodeOf Content)) : Type 0 where
   pub includes : Includes old new
   pub covered : AllByRecursion (CoversHash new) hs
   pub known : list_all (λ h. is_some (algo_by in_memory h.own)) hs ≡ true
-
-known-step : (o : Option Algo) (b : Bool) → is_some o ≡ true → b ≡ true → cond (is_some o) b false ≡ true
-known-step o b h k = rw h k
 
 marks-step : (old new : AlgoSet) (h : NodeOf Content) (hs : List (NodeOf Content)) (o : Option Algo) → o ≡ algo_by in_memory h.own
     → option_and_then (λ algo. all_marked (marked old algo) hs) o ≡ Some new

@@ -1,15 +1,11 @@
 -- What stands behind a blob before the files are read, and after.
 use Rattle.std.proofs.Common.{◌≡◌, ◌≤◌, ◌<◌, ℕ, ◌+◌, ◌-◌, List, [], ◌∷◌, ◌++◌, length, map, replicate, Option, Some, None, Bool, true, false, nat_lt, min, ◌^◌, unwrap_or, if◌then◌else◌, refl, ap, sym, ◌∙◌, codes, arith, append-nil, length-append}
-use Rattle.std.specs.List.{flat_map, AllByRecursion}
-use Rattle.std.specs.Option.{option_map, IfSome}
-use Rattle.std.proofs.lemmas.Bool.{le-ltb, ltb-false, ltb-true}
-use Rattle.std.proofs.lemmas.List.{length-replicate}
-use Rattle.uimg_blob_reading.specs.Plain.{with_value}
-use Rattle.uimg_blob_reading.specs.LookUps.{NodeOf, first, images}
+use Rattle.std.specs.{List.{flat_map, AllByRecursion}, Option.{option_map, IfSome}}
+use Rattle.std.proofs.lemmas.{Bool.{le-ltb, ltb-false, ltb-true}, List.length-replicate}
+use Rattle.uimg_blob_reading.specs.{Plain.with_value, LookUps.{NodeOf, first, images}}
 use Rattle.uimg_blob_writing.specs.Content.{Content, Unread, IsKept, AreKept, content_bytes, size_of, in_full}
-use Rattle.uimg_blob_writing.specs.Alignment.{padding_by, padded_by}
+use Rattle.uimg_blob_writing.{specs.Alignment.{padding_by, padded_by}, proofs.SizeLaws.kept-size}
 use Rattle.uimg_blob_writing.proofs.AlignmentLaws.{aligned-none}
-use Rattle.uimg_blob_writing.proofs.SizeLaws.{kept-size}
 use Rattle.uimg_blob_writing.proofs.WritesLaws.{flat_map-both, all-both}
 use Rattle.uimg_fit_base.specs.declared.fault.FitFault.TheVariants.{PositionTooLow, TooLarge}
 use Rattle.uimg_fit_base.specs.declared.placement.AlignedPlacement.{AlignedPlacement}
@@ -19,8 +15,7 @@ use Rattle.uimg_fit_building.specs.Building.{data_of, placed_blob, payloads, beh
 use Rattle.uimg_fit_building.specs.Refusing.{is_low, build_fault}
 use Rattle.uimg_fit_building.specs.Behind.{images_in, padded_pieces, payload_pieces, padded_sizes, behind_pieces, file_size, end_fault}
 use Rattle.uimg_fit_building.proofs.LookUpLaws.{NodeHas, node_with, first-with, first-has, images-with, images-has}
-use Rattle.uimg_fit_building.proofs.MovedLaws.{padded-length}
-use Rattle.uimg_fit_building.proofs.UnreadLaws.{padded-same}
+use Rattle.uimg_fit_building.proofs.{MovedLaws.padded-length, UnreadLaws.padded-same}
 
 module _ (files : List ℕ → Option (List ℕ)) (align : ℕ) where
   abbrev read : Content → List ℕ

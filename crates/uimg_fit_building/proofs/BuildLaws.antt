@@ -1,36 +1,27 @@
 -- What building does, step by step.
 use Rattle.std.proofs.Common.{◌≡◌, ◌≤◌, ◌<◌, ℕ, List, [], ◌∷◌, length, Option, Some, None, Result, Ok, Err, Bool, true, false, IsTrue, nat_lt, if◌then◌else◌, refl, ap, sym, subst, ◌∙◌}
-use Rattle.std.specs.Option.{option_or}
-use Rattle.std.proofs.lemmas.Bool.{lt-ltb, ltb-true}
+use Rattle.std.{specs.Option.option_or, proofs.lemmas.Bool.{lt-ltb, ltb-true}}
 use Rattle.std.specs.Result.{IsErrAnd, OnOk}
-use Rattle.uimg_base.specs.Named.{FileMap, SameFiles}
-use Rattle.uimg_base.specs.Sink.{Sink}
+use Rattle.uimg_base.specs.{Named.{FileMap, SameFiles}, Sink.Sink}
 use Rattle.uimg_blob_reading.specs.declared.fault.BlobFault.{BlobFault}
-use Rattle.uimg_blob_reading.specs.declared.fault.BlobFault.TheVariants as blob
 use Rattle.uimg_blob_reading.specs.Plain.{NamedOf, NodesOf, no_node, a_node}
-use Rattle.uimg_blob_writing.specs.declared.fault.TreeFault.{TreeFault}
-use Rattle.uimg_blob_writing.specs.declared.fault.TreeFault.TheVariants as tree
+use Rattle.uimg_blob_reading.specs.declared.fault.BlobFault.TheVariants as blob
+use Rattle.uimg_blob_writing.specs.{declared.fault.TreeFault.TreeFault, Encoding.encode_by}
 use Rattle.uimg_blob_writing.specs.Content.{Unread, AreKept, IsKept, content_bytes, in_full}
-use Rattle.uimg_blob_writing.specs.Encoding.{encode_by}
 use Rattle.uimg_blob_writing.specs.Layouts.{Plan, plan_of, totalsize}
-use Rattle.uimg_blob_writing.specs.Measured.{is_name, bad_property, bad_name, measured_with, measured, Measures}
 use Rattle.uimg_blob_writing.proofs.TotalLaws.{encode-size}
-use Rattle.uimg_fit_base.specs.declared.fault.Fault.{Fault}
-use Rattle.uimg_fit_base.specs.declared.fault.Fault.TheVariants.{Blob, Fit, Read, Put}
-use Rattle.uimg_fit_base.specs.declared.fault.FitFault.{FitFault}
-use Rattle.uimg_fit_base.specs.declared.fault.FitFault.TheVariants.{NoImages, NoData, DataOutside, NoSuchImage, UnknownAlgo, PositionTooLow, TooLarge, OutOfMemory, NoFile, ReadFailed}
+use Rattle.uimg_blob_writing.specs.declared.fault.TreeFault.TheVariants as tree
+use Rattle.uimg_blob_writing.specs.Measured.{is_name, bad_property, bad_name, measured_with, measured, Measures}
+use Rattle.uimg_fit_base.specs.declared.fault.Fault.{Fault, TheVariants.{Blob, Fit, Read, Put}}
+use Rattle.uimg_fit_base.specs.{declared.fault.FitFault.FitFault, Placements.align_of}
 use Rattle.uimg_fit_base.specs.declared.placement.AlignedPlacement.{AlignedPlacement}
-use Rattle.uimg_fit_base.specs.Placements.{align_of}
+use Rattle.uimg_fit_base.specs.declared.fault.FitFault.TheVariants.{NoImages, NoData, DataOutside, NoSuchImage, UnknownAlgo, PositionTooLow, TooLarge, OutOfMemory, NoFile, ReadFailed}
 use Rattle.uimg_fit_building.specs.Behind.{images_in, padded_sizes, file_size, end_fault}
-use Rattle.uimg_fit_building.specs.BuildAnswers.{CanBuild, BuildsAnswer}
-use Rattle.uimg_fit_building.specs.Building.{placed_blob, built}
+use Rattle.uimg_fit_building.specs.{BuildAnswers.{CanBuild, BuildsAnswer}, Filling.IsFilled}
+use Rattle.uimg_fit_building.specs.{Building.{placed_blob, built}, ReadsBack.ReadsBack}
+use Rattle.uimg_fit_building.specs.{Refusing.{is_low, build_fault}, UnreadTrees.moved_unread}
 use Rattle.uimg_fit_building.specs.BuildSteps.{of_measure, of_writing, MeasuresTree, WritesTextBetween, BuildsBetween}
-use Rattle.uimg_fit_building.specs.Filling.{IsFilled}
-use Rattle.uimg_fit_building.specs.ReadsBack.{ReadsBack}
-use Rattle.uimg_fit_building.specs.Refusing.{is_low, build_fault}
-use Rattle.uimg_fit_building.specs.UnreadTrees.{moved_unread}
-use Rattle.uimg_fit_building.proofs.BehindLaws.{fault-same}
-use Rattle.uimg_fit_building.proofs.BuiltLaw.{reads_back}
+use Rattle.uimg_fit_building.proofs.{BehindLaws.fault-same, BuiltLaw.reads_back}
 use Rattle.uimg_fit_building.proofs.NamesLaw.{name-values, placed-names, placed-values}
 use Rattle.uimg_fit_building.proofs.UnreadLaws.{moved-unread}
 
@@ -85,17 +76,6 @@ large-step false p e = absurd (cc)
 large-told : (o : Option BlobFault) (p : Plan) → large_in o ≡ false → answer o p ≡ Err blob.TooLarge → (o ≡ None) × (4294967295 < totalsize p)
 large-told None p small e = (refl, ltb-true _ _ (large-step (nat_lt 4294967295 (totalsize p)) p e))
 large-told (Some g) p small e = absurd (let same : g ≡ blob.TooLarge = cc in let told : is_large g ≡ true = ap is_large same in cc)
-
-ok-step : (b : Bool) (p q : Plan) → (let r : Result Plan BlobFault = if b then Err blob.TooLarge else Ok p in r) ≡ Ok q → p ≡ q
-ok-step true p q e = absurd (cc)
-ok-step false p q e = cc
-
-ok-told : (o : Option BlobFault) (p q : Plan) → answer o p ≡ Ok q → (o ≡ None) × (p ≡ q)
-ok-told None p q e = (refl, ok-step (nat_lt 4294967295 (totalsize p)) p q e)
-ok-told (Some g) p q e = absurd (cc)
-
-pub measured-ok : (align : ℕ) (t : Unread) (p : Plan) → measured align t ≡ Ok p → (bad_name t ≡ None) × (plan_of align t ≡ p)
-measured-ok align t p e = ok-told (bad_name t) (plan_of align t) p e
 
 pub measured-err : (align : ℕ) (t : Unread) (f : BlobFault) → Measures (Err f) (measured align t) → MeasuresTree align (Err (of_measure f)) t
 measured-err align t blob.TooShort e = (bad-told (bad_name t) (plan_of align t) blob.TooShort refl e, refl)

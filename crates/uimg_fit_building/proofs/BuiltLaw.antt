@@ -1,23 +1,18 @@
 -- What is built reads back, under each placement.
 use Rattle.std.proofs.Common.{◌≡◌, ◌≤◌, ◌<◌, ◌^◌, ℕ, List, [], ◌∷◌, length, Option, Some, None, Bool, true, false, nat_lt, nat_le, is_none, ◌&&◌, if◌then◌else◌, refl, length-append, arith}
-use Rattle.std.specs.List.{AllByRecursion}
-use Rattle.std.specs.Option.{option_or}
+use Rattle.std.specs.{List.AllByRecursion, Option.option_or}
 use Rattle.std.proofs.lemmas.Bool.{ltb-false, leb-true}
 use Rattle.uimg_blob_reading.specs.declared.fault.BlobFault.{BlobFault}
+use Rattle.uimg_blob_reading.specs.Plain.{Named, Nodes, no_node, a_node, IsName, AreNamed}
 use Rattle.uimg_blob_reading.specs.declared.fault.BlobFault.TheVariants.{BadNodeName, BadPropertyName}
 use Rattle.uimg_texts.specs.Nul.{before_nul}
-use Rattle.uimg_blob_reading.specs.Plain.{Named, Nodes, no_node, a_node, IsName, AreNamed}
-use Rattle.uimg_blob_writing.specs.Encoding.{encode_by}
-use Rattle.uimg_blob_writing.specs.Measured.{is_name, bad_property, bad_name}
+use Rattle.uimg_blob_writing.specs.{Encoding.encode_by, Measured.{is_name, bad_property, bad_name}}
 use Rattle.uimg_fit_base.specs.declared.fault.FitFault.TheVariants.{PositionTooLow, TooLarge}
 use Rattle.uimg_fit_base.specs.declared.placement.AlignedPlacement.{AlignedPlacement}
 use Rattle.uimg_fit_base.specs.declared.placement.AlignedPlacement.TheVariants.{Inside, After, At}
-use Rattle.uimg_fit_building.specs.Filling.{IsFilled}
-use Rattle.uimg_fit_building.specs.Building.{placed_blob, built}
-use Rattle.uimg_fit_building.specs.Refusing.{is_low, build_fault}
-use Rattle.uimg_fit_building.specs.ReadsBack.{ReadsBack}
-use Rattle.uimg_fit_building.proofs.InsideLaw.{built-inside}
-use Rattle.uimg_fit_building.proofs.OutsideLaw.{built-after, built-at}
+use Rattle.uimg_fit_building.specs.{Filling.IsFilled, Building.{placed_blob, built}}
+use Rattle.uimg_fit_building.specs.{Refusing.{is_low, build_fault}, ReadsBack.ReadsBack}
+use Rattle.uimg_fit_building.proofs.{InsideLaw.built-inside, OutsideLaw.{built-after, built-at}}
 
 none-is : (o : Option (List ℕ)) → is_none o ≡ true → o ≡ None
 none-is None h = refl

@@ -1,20 +1,14 @@
 -- Filling, but for the bytes of the digests.
 use Rattle.std.proofs.Common.{◌≡◌, ℕ, suc, ◌+◌, ◌<◌, List, [], ◌∷◌, length, map, set, get_or, Option, Some, None, Bool, true, false, not, cond, if◌then◌else◌, refl, ap, sym, ◌∙◌, codes, arith}
-use Rattle.std.specs.Option.{option_map_or, option_and_then}
-use Rattle.std.specs.Str.{bytes_eq}
-use Rattle.uimg_sums.specs.declared.algo.Algo.{Algo}
-use Rattle.uimg_sums.specs.Algorithms.{algo_named, digest_by}
+use Rattle.std.specs.{Option.{option_map_or, option_and_then}, Str.bytes_eq}
+use Rattle.uimg_sums.specs.{declared.algo.Algo.Algo, Algorithms.{algo_named, digest_by}}
 use Rattle.uimg_texts.specs.Nul.{text}
-use Rattle.uimg_blob_reading.specs.Roles.{is_hash}
-use Rattle.uimg_blob_reading.specs.Plain.{NamedOf, a_node}
-use Rattle.uimg_blob_reading.specs.LookUps.{NodeOf, first}
-use Rattle.uimg_blob_writing.specs.declared.tree.Node.{Node}
-use Rattle.uimg_blob_writing.specs.Content.{Content, Unread, bytes}
+use Rattle.uimg_blob_reading.specs.{Roles.is_hash, Plain.{NamedOf, a_node}, LookUps.{NodeOf, first}}
+use Rattle.uimg_blob_writing.specs.{declared.tree.Node.Node, Content.{Content, Unread, bytes}}
 use Rattle.uimg_blob_writing.specs.Trees.{siblings}
-use Rattle.uimg_fit_building.specs.Behind.{entry}
-use Rattle.uimg_fit_building.specs.Filling.{with, without_external, each, in_first, algo_by, with_digest_by}
-use Rattle.uimg_fit_building.specs.ImageFillings.{hashed_in, filled_over}
+use Rattle.uimg_fit_building.specs.{Behind.entry, ImageFillings.{hashed_in, filled_over}}
 use Rattle.uimg_fit_building.specs.PayloadSums.{no_files, in_memory}
+use Rattle.uimg_fit_building.specs.Filling.{with, without_external, each, in_first, algo_by, with_digest_by}
 use Rattle.uimg_fit_building.specs.DigestBytes.{zeroed, zeroed_own, zeroed_hash, zeroed_child, zeroed_image, zeroed_parent, zeroed_below}
 use Rattle.uimg_fit_building.proofs.ImageFillLaws.{joined}
 use Rattle.uimg_fit_building.proofs.FillTreeLaws.{before, is_images, with_children}

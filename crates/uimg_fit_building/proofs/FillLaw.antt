@@ -1,17 +1,13 @@
 -- A tree that is filled without a fault is filled.
 use Rattle.std.proofs.Common.{◌≡◌, ℕ, List, [], ◌∷◌, map, Option, Some, None, Ok, Bool, true, false, not, cond, find, is_some, is_none, if◌then◌else◌, refl, ap, sym, subst, ◌∙◌, codes}
 use Rattle.std.specs.List.{filter, list_any, list_all, AllByRecursion}
-use Rattle.std.specs.Option.{option_map, option_map_or, option_and_then, option_or}
-use Rattle.std.specs.Str.{bytes_eq}
+use Rattle.std.specs.{Option.{option_map, option_map_or, option_and_then, option_or}, Str.bytes_eq}
 use Rattle.std.proofs.lemmas.Slice.Eq.{bytes_eq-Decides}
-use Rattle.uimg_sums.specs.declared.algo.Algo.{Algo}
-use Rattle.uimg_sums.specs.Algorithms.{algo_named, digest_by}
-use Rattle.uimg_blob_reading.specs.Roles.{is_hash}
-use Rattle.uimg_texts.specs.Nul.{text}
-use Rattle.uimg_blob_reading.specs.Plain.{Named, Nodes, no_node, a_node}
-use Rattle.uimg_fit_base.specs.declared.fault.FitFault.{FitFault}
-use Rattle.uimg_fit_base.specs.declared.fault.FitFault.TheVariants.{NoData, UnknownAlgo}
+use Rattle.uimg_sums.specs.{declared.algo.Algo.Algo, Algorithms.{algo_named, digest_by}}
+use Rattle.uimg_blob_reading.specs.{Roles.is_hash, Plain.{Named, Nodes, no_node, a_node}}
 use Rattle.uimg_blob_reading.specs.LookUps.{NodeOf, listed, first, images, hashes}
+use Rattle.uimg_texts.specs.Nul.{text}
+use Rattle.uimg_fit_base.specs.declared.fault.FitFault.{FitFault, TheVariants.{NoData, UnknownAlgo}}
 use Rattle.uimg_fit_building.specs.Filling.{with, external_names, without_external, each, algo_in, hashed, filled_image, filled, IsDigest, IsFilledImage, IsFilled}
 use Rattle.uimg_fit_building.specs.Refusing.{image_fault, first_fault, filling_fault, fill_from, fill_of}
 use Rattle.uimg_fit_building.proofs.MovedLaws.{node_in, find-in_first}

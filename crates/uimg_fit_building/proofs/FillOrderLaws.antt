@@ -1,23 +1,16 @@
 -- In what order filling reads and refuses.
 use Rattle.std.proofs.Common.{◌≡◌, ◌≢◌, ℕ, zero, suc, ◌+◌, ◌<◌, ◌≤◌, List, [], ◌∷◌, ◌++◌, length, map, take, drop, get_or, Option, Some, None, Bool, true, false, IsTrue, Result, Ok, Err, OnOk, refl, ap, sym, subst, ◌∙◌, codes, arith}
-use Rattle.std.specs.List.{filter, AllByRecursion}
-use Rattle.std.specs.Option.{IfSome}
-use Rattle.std.specs.Result.{IsErrAnd}
-use Rattle.std.specs.Bool.{⊤}
+use Rattle.std.specs.{List.{filter, AllByRecursion}, Option.IfSome, Result.IsErrAnd, Bool.⊤}
 use Rattle.std.proofs.lemmas.List.{take_all}
 use Rattle.uimg_base.specs.Named.{FileMap, SameFiles}
-use Rattle.uimg_blob_reading.specs.Roles.{is_hash}
-use Rattle.uimg_blob_reading.specs.LookUps.{NodeOf, listed, first}
-use Rattle.uimg_blob_writing.specs.declared.tree.Node.{Node}
-use Rattle.uimg_blob_writing.specs.Content.{Content, Unread, IsKept}
+use Rattle.uimg_blob_reading.specs.{Roles.is_hash, LookUps.{NodeOf, listed, first}}
+use Rattle.uimg_blob_writing.specs.{declared.tree.Node.Node, Content.{Content, Unread, IsKept}}
 use Rattle.uimg_fit_base.specs.declared.fault.FitFault.{FitFault}
 use Rattle.uimg_fit_base.specs.declared.fault.FitFault.TheVariants.{NoImages, NoData, DataOutside, NoSuchImage, UnknownAlgo, PositionTooLow, TooLarge, OutOfMemory, NoFile, ReadFailed}
-use Rattle.uimg_fit_building.specs.Behind.{entry}
-use Rattle.uimg_fit_building.specs.FillAnswers.{opens_no_file, fails_to_read}
+use Rattle.uimg_fit_building.specs.{Behind.entry, FillAnswers.{opens_no_file, fails_to_read}}
 use Rattle.uimg_fit_building.specs.ImageFillings.{fault_in_memory, IsKeptImage, StopsAtImage, FillsHashes}
 use Rattle.uimg_fit_building.specs.FillOrder.{CanBeRead, IsPassed, StopsAtFileOf, IsImageRefused, FillsNext, StopsInOrder, FillsInOrder}
-use Rattle.uimg_fit_building.proofs.ImageFillLaws.{sound-of, stops-image}
-use Rattle.uimg_fit_building.proofs.ImagesFillLaws.{split-at}
+use Rattle.uimg_fit_building.proofs.{ImageFillLaws.{sound-of, stops-image}, ImagesFillLaws.split-at}
 
 -- what is so at all is so where it went well
 pub always : {X F P : Type 0} (r : Result X F) → P → OnOk r P

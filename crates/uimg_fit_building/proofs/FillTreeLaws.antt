@@ -1,30 +1,22 @@
 -- Filling the images of a root, and the tree.
 use Rattle.std.proofs.Common.{◌≡◌, ℕ, suc, ◌+◌, ◌<◌, ◌≤◌, List, [], ◌∷◌, ◌++◌, length, map, set, get_or, find, Option, Some, None, Bool, true, false, not, cond, ◌&&◌, is_some, is_none, if◌then◌else◌, Result, Ok, Err, refl, ap, sym, subst, ◌∙◌, codes, arith}
-use Rattle.std.specs.List.{filter, list_all, prefix_len, AllByRecursion}
+use Rattle.std.specs.{List.{filter, list_all, prefix_len, AllByRecursion}, Str.bytes_eq}
 use Rattle.std.specs.Option.{option_map, option_or, IfSome}
-use Rattle.std.specs.Str.{bytes_eq}
-use Rattle.uimg_blob_reading.specs.Roles.{is_hash}
-use Rattle.uimg_blob_reading.specs.Plain.{NamedOf, Nodes, no_node, a_node}
+use Rattle.uimg_blob_reading.specs.{Roles.is_hash, Plain.{NamedOf, Nodes, no_node, a_node}}
 use Rattle.uimg_blob_reading.specs.LookUps.{NodeOf, listed, first, images}
-use Rattle.uimg_blob_writing.specs.declared.tree.Node.{Node}
+use Rattle.uimg_blob_writing.specs.{declared.tree.Node.Node, Trees.siblings, Encoding.word}
 use Rattle.uimg_blob_writing.specs.Content.{Content, Unread, bytes, content_bytes, in_full, IsKept, AreKept, FilesAtData}
-use Rattle.uimg_blob_writing.specs.Trees.{siblings}
-use Rattle.uimg_blob_writing.specs.Encoding.{word}
-use Rattle.uimg_fit_building.specs.Behind.{entry}
-use Rattle.uimg_fit_base.specs.declared.fault.FitFault.{FitFault}
-use Rattle.uimg_fit_base.specs.declared.fault.FitFault.TheVariants.{NoImages, NoData, DataOutside, NoSuchImage, UnknownAlgo, PositionTooLow, TooLarge, OutOfMemory, NoFile, ReadFailed}
+use Rattle.uimg_fit_building.specs.{Behind.entry, PayloadSums.{no_files, in_memory}}
 use Rattle.uimg_fit_building.specs.FillAnswers.{node_in_full, Fills, StopsAtFile, FillsAnswer}
 use Rattle.uimg_fit_building.specs.Filling.{each, in_first, with, filled, filled_image_by, algo_by}
-use Rattle.uimg_fit_building.specs.ImageFillings.{filled_over, fault_in_memory, first_in_memory, StopsAmong, FillsImages, FillsParent, IsKeptImage, images_among, fault_among, StopsBelow, FillsBelow}
-use Rattle.uimg_fit_building.specs.PayloadSums.{no_files, in_memory}
-use Rattle.uimg_fit_building.specs.Refusing.{image_fault, first_fault, filling_fault, fill_from, fill_of}
 use Rattle.uimg_fit_building.specs.UnreadTrees.{filled_unread}
-use Rattle.uimg_fit_building.proofs.FillLaw.{fill-filled}
-use Rattle.uimg_fit_building.proofs.FillUnreadLaws.{filled-read}
-use Rattle.uimg_fit_building.proofs.FillKeepsLaw.{filled-kept}
-use Rattle.uimg_fit_building.proofs.ImageFillLaws.{fault-with}
-use Rattle.uimg_fit_building.proofs.ImagesFillLaws.{fault-behind}
-use Rattle.uimg_fit_building.proofs.InMemoryLaws.{algo-same, image-same}
+use Rattle.uimg_fit_base.specs.declared.fault.FitFault.{FitFault}
+use Rattle.uimg_fit_base.specs.declared.fault.FitFault.TheVariants.{NoImages, NoData, DataOutside, NoSuchImage, UnknownAlgo, PositionTooLow, TooLarge, OutOfMemory, NoFile, ReadFailed}
+use Rattle.uimg_fit_building.specs.ImageFillings.{filled_over, fault_in_memory, first_in_memory, StopsAmong, FillsImages, FillsParent, IsKeptImage, images_among, fault_among, StopsBelow, FillsBelow}
+use Rattle.uimg_fit_building.specs.Refusing.{image_fault, first_fault, filling_fault, fill_from, fill_of}
+use Rattle.uimg_fit_building.proofs.{FillLaw.fill-filled, ImageFillLaws.fault-with}
+use Rattle.uimg_fit_building.proofs.{FillUnreadLaws.filled-read, ImagesFillLaws.fault-behind}
+use Rattle.uimg_fit_building.proofs.{FillKeepsLaw.filled-kept, InMemoryLaws.{algo-same, image-same}}
 use Rattle.uimg_fit_building.proofs.LookUpLaws.{NodeHas, first-has, images-has, images-with}
 
 -- how many nodes stand before the first that is named `images`

@@ -1,19 +1,14 @@
 -- Filling before the files are read is filling after, and each file stays.
 use Rattle.std.proofs.Common.{◌≡◌, ℕ, List, [], ◌∷◌, map, Option, Some, None, Bool, true, false, not, cond, if◌then◌else◌, refl, ap, ◌∙◌, codes}
-use Rattle.std.specs.List.{list_any}
-use Rattle.std.specs.Option.{option_map, option_map_or, option_and_then}
+use Rattle.std.specs.{List.list_any, Option.{option_map, option_map_or, option_and_then}}
 use Rattle.std.specs.Str.{bytes_eq}
-use Rattle.uimg_sums.specs.declared.algo.Algo.{Algo}
-use Rattle.uimg_sums.specs.Algorithms.{algo_named, digest_by}
+use Rattle.uimg_sums.specs.{declared.algo.Algo.Algo, Algorithms.{algo_named, digest_by}}
 use Rattle.uimg_texts.specs.Nul.{text}
-use Rattle.uimg_blob_reading.specs.Roles.{is_hash}
+use Rattle.uimg_blob_reading.specs.{Roles.is_hash, LookUps.{NodeOf, first}}
 use Rattle.uimg_blob_reading.specs.Plain.{NamedOf, Named, Nodes, no_node, a_node, with_value, with_values}
-use Rattle.uimg_blob_reading.specs.LookUps.{NodeOf, first}
-use Rattle.uimg_blob_writing.specs.Encoding.{word}
-use Rattle.uimg_blob_writing.specs.Content.{Content, Unread, bytes, content_bytes}
+use Rattle.uimg_blob_writing.specs.{Encoding.word, Content.{Content, Unread, bytes, content_bytes}}
 use Rattle.uimg_fit_building.specs.Filling.{with, external_names, without_external, each, in_first, with_images, with_root, algo_by, algo_in, with_digest_by, hashed_by, hashed, filled_image_by, filled_image, filled}
-use Rattle.uimg_fit_building.specs.UnreadTrees.{filled_unread}
-use Rattle.uimg_fit_building.specs.FillAnswers.{node_in_full}
+use Rattle.uimg_fit_building.specs.{UnreadTrees.filled_unread, FillAnswers.node_in_full}
 use Rattle.uimg_fit_building.proofs.LookUpLaws.{first-with}
 
 module _ (files : List ℕ → Option (List ℕ)) where

@@ -1,21 +1,14 @@
 -- The hash nodes of an image one by one.
 use Rattle.std.proofs.Common.{◌≡◌, ◌<◌, ◌≤◌, ℕ, zero, suc, List, [], ◌∷◌, length, map, take, get_or, replicate, Option, Some, None, Bool, true, false, cond, refl, ap, sym, subst, ◌∙◌, codes, arith, Result, Ok, Err, OnOk}
-use Rattle.std.specs.List.{filter, AllByRecursion}
-use Rattle.std.specs.Option.{option_map_or, IfSome}
+use Rattle.std.specs.{List.{filter, AllByRecursion}, Option.{option_map_or, IfSome}}
 use Rattle.std.proofs.lemmas.List.{take_at}
-use Rattle.uimg_sums.specs.declared.algo.Algo.{Algo}
-use Rattle.uimg_sums.specs.Algorithms.{algo_named, digest_by, digest_size}
-use Rattle.uimg_sums.specs.AnySum.{padded_digest}
-use Rattle.uimg_sums.proofs.DigestSizes.{length-digest_by}
+use Rattle.uimg_sums.{specs.declared.algo.Algo.Algo, proofs.DigestSizes.length-digest_by}
+use Rattle.uimg_sums.specs.{Algorithms.{algo_named, digest_by, digest_size}, AnySum.padded_digest}
 use Rattle.uimg_texts.specs.Nul.{before_nul, text}
-use Rattle.uimg_blob_reading.specs.Roles.{is_hash}
-use Rattle.uimg_blob_reading.specs.LookUps.{NodeOf}
-use Rattle.uimg_blob_writing.specs.declared.tree.Node.{Node}
-use Rattle.uimg_blob_writing.specs.Content.{Content, bytes}
-use Rattle.uimg_fit_base.specs.declared.algo_sets.AlgoSet.{AlgoSet}
-use Rattle.uimg_fit_base.specs.AlgoSets.{has}
-use Rattle.uimg_fit_building.specs.Behind.{entry}
-use Rattle.uimg_fit_building.specs.Filling.{with, algo_by, with_digest_by}
+use Rattle.uimg_blob_reading.specs.{Roles.is_hash, LookUps.NodeOf}
+use Rattle.uimg_blob_writing.specs.{declared.tree.Node.Node, Content.{Content, bytes}}
+use Rattle.uimg_fit_base.specs.{declared.algo_sets.AlgoSet.AlgoSet, AlgoSets.has}
+use Rattle.uimg_fit_building.specs.{Behind.entry, Filling.{with, algo_by, with_digest_by}}
 use Rattle.uimg_fit_building.specs.PayloadSums.{in_memory, CoversHash}
 
 -- a value in a file names no algorithm

@@ -2,26 +2,19 @@
 use Rattle.std.proofs.Common.{◌≡◌, ◌≢◌, ℕ, List, [], ◌∷◌, map, Option, Some, None, Bool, true, false, cond, ◌&&◌, IfErr, OnOk, is_some, is_none, if◌then◌else◌, Result, Ok, Err, refl, ap, sym, ◌∙◌, codes}
 use Rattle.std.specs.List.{filter, list_all, AllByRecursion}
 use Rattle.std.specs.Option.{option_map, option_map_or, option_and_then, IfSome}
-use Rattle.uimg_sums.specs.declared.algo.Algo.{Algo}
-use Rattle.uimg_sums.specs.Algorithms.{algo_named}
+use Rattle.uimg_sums.specs.{declared.algo.Algo.Algo, Algorithms.algo_named}
 use Rattle.uimg_texts.specs.Nul.{text}
-use Rattle.uimg_blob_reading.specs.Roles.{is_hash}
-use Rattle.uimg_blob_reading.specs.Plain.{NamedOf, no_node, a_node, with_value}
+use Rattle.uimg_blob_reading.specs.{Roles.is_hash, Plain.{NamedOf, no_node, a_node, with_value}}
 use Rattle.uimg_blob_reading.specs.LookUps.{NodeOf, listed, first, hashes}
-use Rattle.uimg_blob_writing.specs.declared.tree.Node.{Node}
+use Rattle.uimg_blob_writing.specs.{declared.tree.Node.Node, Trees.siblings}
 use Rattle.uimg_blob_writing.specs.Content.{Content, Unread, bytes, file, content_bytes}
-use Rattle.uimg_blob_writing.specs.Trees.{siblings}
-use Rattle.uimg_fit_base.specs.declared.algo_sets.AlgoSet.{AlgoSet}
-use Rattle.uimg_fit_base.specs.declared.fault.FitFault.{FitFault}
+use Rattle.uimg_fit_base.specs.declared.{algo_sets.AlgoSet.AlgoSet, fault.FitFault.FitFault}
+use Rattle.uimg_fit_base.{specs.AlgoSets.{has, no_algos}, proofs.AlgoSetLaws.has-none}
 use Rattle.uimg_fit_base.specs.declared.fault.FitFault.TheVariants.{NoImages, NoData, DataOutside, NoSuchImage, UnknownAlgo, PositionTooLow, TooLarge, OutOfMemory, NoFile, ReadFailed}
 use Rattle.uimg_fit_building.specs.Filling.{algo_by, algo_in, each, without_external}
-use Rattle.uimg_fit_building.specs.Refusing.{image_fault}
-use Rattle.uimg_fit_building.specs.FillAnswers.{node_in_full}
-use Rattle.uimg_fit_building.specs.Behind.{entry}
-use Rattle.uimg_fit_building.specs.ImageFillings.{hashed_in, filled_over, fault_in_memory, are_known, IsFileFault, StopsAtPayload, FillsHashes, StopsAtImage, FillsImage}
-use Rattle.uimg_fit_base.specs.AlgoSets.{has, no_algos}
+use Rattle.uimg_fit_building.specs.{Refusing.image_fault, FillAnswers.node_in_full, Behind.entry}
 use Rattle.uimg_fit_building.specs.PayloadSums.{no_files, in_memory, all_marked, CoversHash}
-use Rattle.uimg_fit_base.proofs.AlgoSetLaws.{has-none}
+use Rattle.uimg_fit_building.specs.ImageFillings.{hashed_in, filled_over, fault_in_memory, are_known, IsFileFault, StopsAtPayload, FillsHashes, StopsAtImage, FillsImage}
 use Rattle.uimg_fit_building.proofs.AlgoSetLaws.{marks-all, marks-none}
 use Rattle.uimg_fit_building.proofs.LookUpLaws.{node_with, first-with, hashes-with}
 

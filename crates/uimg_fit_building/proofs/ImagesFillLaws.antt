@@ -1,15 +1,12 @@
 -- Filling images one after the other.
 use Rattle.std.proofs.Common.{◌≡◌, ℕ, zero, suc, ◌+◌, ◌<◌, List, [], ◌∷◌, ◌++◌, length, map, take, drop, get_or, Option, Some, None, Err, refl, ap, sym, ◌∙◌, arith}
-use Rattle.std.specs.List.{AllByRecursion}
-use Rattle.std.specs.Option.{option_or}
+use Rattle.std.specs.{List.AllByRecursion, Option.option_or}
 use Rattle.std.proofs.lemmas.List.{take_more, map-append}
 use Rattle.uimg_blob_reading.specs.LookUps.{NodeOf}
-use Rattle.uimg_blob_writing.specs.declared.tree.Node.{Node}
-use Rattle.uimg_blob_writing.specs.Content.{Content}
+use Rattle.uimg_blob_writing.specs.{declared.tree.Node.Node, Content.Content}
 use Rattle.uimg_fit_base.specs.declared.fault.FitFault.{FitFault}
 use Rattle.uimg_fit_base.specs.declared.fault.FitFault.TheVariants.{NoImages, NoData, DataOutside, NoSuchImage, UnknownAlgo, PositionTooLow, TooLarge, OutOfMemory, NoFile, ReadFailed}
-use Rattle.uimg_fit_building.specs.Refusing.{first_fault}
-use Rattle.uimg_fit_building.specs.Behind.{entry}
+use Rattle.uimg_fit_building.specs.{Refusing.first_fault, Behind.entry}
 use Rattle.uimg_fit_building.specs.ImageFillings.{fault_in_memory, first_in_memory, StopsAtImage, StopsAmong, FillsImage, FillsImages}
 
 -- a fact on all images, for one of them

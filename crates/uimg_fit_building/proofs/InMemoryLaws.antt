@@ -1,18 +1,14 @@
 -- Where only `data` is in files, what filling decides is in memory.
 use Rattle.std.proofs.Common.{◌≡◌, ℕ, List, [], ◌∷◌, find, Option, Some, None, Bool, true, false, cond, if◌then◌else◌, refl, ap, sym, ◌∙◌, codes}
-use Rattle.std.specs.List.{AllByRecursion}
-use Rattle.std.specs.Option.{option_map, option_map_or, option_and_then}
+use Rattle.std.specs.{List.AllByRecursion, Option.{option_map, option_map_or, option_and_then}}
 use Rattle.std.specs.Str.{bytes_eq}
-use Rattle.uimg_sums.specs.declared.algo.Algo.{Algo}
-use Rattle.uimg_sums.specs.Algorithms.{algo_named, digest_by}
+use Rattle.uimg_sums.specs.{declared.algo.Algo.Algo, Algorithms.{algo_named, digest_by}}
 use Rattle.uimg_texts.specs.Nul.{text}
-use Rattle.uimg_blob_reading.specs.Roles.{is_hash}
-use Rattle.uimg_blob_reading.specs.Plain.{NamedOf, no_node, a_node}
+use Rattle.uimg_blob_reading.specs.{Roles.is_hash, Plain.{NamedOf, no_node, a_node}}
 use Rattle.uimg_blob_reading.specs.LookUps.{NodeOf, first}
 use Rattle.uimg_blob_writing.specs.Content.{Content, Unread, bytes, file, content_bytes, StandsAtData, FilesAtData}
 use Rattle.uimg_fit_building.specs.Filling.{with, without_external, each, algo_by, hashed_by, filled_image_by}
-use Rattle.uimg_fit_building.specs.ImageFillings.{hashed_in, filled_over}
-use Rattle.uimg_fit_building.specs.PayloadSums.{in_memory}
+use Rattle.uimg_fit_building.specs.{ImageFillings.{hashed_in, filled_over}, PayloadSums.in_memory}
 
 module _ (files : List ℕ → Option (List ℕ)) where
   abbrev read : Content → List ℕ

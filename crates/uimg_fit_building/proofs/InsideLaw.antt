@@ -1,33 +1,22 @@
 -- What is built with its payloads inside the blob reads back.
 use Rattle.std.proofs.Common.{◌≡◌, ◌<◌, ◌^◌, ℕ, ◌+◌, List, [], ◌∷◌, ◌++◌, length, map, Option, Some, None, Result, Ok, false, nat_lt, unwrap_or, refl, ap, sym, subst, ◌∙◌, codes}
-use Rattle.std.specs.List.{AllByRecursion}
-use Rattle.std.specs.Option.{option_map, option_and_then, IfSome}
-use Rattle.std.specs.Result.{IfOk}
-use Rattle.std.proofs.lemmas.Bool.{le-ltb}
-use Rattle.uimg_blob_reading.specs.Reading.{Fault}
-use Rattle.uimg_blob_reading.specs.Grammar.{Siblings}
-use Rattle.uimg_blob_reading.specs.Blob.{tree}
+use Rattle.std.specs.{List.AllByRecursion, Option.{option_map, option_and_then, IfSome}}
+use Rattle.std.{specs.Result.IfOk, proofs.lemmas.Bool.le-ltb}
+use Rattle.uimg_blob_reading.specs.{Reading.Fault, Grammar.Siblings, Blob.tree, Spots.{Spot, spots}}
 use Rattle.uimg_blob_reading.specs.Plain.{Named, Nodes, no_node, a_node, AllValues, AreNamed}
-use Rattle.uimg_blob_writing.specs.Encoding.{encode_by}
-use Rattle.uimg_blob_writing.proofs.Spelling.{placed}
-use Rattle.uimg_fit_base.specs.declared.fault.FitFault.{FitFault}
-use Rattle.uimg_fit_base.specs.declared.placement.AlignedPlacement.TheVariants.{Inside}
-use Rattle.uimg_blob_reading.specs.LookUps.{NodeOf, first, images}
-use Rattle.uimg_blob_reading.specs.Spots.{Spot, spots}
-use Rattle.uimg_blob_reading.specs.Indexed.{value_span}
-use Rattle.uimg_base.specs.Results.{◌>>=◌}
-use Rattle.uimg_fit_base.specs.Files.{listed_or, images_of, number, cell}
-use Rattle.uimg_fit_base.specs.Places.{embedded, bytes_at}
-use Rattle.uimg_fit_building.specs.Filling.{IsFilledImage, IsFilled}
-use Rattle.uimg_fit_building.specs.Building.{data_of, built}
-use Rattle.uimg_fit_building.specs.ReadsBack.{ReadsBack}
+use Rattle.uimg_blob_reading.specs.{LookUps.{NodeOf, first, images}, Indexed.value_span}
+use Rattle.uimg_blob_writing.{specs.Encoding.encode_by, proofs.Spelling.placed}
 use Rattle.uimg_blob_writing.proofs.ReadsBackLaw.{encode-tree}
-use Rattle.uimg_fit_base.proofs.ReadLaws.{tree-lies}
-use Rattle.uimg_fit_base.proofs.FileLaws.{images_are}
+use Rattle.uimg_fit_base.specs.{declared.fault.FitFault.FitFault, Places.{embedded, bytes_at}}
+use Rattle.uimg_fit_base.specs.{declared.placement.AlignedPlacement.TheVariants.Inside, Lying.Lie}
+use Rattle.uimg_fit_base.specs.Files.{listed_or, images_of, number, cell}
+use Rattle.uimg_fit_base.proofs.{ReadLaws.tree-lies, FileLaws.images_are}
+use Rattle.uimg_base.specs.Results.{◌>>=◌}
+use Rattle.uimg_fit_building.specs.{Filling.{IsFilledImage, IsFilled}, Building.{data_of, built}}
+use Rattle.uimg_fit_building.specs.ReadsBack.{ReadsBack}
 use Rattle.uimg_fit_building.proofs.SpotLaws.{Lies, lies-spots, bytes-placed}
-use Rattle.uimg_fit_base.specs.Lying.{Lie}
-use Rattle.uimg_fit_building.proofs.LookUpLaws.{first-with, images-with, NodeHas, first-has, images-has}
 use Rattle.uimg_fit_building.proofs.SoundLaws.{plain, IsSound, AreSound, reads_back-sound}
+use Rattle.uimg_fit_building.proofs.LookUpLaws.{first-with, images-with, NodeHas, first-has, images-has}
 
 -- The images of a file are these but for their places, and each value stands at its place.
 pub record IsRead (file : List ℕ) (found : List (NodeOf (List ℕ))) : Type 0 where

@@ -1,21 +1,17 @@
 -- The files of a tree are kept where those of its blob are, and those of what stands behind it.
 use Rattle.std.proofs.Common.{ℕ, ◌+◌, List, [], ◌∷◌, Option, Some, Result, Ok, Err, Bool, true, false, is_err, if◌then◌else◌, cond, find, unwrap_or, codes}
-use Rattle.std.specs.Bool.{OnFalse}
-use Rattle.std.specs.List.{flat_map, AllByRecursion}
-use Rattle.std.specs.Option.{option_map}
-use Rattle.std.specs.Result.{OnOk}
+use Rattle.std.specs.{Bool.OnFalse, List.{flat_map, AllByRecursion}, Option.option_map, Result.OnOk}
 use Rattle.std.specs.Str.{bytes_eq}
 use Rattle.uimg_blob_reading.specs.Plain.{NamedOf, no_node, a_node}
 use Rattle.uimg_blob_reading.specs.LookUps.{NodeOf, listed, first}
-use Rattle.uimg_blob_writing.specs.declared.fault.TreeFault.{TreeFault}
+use Rattle.uimg_blob_writing.specs.{declared.fault.TreeFault.TreeFault, Encoding.word}
 use Rattle.uimg_blob_writing.specs.Content.{Content, Unread, IsKept, AreKept, bytes, size_of}
-use Rattle.uimg_blob_writing.specs.Encoding.{word}
 use Rattle.uimg_blob_writing.proofs.WritesLaws.{all-first, all-second}
 use Rattle.uimg_fit_building.specs.Building.{moved_from_by, moved_own_by}
-use Rattle.uimg_fit_base.specs.declared.placement.AlignedPlacement.{AlignedPlacement}
-use Rattle.uimg_fit_base.specs.declared.placement.AlignedPlacement.TheVariants.{Inside, After, At}
 use Rattle.uimg_fit_building.specs.Behind.{padded_pieces, payload_pieces, behind_pieces, images_in}
 use Rattle.uimg_fit_building.specs.Filling.{in_first, with_images}
+use Rattle.uimg_fit_base.specs.declared.placement.AlignedPlacement.{AlignedPlacement}
+use Rattle.uimg_fit_base.specs.declared.placement.AlignedPlacement.TheVariants.{Inside, After, At}
 use Rattle.uimg_fit_building.specs.UnreadTrees.{unread_own, padded_size_of, unread_from, moved_unread}
 
 module _ (files : List ℕ → Option (List ℕ)) where

@@ -1,11 +1,9 @@
 -- Look-ups in a tree whose values were changed by a function are the look-ups in the tree, changed so.
 use Rattle.std.proofs.Common.{◌≡◌, ℕ, List, [], ◌∷◌, map, Option, Some, None, Bool, true, false, refl, ap, ◌∙◌, codes, cond, find}
-use Rattle.std.specs.List.{filter, AllByRecursion}
-use Rattle.std.specs.Option.{option_map, IfSome}
-use Rattle.std.specs.Str.{bytes_eq}
+use Rattle.std.specs.{List.{filter, AllByRecursion}, Option.{option_map, IfSome}, Str.bytes_eq}
 use Rattle.uimg_blob_reading.specs.Roles.{is_hash}
-use Rattle.uimg_blob_reading.specs.Plain.{NamedOf, NodesOf, no_node, a_node, with_value, with_values, AllValues}
 use Rattle.uimg_blob_reading.specs.LookUps.{NodeOf, listed, first, child, images, hashes}
+use Rattle.uimg_blob_reading.specs.Plain.{NamedOf, NodesOf, no_node, a_node, with_value, with_values, AllValues}
 
 find-step : {X Y : Type 0} (f : X → Y) (b : Bool) (x : X) (found : Option X) (rest : Option Y) → rest ≡ option_map f found → cond b (Some (f x)) rest ≡ option_map f (cond b (Some x) found)
 find-step f true x found rest h = refl

@@ -1,14 +1,11 @@
 -- The images of a tree whose payloads were moved.
 use Rattle.std.proofs.Common.{◌≡◌, ◌<◌, ◌^◌, ℕ, ◌+◌, List, [], ◌∷◌, length, Option, Some, None, Bool, true, false, if◌then◌else◌, cond, find, unwrap_or, refl, ap, sym, ◌∙◌, codes, arith}
-use Rattle.std.specs.List.{AllByRecursion}
-use Rattle.std.specs.Option.{option_map, option_map_or}
-use Rattle.std.specs.Str.{bytes_eq}
+use Rattle.std.specs.{List.AllByRecursion, Option.{option_map, option_map_or}, Str.bytes_eq}
 use Rattle.std.proofs.lemmas.Nat.{from_be_bytes-to_be_bytes_4}
 use Rattle.uimg_blob_reading.specs.Plain.{Named, Nodes, no_node, a_node, IsName, AreNamed}
-use Rattle.uimg_blob_writing.specs.Alignment.{aligned, padded_by}
-use Rattle.uimg_blob_writing.specs.Encoding.{word}
-use Rattle.uimg_blob_writing.proofs.AlignmentLaws.{length-padded_by, aligned-none}
 use Rattle.uimg_blob_reading.specs.LookUps.{NodeOf, listed, first, images}
+use Rattle.uimg_blob_writing.specs.{Alignment.{aligned, padded_by}, Encoding.word}
+use Rattle.uimg_blob_writing.proofs.AlignmentLaws.{length-padded_by, aligned-none}
 use Rattle.uimg_fit_base.specs.Files.{number}
 use Rattle.uimg_fit_building.specs.Filling.{in_first, with_images}
 use Rattle.uimg_fit_building.specs.Building.{data_of, padded_size, moved_own, moved_from, moved_from_by, moved_own_by}

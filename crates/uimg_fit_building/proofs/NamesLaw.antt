@@ -1,19 +1,16 @@
 -- Placing neither adds nor loses a bad name, and keeps the files that are kept.
 use Rattle.std.proofs.Common.{◌≡◌, ℕ, ◌+◌, List, [], ◌∷◌, map, Option, Some, Bool, true, false, if◌then◌else◌, refl, ap, sym, ◌∙◌, codes}
-use Rattle.std.specs.List.{AllByRecursion}
-use Rattle.std.specs.Option.{option_or}
-use Rattle.std.specs.Str.{bytes_eq}
+use Rattle.std.specs.{List.AllByRecursion, Option.option_or, Str.bytes_eq}
 use Rattle.std.proofs.lemmas.Slice.Eq.{bytes_eq-Decides}
 use Rattle.uimg_blob_reading.specs.declared.fault.BlobFault.{BlobFault}
 use Rattle.uimg_blob_reading.specs.declared.fault.BlobFault.TheVariants.{BadNodeName, BadPropertyName}
 use Rattle.uimg_blob_reading.specs.Plain.{NamedOf, NodesOf, no_node, a_node, with_value, with_values, AllValues}
-use Rattle.uimg_blob_writing.specs.Content.{Content, Unread, bytes, size_of}
-use Rattle.uimg_blob_writing.specs.Encoding.{word}
+use Rattle.uimg_blob_writing.specs.{Content.{Content, Unread, bytes, size_of}, Encoding.word}
 use Rattle.uimg_blob_writing.specs.Measured.{is_name, bad_property, bad_name}
 use Rattle.uimg_fit_building.specs.Building.{moved_from_by, moved_own_by}
+use Rattle.uimg_fit_building.specs.Filling.{in_first, with_images}
 use Rattle.uimg_fit_base.specs.declared.placement.AlignedPlacement.{AlignedPlacement}
 use Rattle.uimg_fit_base.specs.declared.placement.AlignedPlacement.TheVariants.{Inside, After, At}
-use Rattle.uimg_fit_building.specs.Filling.{in_first, with_images}
 use Rattle.uimg_fit_building.specs.UnreadTrees.{unread_own, padded_size_of, unread_from, moved_unread}
 
 -- names count, whatever the values are

@@ -1,31 +1,23 @@
 -- What is built with its payloads after the blob reads back.
 use Rattle.std.proofs.Common.{◌≡◌, ◌≤◌, ◌<◌, ◌^◌, ℕ, ◌+◌, ◌-◌, List, [], ◌∷◌, ◌++◌, length, drop, map, replicate, Option, Some, None, Result, Ok, true, false, nat_lt, unwrap_or, refl, ap, sym, subst, ◌∙◌, codes, append_assoc, append-nil, length-append, arith}
-use Rattle.std.specs.List.{flat_map, AllByRecursion}
-use Rattle.std.specs.Option.{option_map, option_and_then}
-use Rattle.std.specs.Str.{bytes_eq}
-use Rattle.std.proofs.lemmas.Bool.{le-ltb}
-use Rattle.std.proofs.lemmas.List.{length-replicate}
+use Rattle.std.specs.{List.{flat_map, AllByRecursion}, Option.{option_map, option_and_then}}
+use Rattle.std.{specs.Str.bytes_eq, proofs.lemmas.{Bool.le-ltb, List.length-replicate}}
 use Rattle.std.proofs.Math.Seq.{drop-append_seam}
 use Rattle.uimg_texts.specs.Numbers.{be32, up4}
-use Rattle.uimg_blob_reading.specs.Plain.{Named, Nodes, no_node, a_node, AreNamed}
-use Rattle.uimg_blob_writing.specs.Alignment.{padding_by, padded_by}
+use Rattle.uimg_blob_reading.specs.{Plain.{Named, Nodes, no_node, a_node, AreNamed}, Spots.Spot}
+use Rattle.uimg_blob_reading.specs.LookUps.{NodeOf, first, images, hashes}
+use Rattle.uimg_blob_writing.{specs.Alignment.{padding_by, padded_by}, proofs.TokenLaws.drop-piece}
 use Rattle.uimg_blob_writing.specs.Encoding.{word, structure, strings, names_of, encode_by}
 use Rattle.uimg_blob_writing.proofs.AlignmentLaws.{aligned-words}
 use Rattle.uimg_blob_writing.proofs.ReadsBackLaw.{length-encode, totalsize}
-use Rattle.uimg_fit_base.specs.declared.fault.FitFault.{FitFault}
+use Rattle.uimg_fit_base.specs.{declared.fault.FitFault.FitFault, Files.{number, cell}}
 use Rattle.uimg_fit_base.specs.declared.placement.AlignedPlacement.TheVariants.{After, At}
-use Rattle.uimg_blob_reading.specs.LookUps.{NodeOf, first, images, hashes}
-use Rattle.uimg_blob_reading.specs.Spots.{Spot}
-use Rattle.uimg_base.specs.Results.{◌>>=◌}
-use Rattle.uimg_base.specs.declared.spans.Span.{Span}
-use Rattle.uimg_fit_base.specs.Files.{number, cell}
 use Rattle.uimg_fit_base.specs.Places.{place, bytes_at}
+use Rattle.uimg_base.specs.{Results.◌>>=◌, declared.spans.Span.Span}
 use Rattle.uimg_fit_building.specs.Filling.{in_first, IsFilledImage, IsFilled, IsDigest}
-use Rattle.uimg_fit_building.specs.Building.{data_of, padded_size, moved_own, moved_from, placed_blob, payloads, built}
 use Rattle.uimg_fit_building.specs.ReadsBack.{ReadsBack}
-use Rattle.uimg_blob_writing.proofs.TokenLaws.{drop-piece}
-use Rattle.uimg_fit_building.proofs.SpotLaws.{piece-within, piece-lies}
-use Rattle.uimg_fit_building.proofs.LookUpLaws.{first-with}
+use Rattle.uimg_fit_building.specs.Building.{data_of, padded_size, moved_own, moved_from, placed_blob, payloads, built}
+use Rattle.uimg_fit_building.proofs.{SpotLaws.{piece-within, piece-lies}, LookUpLaws.first-with}
 use Rattle.uimg_fit_building.proofs.SoundLaws.{plain, IsSound, AreSound, reads_back-sound}
 use Rattle.uimg_fit_building.proofs.InsideLaw.{images-read}
 use Rattle.uimg_fit_building.proofs.MovedLaws.{moved_node, moved_nodes, images-moved, named-images, offset_is_name, position_is_name, number-word, padded-length, is_moved}

@@ -1,17 +1,11 @@
 -- Placing over lists is placing of the tree.
 use Rattle.std.proofs.Common.{◌≡◌, ℕ, ◌+◌, ◌%◌, ◌/◌, List, [], ◌∷◌, ◌++◌, map, Option, Some, Bool, true, false, if◌then◌else◌, find, unwrap_or, refl, ap, sym, ◌∙◌, codes, arith, append-nil, append_assoc}
-use Rattle.std.specs.Option.{option_map}
-use Rattle.std.specs.Str.{bytes_eq}
-use Rattle.uimg_blob_reading.specs.Plain.{NamedOf, a_node}
-use Rattle.uimg_blob_reading.specs.LookUps.{NodeOf, listed}
-use Rattle.uimg_blob_writing.specs.declared.props.Prop.{Prop}
-use Rattle.uimg_blob_writing.specs.declared.tree.Node.{Node}
-use Rattle.uimg_blob_writing.specs.Content.{Content, Unread, bytes, size_of}
-use Rattle.uimg_blob_writing.specs.Encoding.{word}
+use Rattle.std.specs.{Option.option_map, Str.bytes_eq}
+use Rattle.uimg_blob_reading.specs.{Plain.{NamedOf, a_node}, LookUps.{NodeOf, listed}}
+use Rattle.uimg_blob_writing.specs.{declared.{props.Prop.Prop, tree.Node.Node}, Encoding.word}
+use Rattle.uimg_blob_writing.specs.{Content.{Content, Unread, bytes, size_of}, Trees.siblings}
 use Rattle.uimg_blob_writing.specs.Properties.{property, content}
-use Rattle.uimg_blob_writing.specs.Trees.{siblings}
-use Rattle.uimg_fit_building.specs.Building.{moved_from_by, moved_own_by}
-use Rattle.uimg_fit_building.specs.Behind.{entry}
+use Rattle.uimg_fit_building.specs.{Building.{moved_from_by, moved_own_by}, Behind.entry}
 use Rattle.uimg_fit_building.specs.Filling.{in_first}
 use Rattle.uimg_fit_building.specs.UnreadTrees.{padded_size_of, unread_own, unread_from}
 use Rattle.uimg_fit_building.specs.Placing.{at_first, after_first, cells, is_data, placed_properties, placed_image, placed_images, is_images_node, with_placed, placed_children}

@@ -1,29 +1,18 @@
 -- A blob that is written, and then what stands behind it.
 use Rattle.std.proofs.Common.{◌≡◌, ℕ, List, ◌++◌, Option, Result, Ok, Err, Bool, false, IsTrue, is_err, ap, sym, subst, ◌∙◌}
 use Rattle.std.specs.Result.{IsErrAnd}
-use Rattle.uimg_base.specs.Device.{RisesIf}
-use Rattle.uimg_base.specs.Named.{FileMap}
-use Rattle.uimg_base.specs.Sink.{Sink}
-use Rattle.uimg_base.specs.Writing.{Written}
-use Rattle.uimg_base.proofs.SinkLaws.{prefix_first}
-use Rattle.uimg_base.proofs.WritingLaws.{written_then}
-use Rattle.uimg_blob_writing.specs.declared.fault.TreeFault.{TreeFault}
-use Rattle.uimg_blob_writing.specs.Content.{Unread, AreKept, in_full}
-use Rattle.uimg_blob_writing.specs.Encoding.{encode_by}
-use Rattle.uimg_blob_writing.specs.Faults.{is_no_file, is_put, is_read}
-use Rattle.uimg_blob_writing.specs.Layouts.{plan_of, totalsize}
-use Rattle.uimg_blob_writing.specs.Pieces.{WritesPieces}
-use Rattle.uimg_blob_writing.specs.UsingFiles.{UsesFiles}
-use Rattle.uimg_blob_writing.proofs.WritesLaws.{rises-then}
+use Rattle.uimg_base.specs.{Device.RisesIf, Named.FileMap, Sink.Sink, Writing.Written}
+use Rattle.uimg_base.proofs.{SinkLaws.prefix_first, WritingLaws.written_then}
+use Rattle.uimg_blob_writing.specs.{declared.fault.TreeFault.TreeFault, Encoding.encode_by}
+use Rattle.uimg_blob_writing.specs.{Content.{Unread, AreKept, in_full}, UsingFiles.UsesFiles}
+use Rattle.uimg_blob_writing.specs.{Faults.{is_no_file, is_put, is_read}, Pieces.WritesPieces}
+use Rattle.uimg_blob_writing.{specs.Layouts.{plan_of, totalsize}, proofs.WritesLaws.rises-then}
 use Rattle.uimg_fit_base.specs.declared.placement.AlignedPlacement.{AlignedPlacement}
 use Rattle.uimg_fit_base.specs.Placements.{align_of}
-use Rattle.uimg_fit_building.specs.Behind.{behind_pieces}
-use Rattle.uimg_fit_building.specs.Building.{placed_blob, behind}
-use Rattle.uimg_fit_building.specs.BuildSteps.{WritesTextBetween}
-use Rattle.uimg_fit_building.specs.UnreadTrees.{moved_unread}
+use Rattle.uimg_fit_building.specs.{Behind.behind_pieces, Building.{placed_blob, behind}}
+use Rattle.uimg_fit_building.specs.{BuildSteps.WritesTextBetween, UnreadTrees.moved_unread}
 use Rattle.uimg_fit_building.proofs.BehindLaws.{behind-kept, behind-joined}
-use Rattle.uimg_fit_building.proofs.BuildLaws.{placed-kept, placed-size}
-use Rattle.uimg_fit_building.proofs.UnreadLaws.{moved-unread}
+use Rattle.uimg_fit_building.proofs.{BuildLaws.{placed-kept, placed-size}, UnreadLaws.moved-unread}
 
 abbrev pub Answer : Type 0
 Answer = Result (Unit {0}) TreeFault

@@ -1,11 +1,9 @@
 -- Setting and removing properties.
 use Rattle.std.proofs.Common.{◌≡◌, ℕ, suc, ◌+◌, ◌<◌, ◌≤◌, List, [], ◌∷◌, ◌++◌, length, map, take, drop, set, Bool, true, false, not, cond, refl, ap, sym, ◌∙◌, arith}
-use Rattle.std.specs.List.{filter, list_any}
-use Rattle.std.specs.Str.{bytes_eq}
+use Rattle.std.specs.{List.{filter, list_any}, Str.bytes_eq}
 use Rattle.std.proofs.lemmas.List.{set_split, take_all, drop_all, map-append}
 use Rattle.uimg_blob_reading.specs.Plain.{NamedOf}
-use Rattle.uimg_blob_writing.specs.declared.props.Prop.{Prop}
-use Rattle.uimg_blob_writing.specs.Content.{Content}
+use Rattle.uimg_blob_writing.specs.{declared.props.Prop.Prop, Content.Content}
 use Rattle.uimg_blob_writing.specs.Properties.{content, property}
 use Rattle.uimg_fit_building.specs.Filling.{with, external_names, without_external}
 

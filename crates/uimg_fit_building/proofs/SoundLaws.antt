@@ -1,31 +1,18 @@
 -- Where each image has its payload and its digests, the report is right and each payload is extracted.
 use Rattle.std.proofs.Common.{◌≡◌, ℕ, zero, suc, List, [], ◌∷◌, length, map, Option, Some, None, Result, Ok, true, ◌==◌, refl, ap, sym, subst, ◌∙◌, codes}
-use Rattle.std.specs.Bool.{⊤}
-use Rattle.std.specs.List.{slice_get, AllByRecursion}
-use Rattle.std.specs.Option.{option_map, option_and_then}
-use Rattle.std.specs.Str.{bytes_eq}
-use Rattle.std.proofs.lemmas.Bool.{eq-eqb}
-use Rattle.std.proofs.lemmas.Option.{slice_get-map}
-use Rattle.std.proofs.lemmas.Slice.Eq.{bytes_eq-Decides}
-use Rattle.uimg_sums.specs.declared.algo.Algo.{Algo}
+use Rattle.std.specs.{Bool.⊤, List.{slice_get, AllByRecursion}, Str.bytes_eq}
+use Rattle.std.{specs.Option.{option_map, option_and_then}, proofs.lemmas.Bool.eq-eqb}
+use Rattle.std.proofs.lemmas.{Option.slice_get-map, Slice.Eq.bytes_eq-Decides}
+use Rattle.uimg_sums.{specs.declared.algo.Algo.Algo, proofs.DigestSizes.length-digest_by}
 use Rattle.uimg_sums.specs.Algorithms.{algo_named, digest_size, digest_by}
-use Rattle.uimg_sums.proofs.DigestSizes.{length-digest_by}
-use Rattle.uimg_base.specs.Outcome.{done, told, unless_refused}
-use Rattle.uimg_base.specs.Results.{◌>>=◌}
+use Rattle.uimg_base.specs.{Outcome.{done, told, unless_refused}, Results.◌>>=◌}
 use Rattle.uimg_texts.specs.Nul.{text}
-use Rattle.uimg_blob_reading.specs.LookUps.{NodeOf, images, hashes}
-use Rattle.uimg_blob_reading.specs.Spots.{Spot}
-use Rattle.uimg_fit_base.specs.declared.fault.Fault.{Fault}
-use Rattle.uimg_fit_base.specs.declared.fault.FitFault.{FitFault}
-use Rattle.uimg_fit_base.specs.Files.{images_of, value_bytes}
-use Rattle.uimg_fit_base.specs.Places.{payload}
+use Rattle.uimg_blob_reading.specs.{LookUps.{NodeOf, images, hashes}, Spots.Spot, Plain.Nodes}
+use Rattle.uimg_fit_base.specs.{declared.fault.{Fault.Fault, FitFault.FitFault}, Places.payload}
+use Rattle.uimg_fit_base.specs.{Files.{images_of, value_bytes}, Extraction.{of_images, payload_of}}
 use Rattle.uimg_fit_base.specs.declared.verdicts.Verdict.TheVariants.{Right}
 use Rattle.uimg_fit_base.specs.Report.{compared, by_value, by_algo, by_name, word_of, are_right, report}
-use Rattle.uimg_fit_base.specs.Extraction.{of_images, payload_of}
-use Rattle.uimg_blob_reading.specs.Plain.{Nodes}
-use Rattle.uimg_fit_building.specs.Building.{data_of}
-use Rattle.uimg_fit_building.specs.ReadsBack.{ReadsBack}
-use Rattle.uimg_fit_building.specs.Filling.{IsDigest}
+use Rattle.uimg_fit_building.specs.{Building.data_of, ReadsBack.ReadsBack, Filling.IsDigest}
 use Rattle.uimg_fit_building.proofs.LookUpLaws.{node_with, first-with, hashes-with}
 
 -- a node that was read, without its places

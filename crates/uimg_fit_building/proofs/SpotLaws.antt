@@ -1,13 +1,11 @@
 -- The values of nodes that were read stand at their places, and those of a written tree are its own.
 use Rattle.std.proofs.Common.{◌≡◌, ◌≤◌, ℕ, ◌+◌, List, [], ◌∷◌, ◌++◌, length, take, drop, map, refl, ap, ◌∙◌, length-append, arith}
-use Rattle.std.specs.List.{AllByRecursion}
-use Rattle.std.proofs.lemmas.List.{length-drop}
+use Rattle.std.{specs.List.AllByRecursion, proofs.lemmas.List.length-drop}
 use Rattle.std.proofs.Math.Seq.{take-append_seam}
 use Rattle.uimg_texts.specs.Slices.{slice}
-use Rattle.uimg_blob_reading.specs.Tokens.{Property}
-use Rattle.uimg_blob_reading.specs.Grammar.{Siblings, none, node}
-use Rattle.uimg_blob_reading.specs.Plain.{Named, Nodes, no_node, a_node, with_value, with_values, AllValues}
+use Rattle.uimg_blob_reading.specs.{Tokens.Property, Grammar.{Siblings, none, node}}
 use Rattle.uimg_blob_reading.specs.Spots.{Spot, spot_of, spots}
+use Rattle.uimg_blob_reading.specs.Plain.{Named, Nodes, no_node, a_node, with_value, with_values, AllValues}
 use Rattle.uimg_blob_writing.proofs.Spelling.{placed_properties, placed, past_name, past_property, past_properties, past}
 use Rattle.uimg_fit_base.specs.Lying.{ValueLies, Lie}
 

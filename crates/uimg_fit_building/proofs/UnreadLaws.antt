@@ -1,13 +1,9 @@
 -- Placing before the files are read is placing after.
 use Rattle.std.proofs.Common.{◌≡◌, ℕ, ◌+◌, List, [], ◌∷◌, length, map, Option, Some, None, Bool, true, false, if◌then◌else◌, refl, ap, ◌∙◌, codes}
-use Rattle.std.specs.List.{AllByRecursion}
-use Rattle.std.specs.Option.{option_map, option_map_or, IfSome}
-use Rattle.std.specs.Str.{bytes_eq}
+use Rattle.std.specs.{List.AllByRecursion, Option.{option_map, option_map_or, IfSome}, Str.bytes_eq}
 use Rattle.uimg_blob_reading.specs.Plain.{NamedOf, Named, Nodes, no_node, a_node, with_value, with_values, AllValues}
-use Rattle.uimg_blob_writing.specs.Alignment.{aligned}
-use Rattle.uimg_blob_writing.specs.Encoding.{word}
+use Rattle.uimg_blob_writing.{specs.{Alignment.aligned, Encoding.word}, proofs.SizeLaws.kept-size}
 use Rattle.uimg_blob_writing.specs.Content.{Content, Unread, IsKept, bytes, content_bytes, size_of}
-use Rattle.uimg_blob_writing.proofs.SizeLaws.{kept-size}
 use Rattle.uimg_fit_base.specs.declared.placement.AlignedPlacement.{AlignedPlacement}
 use Rattle.uimg_fit_base.specs.declared.placement.AlignedPlacement.TheVariants.{Inside, After, At}
 use Rattle.uimg_blob_reading.specs.LookUps.{first}

@@ -1,10 +1,7 @@
 -- Properties, one of them set.
 use Rattle.std.proofs.Common.{◌≡◌, ℕ, List, [], ◌∷◌, Option, Some, Bool, true, false, cond, find, if◌then◌else◌, refl, ap, sym, ◌∙◌}
-use Rattle.std.specs.Option.{option_map}
-use Rattle.std.specs.Str.{bytes_eq}
-use Rattle.std.proofs.lemmas.Slice.Eq.{bytes_eq-Decides}
-use Rattle.uimg_blob_reading.specs.Plain.{NamedOf}
-use Rattle.uimg_blob_reading.specs.LookUps.{first}
+use Rattle.std.{specs.{Option.option_map, Str.bytes_eq}, proofs.lemmas.Slice.Eq.bytes_eq-Decides}
+use Rattle.uimg_blob_reading.specs.{Plain.NamedOf, LookUps.first}
 use Rattle.uimg_fit_building.specs.Filling.{with}
 
 module _ {V : Type 0} where

@@ -1,18 +1,14 @@
 -- What follows a blob, if payloads stay in their files.
 use Rattle.std.specs.Prelude.{ℕ, ◌+◌, ◌-◌, List, [], ◌∷◌, replicate, nat_lt, if◌then◌else◌, Option}
-use Rattle.std.specs.Prelude.{Some, None, unwrap_or, codes, Result, Ok, Err}
-use Rattle.std.specs.List.{flat_map}
-use Rattle.uimg_blob_reading.specs.Plain.{NodesOf}
-use Rattle.uimg_blob_reading.specs.LookUps.{NodeOf, first, images}
+use Rattle.std.specs.{Prelude.{Some, None, unwrap_or, codes, Result, Ok, Err}, List.flat_map}
+use Rattle.uimg_blob_reading.specs.{Plain.NodesOf, LookUps.{NodeOf, first, images}}
 use Rattle.uimg_blob_writing.specs.declared.tree.Node.{Node}
-use Rattle.uimg_blob_writing.specs.Content.{Content, Unread, bytes, size_of}
-use Rattle.uimg_blob_writing.specs.Alignment.{padding_by}
+use Rattle.uimg_blob_writing.specs.{Content.{Content, Unread, bytes, size_of}, Alignment.padding_by}
 use Rattle.uimg_fit_base.specs.declared.fault.FitFault.{FitFault}
 use Rattle.uimg_fit_base.specs.declared.fault.FitFault.TheVariants.{PositionTooLow, TooLarge}
 use Rattle.uimg_fit_base.specs.declared.placement.AlignedPlacement.{AlignedPlacement}
 use Rattle.uimg_fit_base.specs.declared.placement.AlignedPlacement.TheVariants.{Inside, After, At}
-use Rattle.uimg_fit_building.specs.Refusing.{is_low}
-use Rattle.uimg_fit_building.specs.UnreadTrees.{padded_size_of}
+use Rattle.uimg_fit_building.specs.{Refusing.is_low, UnreadTrees.padded_size_of}
 
 -- a node in memory, as a `NodeOf`
 abbrev pub entry : {A : Type 0} → Node A → NodeOf Content

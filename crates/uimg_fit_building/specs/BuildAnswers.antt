@@ -3,12 +3,10 @@ use Rattle.std.specs.Prelude.{◌≡◌, Bool, true, false, Some, None, Result, 
 use Rattle.uimg_base.specs.Sink.{Sink, AppendsAll, AppendsPrefix}
 use Rattle.uimg_blob_reading.specs.Plain.{Nodes}
 use Rattle.uimg_blob_writing.specs.Measured.{bad_name}
-use Rattle.uimg_fit_base.specs.declared.fault.Fault.{Fault}
-use Rattle.uimg_fit_base.specs.declared.fault.Fault.TheVariants.{Blob, Fit, Read, Put}
+use Rattle.uimg_fit_base.specs.declared.fault.Fault.{Fault, TheVariants.{Blob, Fit, Read, Put}}
 use Rattle.uimg_fit_base.specs.declared.fault.FitFault.TheVariants.{OutOfMemory, NoFile}
 use Rattle.uimg_fit_base.specs.declared.placement.AlignedPlacement.{AlignedPlacement}
-use Rattle.uimg_fit_building.specs.Building.{built}
-use Rattle.uimg_fit_building.specs.Refusing.{build_fault}
+use Rattle.uimg_fit_building.specs.{Building.built, Refusing.build_fault}
 
 -- the result is a refused open
 abbrev pub is_no_file : {X : Type 0} → Result X Fault → Bool

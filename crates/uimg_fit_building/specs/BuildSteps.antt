@@ -1,27 +1,19 @@
 -- Steps of building.
 use Rattle.std.specs.Prelude.{◌≡◌, ◌<◌, ℕ, Bool, IsTrue, List, Option, Some, None, Result, Ok, Err}
-use Rattle.std.specs.Prelude.{⊤, false, is_err}
-use Rattle.std.specs.Result.{OnOk}
-use Rattle.uimg_base.specs.Device.{RisesIf}
-use Rattle.uimg_base.specs.Lent.{Lent}
-use Rattle.uimg_base.specs.Named.{FileMap}
-use Rattle.uimg_base.specs.Sink.{Sink}
-use Rattle.uimg_base.specs.Writing.{Written}
+use Rattle.std.specs.{Prelude.{⊤, false, is_err}, Result.OnOk}
+use Rattle.uimg_base.specs.{Device.RisesIf, Lent.Lent, Named.FileMap, Sink.Sink, Writing.Written}
 use Rattle.uimg_blob_reading.specs.declared.fault.BlobFault.{BlobFault}
 use Rattle.uimg_blob_reading.specs.declared.fault.BlobFault.TheVariants as blob
-use Rattle.uimg_blob_writing.specs.declared.fault.TreeFault.{TreeFault}
-use Rattle.uimg_blob_writing.specs.declared.fault.TreeFault.TheVariants as tree
-use Rattle.uimg_blob_writing.specs.Content.{Unread, AreKept, in_full}
-use Rattle.uimg_blob_writing.specs.Faults as writing
+use Rattle.uimg_blob_writing.specs.{declared.fault.TreeFault.TreeFault, Measured.bad_name}
+use Rattle.uimg_blob_writing.specs.{Content.{Unread, AreKept, in_full}, UsingFiles.UsesFiles}
 use Rattle.uimg_blob_writing.specs.Layouts.{Plan, plan_of, totalsize}
-use Rattle.uimg_blob_writing.specs.Measured.{bad_name}
-use Rattle.uimg_blob_writing.specs.UsingFiles.{UsesFiles}
-use Rattle.uimg_fit_base.specs.declared.fault.Fault.{Fault}
-use Rattle.uimg_fit_base.specs.declared.fault.Fault.TheVariants.{Blob, Fit, Read, Put}
+use Rattle.uimg_blob_writing.specs.declared.fault.TreeFault.TheVariants as tree
+use Rattle.uimg_blob_writing.specs.Faults as writing
+use Rattle.uimg_fit_base.specs.declared.fault.Fault.{Fault, TheVariants.{Blob, Fit, Read, Put}}
 use Rattle.uimg_fit_base.specs.declared.fault.FitFault.TheVariants.{TooLarge, OutOfMemory, NoFile}
 use Rattle.uimg_fit_base.specs.declared.placement.AlignedPlacement.{AlignedPlacement}
-use Rattle.uimg_fit_building.specs.BuildAnswers.{is_no_file, is_before_writing, BuildsAnswer}
 use Rattle.uimg_fit_base.specs.Faults.{is_read, is_put}
+use Rattle.uimg_fit_building.specs.BuildAnswers.{is_no_file, is_before_writing, BuildsAnswer}
 
 -- the fault of a tree that cannot be measured: its blob is too large for a file, memory was
 -- refused, or a name is bad

@@ -1,16 +1,12 @@
 -- The file built from a tree (Flattened Image Tree format, "External data").
 use Rattle.std.specs.Prelude.{ℕ, ◌+◌, ◌-◌, List, [], ◌∷◌, ◌++◌, length, replicate, if◌then◌else◌}
-use Rattle.std.specs.Prelude.{codes, unwrap_or}
-use Rattle.std.specs.List.{flat_map}
-use Rattle.std.specs.Option.{option_map_or}
-use Rattle.std.specs.Str.{bytes_eq}
+use Rattle.std.specs.{Prelude.{codes, unwrap_or}, List.flat_map, Option.option_map_or, Str.bytes_eq}
 use Rattle.uimg_blob_reading.specs.Plain.{NamedOf, NodesOf, Named, Nodes, no_node, a_node}
-use Rattle.uimg_blob_writing.specs.Alignment.{aligned, padded_by}
-use Rattle.uimg_blob_writing.specs.Encoding.{word, encode_by}
+use Rattle.uimg_blob_reading.specs.LookUps.{first, images}
+use Rattle.uimg_blob_writing.specs.{Alignment.{aligned, padded_by}, Encoding.{word, encode_by}}
 use Rattle.uimg_fit_base.specs.declared.placement.AlignedPlacement.{AlignedPlacement}
 use Rattle.uimg_fit_base.specs.declared.placement.AlignedPlacement.TheVariants.{Inside, After, At}
 use Rattle.uimg_fit_base.specs.Placements.{align_of}
-use Rattle.uimg_blob_reading.specs.LookUps.{first, images}
 use Rattle.uimg_fit_building.specs.Filling.{with_images}
 
 -- the first `data` of an image, or nothing

@@ -1,11 +1,7 @@
 -- A tree without the bytes of its images' digests.
-use Rattle.std.specs.Prelude.{List, length, replicate, if◌then◌else◌, codes}
-use Rattle.std.specs.Option.{option_map_or}
-use Rattle.uimg_blob_reading.specs.Roles.{is_hash}
-use Rattle.uimg_blob_reading.specs.Plain.{NamedOf}
-use Rattle.uimg_blob_reading.specs.LookUps.{NodeOf, first}
-use Rattle.uimg_blob_writing.specs.declared.tree.Node.{Node}
-use Rattle.uimg_blob_writing.specs.Content.{Content, Unread, bytes, file}
+use Rattle.std.specs.{Prelude.{List, length, replicate, if◌then◌else◌, codes}, Option.option_map_or}
+use Rattle.uimg_blob_reading.specs.{Roles.is_hash, Plain.NamedOf, LookUps.{NodeOf, first}}
+use Rattle.uimg_blob_writing.specs.{declared.tree.Node.Node, Content.{Content, Unread, bytes, file}}
 use Rattle.uimg_fit_building.specs.Filling.{with, each, in_first, with_images, algo_by}
 use Rattle.uimg_fit_building.specs.PayloadSums.{in_memory}
 

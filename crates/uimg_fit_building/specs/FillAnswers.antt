@@ -1,16 +1,14 @@
 -- The results of filling, over files of the kept sizes.
 use Rattle.std.specs.Prelude.{◌≡◌, ◌≢◌, ℕ, List, [], ◌∷◌, ◌++◌, map, Bool, true, false, IsTrue}
 use Rattle.std.specs.Prelude.{Option, Some, None, Result, Ok, Err, codes, ⊤}
-use Rattle.uimg_base.specs.Lent.{Lent}
-use Rattle.uimg_base.specs.Named.{FileMap}
+use Rattle.uimg_base.specs.{Lent.Lent, Named.FileMap}
 use Rattle.uimg_blob_writing.specs.UsingFiles.{UsesFiles}
+use Rattle.uimg_blob_writing.specs.Content.{Content, Unread, file, content_bytes, in_full, AreKept}
 use Rattle.uimg_blob_reading.specs.Plain.{with_value, with_values}
 use Rattle.uimg_blob_reading.specs.LookUps.{NodeOf, first, images, hashes}
-use Rattle.uimg_blob_writing.specs.Content.{Content, Unread, file, content_bytes, in_full, AreKept}
 use Rattle.uimg_fit_base.specs.declared.fault.FitFault.{FitFault}
 use Rattle.uimg_fit_base.specs.declared.fault.FitFault.TheVariants.{OutOfMemory, NoFile, ReadFailed}
-use Rattle.uimg_fit_building.specs.Filling.{IsFilled}
-use Rattle.uimg_fit_building.specs.UnreadTrees.{filled_unread}
+use Rattle.uimg_fit_building.specs.{Filling.IsFilled, UnreadTrees.filled_unread}
 use Rattle.uimg_fit_building.specs.Refusing.{first_fault, fill_of}
 
 -- the result is a refused open

@@ -1,8 +1,6 @@
 -- The order in which filling reads and refuses, over files of any sizes.
 use Rattle.std.specs.Prelude.{◌≡◌, ◌≢◌, ℕ, List, [], ◌∷◌, ◌++◌, Bool, IsTrue, Option, Some, None}
-use Rattle.std.specs.Prelude.{Result, Ok, Err, ⊤}
-use Rattle.std.specs.List.{AllByRecursion}
-use Rattle.std.specs.Option.{IsSomeAnd}
+use Rattle.std.specs.{Prelude.{Result, Ok, Err, ⊤}, List.AllByRecursion, Option.IsSomeAnd}
 use Rattle.uimg_base.specs.Named.{FileMap}
 use Rattle.uimg_blob_reading.specs.LookUps.{NodeOf, hashes}
 use Rattle.uimg_blob_writing.specs.Content.{Content}

@@ -1,15 +1,12 @@
 -- What is set in a tree before it is built.
 use Rattle.std.specs.Prelude.{◌≡◌, ℕ, List, [], ◌∷◌, if◌then◌else◌, not, Option, Some, None, codes}
-use Rattle.std.specs.List.{filter, list_any, AllByRecursion}
+use Rattle.std.specs.{List.{filter, list_any, AllByRecursion}, Str.bytes_eq}
 use Rattle.std.specs.Option.{option_and_then, option_map_or}
-use Rattle.std.specs.Str.{bytes_eq}
-use Rattle.uimg_sums.specs.declared.algo.Algo.{Algo}
-use Rattle.uimg_sums.specs.Algorithms.{algo_named, digest_by}
-use Rattle.uimg_blob_reading.specs.Roles.{is_hash}
-use Rattle.uimg_texts.specs.Nul.{text}
+use Rattle.uimg_sums.specs.{declared.algo.Algo.Algo, Algorithms.{algo_named, digest_by}}
+use Rattle.uimg_blob_reading.specs.{Roles.is_hash, LookUps.{NodeOf, first, images, hashes}}
 use Rattle.uimg_blob_reading.specs.Plain.{NamedOf, NodesOf, Named, Nodes, no_node, a_node}
+use Rattle.uimg_texts.specs.Nul.{text}
 use Rattle.uimg_blob_writing.specs.Encoding.{word}
-use Rattle.uimg_blob_reading.specs.LookUps.{NodeOf, first, images, hashes}
 
 -- properties, with the first of a name set to a value, or with one more
 unfoldable pub with : {V : Type 0} → List ℕ → V → List (NamedOf V) → List (NamedOf V)

@@ -3,17 +3,11 @@ use Rattle.std.specs.Prelude.{◌≡◌, ℕ, List, map, true, Result, OnOk, IsO
 use Rattle.std.specs.List.{filter, AllByRecursion}
 use Rattle.uimg_base.specs.Lent.{Lent}
 use Rattle.uimg_blob_reading.specs.Roles.{is_hash}
-use Rattle.uimg_blob_writing.specs.declared.tree.Node.{Node}
-use Rattle.uimg_blob_writing.specs.Content.{bytes}
-use Rattle.uimg_blob_writing.specs.Trees.{siblings}
-use Rattle.uimg_fit_base.specs.declared.algo_sets.Digests.{Digests}
-use Rattle.uimg_fit_base.specs.declared.fault.FitFault.{FitFault}
-use Rattle.uimg_fit_base.specs.declared.fault.FitFault.TheVariants.{OutOfMemory}
-use Rattle.uimg_fit_base.specs.AlgoSets.{set_of, AreDigests}
-use Rattle.uimg_fit_building.specs.Behind.{entry}
-use Rattle.uimg_fit_building.specs.DigestBytes.{zeroed_hash, zeroed_child}
-use Rattle.uimg_fit_building.specs.Filling.{each, with_digest_by}
-use Rattle.uimg_fit_building.specs.ImageFillings.{hashed_in}
+use Rattle.uimg_blob_writing.specs.{declared.tree.Node.Node, Content.bytes, Trees.siblings}
+use Rattle.uimg_fit_base.specs.{declared.algo_sets.Digests.Digests, AlgoSets.{set_of, AreDigests}}
+use Rattle.uimg_fit_base.specs.declared.fault.FitFault.{FitFault, TheVariants.OutOfMemory}
+use Rattle.uimg_fit_building.specs.{Behind.entry, DigestBytes.{zeroed_hash, zeroed_child}}
+use Rattle.uimg_fit_building.specs.{Filling.{each, with_digest_by}, ImageFillings.hashed_in}
 use Rattle.uimg_fit_building.specs.PayloadSums.{in_memory, CoversHash}
 
 -- Digests were set. If they are those of a message, by the algorithms of all hash nodes, the nodes

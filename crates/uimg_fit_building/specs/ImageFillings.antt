@@ -1,19 +1,15 @@
 -- What filling does to an image, in terms of what is in memory and the bytes of its payload.
 use Rattle.std.specs.Prelude.{◌≡◌, ◌≢◌, ℕ, List, [], ◌∷◌, ◌++◌, map, Bool, true, false, is_some}
-use Rattle.std.specs.Prelude.{find, Option, Some, None, Result, Ok, Err, codes, ⊤}
-use Rattle.std.specs.List.{filter, list_all}
-use Rattle.std.specs.Option.{option_map, option_map_or, IfSome}
-use Rattle.std.specs.Str.{bytes_eq}
-use Rattle.uimg_blob_reading.specs.LookUps.{NodeOf, listed, first, hashes}
-use Rattle.uimg_blob_reading.specs.Roles.{is_hash}
+use Rattle.std.specs.{Prelude.{find, Option, Some, None, Result, Ok, Err, codes, ⊤}, Str.bytes_eq}
+use Rattle.std.specs.{List.{filter, list_all}, Option.{option_map, option_map_or, IfSome}}
+use Rattle.uimg_blob_reading.specs.{LookUps.{NodeOf, listed, first, hashes}, Roles.is_hash}
 use Rattle.uimg_blob_writing.specs.declared.tree.Node.{Node}
 use Rattle.uimg_blob_writing.specs.Content.{Content, Unread, bytes, file, content_bytes, IsKept}
 use Rattle.uimg_fit_base.specs.declared.fault.FitFault.{FitFault}
 use Rattle.uimg_fit_base.specs.declared.fault.FitFault.TheVariants.{NoImages, UnknownAlgo}
 use Rattle.uimg_fit_base.specs.declared.fault.FitFault.TheVariants.{OutOfMemory, NoFile, ReadFailed}
 use Rattle.uimg_fit_building.specs.Filling.{without_external, each, in_first, algo_by, hashed_by}
-use Rattle.uimg_fit_building.specs.Refusing.{image_fault, first_fault}
-use Rattle.uimg_fit_building.specs.FillAnswers.{node_in_full}
+use Rattle.uimg_fit_building.specs.{Refusing.{image_fault, first_fault}, FillAnswers.node_in_full}
 use Rattle.uimg_fit_building.specs.PayloadSums.{no_files, in_memory}
 
 -- a child of an image with the digest of a payload, if it is a hash node

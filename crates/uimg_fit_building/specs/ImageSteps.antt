@@ -1,14 +1,11 @@
 -- Steps that fill images.
-use Rattle.std.specs.Prelude.{Bool, IsTrue, List, Option, Result}
-use Rattle.std.specs.List.{AllByRecursion}
+use Rattle.std.specs.{Prelude.{Bool, IsTrue, List, Option, Result}, List.AllByRecursion}
 use Rattle.std.specs.Option.{IfSome}
-use Rattle.uimg_base.specs.Lent.{Lent}
-use Rattle.uimg_base.specs.Named.{FileMap}
+use Rattle.uimg_base.specs.{Lent.Lent, Named.FileMap}
 use Rattle.uimg_blob_reading.specs.LookUps.{NodeOf}
 use Rattle.uimg_blob_writing.specs.Content.{Content}
 use Rattle.uimg_fit_base.specs.declared.fault.FitFault.{FitFault}
-use Rattle.uimg_fit_building.specs.FillAnswers.{OpensKept}
-use Rattle.uimg_fit_building.specs.FillOrder.{FillsInOrder}
+use Rattle.uimg_fit_building.specs.{FillAnswers.OpensKept, FillOrder.FillsInOrder}
 use Rattle.uimg_fit_building.specs.ImageFillings.{IsKeptImage}
 
 -- What a call does that opens the files of images.

@@ -1,14 +1,10 @@
 -- Steps that sum a payload.
 use Rattle.std.specs.Prelude.{[], ℕ, List, Bool, IsTrue, Result, IfErr, OnOk}
-use Rattle.uimg_sums.specs.declared.algo.Algo.{Algo}
-use Rattle.uimg_sums.specs.declared.bundle.Bundle.{Bundle}
-use Rattle.uimg_sums.specs.Bundle.{Holds}
-use Rattle.uimg_base.specs.Lent.{Lent}
-use Rattle.uimg_base.specs.Named.{FileMap}
+use Rattle.uimg_sums.specs.{declared.{algo.Algo.Algo, bundle.Bundle.Bundle}, Bundle.Holds}
+use Rattle.uimg_base.specs.{Lent.Lent, Named.FileMap}
 use Rattle.uimg_blob_writing.specs.Content.{Content, IsKept}
 use Rattle.uimg_fit_base.specs.declared.fault.FitFault.{FitFault}
-use Rattle.uimg_fit_building.specs.FillAnswers.{OpensKeptBetween}
-use Rattle.uimg_fit_building.specs.ImageFillings.{IsFileFault}
+use Rattle.uimg_fit_building.specs.{FillAnswers.OpensKeptBetween, ImageFillings.IsFileFault}
 
 -- The payload, if it is a file, was opened and read. Any fault is one of that file; over honest
 -- files, at `Ok`, the file exists with the kept size.

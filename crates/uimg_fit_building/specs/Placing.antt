@@ -1,11 +1,8 @@
 -- Steps of placing a tree's payloads, on lists.
 use Rattle.std.specs.Prelude.{ℕ, ◌+◌, List, [], ◌∷◌, ◌++◌, Bool, true, false, if◌then◌else◌, codes}
 use Rattle.std.specs.Str.{bytes_eq}
-use Rattle.uimg_blob_writing.specs.declared.props.Prop.{Prop}
-use Rattle.uimg_blob_writing.specs.declared.props.Value.TheVariants.{Bytes}
-use Rattle.uimg_blob_writing.specs.declared.tree.Node.{Node}
-use Rattle.uimg_blob_writing.specs.Content.{size_of}
-use Rattle.uimg_blob_writing.specs.Encoding.{word}
+use Rattle.uimg_blob_writing.specs.declared.props.{Prop.Prop, Value.TheVariants.Bytes}
+use Rattle.uimg_blob_writing.specs.{declared.tree.Node.Node, Content.size_of, Encoding.word}
 use Rattle.uimg_blob_writing.specs.Properties.{content}
 use Rattle.uimg_fit_building.specs.UnreadTrees.{padded_size_of, unread_own, unread_from}
 

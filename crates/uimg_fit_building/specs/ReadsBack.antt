@@ -1,11 +1,8 @@
 -- What is read back from a built file.
-use Rattle.std.specs.Prelude.{◌≡◌, ℕ, List, Some}
-use Rattle.std.specs.List.{slice_get}
+use Rattle.std.specs.{Prelude.{◌≡◌, ℕ, List, Some}, List.slice_get}
 use Rattle.uimg_base.specs.Outcome.{done, told}
-use Rattle.uimg_blob_reading.specs.Plain.{Nodes}
-use Rattle.uimg_blob_reading.specs.LookUps.{NodeOf, images}
-use Rattle.uimg_fit_base.specs.Report.{verify_of}
-use Rattle.uimg_fit_base.specs.Extraction.{extract_of}
+use Rattle.uimg_blob_reading.specs.{Plain.Nodes, LookUps.{NodeOf, images}}
+use Rattle.uimg_fit_base.specs.{Report.verify_of, Extraction.extract_of}
 use Rattle.uimg_fit_building.specs.Building.{data_of}
 
 -- The file's hashes are right, and the payload at each position is the first `data` of the tree's

@@ -1,17 +1,14 @@
 -- The results of filling and of building.
 use Rattle.std.specs.Prelude.{ℕ, List, [], ◌∷◌, Bool, length, is_some, is_none, nat_lt}
 use Rattle.std.specs.Prelude.{if◌then◌else◌, Option, Some, None, Result, Ok, Err, codes}
-use Rattle.std.specs.List.{list_all}
-use Rattle.std.specs.Option.{option_or}
-use Rattle.uimg_blob_reading.specs.Plain.{Nodes}
+use Rattle.std.specs.{List.list_all, Option.option_or}
+use Rattle.uimg_blob_reading.specs.{Plain.Nodes, LookUps.{NodeOf, first, images, hashes}}
 use Rattle.uimg_fit_base.specs.declared.fault.FitFault.{FitFault}
 use Rattle.uimg_fit_base.specs.declared.fault.FitFault.TheVariants.{NoImages, NoData, UnknownAlgo}
 use Rattle.uimg_fit_base.specs.declared.fault.FitFault.TheVariants.{PositionTooLow, TooLarge}
 use Rattle.uimg_fit_base.specs.declared.placement.AlignedPlacement.{AlignedPlacement}
 use Rattle.uimg_fit_base.specs.declared.placement.AlignedPlacement.TheVariants.{Inside, After, At}
-use Rattle.uimg_blob_reading.specs.LookUps.{NodeOf, first, images, hashes}
-use Rattle.uimg_fit_building.specs.Filling.{algo_in, filled}
-use Rattle.uimg_fit_building.specs.Building.{placed_blob, built}
+use Rattle.uimg_fit_building.specs.{Filling.{algo_in, filled}, Building.{placed_blob, built}}
 
 -- why an image is not filled: it has no `data`, or a hash node of an unknown algorithm
 unfoldable pub image_fault : NodeOf (List ℕ) → Option FitFault

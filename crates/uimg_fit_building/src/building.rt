@@ -1,17 +1,12 @@
 //! Building: the blob of a filled tree is written, and the payloads after it.
 
 ghost use Rattle.std.specs.Prelude.{◌≡◌, OnOk, false};
-ghost use Rattle.uimg_blob_writing.specs.Content.{AreKept, in_full};
-ghost use Rattle.uimg_blob_writing.specs.Layouts.{plan_of, totalsize};
-ghost use Rattle.uimg_blob_writing.specs.Trees.{node_of};
-ghost use Rattle.uimg_blob_writing.specs.LentFiles.{OfHonest, IfInFull};
+ghost use Rattle.uimg_blob_writing.specs.{Content.{AreKept, in_full}, Layouts.{plan_of, totalsize}};
+ghost use Rattle.uimg_blob_writing.specs.{Trees.node_of, LentFiles.{OfHonest, IfInFull}};
 ghost use Rattle.uimg_fit_building.specs.BuildSteps.{of_measure, of_writing, MeasuresTree, WritesText, Builds};
-ghost use Rattle.uimg_fit_building.specs.Building.{built};
+ghost use Rattle.uimg_fit_building.specs.{Building.built, Filling.IsFilled, ReadsBack.ReadsBack};
+ghost use Rattle.uimg_fit_building.specs.{Refusing.is_low, UnreadTrees.moved_unread};
 ghost use Rattle.uimg_fit_base.specs.Placements.{align_of, aligned_by};
-ghost use Rattle.uimg_fit_building.specs.Filling.{IsFilled};
-ghost use Rattle.uimg_fit_building.specs.ReadsBack.{ReadsBack};
-ghost use Rattle.uimg_fit_building.specs.Refusing.{is_low};
-ghost use Rattle.uimg_fit_building.specs.UnreadTrees.{moved_unread};
 
 mod behind;
 mod payload_sizes;

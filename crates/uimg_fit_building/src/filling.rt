@@ -1,22 +1,18 @@
 //! Filling: the timestamp and the digests of a tree are set.
 
-ghost use Rattle.std.specs.Prelude.{◌≡◌, codes, not, Some, IfOk, OnOk, false};
-ghost use Rattle.std.specs.List.{prefix_len};
+ghost use Rattle.std.specs.{Prelude.{◌≡◌, codes, not, Some, IfOk, OnOk, false}, List.prefix_len};
 ghost use Rattle.std.specs.Str.{bytes_eq};
 ghost use Rattle.uimg_blob_reading.specs.LookUps.{images, listed};
-ghost use Rattle.uimg_blob_writing.specs.Content.{bytes, FilesAtData};
-ghost use Rattle.uimg_blob_writing.specs.Encoding.{word};
-ghost use Rattle.uimg_fit_building.specs.Filling.{with, each, in_first};
-ghost use Rattle.uimg_blob_writing.specs.Trees.{node_of, siblings};
-ghost use Rattle.uimg_blob_writing.specs.UsingFiles.{UsesFiles};
+ghost use Rattle.uimg_blob_writing.specs.{Content.{bytes, FilesAtData}, Encoding.word};
+ghost use Rattle.uimg_blob_writing.specs.{Trees.{node_of, siblings}, UsingFiles.UsesFiles};
 ghost use Rattle.uimg_blob_writing.specs.LentFiles.{OfHonest, IfKept, IfComplete, IfSteady};
+ghost use Rattle.uimg_fit_building.specs.{Filling.{with, each, in_first}, PayloadSums.no_files};
 ghost use Rattle.uimg_fit_building.specs.FillAnswers.{opens_no_file, fails_to_read, FillsAnswer};
-ghost use Rattle.uimg_fit_building.specs.ImageFillings.{filled_over, FillsParent, FillsBelow, images_among};
 ghost use Rattle.uimg_fit_building.specs.ImageSteps.{OpensImages, AnswersInOrder};
-ghost use Rattle.uimg_fit_building.specs.PayloadSums.{no_files};
 ghost use Rattle.uimg_fit_building.specs.SettingSteps.{MakesUnlessMemory};
 ghost use Rattle.uimg_fit_building.specs.UnreadTrees.{filled_unread};
 ghost use Rattle.uimg_fit_building.specs.DigestBytes.{zeroed_parent, zeroed_below, zeroed_tree};
+ghost use Rattle.uimg_fit_building.specs.ImageFillings.{filled_over, FillsParent, FillsBelow, images_among};
 
 mod filled_hashes;
 mod filled_images;

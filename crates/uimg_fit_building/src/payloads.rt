@@ -1,11 +1,8 @@
 //! The images of a tree, and the payload of each.
 
-ghost use Rattle.std.specs.Prelude.{◌≡◌, map, codes};
-ghost use Rattle.std.specs.Option.{option_map};
-ghost use Rattle.std.specs.Str.{bytes_eq};
+ghost use Rattle.std.specs.{Prelude.{◌≡◌, map, codes}, Option.option_map, Str.bytes_eq};
 ghost use Rattle.uimg_blob_reading.specs.LookUps.{first};
-ghost use Rattle.uimg_blob_writing.specs.Properties.{content};
-ghost use Rattle.uimg_blob_writing.specs.Trees.{node_of};
+ghost use Rattle.uimg_blob_writing.specs.{Properties.content, Trees.node_of};
 ghost use Rattle.uimg_fit_building.specs.Behind.{entry, images_in};
 
 use crate::setting::first_value;

@@ -1,12 +1,9 @@
 //! Look-up, setting and removal of properties.
 
 ghost use Rattle.std.specs.Prelude.{◌≡◌, ◌≤◌, ◌++◌, ◌∷◌, [], ◌+◌, map, take, drop, length};
-ghost use Rattle.std.specs.List.{list_any};
-ghost use Rattle.std.specs.Option.{option_map};
-ghost use Rattle.std.specs.Str.{bytes_eq};
+ghost use Rattle.std.specs.{List.list_any, Option.option_map, Str.bytes_eq};
 ghost use Rattle.uimg_blob_reading.specs.LookUps.{first};
-ghost use Rattle.uimg_blob_writing.specs.Content.{Content};
-ghost use Rattle.uimg_blob_writing.specs.Properties.{content, property};
+ghost use Rattle.uimg_blob_writing.specs.{Content.Content, Properties.{content, property}};
 ghost use Rattle.uimg_fit_building.specs.Filling.{with, external_names, without_external};
 ghost use Rattle.uimg_fit_building.specs.SettingSteps.{MakesUnlessMemory};
 

@@ -36,9 +36,6 @@ pub record LeftClaimed (t : Siblings) (file : List ℕ) (only : Option (List ℕ
   pub same : overlapping only file (length file) found ≡ overlapping only file left rest
   pub paid : new + 267 * length rest ≤ asked + 267 * length found
 
-pub claims_first : (t : Siblings) (file : List ℕ) (only : Option (List ℕ)) (found : List (NodeOf Spot)) (asked left : ℕ) (next : Option ℕ) → AreFrom t in_images next found → left ≡ length file → LeftClaimed t file only found asked asked left next
-claims_first t file only found asked left next from is = record { rest = found; from = from; same = ap (λ (n : ℕ). overlapping only file n found) (sym is); paid = omega arith }
-
 -- an image, and those after it
 pub overlapping_more : (only : Option (List ℕ)) (file : List ℕ) (left : ℕ) (image : NodeOf Spot) (more : List (NodeOf Spot))
     → overlapping only file left (image ∷ more)

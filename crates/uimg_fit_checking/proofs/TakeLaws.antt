@@ -7,11 +7,8 @@ use Rattle.std.proofs.Math.Seq.{take-append_seam}
 use Rattle.std.proofs.lemmas.List.{append_assoc, append-nil}
 use Rattle.std.proofs.lemmas.List.Folds.{list_all-append}
 use Rattle.std.proofs.lemmas.List.Sums.{sum_by-cons}
-use Rattle.std.specs.Option.{option_map}
 use Rattle.std.specs.Io.KnownBytes.{Appends}
 use Rattle.uimg_sums.specs.declared.algo.Algo.{Algo}
-use Rattle.uimg_sums.specs.Algorithms.{digest_by}
-use Rattle.uimg_sums.specs.AnySum.{padded_digest}
 use Rattle.uimg_texts.specs.Slices.{slice}
 use Rattle.uimg_base.specs.declared.spans.Span.{Span}
 use Rattle.uimg_base.proofs.Slices.{length-slice}
@@ -26,27 +23,17 @@ use Rattle.uimg_fit_base.specs.declared.fault.Fault.TheVariants as of
 use Rattle.uimg_fit_base.specs.declared.fault.FitFault.{FitFault}
 use Rattle.uimg_fit_base.specs.Places.{payload}
 use Rattle.uimg_fit_base.specs.AlgoSets.{no_algos}
-use Rattle.uimg_fit_checking.specs.declared.unpacking.taker.Refusal.{Refusal}
 use Rattle.uimg_fit_checking.specs.declared.unpacking.taker.Vouched.{Vouched}
 use Rattle.uimg_fit_checking.specs.Checks.{NamedFinding, wrong_in, or_weak}
 use Rattle.uimg_fit_reading.specs.Allowances.{node_allowance}
 use Rattle.uimg_fit_reading.specs.Nodes.{AreFrom}
 use Rattle.uimg_fit_reading.specs.Plans.{with_all}
-use Rattle.uimg_fit_checking.specs.Unpacking.{Take, kept, refused, take_by, take_of, is_asked, bytes_or_none, is_kept, told_of, strongest, vouched_by, IsVouched, takes, overlapping, GivenFirst}
+use Rattle.uimg_fit_checking.specs.Unpacking.{Take, kept, take_by, take_of, is_asked, bytes_or_none, is_kept, vouched_by, takes, overlapping, GivenFirst}
 use Rattle.uimg_fit_checking.specs.UnpackingParts.{TellsFound, TakesTo, TakesAll, size_if, take_allowance}
 use Rattle.uimg_fit_checking.proofs.CheckLaws.{some_nodes}
 use Rattle.uimg_fit_checking.proofs.ClaimLaws.{fits_first}
 use Rattle.uimg_fit_reading.proofs.ImageLaws.{none_left}
 use Rattle.uimg_fit_reading.proofs.SharesLaws.{hashes_allowed}
-
--- what vouches for bytes is their digest
-vouches : (message : List ℕ) (o : Option Algo) → IsVouched message (option_map (λ (a : Algo). let v : Vouched = record { algo = a; digest = (padded_digest (digest_by a message)).0 } in v) o)
-vouches message None = tt
-vouches message (Some algo) = refl
-
-pub is_vouched : (set : AlgoSet) (message bytes : List ℕ) (vouched : Option Vouched) → vouched ≡ vouched_by set message → bytes ≡ message → IsVouched bytes vouched
-is_vouched set message bytes vouched is same =
-    subst (λ (v : Option Vouched). IsVouched bytes v) (sym is) (subst (λ (xs : List ℕ). IsVouched xs (vouched_by set message)) (sym same) (vouches message (strongest set)))
 
 -- what nothing was written before holds what was
 filled : (c : Option (List ℕ)) (bytes : List ℕ) → Appends (Some []) c bytes → c ≡ Some bytes
@@ -55,15 +42,6 @@ filled (Some xs) bytes appended = ap (λ (l : List ℕ). Some l) appended
 
 pub filled_by : (a c : Option (List ℕ)) (bytes : List ℕ) → a ≡ Some [] → Appends a c bytes → c ≡ Some bytes
 filled_by a c bytes empty appended = filled c bytes (subst (λ (o : Option (List ℕ)). Appends o c bytes) empty appended)
-
--- a payload that is refused
-pub refused_is : (need : Option Algo) (image : NodeOf Spot) (message name : List ℕ) (refusal : Refusal) (p : Result (List ℕ) FitFault) (old new : List Take) → name ≡ image.name
-    → Some (told_of image.name refusal) ≡ or_weak (wrong_in image.name message (hashes image)) need image → new ≡ old ++ refused name (told_of name refusal) ∷ []
-    → TakesTo true (take_of need image message) (Ok false) p old new
-refused_is need image message name refusal p old new named told given = (
-  given ∙ ap (λ (n : List ℕ). old ++ refused n (told_of n refusal) ∷ []) named ∙ ap (λ (o : Option NamedFinding). old ++ take_by image message o ∷ []) told,
-  ap (λ (o : Option NamedFinding). is_kept (take_by image message o)) told,
-)
 
 -- one that is kept
 pub kept_is : (need : Option Algo) (image : NodeOf Spot) (message name : List ℕ) (set : AlgoSet) (vouched : Option Vouched) (p : Result (List ℕ) FitFault) (old new : List Take) → name ≡ image.name

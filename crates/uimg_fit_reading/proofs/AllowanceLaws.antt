@@ -1,16 +1,12 @@
 -- What the nodes of a file are allowed is within what its metadata leaves.
 use Rattle.std.proofs.Common.{◌≡◌, ◌≤◌, ◌+◌, ◌*◌, ℕ, zero, suc, List, [], ◌∷◌, length, map, Ok, Err, Result, refl, arith}
-use Rattle.std.specs.List.{sum_by, count_by}
-use Rattle.std.specs.Result.{IfOk}
-use Rattle.std.proofs.lemmas.List.Sums.{sum_by-cons}
+use Rattle.std.{specs.{List.{sum_by, count_by}, Result.IfOk}, proofs.lemmas.List.Sums.sum_by-cons}
 use Rattle.uimg_base.specs.Results.{◌>>=◌}
-use Rattle.uimg_blob_reading.specs.declared.fault.BlobFault.{BlobFault}
-use Rattle.uimg_blob_reading.specs.Reading.{Fault}
+use Rattle.uimg_blob_reading.specs.{declared.fault.BlobFault.BlobFault, Reading.Fault}
+use Rattle.uimg_blob_reading.specs.{Blob.{blocks, tree, met_in, met_from}, Spots.{spot_of, spots}}
 use Rattle.uimg_blob_reading.specs.Tokens.{Property, Token, Blocks, begin_node, end_node, prop, nop, last, stray, tokens}
 use Rattle.uimg_blob_reading.specs.Grammar.{Siblings, none, node, properties, end, inside, children, ended, root, without_nops}
-use Rattle.uimg_blob_reading.specs.Blob.{blocks, tree, met_in, met_from}
 use Rattle.uimg_blob_reading.specs.Counts.{is_begin, text_length, begun_by, sound_in, nodes_met, texts_met}
-use Rattle.uimg_blob_reading.specs.Spots.{spot_of, spots}
 use Rattle.uimg_fit_reading.specs.Allowances.{text_size, text_sizes, allowance}
 
 -- what a token leaves

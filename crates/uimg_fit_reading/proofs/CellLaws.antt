@@ -1,8 +1,6 @@
 -- The numbers of cells.
 use Rattle.std.proofs.Common.{◌≡◌, ◌≢◌, ℕ, List, length, Some, None, ◌==◌, refl, ap, sym, arith}
-use Rattle.std.specs.Int.{from_be_bytes, w32}
-use Rattle.std.proofs.lemmas.Bool.{eqb-true}
-use Rattle.std.proofs.lemmas.List.{take_all}
+use Rattle.std.{specs.Int.{from_be_bytes, w32}, proofs.lemmas.{Bool.eqb-true, List.take_all}}
 use Rattle.uimg_texts.specs.Numbers.{be32}
 use Rattle.uimg_blob_reading.proofs.PhaseLaws.{by_bool}
 use Rattle.uimg_fit_base.specs.Files.{number}

@@ -1,25 +1,18 @@
 -- Which hash nodes are compared, and by which algorithms.
 use Rattle.std.proofs.Common.{◌≡◌, ◌≤◌, ◌==◌, ◌||◌, ℕ, List, [], ◌∷◌, length, Option, Some, None, Bool, true, false, if◌then◌else◌, codes, IsTrue, refl, ap, sym, ◌∙◌, arith}
-use Rattle.std.specs.List.{list_any}
-use Rattle.std.specs.Option.{option_map}
-use Rattle.std.specs.Str.{bytes_eq}
+use Rattle.std.specs.{List.list_any, Option.option_map, Str.bytes_eq}
 use Rattle.uimg_sums.specs.declared.algo.Algo.{Algo}
-use Rattle.uimg_sums.specs.Algorithms.{algo_named, digest_size, digest_by}
+use Rattle.uimg_sums.specs.{Algorithms.{algo_named, digest_size, digest_by}, Bundle.padded_digests}
 use Rattle.uimg_blob_reading.specs.declared.keys.Key.TheVariants as key
-use Rattle.uimg_blob_reading.specs.Indexed.{keeps, value_span}
-use Rattle.uimg_blob_reading.specs.LookUps.{NodeOf, first}
-use Rattle.uimg_blob_reading.specs.Roles.{in_image, is_hash, role_at}
-use Rattle.uimg_blob_reading.specs.Spots.{Spot}
+use Rattle.uimg_blob_reading.specs.{Indexed.{keeps, value_span}, LookUps.{NodeOf, first}}
+use Rattle.uimg_blob_reading.specs.{Roles.{in_image, is_hash, role_at}, Spots.Spot}
 use Rattle.uimg_blob_reading.proofs.PhaseLaws.{by_bool, true_false}
-use Rattle.uimg_fit_base.specs.declared.algo_sets.AlgoSet.{AlgoSet}
-use Rattle.uimg_sums.specs.Bundle.{padded_digests}
-use Rattle.uimg_fit_base.specs.declared.algo_sets.Digests.{Digests}
+use Rattle.uimg_fit_base.specs.declared.algo_sets.{AlgoSet.AlgoSet, Digests.Digests}
 use Rattle.uimg_fit_base.specs.AlgoSets.{has, is_empty, no_algos, chosen, set_of, AreDigests}
-use Rattle.uimg_fit_base.specs.Report.{compared, by_algo, by_name, algo_name_of, word_of, is_compared}
 use Rattle.uimg_fit_base.proofs.AlgoSetLaws.{marked-has, marked-keeps, has-none, empty-is}
-use Rattle.uimg_fit_reading.specs.declared.report.plans.Plan.{Plan}
+use Rattle.uimg_fit_base.specs.Report.{compared, by_algo, by_name, algo_name_of, word_of, is_compared}
+use Rattle.uimg_fit_reading.specs.{declared.report.plans.Plan.Plan, HashReports.AllCovered}
 use Rattle.uimg_fit_reading.specs.declared.report.plans.Plan.TheVariants.{Malformed, Unsupported, Compared}
-use Rattle.uimg_fit_reading.specs.HashReports.{AllCovered}
 use Rattle.uimg_fit_reading.specs.Plans.{hash_plan, plan_for, plan_by_algo, plan_by_name, compares, are_compared, IsCovered, with_plan, with_all}
 
 -- a hash node keeps the values of its algorithm and its digest

@@ -2,37 +2,24 @@
 use Rattle.std.proofs.Common.{◌≡◌, ◌≤◌, ◌+◌, ℕ, List, length, Bool, true, false, Option, Some, Ok, Err, Result, IsTrue, refl, ap, sym, ◌∙◌, subst, arith}
 use Rattle.std.specs.List.{slice_get}
 use Rattle.uimg_texts.specs.Slices.{slice}
-use Rattle.uimg_base.specs.Device.{Device, RisesIf}
-use Rattle.uimg_base.specs.Held.{Held}
-use Rattle.uimg_base.specs.Outcome.{Outcome, Tells, unless_refused, told, done}
-use Rattle.uimg_base.specs.Ranges as moves
-use Rattle.uimg_base.specs.Ranges.{Copies, ReadsAhead}
-use Rattle.uimg_base.specs.Results.{◌>>=◌}
-use Rattle.uimg_base.specs.Sink.{Sink, AppendsPrefix, AppendsFirst}
-use Rattle.uimg_base.specs.Using.{Asks}
-use Rattle.uimg_base.specs.declared.ranges.MoveFault.{MoveFault}
-use Rattle.uimg_base.specs.declared.ranges.MoveFault.TheVariants as move
-use Rattle.uimg_base.specs.declared.status.Status.{Status}
-use Rattle.uimg_base.proofs.SinkLaws.{Appends-none, prefix_none}
-use Rattle.uimg_base.proofs.Slices.{length-slice}
-use Rattle.uimg_blob_reading.specs.Faults.{refuses_memory}
-use Rattle.uimg_blob_reading.proofs.PhaseLaws.{by_bool}
-use Rattle.uimg_blob_reading.specs.Blob.{tree}
-use Rattle.uimg_blob_reading.specs.Grammar.{Siblings}
-use Rattle.uimg_blob_reading.specs.Roles.{in_images}
-use Rattle.uimg_blob_reading.specs.LookUps.{NodeOf}
-use Rattle.uimg_blob_reading.specs.Spots.{Spot}
+use Rattle.uimg_base.specs.{Device.{Device, RisesIf}, Held.Held, Ranges.{Copies, ReadsAhead}}
+use Rattle.uimg_base.specs.{Outcome.{Outcome, Tells, unless_refused, told, done}, Results.◌>>=◌}
+use Rattle.uimg_base.specs.{Sink.{Sink, AppendsPrefix, AppendsFirst}, Using.Asks}
+use Rattle.uimg_base.specs.declared.{ranges.MoveFault.MoveFault, status.Status.Status}
+use Rattle.uimg_base.proofs.{SinkLaws.{Appends-none, prefix_none}, Slices.length-slice}
 use Rattle.uimg_base.specs.declared.spans.Span.{Span}
-use Rattle.uimg_fit_base.specs.declared.fault.Fault.{Fault}
+use Rattle.uimg_base.specs.Ranges as moves
+use Rattle.uimg_base.specs.declared.ranges.MoveFault.TheVariants as move
+use Rattle.uimg_blob_reading.{specs.{Faults.refuses_memory, Blob.tree}, proofs.PhaseLaws.by_bool}
+use Rattle.uimg_blob_reading.specs.{Grammar.Siblings, Roles.in_images, LookUps.NodeOf, Spots.Spot}
+use Rattle.uimg_blob_reading.specs.Indexed.{TakesNodes}
+use Rattle.uimg_fit_base.specs.{declared.fault.Fault.Fault, Places.{payload, TellsPlace}}
 use Rattle.uimg_fit_base.specs.declared.fault.Fault.TheVariants.{Blob as OfBlob, Fit, Read, Put}
 use Rattle.uimg_fit_base.specs.Faults.{Gives, of_move, end_of, is_refused}
-use Rattle.uimg_fit_base.specs.Places.{payload, TellsPlace}
 use Rattle.uimg_fit_base.specs.Extraction.{of_images, payload_of, payload_at, extract_of}
-use Rattle.uimg_fit_reading.specs.Nodes.{IsNode, HasImage}
-use Rattle.uimg_blob_reading.specs.Indexed.{TakesNodes}
-use Rattle.uimg_fit_reading.specs.Rooms.{InspectsBetween, DeliversBetween}
-use Rattle.uimg_fit_reading.specs.Work.{list_work, extract_work}
 use Rattle.uimg_fit_base.proofs.FileLaws.{images_are}
+use Rattle.uimg_fit_reading.specs.{Nodes.{IsNode, HasImage}, Work.{list_work, extract_work}}
+use Rattle.uimg_fit_reading.specs.Rooms.{InspectsBetween, DeliversBetween}
 
 -- the payload at the position of an image
 payload_is : (file : List ℕ) (t : Siblings) (position number : ℕ) → tree file ≡ Ok t → (h : HasImage t position number) → payload_at file position ≡ of_images (payload file h.image)

@@ -1,14 +1,10 @@
 -- The hash nodes of an image, by their numbers.
 use Rattle.std.proofs.Common.{◌≡◌, ℕ, List, [], ◌∷◌, Option, Some, None, Bool, true, false, if◌then◌else◌, refl, ap, sym, ◌∙◌, subst}
 use Rattle.std.specs.List.{filter}
-use Rattle.uimg_blob_reading.specs.declared.nodes.Blob.{Blob}
-use Rattle.uimg_blob_reading.specs.Grammar.{Siblings}
+use Rattle.uimg_blob_reading.specs.{declared.nodes.Blob.Blob, Grammar.Siblings, Rows.Row}
+use Rattle.uimg_blob_reading.specs.{Indexed.{IsIndexed, IsRow}, LookUps.{NodeOf, listed, hashes}}
+use Rattle.uimg_blob_reading.{specs.Spots.Spot, proofs.PhaseLaws.by_bool}
 use Rattle.uimg_blob_reading.specs.Roles.{in_image, in_images, is_hash, is_hash_role, role_at, level_after, Level}
-use Rattle.uimg_blob_reading.specs.Rows.{Row}
-use Rattle.uimg_blob_reading.specs.Indexed.{IsIndexed, IsRow}
-use Rattle.uimg_blob_reading.specs.LookUps.{NodeOf, listed, hashes}
-use Rattle.uimg_blob_reading.specs.Spots.{Spot}
-use Rattle.uimg_blob_reading.proofs.PhaseLaws.{by_bool}
 use Rattle.uimg_fit_reading.specs.Nodes.{AreFrom, IsNode, HashesFrom, HashAt, FirstHash}
 use Rattle.uimg_fit_reading.proofs.ImageLaws.{Front, front, none_left, children_of}
 use Rattle.uimg_fit_reading.proofs.NodeLaws.{node_row}

@@ -1,24 +1,16 @@
 -- Reporting on hash nodes, one more at a time.
 use Rattle.std.proofs.Common.{◌≡◌, ◌≤◌, ◌+◌, ◌*◌, ◌&&◌, ℕ, List, [], ◌∷◌, length, Option, None, Bool, true, false, refl, ap, sym, ◌∙◌, subst, arith}
-use Rattle.std.specs.Prelude.{Result, Ok, is_err}
-use Rattle.std.specs.List.{flat_map, sum_by}
+use Rattle.std.specs.{Prelude.{Result, Ok, is_err}, List.{flat_map, sum_by}}
 use Rattle.std.proofs.lemmas.List.Sums.{sum_by-cons}
-use Rattle.uimg_base.specs.Sink.{Sink}
-use Rattle.uimg_base.specs.Writing.{Written}
-use Rattle.uimg_base.specs.declared.ranges.MoveFault.{MoveFault}
+use Rattle.uimg_base.specs.{Sink.Sink, Writing.Written, declared.ranges.MoveFault.MoveFault}
 use Rattle.uimg_base.specs.declared.source.SourceFault.{SourceFault}
-use Rattle.uimg_blob_reading.specs.Grammar.{Siblings}
-use Rattle.uimg_blob_reading.specs.LookUps.{NodeOf}
-use Rattle.uimg_blob_reading.specs.Spots.{Spot}
-use Rattle.uimg_fit_base.specs.declared.algo_sets.AlgoSet.{AlgoSet}
-use Rattle.uimg_fit_base.specs.declared.verdicts.Verdict.{Verdict}
-use Rattle.uimg_fit_base.specs.AlgoSets.{no_algos}
-use Rattle.uimg_fit_base.specs.Report.{word_of, is_right, hash_line, are_right}
+use Rattle.uimg_blob_reading.specs.{Grammar.Siblings, LookUps.NodeOf, Spots.Spot}
+use Rattle.uimg_fit_base.specs.declared.{algo_sets.AlgoSet.AlgoSet, verdicts.Verdict.Verdict}
+use Rattle.uimg_fit_base.specs.{AlgoSets.no_algos, Report.{word_of, is_right, hash_line, are_right}}
 use Rattle.uimg_fit_reading.specs.HashReports.{line_cost, hash_cost, AllCovered, FindsAlgosBetween, PutsHashesBetween}
 use Rattle.uimg_fit_reading.specs.Nodes.{HashesAt, FirstHash}
 use Rattle.uimg_fit_reading.specs.Plans.{hash_plan, with_plan, with_all}
-use Rattle.uimg_fit_reading.proofs.PlanLaws.{if_err}
-use Rattle.uimg_fit_reading.proofs.PutLaws.{◌▶◌, cut, nothing}
+use Rattle.uimg_fit_reading.proofs.{PlanLaws.if_err, PutLaws.{◌▶◌, cut, nothing}}
 
 -- The algorithms of the hash nodes that are left, with those in a set, are the algorithms of all.
 pub record AlgosLeft (t : Siblings) (hs : List (NodeOf Spot)) (asked new : ℕ) (set : AlgoSet) (next : Option ℕ) : Type 0 where

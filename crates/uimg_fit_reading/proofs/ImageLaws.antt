@@ -1,26 +1,17 @@
 -- The images of an indexed tree, by their numbers.
 use Rattle.std.proofs.Common.{◌≡◌, ◌<◌, ◌≤◌, ◌+◌, ℕ, zero, suc, List, [], ◌∷◌, length, drop, map, Option, Some, None, Bool, true, false, IsTrue, codes, refl, ap, sym, ◌∙◌, subst, arith}
-use Rattle.std.specs.List.{slice_get}
-use Rattle.std.specs.Option.{option_map}
-use Rattle.std.specs.Str.{bytes_eq}
-use Rattle.std.proofs.lemmas.Slice.Eq.{bytes_eq-Decides}
-use Rattle.uimg_blob_reading.specs.declared.keys.Key.TheVariants.{Default}
-use Rattle.std.proofs.Math.ListN.{length-map}
-use Rattle.std.proofs.Math.Nat.{suc-ne-zero}
+use Rattle.std.specs.{List.slice_get, Option.option_map, Str.bytes_eq}
+use Rattle.std.proofs.{lemmas.Slice.Eq.bytes_eq-Decides, Math.{ListN.length-map, Nat.suc-ne-zero}}
 use Rattle.std.proofs.lemmas.List.{length-drop, drop-drop}
 use Rattle.std.proofs.lemmas.Option.{slice_get_within, slice_get_past}
-use Rattle.uimg_blob_reading.specs.declared.nodes.Blob.{Blob}
-use Rattle.uimg_blob_reading.specs.Grammar.{Siblings, none, node}
-use Rattle.uimg_blob_reading.specs.Roles.{Level, role_at, level_in, level_after, in_root, in_images, in_configurations, is_images, is_configurations}
-use Rattle.uimg_blob_reading.specs.Rows.{Row, first_of, table, size, child_number}
-use Rattle.uimg_blob_reading.specs.Kept.{kept_of, entry_of}
-use Rattle.uimg_blob_reading.specs.Standing.{Stand}
-use Rattle.uimg_blob_reading.specs.Indexed.{IsIndexed, IsRow, keeps}
+use Rattle.uimg_blob_reading.specs.declared.{keys.Key.TheVariants.Default, nodes.Blob.Blob}
+use Rattle.uimg_blob_reading.specs.{Grammar.{Siblings, none, node}, Kept.{kept_of, entry_of}}
+use Rattle.uimg_blob_reading.specs.{Rows.{Row, first_of, table, size, child_number}, Standing.Stand}
+use Rattle.uimg_blob_reading.specs.{Indexed.{IsIndexed, IsRow, keeps}, Spots.{Spot, spot_of, spots}}
 use Rattle.uimg_blob_reading.specs.LookUps.{NodeOf, listed, images, configurations}
-use Rattle.uimg_blob_reading.specs.Spots.{Spot, spot_of, spots}
-use Rattle.uimg_blob_reading.proofs.LookLaws.{length_rows}
-use Rattle.uimg_blob_reading.proofs.PhaseLaws.{some_none, some_some}
+use Rattle.uimg_blob_reading.proofs.{LookLaws.length_rows, PhaseLaws.{some_none, some_some}}
 use Rattle.uimg_blob_reading.proofs.SoFarLaws.{length_kept}
+use Rattle.uimg_blob_reading.specs.Roles.{Level, role_at, level_in, level_after, in_root, in_images, in_configurations, is_images, is_configurations}
 use Rattle.uimg_blob_reading.proofs.StandLaws.{row_of, row_stands, below_stand, after_stand, images_stand, no_images, configurations_stand, no_configurations}
 use Rattle.uimg_fit_reading.specs.Nodes.{HasImages, HasImage, LacksImage, AreFrom, IsNode, HasConfigurations, TellsConfigurations}
 
@@ -79,10 +70,6 @@ pub record LeftImages (t : Siblings) (position : ℕ) (next : Option ℕ) : Type
   pub found : List (NodeOf Spot)
   pub is : images (spots t) ≡ Some found
   pub from : AreFrom t in_images next (drop position found)
-
--- all images
-pub all_left : (t : Siblings) (first : Option ℕ) → HasImages t first → LeftImages t 0 first
-all_left t first h = record { found = h.found; is = h.is; from = h.from }
 
 -- the node that some nodes begin with, its row, and the nodes after it
 pub record Front (t : Siblings) (level : Level) (number : ℕ) (found : List (NodeOf Spot)) : Type 0 where

@@ -1,39 +1,26 @@
 -- Reporting on images, one more at a time.
 use Rattle.std.proofs.Common.{◌≡◌, ◌≤◌, ◌+◌, ◌&&◌, ℕ, List, [], ◌∷◌, ◌++◌, length, Option, Some, None, Bool, true, false, if◌then◌else◌, codes, refl, ap, sym, ◌∙◌, subst, append_assoc, arith}
-use Rattle.std.specs.Prelude.{Result, Ok, Err, IfOk, is_err}
-use Rattle.std.specs.Option.{is_some}
-use Rattle.std.specs.List.{flat_map, sum_by}
-use Rattle.std.proofs.lemmas.List.Sums.{sum_by-cons}
+use Rattle.std.specs.{Prelude.{Result, Ok, Err, IfOk, is_err}, Option.is_some}
+use Rattle.std.{specs.List.{flat_map, sum_by}, proofs.lemmas.List.Sums.sum_by-cons}
 use Rattle.uimg_base.specs.Outcome.{End, done, not_right, refused, Outcome, told, after, line, Tells}
-use Rattle.uimg_base.specs.Sink.{Sink, AppendsPrefix}
-use Rattle.uimg_base.specs.Writing.{Written}
-use Rattle.uimg_base.specs.declared.ranges.MoveFault.{MoveFault}
-use Rattle.uimg_base.specs.declared.status.Status.{Status}
+use Rattle.uimg_base.specs.{Sink.{Sink, AppendsPrefix}, Writing.Written}
+use Rattle.uimg_base.specs.declared.{ranges.MoveFault.MoveFault, status.Status.Status}
 use Rattle.uimg_base.proofs.OutcomeLaws.{Tells-after}
 use Rattle.uimg_base.proofs.SinkLaws.{Appends-none, prefix_first, prefix_none}
-use Rattle.uimg_blob_reading.specs.Grammar.{Siblings}
-use Rattle.uimg_blob_reading.specs.LookUps.{NodeOf, hashes}
-use Rattle.uimg_blob_reading.specs.Roles.{in_images}
-use Rattle.uimg_blob_reading.specs.Spots.{Spot}
-use Rattle.uimg_blob_reading.proofs.PhaseLaws.{true_false}
+use Rattle.uimg_blob_reading.specs.{Grammar.Siblings, LookUps.{NodeOf, hashes}, Roles.in_images}
+use Rattle.uimg_blob_reading.{specs.Spots.Spot, proofs.PhaseLaws.true_false}
 use Rattle.uimg_blob_reading.specs.Faults.{refuses_memory}
-use Rattle.uimg_fit_base.specs.declared.fault.Fault.{Fault}
+use Rattle.uimg_fit_base.specs.{declared.fault.Fault.Fault, Faults.{end_of, of_move, unless_memory}}
 use Rattle.uimg_fit_base.specs.declared.fault.Fault.TheVariants.{Blob as OfBlob, Fit, Read, Put}
-use Rattle.uimg_fit_base.specs.declared.fault.FitFault.{FitFault}
-use Rattle.uimg_fit_reading.specs.Allowances.{node_allowance}
-use Rattle.uimg_base.specs.declared.ranges.MoveFault.TheVariants as move
-use Rattle.uimg_fit_base.specs.Faults.{end_of, of_move, unless_memory}
-use Rattle.uimg_fit_reading.specs.HashReports.{hash_cost, ReportsHashesBetween}
-use Rattle.uimg_fit_reading.specs.ImageReports.{report_status, ReportsFoundBetween, image_work, ImageDone, ImageCut, ReportsImagesBetween}
-use Rattle.uimg_fit_reading.specs.Nodes.{AreFrom, HashesAt}
-use Rattle.uimg_fit_base.specs.Places.{payload, TellsPlace}
+use Rattle.uimg_fit_base.specs.{declared.fault.FitFault.FitFault, Places.{payload, TellsPlace}}
+use Rattle.uimg_fit_reading.specs.{Allowances.node_allowance, Nodes.{AreFrom, HashesAt}}
+use Rattle.uimg_fit_reading.specs.{HashReports.{hash_cost, ReportsHashesBetween}, Work.hashed_size}
 use Rattle.uimg_fit_reading.specs.Plans.{are_compared}
+use Rattle.uimg_base.specs.declared.ranges.MoveFault.TheVariants as move
+use Rattle.uimg_fit_reading.specs.ImageReports.{report_status, ReportsFoundBetween, image_work, ImageDone, ImageCut, ReportsImagesBetween}
 use Rattle.uimg_fit_base.specs.Report.{hash_line, hash_lines, are_right, end_after, report_step, report}
-use Rattle.uimg_fit_reading.specs.Work.{hashed_size}
-use Rattle.uimg_fit_reading.proofs.ImageLaws.{none_left}
-use Rattle.uimg_fit_reading.proofs.PlanLaws.{of_answer}
-use Rattle.uimg_fit_reading.proofs.SharesLaws.{hashes_allowed, one_text}
-use Rattle.uimg_fit_reading.proofs.CompareLaws.{compared_any}
+use Rattle.uimg_fit_reading.proofs.{ImageLaws.none_left, PlanLaws.of_answer}
+use Rattle.uimg_fit_reading.proofs.{SharesLaws.{hashes_allowed, one_text}, CompareLaws.compared_any}
 
 -- an image without hash nodes
 unhashed_line : (name message : List ℕ) (hs : List (NodeOf Spot)) → hs ≡ [] → name ++ line (codes " - none unhashed") ≡ hash_lines name message hs

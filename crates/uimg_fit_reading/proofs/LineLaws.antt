@@ -1,22 +1,14 @@
 -- The line of a hash node.
 use Rattle.std.proofs.Common.{◌≡◌, ◌+◌, ◌≤◌, ℕ, List, [], ◌∷◌, ◌++◌, length, codes, Option, Some, None, Bool, IfSome, refl, ap, sym, subst, ◌∙◌, append_assoc, arith}
-use Rattle.std.specs.Prelude.{Result, IfOk, is_err}
-use Rattle.std.specs.Option.{option_map, option_map_or}
-use Rattle.uimg_texts.specs.Nul.{text}
-use Rattle.uimg_texts.specs.Slices.{slice}
-use Rattle.uimg_base.specs.Outcome.{line}
-use Rattle.uimg_base.specs.Sink.{Sink}
-use Rattle.uimg_base.specs.Writing.{Written}
-use Rattle.uimg_base.proofs.Slices.{length-slice}
-use Rattle.uimg_base.specs.declared.spans.Span.{Span}
-use Rattle.uimg_blob_reading.specs.LookUps.{NodeOf}
-use Rattle.uimg_blob_reading.specs.Spots.{Spot}
-use Rattle.uimg_base.specs.declared.ranges.MoveFault.{MoveFault}
+use Rattle.std.specs.{Prelude.{Result, IfOk, is_err}, Option.{option_map, option_map_or}}
+use Rattle.uimg_texts.specs.{Nul.text, Slices.slice}
+use Rattle.uimg_base.{specs.{Outcome.line, Sink.Sink, Writing.Written}, proofs.Slices.length-slice}
+use Rattle.uimg_base.specs.declared.{spans.Span.Span, ranges.MoveFault.MoveFault}
+use Rattle.uimg_blob_reading.specs.{LookUps.NodeOf, Spots.Spot}
 use Rattle.uimg_fit_reading.specs.declared.report.hash_lines.HashLine.{HashLine}
-use Rattle.uimg_fit_base.specs.declared.verdicts.Verdict.{Verdict}
-use Rattle.uimg_fit_base.specs.Files.{value_bytes, bytes_in}
 use Rattle.uimg_fit_reading.specs.HashReports.{PutsHashBetween, verdict_line}
 use Rattle.uimg_fit_reading.specs.Plans.{algo_length, hash_text, span_length}
+use Rattle.uimg_fit_base.specs.{declared.verdicts.Verdict.Verdict, Files.{value_bytes, bytes_in}}
 use Rattle.uimg_fit_base.specs.Report.{word_text, word_of, hash_line}
 use Rattle.uimg_fit_reading.proofs.PlanLaws.{of_answer}
 

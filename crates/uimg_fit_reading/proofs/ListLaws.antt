@@ -1,14 +1,11 @@
 -- Lists of texts, byte by byte and piece by piece.
 use Rattle.std.proofs.Common.{◌≡◌, ◌≢◌, ◌<◌, ◌≤◌, ◌+◌, ℕ, zero, suc, min, List, [], ◌∷◌, ◌++◌, length, take, replicate, Option, Some, None, refl, ap, sym, ◌∙◌, subst, append_assoc, append-nil, length-take, arith}
-use Rattle.std.specs.List.{flat_map}
-use Rattle.std.proofs.lemmas.List.{take_all}
+use Rattle.std.{specs.List.flat_map, proofs.lemmas.List.take_all}
 use Rattle.uimg_texts.specs.Nul.{before_nul, text}
 use Rattle.uimg_base.specs.Outcome.{line}
-use Rattle.uimg_blob_reading.proofs.PhaseLaws.{some_none, some_some}
-use Rattle.uimg_blob_reading.proofs.TextLaws.{text_all}
-use Rattle.uimg_fit_reading.specs.declared.listing.lists.Line.{Line}
+use Rattle.uimg_blob_reading.proofs.{PhaseLaws.{some_none, some_some}, TextLaws.text_all}
+use Rattle.uimg_fit_reading.specs.{declared.listing.lists.Line.Line, Values.{pieces, onto}}
 use Rattle.uimg_fit_reading.specs.declared.listing.lists.Line.TheVariants.{First, Next, Open}
-use Rattle.uimg_fit_reading.specs.Values.{pieces, onto}
 use Rattle.uimg_fit_reading.specs.Shows.{lines_of}
 use Rattle.uimg_fit_reading.specs.Lists.{start_of, emitted, line_after, end_of_line, IsPiece}
 

@@ -2,12 +2,9 @@
 use Rattle.std.proofs.Common.{◌≡◌, ℕ, List, ◌++◌, Option, Ok, Result, codes, refl, ap, sym}
 use Rattle.uimg_base.specs.Outcome.{after, unless_refused}
 use Rattle.uimg_names.specs.declared.naming.Naming.{Naming}
-use Rattle.uimg_blob_reading.specs.Blob.{tree}
-use Rattle.uimg_blob_reading.specs.Grammar.{Siblings}
-use Rattle.uimg_blob_reading.specs.Reading.{Fault as BlobFaultAt}
+use Rattle.uimg_blob_reading.specs.{Blob.tree, Grammar.Siblings, Reading.Fault as BlobFaultAt}
 use Rattle.uimg_blob_reading.specs.Plain.{NamedOf, NodesOf}
-use Rattle.uimg_blob_reading.specs.LookUps.{NodeOf, images, configurations}
-use Rattle.uimg_blob_reading.specs.Spots.{Spot, spots}
+use Rattle.uimg_blob_reading.specs.{LookUps.{NodeOf, images, configurations}, Spots.{Spot, spots}}
 use Rattle.uimg_fit_base.specs.Files.{value_bytes, cell, root_own, spots_in}
 use Rattle.uimg_fit_reading.specs.Heads.{description_line, created_line}
 use Rattle.uimg_fit_reading.specs.Listing.{head_lines, time_of, image_lines, numbered_lines, configurations_lines, lists, list_of}

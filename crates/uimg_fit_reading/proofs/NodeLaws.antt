@@ -1,30 +1,20 @@
 -- The names and values of a node that was read stand in the file where its row says.
 use Rattle.std.proofs.Common.{◌≡◌, ◌≢◌, ◌<◌, ◌≤◌, ◌+◌, ℕ, zero, suc, List, [], ◌∷◌, ◌++◌, length, map, Option, Some, None, Ok, Result, Bool, if◌then◌else◌, IsTrue, IfSome, refl, ap, sym, ◌∙◌, subst, arith}
-use Rattle.std.specs.List.{AllByRecursion, slice_get}
-use Rattle.std.specs.Option.{option_map}
-use Rattle.std.specs.Result.{IfOk}
-use Rattle.std.specs.Str.{bytes_eq}
-use Rattle.std.proofs.Math.Nat.{suc-ne-zero}
+use Rattle.std.specs.{List.{AllByRecursion, slice_get}, Option.option_map, Result.IfOk}
+use Rattle.std.{specs.Str.bytes_eq, proofs.Math.Nat.suc-ne-zero}
 use Rattle.uimg_texts.specs.Slices.{slice}
-use Rattle.uimg_blob_reading.specs.declared.nodes.Blob.{Blob}
-use Rattle.uimg_base.specs.declared.spans.Span.{Span}
-use Rattle.uimg_blob_reading.specs.declared.keys.Key.{Key}
-use Rattle.uimg_blob_reading.specs.Blob.{tree}
-use Rattle.uimg_blob_reading.specs.Tokens.{Property}
-use Rattle.uimg_blob_reading.specs.Grammar.{Siblings, none, node}
+use Rattle.uimg_blob_reading.specs.{declared.{nodes.Blob.Blob, keys.Key.Key}, Blob.tree}
+use Rattle.uimg_blob_reading.specs.{Tokens.Property, Grammar.{Siblings, none, node}, Keys.name_of}
 use Rattle.uimg_blob_reading.specs.Roles.{Level, top, role_at, level_in, level_after}
-use Rattle.uimg_blob_reading.specs.Rows.{Row, rows, table, size}
-use Rattle.uimg_blob_reading.specs.Keys.{name_of}
-use Rattle.uimg_blob_reading.specs.Indexed.{IsIndexed, IsRow, name_span, value_span, value_of, keeps}
-use Rattle.uimg_blob_reading.specs.LookUps.{NodeOf, first}
-use Rattle.uimg_blob_reading.specs.Spots.{Spot, spot_of, spots}
-use Rattle.uimg_blob_reading.specs.Plain.{NamedOf}
+use Rattle.uimg_blob_reading.specs.{Rows.{Row, rows, table, size}, LookUps.{NodeOf, first}}
+use Rattle.uimg_blob_reading.specs.{Spots.{Spot, spot_of, spots}, Plain.NamedOf}
 use Rattle.uimg_blob_reading.proofs.PhaseLaws.{some_none, some_some, by_bool}
 use Rattle.uimg_blob_reading.proofs.StandLaws.{row_of, row_stands, tree_stands}
-use Rattle.uimg_fit_base.specs.Files.{value_bytes, bytes_in, root_own}
+use Rattle.uimg_base.specs.declared.spans.Span.{Span}
+use Rattle.uimg_blob_reading.specs.Indexed.{IsIndexed, IsRow, name_span, value_span, value_of, keeps}
+use Rattle.uimg_fit_base.{specs.Files.{value_bytes, bytes_in, root_own}, proofs.ReadLaws.tree-lies}
 use Rattle.uimg_fit_base.specs.Lying.{NameLies, ValueLies, Lie}
 use Rattle.uimg_fit_reading.specs.Nodes.{IsRead, IsNode, TellsConfigurations}
-use Rattle.uimg_fit_base.proofs.ReadLaws.{tree-lies}
 use Rattle.uimg_fit_reading.proofs.ImageLaws.{row_within, entries_size}
 
 -- The name and the values of a row stand in the file.

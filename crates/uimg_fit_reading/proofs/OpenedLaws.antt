@@ -1,11 +1,8 @@
 -- An image stays opened while its device and its room stay.
 use Rattle.std.proofs.Common.{◌≡◌, ◌∙◌, ℕ, List, Bool, false, refl, IsTrue, sym, subst}
-use Rattle.uimg_base.specs.Device.{Device, SameDevice, RisesIf}
-use Rattle.uimg_base.specs.Held.{Held}
-use Rattle.uimg_blob_reading.specs.declared.nodes.Blob.{Blob}
-use Rattle.uimg_blob_reading.specs.Grammar.{Siblings}
-use Rattle.uimg_fit_reading.specs.declared.open_fit.OpenFit.{OpenFit}
-use Rattle.uimg_fit_reading.specs.Nodes.{IsRead, Opened}
+use Rattle.uimg_base.specs.{Device.{Device, SameDevice, RisesIf}, Held.Held}
+use Rattle.uimg_blob_reading.specs.{declared.nodes.Blob.Blob, Grammar.Siblings}
+use Rattle.uimg_fit_reading.specs.{declared.open_fit.OpenFit.OpenFit, Nodes.{IsRead, Opened}}
 use Rattle.uimg_fit_reading.specs.OpenFits.{KeepsBetween}
 
 pub still : {d e : Device} {blob : Blob} {old new : Held} {t : Siblings} → SameDevice d e → new ≡ old → Opened d blob old t → Opened e blob new t

@@ -1,16 +1,11 @@
 -- What a `?` passes on.
 use Rattle.std.proofs.Common.{◌≡◌, ◌++◌, ℕ, List, true, Result, Ok, Err, ap, sym, subst}
-use Rattle.std.specs.Prelude.{is_err}
-use Rattle.std.specs.Result.{IsErr, IsErrAnd}
-use Rattle.uimg_base.specs.Device.{Device, RisesIf}
-use Rattle.uimg_base.specs.Ranges.{is_put}
-use Rattle.uimg_base.specs.Sink.{Sink}
+use Rattle.std.specs.{Prelude.is_err, Result.{IsErr, IsErrAnd}}
+use Rattle.uimg_base.specs.{Device.{Device, RisesIf}, Ranges.is_put, Sink.Sink}
 use Rattle.uimg_base.specs.declared.ranges.MoveFault.{MoveFault}
-use Rattle.uimg_fit_reading.specs.declared.open_fit.OpenFit.{OpenFit}
-use Rattle.uimg_fit_reading.specs.OpenFits.{SameFit}
+use Rattle.uimg_fit_reading.specs.{declared.open_fit.OpenFit.OpenFit, OpenFits.SameFit}
 use Rattle.uimg_fit_reading.specs.Puts.{LeavesBetween, PutsBetween, PutsOwn}
-use Rattle.uimg_fit_reading.proofs.OpenedLaws.{kept_then}
-use Rattle.uimg_fit_reading.proofs.PutLaws.{cut}
+use Rattle.uimg_fit_reading.proofs.{OpenedLaws.kept_then, PutLaws.cut}
 
 pub passed_on : {X F : Type 0} (r : Result X F) (e : F) → IsErrAnd r (λ g. g ≡ e) → r ≡ Err e
 passed_on (Ok x) e is = absurd is

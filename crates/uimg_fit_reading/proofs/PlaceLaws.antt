@@ -2,12 +2,9 @@
 use Rattle.std.proofs.Common.{◌≡◌, ◌<◌, ◌≤◌, ◌+◌, ℕ, List, length, Ok, Err, Result, refl, ap, sym, ◌∙◌}
 use Rattle.std.proofs.lemmas.Bool.{lt-ltb, le-ltb}
 use Rattle.uimg_texts.specs.Slices.{slice}
-use Rattle.uimg_base.specs.Results.{◌>>=◌}
-use Rattle.uimg_base.specs.declared.spans.Span.{Span}
-use Rattle.uimg_blob_reading.specs.LookUps.{NodeOf}
-use Rattle.uimg_blob_reading.specs.Spots.{Spot}
-use Rattle.uimg_fit_base.specs.declared.fault.FitFault.{FitFault}
-use Rattle.uimg_fit_base.specs.declared.fault.FitFault.TheVariants.{DataOutside}
+use Rattle.uimg_base.specs.{Results.◌>>=◌, declared.spans.Span.Span}
+use Rattle.uimg_blob_reading.specs.{LookUps.NodeOf, Spots.Spot}
+use Rattle.uimg_fit_base.specs.declared.fault.FitFault.{FitFault, TheVariants.DataOutside}
 use Rattle.uimg_fit_base.specs.Places.{place, bytes_at, payload}
 
 inside_of : (file : List ℕ) (p : Span) → p.place + p.length ≤ length file → bytes_at file p ≡ Ok (slice file p.place p.length)

@@ -1,28 +1,19 @@
 -- What is to be done about a hash node gives its word.
 use Rattle.std.proofs.Common.{◌≡◌, ◌+◌, ◌-◌, ◌≤◌, ℕ, List, ◌++◌, length, take, replicate, Bool, true, if◌then◌else◌, ◌==◌, Option, Some, None, refl, ap, sym, ◌∙◌, subst, IfSome, arith}
-use Rattle.std.specs.Prelude.{Result, Ok, Err, IfOk, is_err}
-use Rattle.uimg_blob_reading.proofs.PhaseLaws.{true_false}
-use Rattle.std.specs.Str.{bytes_eq}
+use Rattle.std.specs.{Prelude.{Result, Ok, Err, IfOk, is_err}, Str.bytes_eq}
 use Rattle.std.proofs.lemmas.List.{take-append-le, take_all}
-use Rattle.uimg_sums.specs.declared.algo.Algo.{Algo}
-use Rattle.uimg_sums.specs.Algorithms.{digest_size, digest_by, algo_named}
-use Rattle.uimg_sums.specs.AnySum.{padded_digest}
-use Rattle.uimg_sums.proofs.DigestSizes.{length-digest_by}
+use Rattle.uimg_blob_reading.proofs.PhaseLaws.{true_false, by_bool}
+use Rattle.uimg_sums.{specs.declared.algo.Algo.Algo, proofs.DigestSizes.length-digest_by}
+use Rattle.uimg_sums.specs.{Algorithms.{digest_size, digest_by, algo_named}, AnySum.padded_digest}
 use Rattle.uimg_texts.specs.Slices.{slice}
-use Rattle.uimg_base.proofs.Slices.{length-slice}
-use Rattle.uimg_blob_reading.proofs.PhaseLaws.{by_bool}
-use Rattle.uimg_base.specs.declared.spans.Span.{Span}
-use Rattle.uimg_fit_reading.specs.declared.report.plans.Plan.{Plan}
-use Rattle.uimg_fit_reading.specs.declared.report.plans.Plan.TheVariants.{Compared}
+use Rattle.uimg_base.{proofs.Slices.length-slice, specs.declared.spans.Span.Span}
+use Rattle.uimg_fit_reading.specs.declared.report.plans.Plan.{Plan, TheVariants.Compared}
 use Rattle.uimg_fit_reading.specs.declared.report.plans.Plan.TheVariants as plan
-use Rattle.uimg_fit_base.specs.declared.algo_sets.AlgoSet.{AlgoSet}
-use Rattle.uimg_fit_base.specs.AlgoSets.{has}
-use Rattle.uimg_fit_base.specs.declared.verdicts.Verdict.{Verdict}
-use Rattle.uimg_fit_base.specs.declared.verdicts.Verdict.TheVariants.{Right, Wrong}
-use Rattle.uimg_fit_base.specs.declared.verdicts.Verdict.TheVariants as word
-use Rattle.uimg_fit_base.specs.Files.{bytes_in}
-use Rattle.uimg_fit_reading.specs.Plans.{EndsIn, IsCovered, plan_for, plan_by_value, plan_by_algo, plan_by_name, word_by}
+use Rattle.uimg_fit_base.specs.{declared.algo_sets.AlgoSet.AlgoSet, AlgoSets.has, Files.bytes_in}
+use Rattle.uimg_fit_base.specs.declared.verdicts.Verdict.{Verdict, TheVariants.{Right, Wrong}}
 use Rattle.uimg_fit_base.specs.Report.{compared, by_value, by_algo, by_name}
+use Rattle.uimg_fit_base.specs.declared.verdicts.Verdict.TheVariants as word
+use Rattle.uimg_fit_reading.specs.Plans.{EndsIn, IsCovered, plan_for, plan_by_value, plan_by_algo, plan_by_name, word_by}
 
 -- a digest, and the zeros behind it
 digest_first : (digest : List ℕ) (n : ℕ) → length digest ≡ n → take n (digest ++ replicate (64 - length digest) 0) ≡ digest

@@ -1,19 +1,12 @@
 -- Texts that are written one after another.
 use Rattle.std.proofs.Common.{◌≡◌, ◌≤◌, ◌+◌, ◌-◌, ℕ, List, [], ◌∷◌, ◌++◌, Bool, true, false, Result, Ok, Err, IsTrue, append_assoc, codes, refl, ap, sym, subst, ◌∙◌, arith}
-use Rattle.std.specs.Prelude.{is_err}
-use Rattle.std.specs.Result.{IsErrAnd}
+use Rattle.std.specs.{Prelude.is_err, Result.IsErrAnd}
 use Rattle.uimg_texts.specs.Slices.{slice}
-use Rattle.uimg_base.specs.Device.{Device, RisesIf}
-use Rattle.uimg_base.specs.Held.{Held}
-use Rattle.uimg_base.specs.Outcome.{line}
-use Rattle.uimg_base.specs.Ranges.{is_read, is_put}
-use Rattle.uimg_base.specs.Sink.{Sink, AppendsAll}
-use Rattle.uimg_base.specs.Writing.{Written}
-use Rattle.uimg_base.specs.declared.ranges.MoveFault.{MoveFault}
-use Rattle.uimg_base.specs.declared.ranges.MoveFault.TheVariants.{Read, Put}
-use Rattle.uimg_base.proofs.SinkLaws.{Appends-none, prefix_first, prefix_none}
+use Rattle.uimg_base.specs.{Device.{Device, RisesIf}, Held.Held, Outcome.line, Writing.Written}
+use Rattle.uimg_base.specs.{Ranges.{is_read, is_put}, Sink.{Sink, AppendsAll}}
+use Rattle.uimg_base.specs.declared.ranges.MoveFault.{MoveFault, TheVariants.{Read, Put}}
+use Rattle.uimg_base.proofs.{SinkLaws.{Appends-none, prefix_first, prefix_none}, Slices.slice-add}
 use Rattle.uimg_base.proofs.WritingLaws.{written_then}
-use Rattle.uimg_base.proofs.Slices.{slice-add}
 use Rattle.uimg_fit_reading.specs.Puts.{PutsOwn, PutsFromBetween, PutsBetween}
 
 infixr 5 ◌▶◌
@@ -31,10 +24,6 @@ nothing s = record { all = record { appended = Appends-none s.contents }; prefix
 -- a label, and the line of a text
 pub line_then : (e : Bool) (s m t : Sink) (label text : List ℕ) → AppendsAll s m label → Written e m t (line text) → Written e s t (line (label ++ text))
 line_then e s m t label text p q = subst (λ (w : List ℕ). Written e s t w) (sym (append_assoc label text (10 ∷ []))) (p ▶ q)
-
--- a label, a text, and the end of the line
-pub line_put : (e : Bool) (s m n t : Sink) (label text : List ℕ) → AppendsAll s m label → AppendsAll m n text → Written e n t (10 ∷ []) → Written e s t (line (label ++ text))
-line_put e s m n t label text p q r = line_then e s m t label text p (q ▶ r)
 
 -- the bytes of a value: those done, the next, and the rest
 pub three_parts : (file : List ℕ) (at done next all : ℕ) → done + next ≤ all

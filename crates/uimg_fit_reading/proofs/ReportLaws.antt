@@ -1,28 +1,18 @@
 -- The report on a file.
 use Rattle.std.proofs.Common.{◌≡◌, ◌≤◌, ◌+◌, ◌*◌, ℕ, List, [], ◌∷◌, Some, refl, ap, sym, subst, arith}
-use Rattle.std.specs.Prelude.{Result, Ok, IfOk}
-use Rattle.std.specs.List.{sum_by}
+use Rattle.std.specs.{Prelude.{Result, Ok, IfOk}, List.sum_by}
 use Rattle.std.proofs.lemmas.List.Sums.{sum_by-cons}
-use Rattle.uimg_base.specs.Outcome.{Outcome, unless_refused, Tells}
-use Rattle.uimg_base.specs.Sink.{Sink}
+use Rattle.uimg_base.specs.{Outcome.{Outcome, unless_refused, Tells}, Sink.Sink}
 use Rattle.uimg_base.specs.declared.status.Status.{Status}
-use Rattle.uimg_blob_reading.specs.Blob.{tree}
-use Rattle.uimg_blob_reading.specs.Counts.{index_cost, nodes_met, texts_met}
-use Rattle.uimg_blob_reading.specs.Grammar.{Siblings}
-use Rattle.uimg_blob_reading.specs.LookUps.{NodeOf, images}
+use Rattle.uimg_blob_reading.specs.{Blob.tree, Counts.{index_cost, nodes_met, texts_met}}
+use Rattle.uimg_blob_reading.specs.{Grammar.Siblings, LookUps.{NodeOf, images}, Spots.{Spot, spots}}
 use Rattle.uimg_blob_reading.specs.Reading.{Fault as BlobFaultAt}
-use Rattle.uimg_blob_reading.specs.Spots.{Spot, spots}
-use Rattle.uimg_fit_base.specs.declared.fault.Fault.{Fault}
-use Rattle.uimg_fit_reading.specs.Allowances.{node_allowance, allowance}
-use Rattle.uimg_fit_base.specs.Faults.{end_of}
-use Rattle.uimg_fit_base.specs.Files.{images_of}
-use Rattle.uimg_fit_reading.specs.ImageReports.{image_work}
-use Rattle.uimg_fit_base.specs.Places.{payload}
-use Rattle.uimg_fit_base.specs.Report.{report, verify_of}
-use Rattle.uimg_fit_reading.specs.Work.{hashed_size, all_hashed, verify_work}
-use Rattle.uimg_fit_reading.proofs.AllowanceLaws.{tree-paid}
+use Rattle.uimg_fit_base.specs.{declared.fault.Fault.Fault, Faults.end_of, Files.images_of}
+use Rattle.uimg_fit_base.specs.{Places.payload, Report.{report, verify_of}}
 use Rattle.uimg_fit_base.proofs.FileLaws.{images_are}
-use Rattle.uimg_fit_reading.proofs.SharesLaws.{images_allowed}
+use Rattle.uimg_fit_reading.specs.{Allowances.{node_allowance, allowance}, ImageReports.image_work}
+use Rattle.uimg_fit_reading.specs.Work.{hashed_size, all_hashed, verify_work}
+use Rattle.uimg_fit_reading.proofs.{AllowanceLaws.tree-paid, SharesLaws.images_allowed}
 
 -- the report on a file whose images are known
 pub report_is : (file : List ℕ) (r : Result (List (NodeOf Spot)) Fault) → images_of file ≡ r → verify_of file ≡ unless_refused r (report file)

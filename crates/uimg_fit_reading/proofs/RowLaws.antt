@@ -1,31 +1,17 @@
 -- Rows, one after another.
 use Rattle.std.proofs.Common.{◌≡◌, ℕ, ◌≤◌, ◌<◌, ◌+◌, take, get_or, List, [], ◌∷◌, ◌++◌, length, zero, suc, Option, Some, None, Bool, true, false, refl, ap, ◌∙◌, sym, subst, append-nil, arith}
-use Rattle.std.specs.List.{flat_map, sum_by, list_all}
-use Rattle.std.specs.Option.{option_map, option_map_or}
-use Rattle.std.proofs.lemmas.Bool.{and_parts}
-use Rattle.std.proofs.lemmas.Grind.{flat_map-append}
-use Rattle.std.proofs.lemmas.List.{take_more}
+use Rattle.std.specs.{List.{flat_map, sum_by, list_all}, Option.{option_map, option_map_or}}
+use Rattle.std.proofs.lemmas.{Bool.and_parts, Grind.flat_map-append, List.take_more}
 use Rattle.std.proofs.lemmas.List.Sums.{sum_by_more, sum_by_more_le}
-use Rattle.uimg_base.specs.Device.{Device}
-use Rattle.uimg_base.specs.Sink.{Sink}
-use Rattle.uimg_base.specs.Writing.{Written}
-use Rattle.uimg_base.proofs.SinkLaws.{prefix_at}
-use Rattle.uimg_blob_reading.specs.declared.keys.Key.{Key}
+use Rattle.uimg_base.{specs.{Device.Device, Sink.Sink, Writing.Written}, proofs.SinkLaws.prefix_at}
 use Rattle.uimg_base.specs.declared.spans.Span.{Span}
-use Rattle.uimg_blob_reading.specs.Indexed.{value_span}
-use Rattle.uimg_blob_reading.specs.Keys.{name_of}
-use Rattle.uimg_blob_reading.specs.LookUps.{first}
-use Rattle.uimg_blob_reading.specs.Plain.{NamedOf}
-use Rattle.uimg_blob_reading.specs.Roles.{in_image, is_hash}
-use Rattle.uimg_blob_reading.specs.Spots.{Spot}
+use Rattle.uimg_blob_reading.specs.{declared.keys.Key.Key, LookUps.first, Roles.{in_image, is_hash}}
+use Rattle.uimg_blob_reading.specs.{Indexed.value_span, Keys.name_of, Plain.NamedOf, Spots.Spot}
 use Rattle.uimg_fit_base.specs.Files.{value_bytes, bytes_in}
-use Rattle.uimg_fit_reading.specs.declared.listing.shows.Show.{Show}
-use Rattle.uimg_fit_reading.specs.declared.listing.shows.Show.TheVariants.{Name, Address}
-use Rattle.uimg_names.specs.declared.field.Field.{Field}
-use Rattle.uimg_names.specs.declared.naming.Naming.{Naming}
+use Rattle.uimg_fit_reading.specs.declared.listing.shows.Show.{Show, TheVariants.{Name, Address}}
 use Rattle.uimg_fit_reading.specs.Rows.{hash_rows, keeps_row}
-use Rattle.uimg_fit_reading.specs.Shows.{shown, value_cost, show_weight}
-use Rattle.uimg_fit_reading.specs.Telling.{ListsBetween}
+use Rattle.uimg_fit_reading.specs.{Shows.{shown, value_cost, show_weight}, Telling.ListsBetween}
+use Rattle.uimg_names.specs.declared.{field.Field.Field, naming.Naming.Naming}
 use Rattle.uimg_fit_reading.proofs.TellingLaws.{then_lists}
 
 cost_by : (how : Show) (o : Option Spot) → option_map_or (λ s. value_cost how s.length) (option_map value_span o) 0 ≡ show_weight how (option_map (λ s. s.bytes) o)

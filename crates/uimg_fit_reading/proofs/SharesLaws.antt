@@ -1,15 +1,10 @@
 -- What one node is allowed is a share of what all are.
 use Rattle.std.proofs.Common.{◌≡◌, ◌≤◌, ◌+◌, ◌*◌, ℕ, List, [], ◌∷◌, length, find, Option, Some, None, Bool, true, false, codes, if◌then◌else◌, refl, ap, sym, ◌∙◌, subst, arith}
-use Rattle.std.specs.List.{sum_by, filter}
-use Rattle.std.specs.Option.{option_map, option_map_or}
-use Rattle.std.specs.Str.{bytes_eq}
-use Rattle.std.proofs.lemmas.List.Sums.{sum_by-cons}
-use Rattle.std.proofs.lemmas.Slice.Eq.{bytes_eq-Decides}
-use Rattle.uimg_blob_reading.specs.Keys.{is_text}
-use Rattle.uimg_blob_reading.specs.Roles.{is_hash}
-use Rattle.uimg_blob_reading.specs.Plain.{NamedOf, NodesOf, no_node, a_node}
+use Rattle.std.specs.{List.{sum_by, filter}, Option.{option_map, option_map_or}, Str.bytes_eq}
+use Rattle.std.proofs.lemmas.{List.Sums.sum_by-cons, Slice.Eq.bytes_eq-Decides}
+use Rattle.uimg_blob_reading.specs.{Keys.is_text, Roles.is_hash}
+use Rattle.uimg_blob_reading.specs.{Plain.{NamedOf, NodesOf, no_node, a_node}, Spots.Spot}
 use Rattle.uimg_blob_reading.specs.LookUps.{NodeOf, listed, images, configurations, hashes}
-use Rattle.uimg_blob_reading.specs.Spots.{Spot}
 use Rattle.uimg_blob_reading.proofs.PhaseLaws.{some_none, some_some, by_bool, true_false}
 use Rattle.uimg_fit_base.specs.Files.{root_own}
 use Rattle.uimg_fit_reading.specs.Allowances.{text_size, text_sizes, allowance, node_allowance}

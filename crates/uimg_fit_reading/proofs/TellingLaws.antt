@@ -1,21 +1,13 @@
 -- What is listed of nodes, one after another.
 use Rattle.std.proofs.Common.{◌≡◌, ◌≤◌, ◌<◌, ◌+◌, ℕ, List, [], ◌∷◌, ◌++◌, Option, Some, None, IfSome, Bool, true, false, refl, ap, sym, ◌∙◌, subst, add-one, arith}
-use Rattle.std.specs.List.{sum_by}
-use Rattle.std.proofs.lemmas.List.Sums.{sum_by-cons}
-use Rattle.uimg_base.specs.Device.{Device}
-use Rattle.uimg_base.specs.Sink.{Sink}
-use Rattle.uimg_blob_reading.specs.declared.nodes.Blob.{Blob}
-use Rattle.uimg_blob_reading.specs.Grammar.{Siblings}
-use Rattle.uimg_blob_reading.specs.Roles.{level_after}
-use Rattle.uimg_blob_reading.specs.LookUps.{NodeOf}
-use Rattle.uimg_blob_reading.specs.Spots.{Spot}
-use Rattle.uimg_fit_reading.specs.Allowances.{node_allowance}
-use Rattle.uimg_fit_reading.specs.Nodes.{IsRead}
-use Rattle.uimg_fit_reading.specs.declared.listing.listed_nodes.Listed.{Listed}
-use Rattle.uimg_fit_reading.specs.declared.listing.listed_nodes.Listed.TheVariants.{Image, Configuration}
-use Rattle.uimg_fit_reading.specs.Listing.{numbered_lines}
-use Rattle.uimg_fit_reading.specs.NodeLines.{level_of}
+use Rattle.std.{specs.List.sum_by, proofs.lemmas.List.Sums.sum_by-cons}
+use Rattle.uimg_base.specs.{Device.Device, Sink.Sink}
+use Rattle.uimg_blob_reading.specs.{declared.nodes.Blob.Blob, Grammar.Siblings, Roles.level_after}
+use Rattle.uimg_blob_reading.specs.{LookUps.NodeOf, Spots.Spot}
+use Rattle.uimg_fit_reading.specs.{Allowances.node_allowance, Nodes.IsRead, Listing.numbered_lines}
+use Rattle.uimg_fit_reading.specs.{declared.listing.listed_nodes.Listed.Listed, NodeLines.level_of}
 use Rattle.uimg_fit_reading.specs.Telling.{ListsBetween}
+use Rattle.uimg_fit_reading.specs.declared.listing.listed_nodes.Listed.TheVariants.{Image, Configuration}
 use Rattle.uimg_fit_reading.proofs.PutLaws.{◌▶◌, cut, nothing}
 
 pub then_lists : (e : Bool) (few more : ℕ) (d m f : Device) (s n t : Sink) (xs ys : List ℕ) → ListsBetween false few d m s n xs → ListsBetween e more m f n t ys → ListsBetween e (few + more) d f s t (xs ++ ys)
@@ -35,9 +27,6 @@ pub record Left (At : Option ℕ → List (NodeOf Spot) → Type 0) (texts : ℕ
   pub rest : List (NodeOf Spot)
   pub at : At next rest
   pub goes : (e : Bool) (f : Device) (u : Sink) → ListsBetween e (sum_by node_allowance rest) m f n u (texts i rest) → ListsBetween e (sum_by node_allowance all) d f s u (texts 0 all)
-
-pub all_left : (At : Option ℕ → List (NodeOf Spot) → Type 0) (texts : ℕ → List (NodeOf Spot) → List ℕ) (next : Option ℕ) (d : Device) (s : Sink) (all : List (NodeOf Spot)) → At next all → Left At texts 0 next d d s s all
-all_left At texts next d s all at = record { rest = all; at = at; goes = λ e f u told. told }
 
 one : (texts : ℕ → List (NodeOf Spot) → List ℕ) (i j : ℕ) (rest more : List (NodeOf Spot)) (x : NodeOf Spot) (text : List ℕ) (e : Bool) (m f : Device) (n u : Sink) → rest ≡ x ∷ more → texts i (x ∷ more) ≡ text ++ texts j more
     → ListsBetween e (node_allowance x + sum_by node_allowance more) m f n u (text ++ texts j more) → ListsBetween e (sum_by node_allowance rest) m f n u (texts i rest)

@@ -1,28 +1,19 @@
 -- What a listing asks for is within what it may.
 use Rattle.std.proofs.Common.{◌≡◌, ◌≤◌, ◌+◌, ◌*◌, ℕ, List, length, Option, Some, None, Result, Ok, Err, IfSome, refl, ap, sym, ◌∙◌, subst, arith}
-use Rattle.std.specs.Result.{IfOk}
-use Rattle.std.specs.Option.{option_map, option_map_or}
-use Rattle.uimg_base.proofs.Slices.{length-slice}
-use Rattle.uimg_base.specs.declared.ranges.MoveFault.{MoveFault}
+use Rattle.std.specs.{Result.IfOk, Option.{option_map, option_map_or}}
+use Rattle.uimg_base.{proofs.Slices.length-slice, specs.declared.ranges.MoveFault.MoveFault}
+use Rattle.uimg_base.specs.declared.{status.Status.Status, spans.Span.Span}
 use Rattle.uimg_base.specs.declared.ranges.MoveFault.TheVariants as move
-use Rattle.uimg_base.specs.declared.status.Status.{Status}
-use Rattle.uimg_base.specs.declared.spans.Span.{Span}
-use Rattle.uimg_blob_reading.specs.Blob.{tree}
-use Rattle.uimg_blob_reading.specs.Counts.{nodes_met, texts_met}
-use Rattle.uimg_blob_reading.specs.Grammar.{Siblings}
-use Rattle.uimg_blob_reading.specs.Reading.{Fault as BlobFaultAt}
-use Rattle.uimg_blob_reading.specs.Indexed.{value_span}
-use Rattle.uimg_blob_reading.specs.Plain.{NamedOf, NodesOf, no_node, a_node}
+use Rattle.uimg_blob_reading.specs.{Blob.tree, Counts.{nodes_met, texts_met}, Grammar.Siblings}
+use Rattle.uimg_blob_reading.specs.{Reading.Fault as BlobFaultAt, Indexed.value_span}
+use Rattle.uimg_blob_reading.specs.{Plain.{NamedOf, NodesOf, no_node, a_node}, Spots.{Spot, spots}}
 use Rattle.uimg_blob_reading.specs.LookUps.{NodeOf, first, images, configurations}
-use Rattle.uimg_blob_reading.specs.Spots.{Spot, spots}
-use Rattle.uimg_fit_base.specs.declared.fault.Fault.{Fault}
-use Rattle.uimg_fit_reading.specs.Allowances.{text_sizes, allowance}
-use Rattle.uimg_fit_base.specs.Faults.{of_move, end_of}
+use Rattle.uimg_fit_base.specs.{declared.fault.Fault.Fault, Faults.{of_move, end_of}}
 use Rattle.uimg_fit_base.specs.Files.{value_bytes, bytes_in, root_own}
-use Rattle.uimg_fit_reading.specs.Heads.{span_size}
+use Rattle.uimg_fit_reading.specs.{Allowances.{text_sizes, allowance}, Heads.span_size}
 use Rattle.uimg_fit_reading.specs.ListingParts.{configurations_allowance, body_allowance}
-use Rattle.uimg_fit_reading.proofs.AllowanceLaws.{tree-paid}
 use Rattle.uimg_fit_reading.specs.Rows.{length_of_value}
+use Rattle.uimg_fit_reading.proofs.AllowanceLaws.{tree-paid}
 use Rattle.uimg_fit_reading.proofs.SharesLaws.{images_allowed, both_allowed}
 
 size_by : (o : Option Spot) → span_size (option_map value_span o) ≡ option_map_or length (option_map (λ s. s.bytes) o) 0

@@ -1,10 +1,7 @@
 -- The most bytes requested for the names and texts of nodes, once their blob is indexed.
-use Rattle.std.specs.Prelude.{ℕ, ◌+◌, ◌*◌, List, length, if◌then◌else◌}
-use Rattle.std.specs.List.{sum_by}
-use Rattle.uimg_blob_reading.specs.Keys.{is_text}
-use Rattle.uimg_blob_reading.specs.Plain.{NamedOf, NodesOf, no_node, a_node}
-use Rattle.uimg_blob_reading.specs.LookUps.{NodeOf}
-use Rattle.uimg_blob_reading.specs.Spots.{Spot}
+use Rattle.std.specs.{Prelude.{ℕ, ◌+◌, ◌*◌, List, length, if◌then◌else◌}, List.sum_by}
+use Rattle.uimg_blob_reading.specs.{Keys.is_text, Plain.{NamedOf, NodesOf, no_node, a_node}}
+use Rattle.uimg_blob_reading.specs.{LookUps.NodeOf, Spots.Spot}
 
 -- the length of a value that is a text, else 0
 abbrev pub text_size : NamedOf Spot → ℕ

@@ -1,27 +1,17 @@
 -- Reports on the hash nodes of an image: the digests that they are compared with, then their lines.
 use Rattle.std.specs.Prelude.{◌≡◌, ◌≤◌, ◌+◌, ◌*◌, ℕ, List, ◌++◌, length, codes, if◌then◌else◌, Bool}
 use Rattle.std.specs.Prelude.{Option, Result, IfOk, is_err}
-use Rattle.std.specs.List.{AllByRecursion, flat_map, sum_by}
-use Rattle.std.specs.Option.{option_map_or}
-use Rattle.uimg_base.specs.Device.{Device}
-use Rattle.uimg_base.specs.Lent.{Lent}
-use Rattle.uimg_base.specs.Outcome.{line}
-use Rattle.uimg_base.specs.Sink.{Sink}
-use Rattle.uimg_base.specs.Writing.{Written}
-use Rattle.uimg_base.specs.declared.spans.Span.{Span}
-use Rattle.uimg_base.specs.declared.ranges.MoveFault.{MoveFault}
+use Rattle.std.specs.{List.{AllByRecursion, flat_map, sum_by}, Option.option_map_or}
+use Rattle.uimg_base.specs.{Device.Device, Lent.Lent, Outcome.line, Sink.Sink, Writing.Written}
+use Rattle.uimg_base.specs.declared.{spans.Span.Span, ranges.MoveFault.MoveFault}
 use Rattle.uimg_base.specs.declared.source.SourceFault.{SourceFault}
-use Rattle.uimg_blob_reading.specs.LookUps.{NodeOf}
-use Rattle.uimg_blob_reading.specs.Spots.{Spot}
-use Rattle.uimg_fit_base.specs.declared.algo_sets.AlgoSet.{AlgoSet}
-use Rattle.uimg_fit_base.specs.declared.algo_sets.Digests.{Digests}
+use Rattle.uimg_blob_reading.specs.{LookUps.NodeOf, Spots.Spot}
+use Rattle.uimg_fit_base.specs.declared.algo_sets.{AlgoSet.AlgoSet, Digests.Digests}
 use Rattle.uimg_fit_base.specs.declared.verdicts.Verdict.{Verdict}
 use Rattle.uimg_fit_base.specs.AlgoSets.{no_algos, set_of, AreDigests}
 use Rattle.uimg_fit_base.specs.Report.{algo_name_of, word_text, word_of, hash_line, are_right}
-use Rattle.uimg_fit_reading.specs.declared.open_fit.OpenFit.{OpenFit}
-use Rattle.uimg_fit_reading.specs.Nodes.{OfHash, OfHashes}
-use Rattle.uimg_fit_reading.specs.OpenFits.{file_of, InFit}
-use Rattle.uimg_fit_reading.specs.Values.{in_span}
+use Rattle.uimg_fit_reading.specs.{declared.open_fit.OpenFit.OpenFit, Nodes.{OfHash, OfHashes}}
+use Rattle.uimg_fit_reading.specs.{OpenFits.{file_of, InFit}, Values.in_span}
 use Rattle.uimg_fit_reading.specs.Plans.{IsCovered, are_compared, with_all, hash_plan, algo_length}
 
 -- the most bytes requested to write the line of a hash node of an image whose name has n bytes

@@ -1,10 +1,7 @@
 -- The head lines of a listing, and the line of the default configuration.
-use Rattle.std.specs.Prelude.{ℕ, List, [], ◌++◌, Option, codes}
-use Rattle.std.specs.Option.{option_map_or}
-use Rattle.uimg_base.specs.Outcome.{line}
-use Rattle.uimg_texts.specs.Nul.{text}
-use Rattle.uimg_texts.specs.Times.{time_text}
-use Rattle.uimg_base.specs.declared.spans.Span.{Span}
+use Rattle.std.specs.{Prelude.{ℕ, List, [], ◌++◌, Option, codes}, Option.option_map_or}
+use Rattle.uimg_base.specs.{Outcome.line, declared.spans.Span.Span}
+use Rattle.uimg_texts.specs.{Nul.text, Times.time_text}
 
 -- the length of a span, or 0 if it is missing
 abbrev pub span_size : Option Span → ℕ

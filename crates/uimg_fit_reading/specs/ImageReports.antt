@@ -1,30 +1,16 @@
 -- Reports on images, one after the other.
 use Rattle.std.specs.Prelude.{◌≡◌, ◌≤◌, ◌+◌, ℕ, List, if◌then◌else◌, Bool, true, false, Result, Ok}
-use Rattle.std.specs.Prelude.{Err, IfOk, is_err, Option}
-use Rattle.std.specs.List.{sum_by}
-use Rattle.uimg_base.specs.Device.{Device}
-use Rattle.uimg_base.specs.Lent.{Lent}
-use Rattle.uimg_base.specs.Outcome.{Outcome, Tells}
-use Rattle.uimg_base.specs.Sink.{Sink, AppendsAll}
-use Rattle.uimg_base.specs.Writing.{Written}
-use Rattle.uimg_base.specs.declared.spans.Span.{Span}
-use Rattle.uimg_base.specs.declared.ranges.MoveFault.{MoveFault}
-use Rattle.uimg_base.specs.declared.status.Status.{Status}
+use Rattle.std.specs.{Prelude.{Err, IfOk, is_err, Option}, List.sum_by}
+use Rattle.uimg_base.specs.{Device.Device, Lent.Lent, Outcome.{Outcome, Tells}, Writing.Written}
+use Rattle.uimg_base.specs.{Sink.{Sink, AppendsAll}, declared.spans.Span.Span}
+use Rattle.uimg_base.specs.declared.{ranges.MoveFault.MoveFault, status.Status.Status}
 use Rattle.uimg_base.specs.declared.status.Status.TheVariants.{Done, NotRight}
-use Rattle.uimg_blob_reading.specs.LookUps.{NodeOf, hashes}
-use Rattle.uimg_blob_reading.specs.Roles.{in_images}
-use Rattle.uimg_blob_reading.specs.Spots.{Spot}
-use Rattle.uimg_fit_base.specs.declared.fault.Fault.{Fault}
-use Rattle.uimg_fit_reading.specs.declared.open_fit.OpenFit.{OpenFit}
-use Rattle.uimg_fit_reading.specs.Nodes.{OfNode, OfNodes}
-use Rattle.uimg_fit_reading.specs.OpenFits.{file_of, InFit}
-use Rattle.uimg_fit_reading.specs.Values.{in_span}
-use Rattle.uimg_fit_reading.specs.Allowances.{node_allowance}
-use Rattle.uimg_fit_base.specs.Faults.{end_of}
-use Rattle.uimg_fit_base.specs.Places.{payload}
-use Rattle.uimg_fit_reading.specs.Plans.{are_compared}
+use Rattle.uimg_blob_reading.specs.{LookUps.{NodeOf, hashes}, Roles.in_images, Spots.Spot}
+use Rattle.uimg_fit_base.specs.{declared.fault.Fault.Fault, Faults.end_of, Places.payload}
 use Rattle.uimg_fit_base.specs.Report.{hash_lines, are_right, report_step, report}
-use Rattle.uimg_fit_reading.specs.Work.{hashed_size}
+use Rattle.uimg_fit_reading.specs.{declared.open_fit.OpenFit.OpenFit, Nodes.{OfNode, OfNodes}}
+use Rattle.uimg_fit_reading.specs.{OpenFits.{file_of, InFit}, Values.in_span, Plans.are_compared}
+use Rattle.uimg_fit_reading.specs.{Allowances.node_allowance, Work.hashed_size}
 
 -- the status of a report
 abbrev pub report_status : Bool → Status

@@ -1,19 +1,14 @@
 -- The listing of a FIT image.
 use Rattle.std.specs.Prelude.{ℕ, suc, List, [], ◌∷◌, ◌++◌, Option, Some, None, Result, Ok, Err}
-use Rattle.std.specs.Prelude.{codes}
-use Rattle.std.specs.List.{flat_map}
+use Rattle.std.specs.{Prelude.codes, List.flat_map}
 use Rattle.uimg_base.specs.Outcome.{Outcome, done, refused, told, after, unless_refused}
-use Rattle.uimg_blob_reading.specs.Plain.{NamedOf, NodesOf}
-use Rattle.uimg_blob_reading.specs.LookUps.{NodeOf, listed, images, configurations, hashes}
-use Rattle.uimg_blob_reading.specs.Spots.{Spot}
-use Rattle.uimg_names.specs.declared.naming.Naming.{Naming}
-use Rattle.uimg_fit_base.specs.declared.fault.Fault.{Fault}
-use Rattle.uimg_fit_base.specs.declared.fault.Fault.TheVariants.{Fit}
-use Rattle.uimg_fit_base.specs.declared.fault.FitFault.{FitFault}
-use Rattle.uimg_fit_base.specs.declared.fault.FitFault.TheVariants.{NoImages}
-use Rattle.uimg_fit_base.specs.Files.{tree_of, root_own, value_bytes, cell}
 use Rattle.uimg_base.specs.declared.spans.Span.{Span}
-use Rattle.uimg_fit_base.specs.Places.{place}
+use Rattle.uimg_blob_reading.specs.{Plain.{NamedOf, NodesOf}, Spots.Spot}
+use Rattle.uimg_blob_reading.specs.LookUps.{NodeOf, listed, images, configurations, hashes}
+use Rattle.uimg_names.specs.declared.naming.Naming.{Naming}
+use Rattle.uimg_fit_base.specs.declared.fault.{Fault.{Fault, TheVariants.Fit}, FitFault.FitFault}
+use Rattle.uimg_fit_base.specs.{declared.fault.FitFault.TheVariants.NoImages, Places.place}
+use Rattle.uimg_fit_base.specs.Files.{tree_of, root_own, value_bytes, cell}
 use Rattle.uimg_fit_reading.specs.Heads.{description_line, created_line, default_line}
 use Rattle.uimg_fit_reading.specs.Rows.{image_rows, hash_rows, configuration_rows, rows_lines}
 use Rattle.uimg_fit_reading.specs.Rows.{no_facts, title}

@@ -1,18 +1,10 @@
 -- The lines after the head lines of a listing, and the most bytes requested for them.
-use Rattle.std.specs.Prelude.{ℕ, ◌+◌, ◌≤◌, List, Option, Some, None, Result}
-use Rattle.std.specs.List.{sum_by}
-use Rattle.uimg_base.specs.Device.{Device}
-use Rattle.uimg_base.specs.Lent.{Lent}
-use Rattle.uimg_base.specs.Sink.{Sink}
-use Rattle.uimg_base.specs.declared.status.Status.{Status}
+use Rattle.std.specs.{Prelude.{ℕ, ◌+◌, ◌≤◌, List, Option, Some, None, Result}, List.sum_by}
+use Rattle.uimg_base.specs.{Device.Device, Lent.Lent, Sink.Sink, declared.status.Status.Status}
 use Rattle.uimg_base.specs.Outcome.{End, Outcome, Tells}
-use Rattle.uimg_blob_reading.specs.Plain.{NodesOf}
-use Rattle.uimg_blob_reading.specs.LookUps.{NodeOf, configurations}
-use Rattle.uimg_blob_reading.specs.Spots.{Spot}
-use Rattle.uimg_fit_base.specs.Faults.{end_of}
-use Rattle.uimg_fit_base.specs.declared.fault.Fault.{Fault}
-use Rattle.uimg_fit_reading.specs.declared.open_fit.OpenFit.{OpenFit}
-use Rattle.uimg_fit_reading.specs.Allowances.{node_allowance}
+use Rattle.uimg_blob_reading.specs.{Plain.NodesOf, LookUps.{NodeOf, configurations}, Spots.Spot}
+use Rattle.uimg_fit_base.specs.{Faults.end_of, declared.fault.Fault.Fault}
+use Rattle.uimg_fit_reading.specs.{declared.open_fit.OpenFit.OpenFit, Allowances.node_allowance}
 
 -- the most bytes requested for the configurations
 abbrev pub configurations_allowance : Option (NodeOf Spot) → ℕ

@@ -1,23 +1,15 @@
 -- The lines of a listed node, by its kind.
-use Rattle.std.specs.Prelude.{ℕ, List, Option, Result}
-use Rattle.std.specs.List.{sum_by}
-use Rattle.uimg_base.specs.Device.{Device}
-use Rattle.uimg_base.specs.Lent.{Lent}
-use Rattle.uimg_base.specs.Sink.{Sink}
+use Rattle.std.specs.{Prelude.{ℕ, List, Option, Result}, List.sum_by}
+use Rattle.uimg_base.specs.{Device.Device, Lent.Lent, Sink.Sink}
 use Rattle.uimg_base.specs.declared.ranges.MoveFault.{MoveFault}
-use Rattle.uimg_blob_reading.specs.Roles.{Level, in_images, in_configurations}
-use Rattle.uimg_blob_reading.specs.LookUps.{NodeOf}
+use Rattle.uimg_blob_reading.specs.{Roles.{Level, in_images, in_configurations}, LookUps.NodeOf}
 use Rattle.uimg_blob_reading.specs.Spots.{Spot}
-use Rattle.uimg_fit_reading.specs.declared.listing.listed_nodes.Listed.{Listed}
-use Rattle.uimg_fit_reading.specs.declared.listing.listed_nodes.Listed.TheVariants.{Image}
+use Rattle.uimg_fit_reading.specs.declared.listing.listed_nodes.Listed.{Listed, TheVariants.Image}
 use Rattle.uimg_fit_reading.specs.declared.listing.listed_nodes.Listed.TheVariants.{Configuration}
-use Rattle.uimg_fit_reading.specs.declared.listing.titles.Numbered.{Numbered}
-use Rattle.uimg_fit_reading.specs.declared.open_fit.OpenFit.{OpenFit}
-use Rattle.uimg_fit_reading.specs.Allowances.{node_allowance}
+use Rattle.uimg_fit_reading.specs.{declared.listing.titles.Numbered.Numbered, Telling.Lists}
+use Rattle.uimg_fit_reading.specs.{declared.open_fit.OpenFit.OpenFit, Allowances.node_allowance}
 use Rattle.uimg_fit_reading.specs.Listing.{image_lines, configuration_lines, numbered_lines}
-use Rattle.uimg_fit_reading.specs.Nodes.{OfNode, OfNodes}
-use Rattle.uimg_fit_reading.specs.OpenFits.{file_of, InFit}
-use Rattle.uimg_fit_reading.specs.Telling.{Lists}
+use Rattle.uimg_fit_reading.specs.{Nodes.{OfNode, OfNodes}, OpenFits.{file_of, InFit}}
 
 -- the level of the nodes of a kind
 abbrev pub level_of : Listed → Level

@@ -3,25 +3,17 @@ use Rattle.std.specs.Prelude.{◌≡◌, ◌≤◌, ◌<◌, ℕ, List, [], ◌�
 use Rattle.std.specs.Prelude.{Option, Some, None, Result, Ok, Err, IsTrue}
 use Rattle.std.specs.List.{slice_get, filter}
 use Rattle.uimg_texts.specs.Numbers.{be32}
-use Rattle.uimg_base.specs.Device.{Device}
-use Rattle.uimg_base.specs.Held.{Held}
-use Rattle.uimg_blob_reading.specs.declared.nodes.Blob.{Blob}
-use Rattle.uimg_blob_reading.specs.declared.keys.Key.TheVariants.{Default}
-use Rattle.uimg_blob_reading.specs.Tokens.{Property}
-use Rattle.uimg_blob_reading.specs.Grammar.{Siblings, node}
-use Rattle.uimg_blob_reading.specs.Blob.{tree}
+use Rattle.uimg_base.specs.{Device.Device, Held.Held}
+use Rattle.uimg_blob_reading.specs.declared.{nodes.Blob.Blob, keys.Key.TheVariants.Default}
+use Rattle.uimg_blob_reading.specs.{Tokens.Property, Grammar.{Siblings, node}, Blob.tree}
 use Rattle.uimg_blob_reading.specs.Roles.{Level, in_images, in_image, in_configurations, is_hash}
-use Rattle.uimg_blob_reading.specs.Roles.{role_at, level_in}
-use Rattle.uimg_blob_reading.specs.Rows.{Row, first_of, table}
-use Rattle.uimg_blob_reading.specs.Standing.{Stand}
-use Rattle.uimg_blob_reading.specs.Indexed.{IsIndexed, keeps}
+use Rattle.uimg_blob_reading.specs.{Roles.{role_at, level_in}, Rows.{Row, first_of, table}}
+use Rattle.uimg_blob_reading.specs.{Standing.Stand, Indexed.{IsIndexed, keeps}}
 use Rattle.uimg_blob_reading.specs.LookUps.{NodeOf, listed, images, configurations}
-use Rattle.uimg_blob_reading.specs.Spots.{Spot, spot_of, spots}
-use Rattle.uimg_blob_reading.specs.Faults.{refuses_memory}
-use Rattle.uimg_fit_base.specs.declared.fault.Fault.{Fault}
-use Rattle.uimg_fit_base.specs.declared.fault.Fault.TheVariants as of
-use Rattle.uimg_fit_base.specs.declared.fault.FitFault.{FitFault}
+use Rattle.uimg_blob_reading.specs.{Spots.{Spot, spot_of, spots}, Faults.refuses_memory}
+use Rattle.uimg_fit_base.specs.declared.fault.{Fault.Fault, FitFault.FitFault}
 use Rattle.uimg_fit_base.specs.declared.fault.FitFault.TheVariants.{NoImages, NoSuchImage}
+use Rattle.uimg_fit_base.specs.declared.fault.Fault.TheVariants as of
 
 -- The entries index some tree.
 pub record Indexed (blob : Blob) (es : List (List ℕ)) : Type 0 where

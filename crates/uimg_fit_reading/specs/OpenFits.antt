@@ -1,9 +1,6 @@
 -- An image that was opened, and what a call leaves of it.
 use Rattle.std.specs.Prelude.{◌≡◌, ℕ, List, Bool}
-use Rattle.uimg_base.specs.Device.{Device}
-use Rattle.uimg_base.specs.Held.{Held}
-use Rattle.uimg_base.specs.Lent.{Lent}
-use Rattle.uimg_base.specs.Using.{Uses}
+use Rattle.uimg_base.specs.{Device.Device, Held.Held, Lent.Lent, Using.Uses}
 use Rattle.uimg_blob_reading.specs.declared.nodes.Blob.{Blob}
 use Rattle.uimg_fit_reading.specs.declared.open_fit.OpenFit.{OpenFit}
 

@@ -1,14 +1,10 @@
 -- Where the payload of an image is, by the four properties that say it.
 use Rattle.std.specs.Prelude.{◌≡◌, ◌≤◌, ◌<◌, ◌+◌, ◌^◌, ℕ, List, codes, false, Option, Result, IfOk}
-use Rattle.std.specs.Prelude.{IfSome, IfErr}
-use Rattle.std.specs.Option.{option_map, option_and_then}
+use Rattle.std.specs.{Prelude.{IfSome, IfErr}, Option.{option_map, option_and_then}}
 use Rattle.uimg_texts.specs.Numbers.{up4}
 use Rattle.uimg_base.specs.declared.spans.Span.{Span}
-use Rattle.uimg_blob_reading.specs.Indexed.{value_span}
-use Rattle.uimg_blob_reading.specs.LookUps.{NodeOf, first}
-use Rattle.uimg_blob_reading.specs.Spots.{Spot}
-use Rattle.uimg_fit_base.specs.declared.fault.FitFault.{FitFault}
-use Rattle.uimg_fit_base.specs.Faults.{of_making}
+use Rattle.uimg_blob_reading.specs.{Indexed.value_span, LookUps.{NodeOf, first}, Spots.Spot}
+use Rattle.uimg_fit_base.specs.{declared.fault.FitFault.FitFault, Faults.of_making}
 use Rattle.uimg_fit_base.specs.Files.{value_bytes, bytes_in, number}
 use Rattle.uimg_fit_base.specs.Places.{external, embedded, or_else}
 use Rattle.uimg_fit_reading.specs.declared.places.PayloadFacts.{PayloadFacts}

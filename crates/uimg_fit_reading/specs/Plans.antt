@@ -1,28 +1,19 @@
 -- The plan for a hash node, made before any payload is read.
 use Rattle.std.specs.Prelude.{◌≡◌, ⊤, ℕ, ◌+◌, ◌≤◌, List, [], ◌∷◌, ◌++◌, length, ◌==◌, Bool, true}
 use Rattle.std.specs.Prelude.{false, if◌then◌else◌, Option, Some, None, IfSome, codes}
-use Rattle.std.specs.List.{list_any}
-use Rattle.std.specs.Option.{option_map, option_map_or}
-use Rattle.std.specs.Str.{bytes_eq}
+use Rattle.std.specs.{List.list_any, Option.{option_map, option_map_or}, Str.bytes_eq}
 use Rattle.uimg_sums.specs.declared.algo.Algo.{Algo}
 use Rattle.uimg_sums.specs.Algorithms.{algo_named, digest_size, digest_by}
-use Rattle.uimg_texts.specs.Nul.{text}
-use Rattle.uimg_texts.specs.Slices.{slice}
-use Rattle.uimg_base.specs.Outcome.{line}
-use Rattle.uimg_base.specs.declared.spans.Span.{Span}
-use Rattle.uimg_blob_reading.specs.LookUps.{NodeOf, first}
-use Rattle.uimg_blob_reading.specs.Indexed.{value_span}
-use Rattle.uimg_blob_reading.specs.Spots.{Spot}
-use Rattle.uimg_fit_reading.specs.declared.report.plans.Plan.{Plan}
+use Rattle.uimg_texts.specs.{Nul.text, Slices.slice}
+use Rattle.uimg_base.specs.{Outcome.line, declared.spans.Span.Span}
+use Rattle.uimg_blob_reading.specs.{LookUps.{NodeOf, first}, Indexed.value_span, Spots.Spot}
+use Rattle.uimg_fit_reading.specs.declared.report.plans.Plan.{Plan, TheVariants.Compared}
 use Rattle.uimg_fit_reading.specs.declared.report.plans.Plan.TheVariants.{Malformed, Unsupported}
-use Rattle.uimg_fit_reading.specs.declared.report.plans.Plan.TheVariants.{Compared}
-use Rattle.uimg_fit_base.specs.declared.algo_sets.AlgoSet.{AlgoSet}
-use Rattle.uimg_fit_base.specs.AlgoSets.{has, marked}
-use Rattle.uimg_fit_base.specs.declared.verdicts.Verdict.{Verdict}
-use Rattle.uimg_fit_base.specs.declared.verdicts.Verdict.TheVariants as word
-use Rattle.uimg_fit_base.specs.Files.{bytes_in, value_bytes}
 use Rattle.uimg_fit_reading.specs.declared.report.hash_lines.HashLine.{HashLine}
+use Rattle.uimg_fit_base.specs.{declared.algo_sets.AlgoSet.AlgoSet, AlgoSets.{has, marked}}
+use Rattle.uimg_fit_base.specs.{declared.verdicts.Verdict.Verdict, Files.{bytes_in, value_bytes}}
 use Rattle.uimg_fit_base.specs.Report.{algo_name_of, word_text}
+use Rattle.uimg_fit_base.specs.declared.verdicts.Verdict.TheVariants as word
 
 -- a value is compared by an algorithm if it has the length of its digests
 unfoldable pub plan_for : Algo → Span → Plan

@@ -1,18 +1,11 @@
 -- What a call that reads and writes does to a source, a room and an output.
 use Rattle.std.specs.Prelude.{◌≡◌, ◌≤◌, ◌+◌, ℕ, List, false, Result, is_err, IfErr, IsTrue}
-use Rattle.uimg_base.specs.Device.{Device, RisesIf}
-use Rattle.uimg_base.specs.Held.{Held}
-use Rattle.uimg_base.specs.Lent.{Lent}
-use Rattle.uimg_base.specs.Ranges.{is_read, is_put}
-use Rattle.uimg_base.specs.Sink.{Sink}
-use Rattle.uimg_base.specs.Using.{Asks}
-use Rattle.uimg_base.specs.Writing.{Written}
-use Rattle.uimg_base.specs.declared.ranges.MoveFault.{MoveFault}
-use Rattle.uimg_base.specs.declared.ranges.MoveFault.TheVariants.{Put}
+use Rattle.uimg_base.specs.{Device.{Device, RisesIf}, Held.Held, Lent.Lent, Sink.Sink, Using.Asks}
+use Rattle.uimg_base.specs.{Ranges.{is_read, is_put}, Writing.Written}
+use Rattle.uimg_base.specs.declared.ranges.MoveFault.{MoveFault, TheVariants.Put}
 use Rattle.uimg_fit_base.specs.declared.fault.Fault.{Fault}
 use Rattle.uimg_fit_base.specs.Faults as of
-use Rattle.uimg_fit_reading.specs.declared.open_fit.OpenFit.{OpenFit}
-use Rattle.uimg_fit_reading.specs.OpenFits.{KeepsBetween}
+use Rattle.uimg_fit_reading.specs.{declared.open_fit.OpenFit.OpenFit, OpenFits.KeepsBetween}
 
 -- At most `most` bytes more were requested.
 abbrev pub Pays : {S : Type 0} → ℕ → (S → Device) → Lent S → Type 0

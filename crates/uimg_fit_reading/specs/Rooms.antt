@@ -1,15 +1,9 @@
 -- What a command does to its source and to its room's memory.
 use Rattle.std.specs.Prelude.{◌≡◌, ◌≤◌, ℕ, List, max, false, Result, IsTrue}
-use Rattle.uimg_base.specs.Device.{Device, RisesIf}
-use Rattle.uimg_base.specs.Held.{Held, held_bytes}
-use Rattle.uimg_base.specs.Lent.{Lent}
-use Rattle.uimg_base.specs.Outcome.{Outcome, Tells}
-use Rattle.uimg_base.specs.Ranges.{ReadsAhead}
-use Rattle.uimg_base.specs.Sink.{Sink}
-use Rattle.uimg_base.specs.Using.{Uses, UsesAtMost}
+use Rattle.uimg_base.specs.{Device.{Device, RisesIf}, Held.{Held, held_bytes}, Lent.Lent, Sink.Sink}
+use Rattle.uimg_base.specs.{Outcome.{Outcome, Tells}, Ranges.ReadsAhead, Using.{Uses, UsesAtMost}}
 use Rattle.uimg_base.specs.declared.status.Status.{Status}
-use Rattle.uimg_blob_reading.specs.Counts.{nodes_met}
-use Rattle.uimg_blob_reading.specs.Indexed.{TakesNodes}
+use Rattle.uimg_blob_reading.specs.{Counts.nodes_met, Indexed.TakesNodes}
 use Rattle.uimg_fit_base.specs.Faults.{is_read, is_put, is_out_of_memory, is_of_making, end_of}
 use Rattle.uimg_fit_base.specs.declared.fault.Fault.{Fault}
 

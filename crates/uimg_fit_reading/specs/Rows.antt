@@ -1,23 +1,16 @@
 -- The lines of images, hash nodes and configurations, as rows of tables.
 use Rattle.std.specs.Prelude.{ℕ, List, [], ◌∷◌, ◌++◌, take, replicate, decimal, Bool, true, None}
-use Rattle.std.specs.Prelude.{codes, length}
-use Rattle.std.specs.List.{flat_map}
-use Rattle.std.specs.Option.{option_map_or}
+use Rattle.std.specs.{Prelude.{codes, length}, List.flat_map, Option.option_map_or}
 use Rattle.uimg_base.specs.Outcome.{line}
-use Rattle.uimg_blob_reading.specs.Indexed.{keeps}
-use Rattle.uimg_blob_reading.specs.Keys.{name_of}
+use Rattle.uimg_blob_reading.specs.{Indexed.keeps, Keys.name_of, Plain.NamedOf, Spots.Spot}
 use Rattle.uimg_blob_reading.specs.declared.keys.Key.TheVariants.{Description, Kind, Arch, Os}
 use Rattle.uimg_blob_reading.specs.declared.keys.Key.TheVariants.{Compression, Load, Entry, Algo}
 use Rattle.uimg_blob_reading.specs.declared.keys.Key.TheVariants.{Value, Kernel, Ramdisk, Fdt}
-use Rattle.uimg_blob_reading.specs.declared.keys.Key.TheVariants.{Loadables}
-use Rattle.uimg_blob_reading.specs.Roles.{Level, role_at}
-use Rattle.uimg_blob_reading.specs.Plain.{NamedOf}
-use Rattle.uimg_blob_reading.specs.Spots.{Spot}
+use Rattle.uimg_blob_reading.specs.{declared.keys.Key.TheVariants.Loadables, Roles.{Level, role_at}}
 use Rattle.uimg_names.specs.declared.field.Field.TheVariants as field
 use Rattle.uimg_names.specs.declared.naming.Naming.{Naming}
 use Rattle.uimg_fit_base.specs.Files.{value_bytes}
-use Rattle.uimg_fit_reading.specs.declared.listing.rows.Facts.{Facts}
-use Rattle.uimg_fit_reading.specs.declared.listing.rows.Row.{Row}
+use Rattle.uimg_fit_reading.specs.declared.listing.rows.{Facts.Facts, Row.Row}
 use Rattle.uimg_fit_reading.specs.declared.listing.rows.Row.TheVariants.{Property, Time, Size}
 use Rattle.uimg_fit_reading.specs.declared.listing.shows.Show.TheVariants.{Text, Name, Address}
 use Rattle.uimg_fit_reading.specs.declared.listing.shows.Show.TheVariants.{Hexadecimal}

@@ -1,18 +1,12 @@
 -- The lines of a property's value, whose label is already padded.
 use Rattle.std.specs.Prelude.{ℕ, min, List, [], ◌∷◌, ◌++◌, length, replicate, codes, Option}
-use Rattle.std.specs.List.{flat_map}
-use Rattle.std.specs.Option.{option_map_or}
+use Rattle.std.specs.{List.flat_map, Option.option_map_or}
 use Rattle.hex.specs.Hex.{encode_lower}
-use Rattle.uimg_texts.specs.Nul.{text}
-use Rattle.uimg_texts.specs.Sizes.{size_text}
-use Rattle.uimg_texts.specs.Times.{time_text}
+use Rattle.uimg_texts.specs.{Nul.text, Sizes.size_text, Times.time_text}
 use Rattle.uimg_base.specs.Outcome.{line}
-use Rattle.uimg_names.specs.declared.field.Field.{Field}
-use Rattle.uimg_names.specs.declared.naming.Naming.{Naming}
-use Rattle.uimg_names.specs.Naming.{name_text}
-use Rattle.uimg_fit_reading.specs.declared.listing.shows.Show.{Show}
+use Rattle.uimg_names.specs.{declared.{field.Field.Field, naming.Naming.Naming}, Naming.name_text}
+use Rattle.uimg_fit_reading.specs.{declared.listing.shows.Show.Show, Values.{address_text, pieces}}
 use Rattle.uimg_fit_reading.specs.declared.listing.shows.Show.TheVariants as show
-use Rattle.uimg_fit_reading.specs.Values.{address_text, pieces}
 
 -- the printed name of the code that a value's text names
 abbrev pub name_in : Naming → Field → List ℕ → List ℕ

@@ -1,9 +1,6 @@
 -- What a call that lists nodes requests and writes.
 use Rattle.std.specs.Prelude.{ℕ, ◌+◌, ◌≤◌, List, Bool, Result, is_err}
-use Rattle.uimg_base.specs.Device.{Device}
-use Rattle.uimg_base.specs.Lent.{Lent}
-use Rattle.uimg_base.specs.Sink.{Sink}
-use Rattle.uimg_base.specs.Writing.{Written}
+use Rattle.uimg_base.specs.{Device.Device, Lent.Lent, Sink.Sink, Writing.Written}
 use Rattle.uimg_base.specs.declared.ranges.MoveFault.{MoveFault}
 use Rattle.uimg_fit_reading.specs.declared.open_fit.OpenFit.{OpenFit}
 

@@ -1,7 +1,6 @@
 -- How the values of properties are printed.
 use Rattle.std.specs.Prelude.{ℕ, zero, suc, min, ◌-◌, List, [], ◌∷◌, ◌++◌, length, drop, not, ◌==◌}
-use Rattle.std.specs.Prelude.{if◌then◌else◌, codes}
-use Rattle.std.specs.List.{position_or_len}
+use Rattle.std.specs.{Prelude.{if◌then◌else◌, codes}, List.position_or_len}
 use Rattle.uimg_texts.specs.Slices.{slice}
 use Rattle.uimg_base.specs.declared.spans.Span.{Span}
 use Rattle.hex.specs.Hex.{encode_lower}

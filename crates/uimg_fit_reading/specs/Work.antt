@@ -1,14 +1,10 @@
 -- The most bytes that a command requests.
 use Rattle.std.specs.Prelude.{ℕ, ◌+◌, ◌*◌, List, length, if◌then◌else◌, Result, Ok, Err}
 use Rattle.std.specs.List.{sum_by, list_any}
-use Rattle.uimg_blob_reading.specs.LookUps.{NodeOf, hashes}
-use Rattle.uimg_blob_reading.specs.Spots.{Spot}
+use Rattle.uimg_blob_reading.specs.{LookUps.{NodeOf, hashes}, Spots.Spot}
 use Rattle.uimg_blob_reading.specs.Counts.{nodes_met, properties_met, texts_met, nops_met}
-use Rattle.uimg_fit_base.specs.declared.fault.Fault.{Fault}
-use Rattle.uimg_fit_base.specs.declared.fault.FitFault.{FitFault}
-use Rattle.uimg_fit_base.specs.Files.{images_of}
-use Rattle.uimg_fit_base.specs.Places.{payload}
-use Rattle.uimg_fit_base.specs.Report.{word_of, is_compared}
+use Rattle.uimg_fit_base.specs.{declared.fault.{Fault.Fault, FitFault.FitFault}, Files.images_of}
+use Rattle.uimg_fit_base.specs.{Places.payload, Report.{word_of, is_compared}}
 use Rattle.uimg_fit_base.specs.Extraction.{extract_of}
 
 -- the most bytes requested of a payload: each once, however many hash nodes it has, and none if no

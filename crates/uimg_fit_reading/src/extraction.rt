@@ -4,8 +4,7 @@ ghost use Rattle.std.specs.Prelude.{◌≡◌, ◌+◌, ◌≤◌, length, IsTru
 ghost use Rattle.uimg_base.specs.Honest.{IfHonest};
 ghost use Rattle.uimg_fit_base.specs.Extraction.{payload_at, extract_of};
 ghost use Rattle.uimg_fit_base.specs.Faults.{is_refused, Gives};
-ghost use Rattle.uimg_fit_reading.specs.Work.{list_work, extract_work};
-ghost use Rattle.uimg_fit_reading.specs.Values.{in_span};
+ghost use Rattle.uimg_fit_reading.specs.{Work.{list_work, extract_work}, Values.in_span};
 ghost use Rattle.uimg_fit_reading.specs.Rooms.{Inspects, Delivers, TellsOf, KeepsAhead};
 
 use crate::images::image_at;

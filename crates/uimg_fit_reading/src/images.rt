@@ -2,8 +2,7 @@
 
 ghost use Rattle.std.specs.Prelude.{◌<◌, length, IfOk, IfSome, ◌≡◌, false, IfErr};
 ghost use Rattle.uimg_fit_base.specs.Faults.{of_making};
-ghost use Rattle.uimg_blob_reading.specs.Grammar.{Siblings};
-ghost use Rattle.uimg_blob_reading.specs.Indexed.{IsIndexed};
+ghost use Rattle.uimg_blob_reading.specs.{Grammar.Siblings, Indexed.IsIndexed};
 ghost use Rattle.uimg_fit_reading.specs.Nodes.{Indexed, TellsImages, TellsImage};
 
 use std::alloc::Allocator;

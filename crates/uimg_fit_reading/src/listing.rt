@@ -1,19 +1,14 @@
 //! The listing of an image.
 
 ghost use Rattle.std.specs.Prelude.{◌≡◌, ◌++◌, List, Some, codes, length};
-ghost use Rattle.uimg_blob_reading.specs.Grammar.{Siblings};
+ghost use Rattle.uimg_blob_reading.specs.{Grammar.Siblings, Roles.in_images, Spots.{Spot, spots}};
 ghost use Rattle.uimg_blob_reading.specs.LookUps.{NodeOf, images, configurations};
-ghost use Rattle.uimg_blob_reading.specs.Roles.{in_images};
-ghost use Rattle.uimg_blob_reading.specs.Spots.{Spot, spots};
 ghost use Rattle.uimg_fit_base.specs.Files.{root_own, cell};
 ghost use Rattle.uimg_fit_reading.specs.Listing.{configurations_lines, image_lines, lists, list_of, numbered_lines};
 ghost use Rattle.uimg_fit_reading.specs.ListingParts.{configurations_allowance, body_allowance, TellsWithin};
-ghost use Rattle.uimg_fit_reading.specs.Nodes.{AreFrom, HasNodes, InFile, Opened};
-ghost use Rattle.uimg_fit_reading.specs.OpenFits.{file_of, InFit};
-ghost use Rattle.uimg_fit_reading.specs.Puts.{Leaves, LeavesOrRefuses};
-ghost use Rattle.uimg_fit_reading.specs.Telling.{Lists};
-ghost use Rattle.uimg_fit_reading.specs.Work.{list_work};
-ghost use Rattle.uimg_fit_reading.specs.Rooms.{Delivers, TellsOf};
+ghost use Rattle.uimg_fit_reading.specs.{Nodes.{AreFrom, HasNodes, InFile, Opened}, Telling.Lists};
+ghost use Rattle.uimg_fit_reading.specs.{OpenFits.{file_of, InFit}, Puts.{Leaves, LeavesOrRefuses}};
+ghost use Rattle.uimg_fit_reading.specs.{Work.list_work, Rooms.{Delivers, TellsOf}};
 
 mod addresses;
 mod fields;

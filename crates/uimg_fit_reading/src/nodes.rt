@@ -1,16 +1,13 @@
 //! Names and values of the nodes of an indexed blob, and its hash nodes.
 ghost use Rattle.std.specs.Prelude.{◌≡◌, ℕ, ◌+◌, ◌<◌, ◌≤◌, List, [], ◌∷◌, length, Some, IfSome, IsTrue};
 ghost use Rattle.std.specs.Option.{option_map};
-ghost use Rattle.uimg_blob_reading.specs.Grammar.{Siblings};
-ghost use Rattle.uimg_blob_reading.specs.Indexed.{IsIndexed, keeps, value_span};
-ghost use Rattle.uimg_blob_reading.specs.Keys.{name_of};
-ghost use Rattle.uimg_blob_reading.specs.LookUps.{NodeOf, first, hashes, listed};
-ghost use Rattle.uimg_blob_reading.specs.Roles.{Level, role_at, level_in, level_after, top, in_images};
+ghost use Rattle.uimg_blob_reading.specs.{Grammar.Siblings, Indexed.{IsIndexed, keeps, value_span}};
+ghost use Rattle.uimg_blob_reading.specs.{Keys.name_of, LookUps.{NodeOf, first, hashes, listed}};
 ghost use Rattle.uimg_blob_reading.specs.Spots.{Spot, spots};
+ghost use Rattle.uimg_blob_reading.specs.Roles.{Level, role_at, level_in, level_after, top, in_images};
 ghost use Rattle.uimg_fit_base.specs.Files.{value_bytes, bytes_in, root_own};
 ghost use Rattle.uimg_fit_reading.specs.Nodes.{Indexed, IsRead, IsNode, AtNode, InTree, AreFrom, HashesFrom, HashAt, HashesAt, TellsConfigurations, IsEntry, IsEntryOrNone, InAnyFile};
-ghost use Rattle.uimg_fit_reading.specs.Values.{in_span};
-ghost use Rattle.uimg_fit_reading.specs.PayloadPlaces.{Ends};
+ghost use Rattle.uimg_fit_reading.specs.{Values.in_span, PayloadPlaces.Ends};
 
 use std::alloc::Allocator;
 use uimg_base::{Room, Span};

@@ -1,17 +1,13 @@
 //! Where the payload of an image is.
 
 ghost use Rattle.std.specs.Prelude.{◌≡◌, false, ◌+◌, ◌<◌, ◌≤◌, ◌^◌, length, is_err, IfOk, IfSome, IfErr};
-ghost use Rattle.uimg_base.specs.Honest.{HonestSource};
-ghost use Rattle.uimg_base.specs.Using.{Asks};
-ghost use Rattle.uimg_blob_reading.specs.LookUps.{NodeOf};
-ghost use Rattle.uimg_blob_reading.specs.Grammar.{Siblings};
-ghost use Rattle.uimg_blob_reading.specs.Roles.{in_images};
+ghost use Rattle.uimg_base.specs.{Honest.HonestSource, Using.Asks};
+ghost use Rattle.uimg_blob_reading.specs.{LookUps.NodeOf, Grammar.Siblings, Roles.in_images};
 ghost use Rattle.uimg_blob_reading.specs.Spots.{Spot};
-ghost use Rattle.uimg_fit_base.specs.Faults.{is_read, of_making};
-ghost use Rattle.uimg_fit_base.specs.Files.{number_in};
+ghost use Rattle.uimg_fit_base.specs.{Faults.{is_read, of_making}, Files.number_in};
+ghost use Rattle.uimg_fit_base.specs.Places.{external, or_else, embedded, place, TellsPlace};
 ghost use Rattle.uimg_fit_reading.specs.Nodes.{IsRead, IsNode, HasNode, AtLevel, InAnyFile};
 ghost use Rattle.uimg_fit_reading.specs.Puts.{OnlyReadFaults};
-ghost use Rattle.uimg_fit_base.specs.Places.{external, or_else, embedded, place, TellsPlace};
 ghost use Rattle.uimg_fit_reading.specs.PayloadPlaces.{place_said, payload_said, read_payload, PayloadInside, Ends, PlaceOrFault};
 
 use crate::nodes::value_of;

@@ -1,12 +1,9 @@
 //! Writes texts and reads bytes; failures are returned as those of a copy.
 ghost use Rattle.std.specs.Prelude.{◌≡◌, ◌+◌, ◌≤◌, ◌++◌, length, is_err, OnOk, IfErr};
-ghost use Rattle.uimg_base.specs.Honest.{HonestSource};
-ghost use Rattle.uimg_base.specs.Outcome.{line};
-ghost use Rattle.uimg_base.specs.declared.ranges.MoveFault.TheVariants.{Read};
-ghost use Rattle.uimg_base.specs.Using.{Asks};
+ghost use Rattle.uimg_base.specs.{Honest.HonestSource, Outcome.line};
+ghost use Rattle.uimg_base.specs.{declared.ranges.MoveFault.TheVariants.Read, Using.Asks};
 ghost use Rattle.uimg_texts.specs.Slices.{slice};
-ghost use Rattle.uimg_fit_reading.specs.Puts.{Puts, PutsOwn};
-ghost use Rattle.uimg_fit_reading.specs.Values.{in_span};
+ghost use Rattle.uimg_fit_reading.specs.{Puts.{Puts, PutsOwn}, Values.in_span};
 
 use std::alloc::Allocator;
 use std::io::Write;

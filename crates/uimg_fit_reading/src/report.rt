@@ -1,8 +1,7 @@
 //! The report on the hashes of images.
 
 ghost use Rattle.uimg_fit_base.specs.Report.{verify_of};
-ghost use Rattle.uimg_fit_reading.specs.Work.{verify_work};
-ghost use Rattle.uimg_fit_reading.specs.Rooms.{Delivers, TellsOf};
+ghost use Rattle.uimg_fit_reading.specs.{Work.verify_work, Rooms.{Delivers, TellsOf}};
 
 mod digests;
 mod hash_lines;

@@ -3,8 +3,7 @@
 ghost use Rattle.std.specs.Prelude.{length, IfOk};
 ghost use Rattle.uimg_base.specs.Honest.{IfHonest};
 ghost use Rattle.uimg_blob_reading.specs.Counts.{index_cost};
-ghost use Rattle.uimg_fit_reading.specs.Nodes.{InFile, GivesTree};
-ghost use Rattle.uimg_fit_reading.specs.Rooms.{Inspects};
+ghost use Rattle.uimg_fit_reading.specs.{Nodes.{InFile, GivesTree}, Rooms.Inspects};
 
 use std::alloc::Allocator;
 use uimg_base::{Room, Source};

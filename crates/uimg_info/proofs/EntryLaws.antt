@@ -1,9 +1,7 @@
 -- The entries of a block, one after another.
 use Rattle.std.proofs.Common.{◌≡◌, ℕ, suc, ◌≤◌, ◌<◌, ◌/◌, ◌-◌, Bool, true, false, if◌then◌else◌, List, [], ◌∷◌, ◌++◌, length, drop, Option, Some, None, refl, ap, sym, ◌∙◌, arith, append_assoc, append-nil, min, nat_lt}
-use Rattle.std.proofs.lemmas.List.{length-drop, length-take}
-use Rattle.uimg_texts.specs.Numbers.{be32}
-use Rattle.uimg_texts.specs.Slices.{slice}
-use Rattle.std.specs.Option.{option_map}
+use Rattle.std.{proofs.lemmas.List.{length-drop, length-take}, specs.Option.option_map}
+use Rattle.uimg_texts.specs.{Numbers.be32, Slices.slice}
 use Rattle.uimg_info.specs.declared.reservations.Reservation.{Reservation}
 use Rattle.uimg_info.specs.Reservations.{reservation_at, ends_list, entries_of, entries_in, reservations_of}
 

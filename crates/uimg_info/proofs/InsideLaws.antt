@@ -2,15 +2,14 @@
 use Rattle.std.proofs.Common.{ℕ, ◌≤◌, Option, Some, None, Vec, arith}
 use Rattle.std.proofs.lemmas.List.Elements.{All-weaker}
 use Rattle.uimg_base.specs.declared.spans.Span.{Span}
-use Rattle.uimg_blob_reading.specs.declared.places.PropertyPlace.{PropertyPlace}
-use Rattle.uimg_blob_reading.specs.Places.{EndsBy}
+use Rattle.uimg_blob_reading.specs.{declared.places.PropertyPlace.PropertyPlace, Places.EndsBy}
 use Rattle.uimg_fit_checking.specs.FullSurvey.{PlacesInside}
 use Rattle.uimg_fit_checking.specs.declared.surveying.facts.HashFacts.{HashFacts}
-use Rattle.uimg_fit_reading.specs.declared.places.PayloadFacts.{PayloadFacts}
 use Rattle.uimg_fit_checking.specs.declared.surveying.facts.ImageFacts.{ImageFacts}
 use Rattle.uimg_fit_checking.specs.declared.surveying.facts.ConfigurationFacts.{ConfigurationFacts}
-use Rattle.uimg_fit_checking.specs.SurveyParts.{NameInside, HashInside, ImageInside, ConfigurationInside}
+use Rattle.uimg_fit_reading.specs.declared.places.PayloadFacts.{PayloadFacts}
 use Rattle.uimg_fit_reading.specs.PayloadPlaces.{Ends, PayloadInside}
+use Rattle.uimg_fit_checking.specs.SurveyParts.{NameInside, HashInside, ImageInside, ConfigurationInside}
 
 pub ends_more : (m n : ℕ) (v : Option Span) → m ≤ n → Ends m v → Ends n v
 ends_more m n None h e = tt

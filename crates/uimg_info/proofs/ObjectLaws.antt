@@ -7,10 +7,9 @@ use Rattle.uimg_fit_base.specs.declared.fault.FitFault.{FitFault}
 use Rattle.uimg_fit_checking.specs.Survey.{Said, ImageSaid, ConfigurationSaid}
 use Rattle.uimg_fit_reading.specs.PayloadPlaces.{place_said}
 use Rattle.uimg_printing.specs.Members.{Member, array_of, items_of, number_member, string_member}
-use Rattle.uimg_info.specs.Members.{facts_members}
-use Rattle.uimg_printing.proofs.LineLaws as line
-use Rattle.uimg_info.specs.declared.reservations.Reservation.{Reservation}
+use Rattle.uimg_info.specs.{Members.facts_members, declared.reservations.Reservation.Reservation}
 use Rattle.uimg_info.specs.Reservations.{reservation_json, reservations_members}
+use Rattle.uimg_printing.proofs.LineLaws as line
 use Rattle.uimg_info.specs.Fit.{hash_facts, image_facts, configuration_facts, node_facts, node_json, property_json, root_facts, root_members, fault_members, outside, place_members, hash_json, configuration_json, configurations_json, image_json, head_members, fit_json}
 use Rattle.uimg_printing.proofs.SoundLaws.{Sound, SoundItems, AreSound, append_sound, number_sound, items_sound}
 use Rattle.uimg_info.proofs.SoundLaws.{facts_sound}

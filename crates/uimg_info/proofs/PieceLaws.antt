@@ -1,8 +1,6 @@
 -- Texts, cut at their first NUL.
 use Rattle.std.proofs.Common.{◌≡◌, ◌<◌, ◌≤◌, ◌+◌, ℕ, zero, suc, List, [], ◌∷◌, length, take, drop, length-drop, ◌-◌, Option, Some, None, Bool, true, false, ◌&&◌, refl, ap, sym, ◌∙◌, arith}
-use Rattle.std.proofs.lemmas.List.{take_all}
-use Rattle.std.specs.List.{list_all}
-use Rattle.std.specs.Str.{is_utf8}
+use Rattle.std.{proofs.lemmas.List.take_all, specs.{List.list_all, Str.is_utf8}}
 use Rattle.uimg_texts.specs.Nul.{before_nul}
 use Rattle.uimg_blob_reading.proofs.PhaseLaws.{some_none, some_some}
 use Rattle.uimg_fit_reading.specs.Values.{pieces, onto}

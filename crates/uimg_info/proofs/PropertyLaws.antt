@@ -1,7 +1,6 @@
 -- Configurations, each with its properties.
 use Rattle.std.proofs.Common.{◌≡◌, ◌≤◌, ℕ, List, [], ◌∷◌, length, map, drop, min, refl, length-drop, arith}
-use Rattle.std.proofs.Math.ListN.{length-map}
-use Rattle.std.proofs.Math.Nat.{suc-ne-zero}
+use Rattle.std.proofs.Math.{ListN.length-map, Nat.suc-ne-zero}
 use Rattle.uimg_base.specs.declared.spans.Span.{Span}
 use Rattle.uimg_blob_reading.specs.Plain.{NamedOf}
 use Rattle.uimg_fit_checking.specs.Survey.{ConfigurationSaid}

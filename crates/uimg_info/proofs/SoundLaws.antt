@@ -1,7 +1,6 @@
 -- What is told of a value is sound.
 use Rattle.std.proofs.Common.{ℕ, suc, Bool, true, false, List, [], ◌∷◌, ◌++◌, map, Some, None, Option, codes, nat_lt, length, if◌then◌else◌}
-use Rattle.std.specs.List.{list_all}
-use Rattle.std.specs.Str.{is_utf8}
+use Rattle.std.specs.{List.list_all, Str.is_utf8}
 use Rattle.uimg_printing.specs.Members.{Member, array_of, text_json}
 use Rattle.uimg_printing.proofs.SoundLaws.{AreSound, append_sound, number_sound, number_if_sound, spelled_sound, items_sound, beside_sound, text_sound}
 use Rattle.uimg_info.specs.Members.{Fact, texts_members, told_as, length_of, value_members, fact_members, facts_members, cell_number, address_number, most}

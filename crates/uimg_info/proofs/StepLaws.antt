@@ -2,10 +2,8 @@
 use Rattle.std.proofs.Common.{◌≤◌, ◌<◌, ◌+◌, ℕ, codes, Bool, ◌∷◌, ◌++◌, ap, sym, decimal}
 use Rattle.std.proofs.lemmas.Bool.{lt-ltb, le-ltb}
 use Rattle.uimg_base.specs.declared.spans.Span.{Span}
-use Rattle.json.specs.Token.{Token}
-use Rattle.json.specs.Written.{Written}
-use Rattle.uimg_printing.specs.Members.{tokens_of, number_member}
-use Rattle.uimg_printing.specs.Steps.{Appended}
+use Rattle.json.specs.{Token.Token, Written.Written}
+use Rattle.uimg_printing.specs.{Members.{tokens_of, number_member}, Steps.Appended}
 use Rattle.uimg_printing.proofs.StepLaws.{appended_as}
 use Rattle.uimg_info.specs.Fit.{span_members, outside, fault_members}
 

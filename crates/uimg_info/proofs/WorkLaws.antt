@@ -1,25 +1,20 @@
 -- What is asked for, part by part.
 use Rattle.std.proofs.Common.{◌≡◌, ◌+◌, ℕ, List, [], ◌∷◌, map, length, false, Bool, Option, Some, None, Vec, refl, ◌∙◌, subst, arith}
 use Rattle.std.specs.List.{All, sum_by}
-use Rattle.std.proofs.lemmas.List.Elements.{All-head, All-tail, All-weaker}
-use Rattle.std.proofs.lemmas.List.Sums.{sum_by-cons}
-use Rattle.uimg_base.specs.Device.{Device}
-use Rattle.uimg_base.specs.Using.{Asks}
-use Rattle.uimg_base.specs.declared.spans.Span.{Span}
+use Rattle.std.proofs.lemmas.List.{Elements.{All-head, All-tail, All-weaker}, Sums.sum_by-cons}
+use Rattle.uimg_base.specs.{Device.Device, Using.Asks, declared.spans.Span.Span}
 use Rattle.uimg_base.proofs.Slices.{length-slice}
 use Rattle.uimg_blob_reading.specs.declared.places.PropertyPlace.{PropertyPlace}
 use Rattle.uimg_blob_reading.specs.Places.{read_place, EndsBy}
 use Rattle.uimg_fit_base.specs.Files.{bytes_in}
 use Rattle.uimg_fit_checking.specs.FullSurvey.{read_properties, PlacesInside, FullInside}
-use Rattle.uimg_fit_reading.specs.Heads.{span_size}
+use Rattle.uimg_fit_checking.specs.declared.surveying.facts.HashFacts.{HashFacts}
+use Rattle.uimg_fit_checking.specs.declared.surveying.facts.{ImageFacts.ImageFacts, Survey.Survey}
+use Rattle.uimg_fit_checking.specs.declared.surveying.facts.ConfigurationFacts.{ConfigurationFacts}
+use Rattle.uimg_fit_checking.specs.declared.surveying.facts.FullSurvey.{FullSurvey}
+use Rattle.uimg_fit_reading.specs.{Heads.span_size, PayloadPlaces.Ends}
 use Rattle.uimg_fit_checking.specs.Survey.{read_name, read_hash, read_image, read_configuration, read_survey}
 use Rattle.uimg_fit_checking.specs.SurveyParts.{NameInside, HashInside, ImageInside, ConfigurationInside, SurveyInside}
-use Rattle.uimg_fit_reading.specs.PayloadPlaces.{Ends}
-use Rattle.uimg_fit_checking.specs.declared.surveying.facts.HashFacts.{HashFacts}
-use Rattle.uimg_fit_checking.specs.declared.surveying.facts.ImageFacts.{ImageFacts}
-use Rattle.uimg_fit_checking.specs.declared.surveying.facts.ConfigurationFacts.{ConfigurationFacts}
-use Rattle.uimg_fit_checking.specs.declared.surveying.facts.Survey.{Survey}
-use Rattle.uimg_fit_checking.specs.declared.surveying.facts.FullSurvey.{FullSurvey}
 use Rattle.uimg_info.specs.Work.{value_size, hash_said_size, image_said_size, configuration_said_size, said_size, hash_size, image_size, node_size, configuration_size, survey_size, names_size, place_size, list_size}
 use Rattle.uimg_info.proofs.InsideLaws.{ends_more, image_more, configuration_more, places_more}
 

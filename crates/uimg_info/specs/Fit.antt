@@ -2,19 +2,17 @@
 use Rattle.std.specs.Prelude.{ℕ, ◌+◌, List, [], ◌∷◌, ◌++◌, map, codes, nat_lt, Bool, true, false}
 use Rattle.std.specs.Prelude.{length, Option, Some, None, Result, Ok, Err}
 use Rattle.json.specs.Json.{Json}
-use Rattle.uimg_base.specs.declared.spans.Span.{Span}
-use Rattle.uimg_base.specs.Results.{◌>>=◌}
+use Rattle.uimg_base.specs.{declared.spans.Span.Span, Results.◌>>=◌}
 use Rattle.uimg_blob_reading.specs.Plain.{NamedOf}
-use Rattle.uimg_fit_base.specs.declared.fault.Fault.{Fault}
-use Rattle.uimg_fit_base.specs.declared.fault.FitFault.{FitFault}
+use Rattle.uimg_fit_base.specs.declared.fault.{Fault.Fault, FitFault.FitFault}
 use Rattle.uimg_fit_checking.specs.FullSurvey.{properties_of}
 use Rattle.uimg_fit_checking.specs.Survey.{Said, ImageSaid, HashSaid, ConfigurationSaid, survey_of}
 use Rattle.uimg_fit_reading.specs.PayloadPlaces.{place_said}
 use Rattle.uimg_info.specs.declared.reservations.Reservation.{Reservation}
 use Rattle.uimg_info.specs.Reservations.{reservations_of, reservations_members}
-use Rattle.uimg_printing.specs.Members.{Member, object_of, array_of, string_member, number_member}
 use Rattle.uimg_info.specs.Members.{Fact, facts_members}
 use Rattle.uimg_info.specs.declared.forms.Form.TheVariants.{Text, Texts, Digest, Cell, Address}
+use Rattle.uimg_printing.specs.Members.{Member, object_of, array_of, string_member, number_member}
 
 -- the facts of a hash node
 abbrev pub hash_facts : HashSaid → List Fact

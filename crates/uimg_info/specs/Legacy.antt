@@ -1,16 +1,12 @@
 -- The JSON object of a legacy image: the fields of its header, and where its parts are.
 use Rattle.std.specs.Prelude.{ℕ, List, [], ◌∷◌, ◌++◌, map, codes}
 use Rattle.json.specs.Json.{Json}
-use Rattle.uimg_texts.specs.Nul.{text}
-use Rattle.uimg_texts.specs.Numbers.{be32}
+use Rattle.uimg_texts.specs.{Nul.text, Numbers.be32}
 use Rattle.uimg_base.specs.declared.spans.Span.{Span}
-use Rattle.uimg_names.specs.declared.field.Field.{Field}
-use Rattle.uimg_names.specs.declared.field.Field.TheVariants.{Architecture, System, Kind}
-use Rattle.uimg_names.specs.declared.field.Field.TheVariants.{Compression}
+use Rattle.uimg_names.specs.declared.field.Field.{Field, TheVariants.{Architecture, System, Kind}}
+use Rattle.uimg_names.specs.{declared.field.Field.TheVariants.Compression, Naming.code_text}
 use Rattle.uimg_names.specs.declared.naming.Naming.TheVariants.{Profile}
-use Rattle.uimg_names.specs.Naming.{code_text}
-use Rattle.uimg_legacy.specs.declared.header.Header.{Header}
-use Rattle.uimg_legacy.specs.Header.{spelled}
+use Rattle.uimg_legacy.specs.{declared.header.Header.Header, Header.spelled}
 use Rattle.uimg_printing.specs.Members.{Member, object_of, array_of, string_member, number_member}
 use Rattle.uimg_printing.specs.Members.{text_members}
 

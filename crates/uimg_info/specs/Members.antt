@@ -1,9 +1,7 @@
 -- The values of properties as members of a JSON object.
 use Rattle.std.specs.Prelude.{ℕ, List, [], ◌∷◌, ◌++◌, map, length, codes, true, false, nat_lt, ◌==◌}
-use Rattle.std.specs.Prelude.{if◌then◌else◌, Option, Some, None}
-use Rattle.std.specs.Int.{from_be_bytes, w32, w64}
-use Rattle.std.specs.List.{flat_map, list_all}
-use Rattle.std.specs.Str.{is_utf8}
+use Rattle.std.specs.{Prelude.{if◌then◌else◌, Option, Some, None}, Int.{from_be_bytes, w32, w64}}
+use Rattle.std.specs.{List.{flat_map, list_all}, Str.is_utf8}
 use Rattle.hex.specs.Hex.{encode_lower}
 use Rattle.json.specs.Json.{string}
 use Rattle.uimg_texts.specs.Nul.{text}
@@ -11,8 +9,7 @@ use Rattle.uimg_fit_reading.specs.Values.{pieces}
 use Rattle.uimg_info.specs.declared.forms.Form.{Form}
 use Rattle.uimg_info.specs.declared.forms.Form.TheVariants.{Text, Texts, Digest, Cell, Address}
 use Rattle.uimg_printing.specs.Members.{Member, array_of, number_member, number_if, text_json}
-use Rattle.uimg_printing.specs.Members.{beside}
-use Rattle.uimg_printing.specs.Members.{text_members}
+use Rattle.uimg_printing.specs.Members.{beside, text_members}
 
 abbrev pub texts_members : List ℕ → List (List ℕ) → List Member
 texts_members name ts =

@@ -1,12 +1,9 @@
 -- The memory reservation block of a devicetree blob (Devicetree Specification, section 5.3).
 use Rattle.std.specs.Prelude.{ℕ, zero, suc, ◌-◌, ◌/◌, ◌==◌, ◌&&◌, min, nat_lt, List, [], ◌∷◌, ◌++◌}
 use Rattle.std.specs.Prelude.{map, length, take, drop, codes, Bool, if◌then◌else◌, Option, Some}
-use Rattle.std.specs.Prelude.{None, Vec}
-use Rattle.std.specs.Int.{from_be_bytes, w64}
-use Rattle.std.specs.Option.{option_map}
+use Rattle.std.specs.{Prelude.{None, Vec}, Int.{from_be_bytes, w64}, Option.option_map}
 use Rattle.json.specs.Json.{Json}
-use Rattle.uimg_texts.specs.Numbers.{be32}
-use Rattle.uimg_texts.specs.Slices.{slice}
+use Rattle.uimg_texts.specs.{Numbers.be32, Slices.slice}
 use Rattle.uimg_info.specs.declared.reservations.Reservation.{Reservation}
 use Rattle.uimg_printing.specs.Members.{Member, object_of, array_of, number_member}
 

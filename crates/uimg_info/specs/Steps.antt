@@ -1,32 +1,22 @@
 -- What the steps of writing an object do.
-use Rattle.std.specs.Prelude.{◌≡◌, ℕ, ⊤, List, false, Result, Ok, Err, OnOk, IfOk, IsTrue}
-use Rattle.std.specs.Prelude.{Option, Some, map, Vec}
-use Rattle.std.specs.Borrow.{Bor}
-use Rattle.json.specs.Json.{Json, document}
-use Rattle.json.specs.Print.{print}
-use Rattle.json.specs.Token.{Token}
-use Rattle.json.specs.Tree.{json_tokens}
+use Rattle.std.specs.Prelude.{◌≡◌, ℕ, ⊤, List, false, Result, Ok, Err, OnOk, IfOk, IsTrue, Option}
+use Rattle.std.specs.{Prelude.{Some, map, Vec}, Borrow.Bor}
+use Rattle.json.specs.{Json.{Json, document}, Print.print, Token.Token, Tree.json_tokens}
 use Rattle.json.specs.Written.{Written}
 use Rattle.uimg_printing.specs.Steps.{Appends}
-use Rattle.uimg_base.specs.Device.{Device}
-use Rattle.uimg_base.specs.Lent.{Lent}
-use Rattle.uimg_base.specs.Using.{Asks}
-use Rattle.uimg_base.specs.declared.spans.Span.{Span}
+use Rattle.uimg_base.specs.{Device.Device, Lent.Lent, Using.Asks, declared.spans.Span.Span}
 use Rattle.uimg_blob_reading.specs.Faults.{refuses_memory}
 use Rattle.uimg_fit_base.specs.Files.{bytes_in}
 use Rattle.uimg_fit_base.specs.declared.fault.Fault.TheVariants as of
-use Rattle.uimg_fit_checking.specs.SurveyParts.{IsOwn, is_unread}
-use Rattle.uimg_fit_reading.specs.PayloadPlaces.{Ends}
+use Rattle.uimg_fit_checking.specs.{SurveyParts.{IsOwn, is_unread}, Survey.read_survey}
 use Rattle.uimg_fit_checking.specs.declared.surveying.fault.SurveyFault.{SurveyFault}
 use Rattle.uimg_fit_checking.specs.declared.surveying.fault.SurveyFault.TheVariants.{Stopped}
 use Rattle.uimg_fit_checking.specs.declared.surveying.fault.SurveyFault.TheVariants.{OutOfMemory}
 use Rattle.uimg_fit_checking.specs.declared.surveying.fault.SurveyFault.TheVariants.{Changed}
-use Rattle.uimg_info.specs.Fit.{info_of, fit_json}
-use Rattle.uimg_info.specs.Reservations.{reservations_of}
-use Rattle.uimg_fit_checking.specs.Survey.{read_survey}
 use Rattle.uimg_fit_checking.specs.FullSurvey.{read_properties}
 use Rattle.uimg_fit_checking.specs.declared.surveying.facts.FullSurvey.{FullSurvey}
-use Rattle.uimg_info.specs.Members.{Fact}
+use Rattle.uimg_fit_reading.specs.PayloadPlaces.{Ends}
+use Rattle.uimg_info.specs.{Fit.{info_of, fit_json}, Reservations.reservations_of, Members.Fact}
 use Rattle.uimg_info.specs.declared.forms.Form.{Form}
 
 -- The text is that of an object.

@@ -1,24 +1,20 @@
 -- The most bytes requested: each value once, twelve for the place of a payload, the memory
 -- reservation block, and the properties of the configurations with their names.
 use Rattle.std.specs.Prelude.{ℕ, ◌+◌, List, [], ◌∷◌, Option, Some, length, Result, Ok, Err, Vec}
-use Rattle.std.specs.List.{sum_by}
-use Rattle.std.specs.Option.{option_map_or}
+use Rattle.std.specs.{List.sum_by, Option.option_map_or}
 use Rattle.uimg_base.specs.declared.spans.Span.{Span}
-use Rattle.uimg_blob_reading.specs.Counts.{index_cost}
-use Rattle.uimg_blob_reading.specs.Plain.{NamedOf}
+use Rattle.uimg_blob_reading.specs.{Counts.index_cost, Plain.NamedOf}
 use Rattle.uimg_blob_reading.specs.declared.places.PropertyPlace.{PropertyPlace}
 use Rattle.uimg_fit_base.specs.declared.fault.Fault.{Fault}
 use Rattle.uimg_fit_checking.specs.FullSurvey.{properties_of, properties_cost}
-use Rattle.uimg_fit_reading.specs.Heads.{span_size}
 use Rattle.uimg_fit_checking.specs.Survey.{HashSaid, ImageSaid, ConfigurationSaid, Said, survey_of}
 use Rattle.uimg_fit_checking.specs.declared.surveying.facts.HashFacts.{HashFacts}
-use Rattle.uimg_fit_checking.specs.declared.surveying.facts.ImageFacts.{ImageFacts}
+use Rattle.uimg_fit_checking.specs.declared.surveying.facts.{ImageFacts.ImageFacts, Survey.Survey}
 use Rattle.uimg_fit_checking.specs.declared.surveying.facts.ConfigurationFacts.{ConfigurationFacts}
-use Rattle.uimg_fit_checking.specs.declared.surveying.facts.Survey.{Survey}
 use Rattle.uimg_fit_checking.specs.declared.surveying.facts.FullSurvey.{FullSurvey}
+use Rattle.uimg_fit_reading.specs.Heads.{span_size}
 use Rattle.uimg_info.specs.Fit.{hash_facts, image_facts, configuration_facts, root_facts}
-use Rattle.uimg_info.specs.Members.{Fact}
-use Rattle.uimg_info.specs.Steps.{MemberRow}
+use Rattle.uimg_info.specs.{Members.Fact, Steps.MemberRow}
 
 -- the length of a value, or 0
 abbrev pub value_size : Option (List ℕ) → ℕ

@@ -1,7 +1,6 @@
 //! The facts of configurations as objects.
 
-ghost use Rattle.std.specs.Prelude.{◌+◌, ◌<◌, length, map};
-ghost use Rattle.std.specs.List.{All, sum_by};
+ghost use Rattle.std.specs.{Prelude.{◌+◌, ◌<◌, length, map}, List.{All, sum_by}};
 ghost use Rattle.json.specs.Tree.{json_tokens};
 ghost use Rattle.uimg_blob_reading.specs.Places.{read_place, EndsBy};
 ghost use Rattle.uimg_fit_checking.specs.FullSurvey.{read_properties, PlacesInside};
@@ -9,8 +8,7 @@ ghost use Rattle.uimg_fit_checking.specs.Survey.{read_name, read_configuration};
 ghost use Rattle.uimg_fit_checking.specs.SurveyParts.{NameInside, ConfigurationInside};
 ghost use Rattle.uimg_info.specs.Fit.{configuration_facts, node_json, property_json, configuration_json, configurations_json};
 ghost use Rattle.uimg_printing.specs.Members.{array_of, tokens_of};
-ghost use Rattle.uimg_info.specs.Members.{facts_members};
-ghost use Rattle.uimg_info.specs.Steps.{PutsTokens};
+ghost use Rattle.uimg_info.specs.{Members.facts_members, Steps.PutsTokens};
 ghost use Rattle.uimg_info.specs.Work.{node_size, configuration_rows_size, configuration_size, place_size, list_size};
 
 use crate::facts::{put_object, put_rows};

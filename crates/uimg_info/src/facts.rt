@@ -1,13 +1,11 @@
 //! Reads facts of an image and writes them as members.
 
-ghost use Rattle.std.specs.Prelude.{◌+◌, ◌≤◌, length, map};
-ghost use Rattle.std.specs.List.{All, sum_by};
+ghost use Rattle.std.specs.{Prelude.{◌+◌, ◌≤◌, length, map}, List.{All, sum_by}};
 ghost use Rattle.uimg_texts.specs.Slices.{slice};
 ghost use Rattle.json.specs.Tree.{json_tokens};
 ghost use Rattle.uimg_printing.specs.Members.{object_of, tokens_of};
 ghost use Rattle.uimg_info.specs.Members.{value_members, fact_members, facts_members};
-ghost use Rattle.uimg_info.specs.Steps.{PutsTokens, RowInside, read_row};
-ghost use Rattle.uimg_info.specs.Work.{row_size};
+ghost use Rattle.uimg_info.specs.{Steps.{PutsTokens, RowInside, read_row}, Work.row_size};
 
 use crate::forms::Form;
 use crate::members::{put_length, put_value};

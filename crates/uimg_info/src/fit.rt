@@ -3,16 +3,14 @@
 ghost use Rattle.std.specs.Prelude.{◌≡◌, ◌+◌, ◌^◌, ◌<◌, ◌≤◌, length, map, IfOk};
 ghost use Rattle.std.specs.List.{All, sum_by};
 ghost use Rattle.json.specs.Tree.{json_tokens};
-ghost use Rattle.uimg_base.specs.Honest.{IfHonest};
-ghost use Rattle.uimg_base.specs.Using.{Asks};
+ghost use Rattle.uimg_base.specs.{Honest.IfHonest, Using.Asks};
 ghost use Rattle.uimg_fit_checking.specs.FullSurvey.{FullInside};
 ghost use Rattle.uimg_fit_checking.specs.Survey.{read_hash, read_image, read_survey};
 ghost use Rattle.uimg_fit_reading.specs.PayloadPlaces.{read_payload, place_said, PayloadInside};
 ghost use Rattle.uimg_fit_checking.specs.SurveyParts.{HashInside, ImageInside, SurveyInside, is_unread, IsOwn};
 ghost use Rattle.uimg_info.specs.Fit.{fault_members, span_members, place_members, image_facts, root_members, hash_json, image_json, head_members};
 ghost use Rattle.uimg_printing.specs.Members.{array_of, tokens_of};
-ghost use Rattle.uimg_info.specs.Members.{facts_members};
-ghost use Rattle.uimg_info.specs.Reservations.{reservations_of};
+ghost use Rattle.uimg_info.specs.{Members.facts_members, Reservations.reservations_of};
 ghost use Rattle.uimg_info.specs.Steps.{PutsTokens, AddsTokens, read_json};
 ghost use Rattle.uimg_info.specs.Work.{hash_size, image_rows_size, image_size, root_size, full_size};
 

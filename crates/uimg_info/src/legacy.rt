@@ -1,13 +1,12 @@
 //! The object of a legacy image's facts.
 
-ghost use Rattle.std.specs.Prelude.{◌≡◌, codes, map, true, IfOk};
-ghost use Rattle.std.specs.Str.{IsUtf8};
+ghost use Rattle.std.specs.{Prelude.{◌≡◌, codes, map, true, IfOk}, Str.IsUtf8};
 ghost use Rattle.json.specs.Tree.{json_tokens};
 ghost use Rattle.uimg_printing.specs.Objects.{is_one_line};
+ghost use Rattle.uimg_printing.specs.Members.{array_of, number_member, tokens_of};
 ghost use Rattle.uimg_texts.specs.Numbers.{be32};
 ghost use Rattle.uimg_legacy.specs.Header.{spelled};
 ghost use Rattle.uimg_info.specs.Legacy.{code_members, numbers_members, codes_members, header_members, part_json, legacy_head, legacy_json};
-ghost use Rattle.uimg_printing.specs.Members.{array_of, number_member, tokens_of};
 ghost use Rattle.uimg_info.specs.Steps.{AddsTokens, Prints, IsJson};
 
 use json::Writer;

@@ -1,12 +1,10 @@
 //! Members of objects, by the forms of properties' values.
 
-ghost use Rattle.std.specs.Prelude.{◌≡◌, ◌<◌, ◌++◌, [], ◌∷◌, length, map, Bool, true, false};
-ghost use Rattle.std.specs.List.{list_all};
+ghost use Rattle.std.specs.{Prelude.{◌≡◌, ◌<◌, ◌∷◌, length, map, true, false}, List.list_all};
 ghost use Rattle.std.specs.Str.{is_utf8};
-ghost use Rattle.json.specs.Token.{Token};
 ghost use Rattle.json.specs.Tree.{json_tokens};
 ghost use Rattle.uimg_fit_reading.specs.Values.{pieces};
-ghost use Rattle.uimg_printing.specs.Members.{text_json, array_of, of_bytes, tokens_of, string_member, number_member, number_if, text_members};
+ghost use Rattle.uimg_printing.specs.Members.{text_json, array_of, tokens_of};
 ghost use Rattle.uimg_info.specs.Members.{texts_members, told_as, length_of, cell_number, address_number};
 ghost use Rattle.uimg_info.specs.Steps.{AddsTokens};
 

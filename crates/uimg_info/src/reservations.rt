@@ -1,11 +1,9 @@
 //! The memory that a blob reserves.
 
-ghost use Rattle.std.specs.Prelude.{◌≡◌, Some, ◌-◌, ◌≤◌, min, length, drop, map, is_err, IfOk};
+ghost use Rattle.std.specs.Prelude.{◌≡◌, Some, ◌-◌, ◌≤◌, length, drop, map, is_err, IfOk};
 ghost use Rattle.json.specs.Tree.{json_tokens};
-ghost use Rattle.uimg_base.specs.Honest.{IfHonest};
-ghost use Rattle.uimg_base.specs.Using.{Asks};
+ghost use Rattle.uimg_base.specs.{Honest.IfHonest, Using.Asks};
 ghost use Rattle.uimg_texts.specs.Numbers.{be32};
-ghost use Rattle.uimg_texts.specs.Slices.{slice};
 ghost use Rattle.uimg_printing.specs.Members.{array_of, tokens_of};
 ghost use Rattle.uimg_info.specs.Reservations.{reservation_at, ends_list, items_in, entries_in, reservations_of, reservation_json, reservations_members};
 ghost use Rattle.uimg_fit_checking.specs.SurveyParts.{IsOwn, is_unread};

@@ -1,16 +1,13 @@
 //! The text of the object of a FIT image's facts.
 
-ghost use Rattle.std.specs.Prelude.{◌≡◌, length, true, IfOk};
-ghost use Rattle.std.specs.Str.{IsUtf8};
+ghost use Rattle.std.specs.{Prelude.{◌≡◌, length, true, IfOk}, Str.IsUtf8};
 ghost use Rattle.json.specs.Json.{document};
 ghost use Rattle.uimg_printing.specs.Objects.{is_one_line};
-ghost use Rattle.uimg_base.specs.Honest.{HonestSource, IfHonest};
-ghost use Rattle.uimg_base.specs.Using.{Asks, UsesAtMost};
+ghost use Rattle.uimg_base.specs.{Honest.{HonestSource, IfHonest}, Using.{Asks, UsesAtMost}};
 ghost use Rattle.uimg_blob_reading.specs.Indexed.{TakesNodes};
 ghost use Rattle.uimg_fit_checking.specs.FullSurvey.{FullInside};
 ghost use Rattle.uimg_fit_checking.specs.SurveyParts.{is_unread, lacks_room, IsOwn};
-ghost use Rattle.uimg_info.specs.Fit.{info_of, ok_of};
-ghost use Rattle.uimg_info.specs.Steps.{Informs, Prints, IsJson, OfJson};
+ghost use Rattle.uimg_info.specs.{Fit.{info_of, ok_of}, Steps.{Informs, Prints, IsJson, OfJson}};
 ghost use Rattle.uimg_info.specs.Work.{full_size, info_work};
 
 use crate::fit::put_fit;

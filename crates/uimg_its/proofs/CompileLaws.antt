@@ -2,16 +2,10 @@
 use Rattle.std.proofs.Common.{◌≡◌, List, Bool, true, false, IsTrue, Option, Some, None, sym, ap, subst, ◌∙◌}
 use Rattle.std.specs.Bool.{OnFalse}
 use Rattle.uimg_blob_reading.specs.Plain.{Nodes}
-use Rattle.uimg_blob_writing.specs.declared.tree.Node.{Node}
-use Rattle.uimg_blob_writing.specs.Content.{in_full}
-use Rattle.uimg_blob_writing.specs.Trees.{node_of}
-use Rattle.uimg_its.specs.Words.{Word}
-use Rattle.uimg_its.specs.Parts.{FileBytes, NodeParts, parts_of, one_node}
-use Rattle.uimg_its.specs.Reader.{source}
-use Rattle.uimg_its.specs.Grammar.{Spells}
-use Rattle.uimg_its.proofs.Shrinking.{some_is}
-use Rattle.uimg_its.proofs.SoundLaws.{in_full_node}
-use Rattle.uimg_its.proofs.SpelledIsRead.{source_again}
+use Rattle.uimg_blob_writing.specs.{declared.tree.Node.Node, Content.in_full, Trees.node_of}
+use Rattle.uimg_its.specs.{Words.Word, Parts.{FileBytes, NodeParts, parts_of, one_node}}
+use Rattle.uimg_its.specs.{Reader.source, Grammar.Spells}
+use Rattle.uimg_its.proofs.{Shrinking.some_is, SoundLaws.in_full_node, SpelledIsRead.source_again}
 use Rattle.uimg_its.proofs.ReadIsSpelled.{source_found}
 
 pub only_spelled : {A : Type 0} (ws : List Word) (files : FileBytes) (root : Node A) → source files ws ≡ Some (parts_of files root) → Spells ws files (in_full files (node_of root))

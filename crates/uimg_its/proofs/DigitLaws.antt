@@ -1,7 +1,6 @@
 -- A number never falls as digits are added.
 use Rattle.std.proofs.Common.{ℕ, ◌+◌, ◌*◌, ◌≤◌, List, [], ◌∷◌, arith, le_refl, le_trans, mul-le-mul_left}
-use Rattle.std.specs.Char.{digit_value}
-use Rattle.std.specs.Str.Parse.{digits_value_after}
+use Rattle.std.specs.{Char.digit_value, Str.Parse.digits_value_after}
 
 pub never_falls : (base n : ℕ) (ds : List ℕ) → 1 ≤ base → n ≤ digits_value_after base n ds
 never_falls base n [] h = le_refl n

@@ -1,11 +1,8 @@
 -- The words of short texts, and the tree of the case mixed-values, by computing.
-use Rattle.std.proofs.Common.{◌≡◌, [], ◌∷◌, Some, None, refl}
-use Rattle.std.specs.Prelude.{codes}
-use Rattle.uimg_its.specs.declared.tokens.Mark.TheVariants.{Slash, Comma}
-use Rattle.uimg_its.specs.Digits.{number_in_base}
-use Rattle.uimg_its.specs.Strings.{escape, unit, string_end, string_bytes}
+use Rattle.std.{proofs.Common.{◌≡◌, [], ◌∷◌, Some, None, refl}, specs.Prelude.codes}
+use Rattle.uimg_its.specs.{declared.tokens.Mark.TheVariants.{Slash, Comma}, Digits.number_in_base}
+use Rattle.uimg_its.specs.{Strings.{escape, unit, string_end, string_bytes}, Cells.number_of_cell}
 use Rattle.uimg_its.specs.Words.{name, directive, text, mark, stray, comment, piece, words_from, words}
-use Rattle.uimg_its.specs.Cells.{number_of_cell}
 
 -- a name word with commas, a lone comma, a directive, a slash, a comment and a string with escapes
 words_of_pieces : words (codes "a,b , /incbin/ /c /* d */ \"\\x41\\n\" ~") ≡ name (codes "a,b") ∷ mark Comma ∷ directive (codes "incbin") ∷ mark Slash ∷ name (codes "c") ∷ text (65 ∷ 10 ∷ []) ∷ stray ∷ []

@@ -1,7 +1,6 @@
 -- What several calls did to files.
 use Rattle.std.proofs.Common.{Bool, false, subst, ◌∙◌}
-use Rattle.uimg_base.specs.Device.{RisesIf}
-use Rattle.uimg_base.specs.Named.{FileMap}
+use Rattle.uimg_base.specs.{Device.RisesIf, Named.FileMap}
 use Rattle.uimg_blob_writing.specs.UsingFiles.{UsesFiles}
 
 -- a call that refused no open, and then another

@@ -1,10 +1,7 @@
 -- Labels before a name have no effect.
 use Rattle.std.proofs.Common.{◌≡◌, List, [], ◌∷◌, Option, Some, None, Bool, true, false, length, nat_lt, refl, sym, ap, ◌∙◌}
-use Rattle.uimg_its.specs.declared.fault.FaultKind.{FaultKind}
-use Rattle.uimg_its.specs.declared.tokens.Mark.TheVariants.{Colon}
-use Rattle.uimg_its.specs.Words.{Word, name, mark, stray}
-use Rattle.uimg_its.specs.Options.{◌>>=◌}
-use Rattle.uimg_its.specs.Answers.{Refuses}
+use Rattle.uimg_its.specs.declared.{fault.FaultKind.FaultKind, tokens.Mark.TheVariants.Colon}
+use Rattle.uimg_its.specs.{Words.{Word, name, mark, stray}, Options.◌>>=◌, Answers.Refuses}
 use Rattle.uimg_its.specs.Reader.{Item, unlabelled, label_first, item_of}
 use Rattle.std.specs.Prelude.{cond}
 use Rattle.uimg_its.proofs.StepLaws.{refuses_on}

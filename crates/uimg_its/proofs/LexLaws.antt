@@ -1,10 +1,7 @@
 -- Words are found from left to right.
 use Rattle.std.proofs.Common.{◌≡◌, ℕ, zero, suc, ◌+◌, ◌≤◌, ◌<◌, List, [], ◌∷◌, ◌++◌, append_assoc, Option, Some, None, length, take, drop, get_or, refl, sym, ap, subst, ◌∙◌, arith, drop-drop, true, false, nat_eq, drop-cons}
-use Rattle.std.proofs.lemmas.List.{drop_all, append-nil}
-use Rattle.std.proofs.lemmas.Bool.{ne_eqb}
-use Rattle.std.specs.Prelude.{codes}
-use Rattle.std.specs.Option.{option_map}
-use Rattle.std.specs.List.{starts_with, prefix_len}
+use Rattle.std.{proofs.lemmas.{List.{drop_all, append-nil}, Bool.ne_eqb}, specs.Prelude.codes}
+use Rattle.std.specs.{Option.option_map, List.{starts_with, prefix_len}}
 use Rattle.uimg_its.specs.Strings.{unit, string_end, string_bytes}
 use Rattle.uimg_its.specs.Words.{comment, Word, Piece, gap, word, piece, goes_on, words_from, words, is_blank, is_name_byte, name_word}
 

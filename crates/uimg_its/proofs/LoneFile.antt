@@ -2,13 +2,11 @@
 use Rattle.std.proofs.Common.{◌≡◌, ℕ, List, [], ◌∷◌, Option, Some, None, true, refl, ap, ◌∙◌}
 use Rattle.std.specs.Prelude.{cond, codes}
 use Rattle.uimg_its.specs.declared.tokens.Mark.TheVariants.{Semicolon, ParenOpen, ParenClose}
-use Rattle.uimg_its.specs.Parts.{FileBytes}
-use Rattle.uimg_its.specs.Words.{Word, directive, text, mark}
+use Rattle.uimg_its.specs.{Parts.FileBytes, Words.{Word, directive, text, mark}}
 use Rattle.uimg_its.specs.Reader.{take_word, expect, string, is_incbin, lone_file, values}
 use Rattle.uimg_its.specs.Grammar.{incbin, one}
-use Rattle.uimg_its.proofs.Shrinking.{bind_some, some_is, pair_leads}
+use Rattle.uimg_its.proofs.{Shrinking.{bind_some, some_is, pair_leads}, SpelledIsRead.values_again}
 use Rattle.uimg_its.proofs.ValuesAreSpelled.{string_is, expect_is, next_is, guard, bytes_same}
-use Rattle.uimg_its.proofs.SpelledIsRead.{values_again}
 
 incbin_is : (w : Word) → is_incbin w ≡ true → w ≡ directive (codes "incbin")
 incbin_is (directive d) e = ap directive (bytes_same d (codes "incbin") e)

@@ -2,11 +2,9 @@
 use Rattle.std.proofs.Common.{◌≡◌, ℕ, zero, suc, ◌<◌, ◌≤◌, ◌-◌, List, [], ◌∷◌, Bool, true, false, Option, Some, None, length, refl, sym, ap, arith}
 use Rattle.std.specs.Prelude.{cond}
 use Rattle.uimg_its.specs.declared.tokens.Mark.TheVariants.{BraceClose, Semicolon, Colon}
+use Rattle.uimg_its.specs.{Parts.{FileBytes, NodeParts, chain}, Words.{Word, name, mark}}
+use Rattle.uimg_its.specs.{Options.◌>>=◌, Steps.{Parses, Step, all}}
 use Rattle.uimg_blob_reading.specs.Plain.{Named}
-use Rattle.uimg_its.specs.Parts.{FileBytes, NodeParts, chain}
-use Rattle.uimg_its.specs.Words.{Word, name, mark}
-use Rattle.uimg_its.specs.Options.{◌>>=◌}
-use Rattle.uimg_its.specs.Steps.{Parses, Step, with_front, all}
 use Rattle.uimg_its.specs.Reader.{take_word, Item, empty, assigned, opens, closes, is_mark, word_name, item_after, label_first, unlabelled, item, expect, values, named_property, property_step, properties, inside, child_named, child_step, node_within, children}
 use Rattle.uimg_its.proofs.StepLaws.{Shrinks}
 use Rattle.uimg_its.proofs.Shrinking.{Within, all_within, bind_some, next_shrinks, expect_shrinks, values_within, leads_to, pair_leads, some_is}
@@ -139,11 +137,6 @@ pub node_is : (levels : ℕ) (files : FileBytes) (n : List ℕ) (ws : List Word)
 unfolding node_within
 node_is zero files n ws h = absurd (h refl)
 node_is (suc l) files n ws h = let k : l ≡ suc l - 1 = omega arith in ap (λ (m : ℕ). inside files (children m files) n ws) k
-
--- nothing was read before
-pub no_front : {X : Type 0} (r : Option (List X × List Word)) → with_front [] r ≡ r
-no_front None = refl
-no_front (Some x) = refl
 
 -- what is inside a node, by its properties and its children
 pub inside_is : (files : FileBytes) (below : Parses (List NodeParts)) (n : List ℕ) (ws behind rest : List Word) (own : List Named) (kids : List NodeParts)

@@ -1,13 +1,10 @@
 -- What is read is spelled.
 use Rattle.std.proofs.Common.{◌≡◌, ℕ, zero, suc, ◌≤◌, List, [], ◌∷◌, ◌++◌, Bool, true, false, Option, Some, None, length, refl, sym, ap, subst, ◌∙◌, append_assoc}
-use Rattle.std.specs.Prelude.{cond, nat_lt, codes}
-use Rattle.std.proofs.lemmas.Bool.{ltb-false}
+use Rattle.std.{specs.Prelude.{cond, nat_lt, codes}, proofs.lemmas.Bool.ltb-false}
 use Rattle.uimg_its.specs.declared.tokens.Mark.TheVariants.{Slash, BraceOpen, BraceClose, Semicolon, Equals, Colon}
-use Rattle.uimg_its.specs.Options.{◌>>=◌}
+use Rattle.uimg_its.specs.{Options.◌>>=◌, Parts.{FileBytes, NodeParts, chain, one_node}}
+use Rattle.uimg_its.specs.{Words.{Word, name, directive, mark, stray}, Steps.{Parses, Step, all}}
 use Rattle.uimg_blob_reading.specs.Plain.{Named, no_node, a_node}
-use Rattle.uimg_its.specs.Parts.{FileBytes, NodeParts, chain, one_node}
-use Rattle.uimg_its.specs.Words.{Word, name, directive, mark, stray}
-use Rattle.uimg_its.specs.Steps.{Parses, Step, all}
 use Rattle.uimg_its.specs.Reader.{take_word, Item, empty as no_value, assigned as has_value, opens, closes, is_mark, label_first, unlabelled, item, expect, values, named_property, property_step, properties, inside, child_named, child_step, node_within, children, is_version, version, alone, source}
 use Rattle.uimg_its.specs.Grammar.{Names, IsProperty, empty, assigned, AreProperties, AreNodes, body, Spells}
 use Rattle.uimg_its.proofs.Shrinking.{some_is, bind_some, pair_leads}

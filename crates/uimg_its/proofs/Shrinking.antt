@@ -1,16 +1,11 @@
 -- Each step but the last takes a word.
 use Rattle.std.proofs.Common.{◌≡◌, ℕ, zero, suc, ◌<◌, ◌≤◌, List, [], ◌∷◌, Bool, true, false, Option, Some, None, length, refl, ap, arith}
-use Rattle.std.specs.Prelude.{cond, codes}
-use Rattle.std.specs.Str.{bytes_eq}
-use Rattle.uimg_its.specs.declared.tokens.Mark.{Mark}
-use Rattle.uimg_its.specs.declared.tokens.Mark.TheVariants.{Less, ParenOpen, ParenClose, BracketOpen}
-use Rattle.uimg_its.specs.Parts.{FileBytes}
-use Rattle.uimg_its.specs.Words.{Word, directive, text, mark, stray}
-use Rattle.uimg_its.specs.declared.lists.Listed.{Listed}
-use Rattle.uimg_its.specs.declared.lists.Listed.TheVariants.{Cells, Bytes}
-use Rattle.uimg_its.specs.Options.{◌>>=◌}
+use Rattle.std.specs.{Prelude.{cond, codes}, Str.bytes_eq}
+use Rattle.uimg_its.specs.{declared.tokens.Mark.Mark, Parts.FileBytes, Cells.element}
+use Rattle.uimg_its.specs.{Words.{Word, directive, text, mark, stray}, declared.lists.Listed.Listed}
+use Rattle.uimg_its.specs.{declared.lists.Listed.TheVariants.{Cells, Bytes}, Options.◌>>=◌}
 use Rattle.uimg_its.specs.Steps.{Parses, Step, Steps, with_front, and_on, at_most, all}
-use Rattle.uimg_its.specs.Cells.{element}
+use Rattle.uimg_its.specs.declared.tokens.Mark.TheVariants.{Less, ParenOpen, ParenClose, BracketOpen}
 use Rattle.uimg_its.specs.Reader.{take_word, element_word, element_step, list_items, expect, is_mark, string, string_in, file, spelled_value, value, value_step, values, is_last_value}
 use Rattle.uimg_its.proofs.StepLaws.{Shrinks}
 
@@ -26,10 +21,6 @@ pub next_shrinks : (ws after : List Word) (w : Word) → take_word ws ≡ Some (
 next_shrinks [] after w e = absurd (cc)
 next_shrinks (stray ∷ ws) after w e = absurd (cc)
 next_shrinks (w' ∷ ws) after w e = let same : ws ≡ after = ap (λ (x : Word × List Word). x.1) (some_is _ _ e) in omega (arith, ap length same)
-
--- a step that isn't the last
-pub not_last : {X : Type 0} → (xs ys : List X) (ws after : List Word) → ◌≡◌ {A = Step X} (Some (true, xs, ws)) (Some (false, ys, after)) → ⊥
-not_last {X = X} xs ys ws after e = let last : true ≡ false = ap (λ (x : Bool × List X × List Word). x.0) (some_is _ _ e) in absurd (cc)
 
 -- where a step that is read leads
 pub leads_to : {X : Type 0} → (b c : Bool) (xs ys : List X) (ws after : List Word) → ◌≡◌ {A = Step X} (Some (b, xs, ws)) (Some (c, ys, after)) → ws ≡ after

@@ -1,12 +1,10 @@
 -- Files stand where they may.
 use Rattle.std.proofs.Common.{◌≡◌, ℕ, List, [], ◌∷◌, ◌++◌, Bool, IsTrue, refl, ap, subst, ◌∙◌}
-use Rattle.std.proofs.lemmas.List.{map-append}
-use Rattle.std.specs.List.{AllByRecursion}
+use Rattle.std.{proofs.lemmas.List.map-append, specs.List.AllByRecursion}
 use Rattle.uimg_base.specs.Named.{FileMap, SameFiles}
 use Rattle.uimg_blob_reading.specs.Plain.{NamedOf, Nodes, no_node, a_node, with_values}
-use Rattle.uimg_blob_writing.specs.declared.tree.Node.{Node}
+use Rattle.uimg_blob_writing.specs.{declared.tree.Node.Node, Trees.{siblings, node_of}}
 use Rattle.uimg_blob_writing.specs.Content.{Content, Unread, bytes, file, IsKept, AreKept, in_full, StandsAtData, FilesAtData}
-use Rattle.uimg_blob_writing.specs.Trees.{siblings, node_of}
 use Rattle.uimg_its.specs.Parts.{FileBytes, parts_of, all_parts_of, chain, one_node, props_in_full}
 use Rattle.uimg_its.specs.FileValues.{IsSoundValue, AreSound, IsSoundTree, IsSoundNode, AreSoundNodes}
 
@@ -26,9 +24,6 @@ still P Q {a = a} {b = b} same f = subst (λ (h : Bool). P h a.bytes → Q h a.b
 pub still_sound : {a b : FileMap} (old new : List (NamedOf Content)) → SameFiles a b → (AreSound b old → AreSound b new) → AreSound a old → AreSound a new
 still_sound old new same f =
     still (λ h m. AllByRecursion (λ (p : NamedOf Content). IsSoundValue h m p.name p.value) old) (λ h m. AllByRecursion (λ (p : NamedOf Content). IsSoundValue h m p.name p.value) new) same f
-
-pub props_push : (m : FileMap) (ps : List (NamedOf Content)) (p : NamedOf Content) (more : List (NamedOf Content)) → more ≡ ps ++ p ∷ [] → AreSound m ps → IsSoundValue m.honest m.bytes p.name p.value → AreSound m more
-props_push m ps p more is all s = rw is (all_push (λ (q : NamedOf Content). IsSoundValue m.honest m.bytes q.name q.value) ps p all s)
 
 -- the nodes of the code, and those that contracts see
 pub in_full_siblings : {A : Type 0} (files : FileBytes) (ns : List (Node A)) → in_full files (siblings ns) ≡ chain (all_parts_of files ns)

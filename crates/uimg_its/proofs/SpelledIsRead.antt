@@ -1,21 +1,16 @@
 -- What is spelled is read.
 use Rattle.std.proofs.Common.{◌≡◌, ℕ, zero, suc, ◌≤◌, List, [], ◌∷◌, ◌++◌, Bool, true, false, Option, Some, length, refl, sym, ap, subst, ◌∙◌, append_assoc}
 use Rattle.std.proofs.lemmas.Bool.{le-ltb}
-use Rattle.uimg_its.specs.declared.tokens.Mark.{Mark}
-use Rattle.uimg_its.specs.declared.tokens.Mark.TheVariants.{Comma, BraceOpen, BraceClose, Semicolon, Equals, Greater, BracketClose, Colon}
-use Rattle.uimg_its.specs.declared.lists.Listed.{Listed}
+use Rattle.uimg_its.specs.{declared.{tokens.Mark.Mark, lists.Listed.Listed}, Options.◌>>=◌}
 use Rattle.uimg_its.specs.declared.lists.Listed.TheVariants.{Cells, Bytes}
-use Rattle.uimg_its.specs.Options.{◌>>=◌}
+use Rattle.uimg_its.specs.{Parts.{FileBytes, NodeParts, chain}, Words.{Word, name, mark}}
+use Rattle.uimg_its.specs.{Steps.{Parses, Step, Steps, with_front, and_on, all}, Cells.element}
+use Rattle.uimg_its.specs.declared.tokens.Mark.TheVariants.{Comma, BraceOpen, BraceClose, Semicolon, Equals, Greater, BracketClose, Colon}
 use Rattle.uimg_blob_reading.specs.Plain.{Named, Nodes, no_node, a_node}
-use Rattle.uimg_its.specs.Parts.{FileBytes, NodeParts, chain}
-use Rattle.uimg_its.specs.Words.{Word, name, mark}
-use Rattle.uimg_its.specs.Steps.{Parses, Step, Steps, with_front, and_on, all}
-use Rattle.uimg_its.specs.Cells.{element}
 use Rattle.uimg_its.specs.Reader.{Item, empty as no_value, assigned as has_value, opens, label_first, unlabelled, item, element_step, list_items, file, spelled_value, value, value_step, values, property_step, properties, inside, child_step, node_within, children, source}
 use Rattle.uimg_its.specs.Grammar.{AreLabels, Names, AreElements, IsValue, cells, bytes, string, incbin, AreValues, one, more, IsProperty, empty, assigned, AreProperties, AreNodes, body, Spells}
-use Rattle.uimg_its.proofs.StepLaws.{Shrinks, all_step}
-use Rattle.uimg_its.proofs.Shrinking.{element_shrinks, value_shrinks}
-use Rattle.uimg_its.proofs.NodeLaws.{property_shrinks, child_shrinks}
+use Rattle.uimg_its.proofs.{StepLaws.{Shrinks, all_step}, Shrinking.element_shrinks}
+use Rattle.uimg_its.proofs.{Shrinking.value_shrinks, NodeLaws.{property_shrinks, child_shrinks}}
 
 abbrev pub closing : Listed → Mark
 closing Cells = Greater

@@ -1,9 +1,7 @@
 -- Reading several things is a step, and what follows it.
 use Rattle.std.proofs.Common.{◌≡◌, ℕ, zero, suc, ◌<◌, List, [], ◌++◌, Bool, true, false, Option, Some, None, length, refl, sym, ap, ◌∙◌, arith, append_assoc}
-use Rattle.std.proofs.lemmas.List.{append-nil}
-use Rattle.std.specs.Bool.{OnFalse}
-use Rattle.uimg_its.specs.declared.fault.FaultKind.{FaultKind}
-use Rattle.uimg_its.specs.Words.{Word}
+use Rattle.std.{proofs.lemmas.List.append-nil, specs.Bool.OnFalse}
+use Rattle.uimg_its.specs.{declared.fault.FaultKind.FaultKind, Words.Word}
 use Rattle.uimg_its.specs.Answers.{Refuses, is_outside_text}
 use Rattle.uimg_its.specs.Steps.{Parses, Step, Steps, with_front, and_on, step_front, at_most, all}
 

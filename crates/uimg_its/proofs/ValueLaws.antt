@@ -1,10 +1,7 @@
 -- Values are read from left to right.
 use Rattle.std.proofs.Common.{◌≡◌, ℕ, suc, ◌+◌, ◌<◌, ◌≤◌, List, [], ◌∷◌, ◌++◌, Option, Some, None, length, drop, get_or, refl, sym, ap, ◌∙◌, arith, drop-cons, append_assoc}
 use Rattle.std.proofs.lemmas.List.{drop_all, append-nil}
-use Rattle.uimg_its.specs.Options.{◌>>=◌}
-use Rattle.uimg_its.specs.Steps.{without_rest}
-use Rattle.uimg_its.specs.Cells.{hex_bytes}
-use Rattle.uimg_its.specs.Digits.{hex_pair}
+use Rattle.uimg_its.specs.{Options.◌>>=◌, Steps.without_rest, Cells.hex_bytes, Digits.hex_pair}
 
 -- nothing before
 pub before_none : {X : Type 0} (front : List X) (r total : Option (List X)) → r ≡ None → without_rest front r ≡ total → total ≡ None

@@ -1,21 +1,15 @@
 -- Values that are read are spelled.
 use Rattle.std.proofs.Common.{◌≡◌, ℕ, zero, suc, List, [], ◌∷◌, ◌++◌, Bool, true, false, Option, Some, None, length, refl, sym, ap, subst, ◌∙◌, append_assoc}
-use Rattle.std.specs.Prelude.{cond, codes}
-use Rattle.std.specs.Str.{bytes_eq}
+use Rattle.std.specs.{Prelude.{cond, codes}, Str.bytes_eq}
 use Rattle.std.proofs.lemmas.Slice.Eq.{bytes_eq-Decides}
-use Rattle.uimg_its.specs.declared.tokens.Mark.{Mark}
-use Rattle.uimg_its.specs.declared.tokens.Mark.TheVariants.{Slash, Comma, BraceOpen, BraceClose, Semicolon, Less, Greater, ParenOpen, ParenClose, BracketOpen, BracketClose}
-use Rattle.uimg_its.specs.declared.lists.Listed.{Listed}
-use Rattle.uimg_its.specs.declared.lists.Listed.TheVariants.{Cells, Bytes}
-use Rattle.uimg_its.specs.Options.{◌>>=◌}
-use Rattle.uimg_its.specs.Parts.{FileBytes}
-use Rattle.uimg_its.specs.Words.{Word, name, directive, text, mark, stray}
+use Rattle.uimg_its.specs.{declared.{tokens.Mark.Mark, lists.Listed.Listed}, Options.◌>>=◌}
+use Rattle.uimg_its.specs.{declared.lists.Listed.TheVariants.{Cells, Bytes}, Parts.FileBytes}
+use Rattle.uimg_its.specs.{Words.{Word, name, directive, text, mark, stray}, Cells.element}
 use Rattle.uimg_its.specs.Steps.{Parses, Step, Steps, with_front, and_on, at_most, all}
-use Rattle.uimg_its.specs.Cells.{element}
+use Rattle.uimg_its.specs.declared.tokens.Mark.TheVariants.{Slash, Comma, BraceOpen, BraceClose, Semicolon, Less, Greater, ParenOpen, ParenClose, BracketOpen, BracketClose}
 use Rattle.uimg_its.specs.Reader.{take_word, is_mark, element_step, list_items, expect, string as string_at, file, spelled_value, value, is_last_value, value_step, values}
 use Rattle.uimg_its.specs.Grammar.{AreElements, IsValue, cells, bytes, string, incbin, AreValues, one, more}
-use Rattle.uimg_its.proofs.Shrinking.{some_is, bind_some, pair_leads}
-use Rattle.uimg_its.proofs.SpelledIsRead.{closing}
+use Rattle.uimg_its.proofs.{Shrinking.{some_is, bind_some, pair_leads}, SpelledIsRead.closing}
 
 -- a step that is read
 pub triple_is : {X : Type 0} → (b c : Bool) (xs ys : List X) (ws after : List Word) → ◌≡◌ {A = Step X} (Some (b, xs, ws)) (Some (c, ys, after)) → ys ≡ xs

@@ -1,14 +1,11 @@
 -- What a result says about the text that was read.
 use Rattle.std.specs.Prelude.{◌≡◌, Bool, true, false, IsTrue, Option, Some, None, Result, Ok, Err}
-use Rattle.std.specs.Prelude.{⊤}
-use Rattle.std.specs.Bool.{OnFalse}
-use Rattle.uimg_base.specs.Lent.{Lent}
-use Rattle.uimg_base.specs.Named.{FileMap}
+use Rattle.std.specs.{Prelude.⊤, Bool.OnFalse}
+use Rattle.uimg_base.specs.{Lent.Lent, Named.FileMap}
 use Rattle.uimg_blob_writing.specs.UsingFiles.{UsesFiles}
-use Rattle.uimg_its.specs.declared.fault.FaultKind.{FaultKind}
+use Rattle.uimg_its.specs.declared.fault.FaultKind.{FaultKind, TheVariants.OutOfMemory}
 use Rattle.uimg_its.specs.declared.fault.FaultKind.TheVariants.{BadToken, BadSyntax, OutOfProfile}
 use Rattle.uimg_its.specs.declared.fault.FaultKind.TheVariants.{BadNumber, NoFile, ReadFailed}
-use Rattle.uimg_its.specs.declared.fault.FaultKind.TheVariants.{OutOfMemory}
 use Rattle.uimg_its.specs.declared.stop.Stop.{Stop}
 
 -- the reason is outside the text: a file or memory

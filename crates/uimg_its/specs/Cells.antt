@@ -1,10 +1,8 @@
 -- Cells and byte lists (Devicetree Specification, section 6.3).
 use Rattle.std.specs.Prelude.{ℕ, List, [], ◌∷◌, Option, Some, None, ◌==◌, ◌||◌, if◌then◌else◌}
 use Rattle.std.specs.Int.{w32, to_be_bytes}
-use Rattle.uimg_its.specs.declared.lists.Listed.{Listed}
-use Rattle.uimg_its.specs.declared.lists.Listed.TheVariants.{Cells, Bytes}
-use Rattle.uimg_its.specs.Options.{◌>>=◌}
-use Rattle.uimg_its.specs.Digits.{number_in_base, hex_pair}
+use Rattle.uimg_its.specs.declared.lists.Listed.{Listed, TheVariants.{Cells, Bytes}}
+use Rattle.uimg_its.specs.{Options.◌>>=◌, Digits.{number_in_base, hex_pair}}
 
 -- A cell's number: 0x or 0X and hexadecimal digits; 0 and octal digits, or none; or decimal digits.
 unfoldable pub number_of_cell : List ℕ → Option ℕ

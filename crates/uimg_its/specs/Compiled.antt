@@ -1,11 +1,8 @@
 -- The result of compiling.
 use Rattle.std.specs.Prelude.{◌≡◌, Bool, false, IsTrue, Result, Ok, Err}
 use Rattle.uimg_blob_reading.specs.Plain.{Nodes}
-use Rattle.uimg_blob_writing.specs.declared.tree.Tree.{Tree}
-use Rattle.uimg_blob_writing.specs.Content.{in_full}
-use Rattle.uimg_blob_writing.specs.Trees.{node_of}
-use Rattle.uimg_its.specs.declared.fault.ItsFault.{ItsFault}
-use Rattle.uimg_its.specs.Parts.{FileBytes}
+use Rattle.uimg_blob_writing.specs.{declared.tree.Tree.Tree, Content.in_full, Trees.node_of}
+use Rattle.uimg_its.specs.{declared.fault.ItsFault.ItsFault, Parts.FileBytes}
 use Rattle.uimg_its.specs.Answers.{is_outside_text, tells_no_file, tells_unread}
 
 -- the result is a refused open

@@ -1,8 +1,6 @@
 -- Numbers as digits.
 use Rattle.std.specs.Prelude.{ℕ, ◌+◌, ◌*◌, ◌^◌, List, Option, Some, None, nat_lt, ◌&&◌}
-use Rattle.std.specs.Prelude.{if◌then◌else◌}
-use Rattle.std.specs.List.{list_all}
-use Rattle.std.specs.Char.{is_digit, digit_value}
+use Rattle.std.specs.{Prelude.if◌then◌else◌, List.list_all, Char.{is_digit, digit_value}}
 use Rattle.std.specs.Str.Parse.{digits_value}
 use Rattle.uimg_its.specs.Options.{◌>>=◌}
 

@@ -1,6 +1,5 @@
 -- Which values of a tree may be files.
-use Rattle.std.specs.Prelude.{◌≡◌, ℕ, List, Bool, IsTrue, codes, ⊤}
-use Rattle.std.specs.List.{AllByRecursion}
+use Rattle.std.specs.{Prelude.{◌≡◌, ℕ, List, Bool, IsTrue, codes, ⊤}, List.AllByRecursion}
 use Rattle.uimg_base.specs.Named.{FileMap}
 use Rattle.uimg_blob_reading.specs.Plain.{NamedOf, no_node, a_node}
 use Rattle.uimg_blob_writing.specs.declared.tree.Node.{Node}

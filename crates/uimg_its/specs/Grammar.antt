@@ -4,12 +4,9 @@ use Rattle.uimg_blob_reading.specs.Plain.{Named, Nodes, no_node, a_node}
 use Rattle.uimg_its.specs.declared.tokens.Mark.TheVariants.{Slash, Comma, BraceOpen, BraceClose}
 use Rattle.uimg_its.specs.declared.tokens.Mark.TheVariants.{Semicolon, Equals, Less, Greater}
 use Rattle.uimg_its.specs.declared.tokens.Mark.TheVariants.{ParenOpen, ParenClose, BracketOpen}
-use Rattle.uimg_its.specs.declared.tokens.Mark.TheVariants.{BracketClose, Colon}
-use Rattle.uimg_its.specs.declared.lists.Listed.{Listed}
-use Rattle.uimg_its.specs.declared.lists.Listed.TheVariants.{Cells, Bytes}
-use Rattle.uimg_its.specs.Words.{Word, name, directive, text, mark}
-use Rattle.uimg_its.specs.Parts.{FileBytes}
-use Rattle.uimg_its.specs.Cells.{element}
+use Rattle.uimg_its.specs.{declared.tokens.Mark.TheVariants.{BracketClose, Colon}, Parts.FileBytes}
+use Rattle.uimg_its.specs.declared.lists.Listed.{Listed, TheVariants.{Cells, Bytes}}
+use Rattle.uimg_its.specs.{Words.{Word, name, directive, text, mark}, Cells.element}
 
 -- Labels: name words, each followed by a colon.
 abbrev pub AreLabels : List Word → Type 0

@@ -1,19 +1,14 @@
 -- Reading of words from left to right, as in the code. Proofs join it with `Grammar`.
 use Rattle.std.specs.Prelude.{ℕ, zero, suc, Bool, true, false, List, [], ◌∷◌, ◌++◌, length, Option}
-use Rattle.std.specs.Prelude.{Some, None, nat_lt, if◌then◌else◌, codes}
-use Rattle.std.specs.Str.{bytes_eq}
+use Rattle.std.specs.{Prelude.{Some, None, nat_lt, if◌then◌else◌, codes}, Str.bytes_eq}
 use Rattle.uimg_blob_reading.specs.Plain.{Named}
-use Rattle.uimg_its.specs.declared.tokens.Mark.{Mark}
+use Rattle.uimg_its.specs.declared.tokens.Mark.{Mark, TheVariants.{BracketClose, Colon}}
 use Rattle.uimg_its.specs.declared.tokens.Mark.TheVariants.{Slash, Comma, BraceOpen, BraceClose}
 use Rattle.uimg_its.specs.declared.tokens.Mark.TheVariants.{Semicolon, Equals, Less, Greater}
 use Rattle.uimg_its.specs.declared.tokens.Mark.TheVariants.{ParenOpen, ParenClose, BracketOpen}
-use Rattle.uimg_its.specs.declared.tokens.Mark.TheVariants.{BracketClose, Colon}
-use Rattle.uimg_its.specs.declared.lists.Listed.{Listed}
-use Rattle.uimg_its.specs.declared.lists.Listed.TheVariants.{Cells, Bytes}
-use Rattle.uimg_its.specs.Words.{Word, name, directive, text, mark, stray}
-use Rattle.uimg_its.specs.Options.{◌>>=◌}
-use Rattle.uimg_its.specs.Steps.{Parses, Step, Steps, all}
-use Rattle.uimg_its.specs.Cells.{element}
+use Rattle.uimg_its.specs.declared.lists.Listed.{Listed, TheVariants.{Cells, Bytes}}
+use Rattle.uimg_its.specs.{Words.{Word, name, directive, text, mark, stray}, Options.◌>>=◌}
+use Rattle.uimg_its.specs.{Steps.{Parses, Step, Steps, all}, Cells.element}
 use Rattle.uimg_its.specs.Parts.{FileBytes, NodeParts, chain}
 
 -- the next word, which must exist

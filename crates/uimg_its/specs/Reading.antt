@@ -1,12 +1,7 @@
 -- What the calls that read words do.
-use Rattle.std.specs.Prelude.{◌<◌, ℕ, List, length, Option, Result, IfOk}
-use Rattle.std.specs.Borrow.{Bor}
-use Rattle.uimg_its.specs.declared.stop.Stop.{Stop}
-use Rattle.uimg_its.specs.declared.tokens.Mark.{Mark}
-use Rattle.uimg_its.specs.Answers.{Gives, NeverInFile}
-use Rattle.uimg_its.specs.Reader.{expect}
-use Rattle.uimg_its.specs.Steps.{Parses}
-use Rattle.uimg_its.specs.Words.{words}
+use Rattle.std.specs.{Prelude.{◌<◌, ℕ, List, length, Option, Result, IfOk}, Borrow.Bor}
+use Rattle.uimg_its.specs.{declared.{stop.Stop.Stop, tokens.Mark.Mark}, Reader.expect, Steps.Parses}
+use Rattle.uimg_its.specs.{Answers.{Gives, NeverInFile}, Words.words}
 
 -- The returned value, seen by `view`, is what reading gives; no refusal is for a reason in a file.
 pub record ReadsText {X Y : Type 0} (view : X → Y) (result : Result X Stop) (read : Option Y)

@@ -1,17 +1,13 @@
 -- How the specification sees what the code finds.
 use Rattle.std.specs.Prelude.{◌≡◌, ℕ, ◌≤◌, List, [], ◌∷◌, Option, Some, None, Result, Ok, Err}
 use Rattle.std.specs.Borrow.{Bor}
-use Rattle.uimg_its.specs.declared.tokens.Word.{Word as Found}
-use Rattle.uimg_its.specs.declared.tokens.Word.TheVariants as found
-use Rattle.uimg_its.specs.declared.tokens.Token.{Token}
-use Rattle.uimg_its.specs.declared.pieces.Piece.{Piece as FoundPiece}
-use Rattle.uimg_its.specs.declared.pieces.Piece.TheVariants as found_piece
-use Rattle.uimg_its.specs.declared.stop.Stop.{Stop}
-use Rattle.uimg_its.specs.declared.items.Item.{Item as FoundItem}
-use Rattle.uimg_its.specs.declared.items.Item.TheVariants as found_item
-use Rattle.uimg_its.specs.Reader.{Item, empty, assigned, opens, closes}
-use Rattle.uimg_its.specs.Strings.{string_bytes}
+use Rattle.uimg_its.specs.declared.{tokens.{Word.Word as Found, Token.Token}, stop.Stop.Stop}
+use Rattle.uimg_its.specs.declared.{pieces.Piece.Piece as FoundPiece, items.Item.Item as FoundItem}
+use Rattle.uimg_its.specs.{Reader.{Item, empty, assigned, opens, closes}, Strings.string_bytes}
 use Rattle.uimg_its.specs.Words.{Word, name, directive, text, mark, stray, Piece, gap, word, words}
+use Rattle.uimg_its.specs.declared.tokens.Word.TheVariants as found
+use Rattle.uimg_its.specs.declared.pieces.Piece.TheVariants as found_piece
+use Rattle.uimg_its.specs.declared.items.Item.TheVariants as found_item
 
 -- a word from its bytes
 abbrev pub seen_word : Found → Word

@@ -1,8 +1,7 @@
 -- Reading of several things, one step each.
 use Rattle.std.specs.Prelude.{ℕ, zero, suc, Bool, true, false, length, List, ◌++◌, Option, Some}
 use Rattle.std.specs.Prelude.{None}
-use Rattle.uimg_its.specs.Options.{◌>>=◌}
-use Rattle.uimg_its.specs.Words.{Word}
+use Rattle.uimg_its.specs.{Options.◌>>=◌, Words.Word}
 
 -- What is read at the start of a list of words, and the words after it.
 abbrev pub Parses : Type 0 → Type 0

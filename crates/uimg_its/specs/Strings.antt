@@ -1,9 +1,7 @@
 -- Strings and their escapes (Devicetree Specification, section 6.3, with this profile's escapes).
 use Rattle.std.specs.Prelude.{ℕ, zero, suc, List, [], ◌∷◌, Option, Some, None, ◌&&◌, nat_le, ◌==◌}
-use Rattle.std.specs.Prelude.{if◌then◌else◌}
-use Rattle.std.specs.Option.{option_map}
-use Rattle.uimg_its.specs.Options.{◌>>=◌}
-use Rattle.uimg_its.specs.Digits.{hex_pair}
+use Rattle.std.specs.{Prelude.if◌then◌else◌, Option.option_map}
+use Rattle.uimg_its.specs.{Options.◌>>=◌, Digits.hex_pair}
 
 -- \0, not followed by an octal digit
 abbrev pub zero_escape : List ℕ → Option (ℕ × ℕ)

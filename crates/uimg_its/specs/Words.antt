@@ -1,15 +1,12 @@
 -- The words of a source text (Devicetree Specification, chapter 6, this profile).
 use Rattle.std.specs.Prelude.{ℕ, zero, suc, ◌+◌, List, [], ◌∷◌, take, Option, Some, None, Bool}
 use Rattle.std.specs.Prelude.{◌||◌, ◌&&◌, not, nat_le, nat_eq, slice_index, ◌==◌, if◌then◌else◌}
-use Rattle.std.specs.Prelude.{codes}
-use Rattle.std.specs.Option.{option_map}
-use Rattle.std.specs.List.{prefix_len, starts_with}
+use Rattle.std.specs.{Prelude.codes, Option.option_map, List.{prefix_len, starts_with}}
 use Rattle.std.specs.Char.{is_ascii_digit, is_ascii_alphabetic}
-use Rattle.uimg_its.specs.declared.tokens.Mark.{Mark}
+use Rattle.uimg_its.specs.declared.tokens.Mark.{Mark, TheVariants.{BracketClose, Colon, Ampersand}}
 use Rattle.uimg_its.specs.declared.tokens.Mark.TheVariants.{Slash, Comma, BraceOpen, BraceClose}
 use Rattle.uimg_its.specs.declared.tokens.Mark.TheVariants.{Semicolon, Equals, Less, Greater}
 use Rattle.uimg_its.specs.declared.tokens.Mark.TheVariants.{ParenOpen, ParenClose, BracketOpen}
-use Rattle.uimg_its.specs.declared.tokens.Mark.TheVariants.{BracketClose, Colon, Ampersand}
 use Rattle.uimg_its.specs.declared.tokens.Mark.TheVariants.{Apostrophe}
 use Rattle.uimg_its.specs.Strings.{string_end, string_bytes}
 

@@ -1,7 +1,6 @@
 //! The classes of bytes in a source text.
 
-ghost use Rattle.std.specs.Prelude.{◌≡◌, ◌==◌, ◌≤◌, not, length, drop};
-ghost use Rattle.std.specs.List.{prefix_len};
+ghost use Rattle.std.specs.{Prelude.{◌≡◌, ◌==◌, ◌≤◌, not, length, drop}, List.prefix_len};
 ghost use Rattle.uimg_its.specs.Words.{mark_of, is_blank, is_name_byte, is_directive_byte};
 
 use crate::tokens::Mark;

@@ -2,19 +2,13 @@
 
 ghost use Rattle.std.specs.Prelude.{◌≡◌, ◌<◌, List, IfOk, IsTrue, false};
 ghost use Rattle.uimg_blob_reading.specs.Plain.{Nodes};
-ghost use Rattle.uimg_blob_writing.specs.Content.{AreKept, FilesAtData, in_full};
-ghost use Rattle.uimg_blob_writing.specs.Trees.{node_of};
-ghost use Rattle.uimg_blob_writing.specs.UsingFiles.{UsesFiles};
-ghost use Rattle.uimg_blob_writing.specs.LentFiles.{OfHonest};
-ghost use Rattle.uimg_its.specs.Words.{Word, words};
+ghost use Rattle.uimg_blob_writing.specs.{Content.{AreKept, FilesAtData, in_full}, Trees.node_of};
+ghost use Rattle.uimg_blob_writing.specs.{UsingFiles.UsesFiles, LentFiles.OfHonest};
+ghost use Rattle.uimg_its.specs.{Words.{Word, words}, Reading.ReadsText, FileValues.IsSoundNode};
 ghost use Rattle.uimg_its.specs.Answers.{Gives, NeverInFile, IsInText, OpensFiles};
-ghost use Rattle.uimg_its.specs.Reading.{ReadsText};
-ghost use Rattle.uimg_its.specs.Parts.{FileBytes, parts_of};
-ghost use Rattle.uimg_its.specs.FileValues.{IsSoundNode};
-ghost use Rattle.uimg_its.specs.Seen.{seen_word};
-ghost use Rattle.uimg_its.specs.Compiled.{Accepts, finds_no_file, is_file_unread};
+ghost use Rattle.uimg_its.specs.{Parts.{FileBytes, parts_of}, Seen.seen_word};
+ghost use Rattle.uimg_its.specs.{Compiled.{Accepts, finds_no_file, is_file_unread}, Grammar.Spells};
 ghost use Rattle.uimg_its.specs.Reader.{version, is_version, alone, source};
-ghost use Rattle.uimg_its.specs.Grammar.{Spells};
 
 use crate::fault::{Construct, FaultKind, ItsFault};
 use crate::lexer::{expect, is_mark, need_word, next_word};

@@ -2,18 +2,13 @@
 
 ghost use Rattle.std.specs.Prelude.{◌≡◌, ◌<◌, Some, IfOk, IsTrue, length, codes, false};
 ghost use Rattle.uimg_base.specs.Honest.{HonestSource};
-ghost use Rattle.uimg_blob_writing.specs.Content.{content_bytes};
-ghost use Rattle.uimg_blob_writing.specs.Properties.{content};
+ghost use Rattle.uimg_blob_writing.specs.{Content.content_bytes, Properties.content};
 ghost use Rattle.uimg_blob_writing.specs.LentFiles.{OfHonest};
-ghost use Rattle.uimg_its.specs.Strings.{string_bytes};
-ghost use Rattle.uimg_its.specs.Words.{words};
-ghost use Rattle.uimg_its.specs.Answers.{Gives, IsOutside, is_no_file, is_unread, IsInText, OpensFiles};
-ghost use Rattle.uimg_its.specs.Reading.{ReadsText, ReadsFront, PassesMark};
-ghost use Rattle.uimg_its.specs.Steps.{with_front};
+ghost use Rattle.uimg_its.specs.{Strings.string_bytes, Words.words, FileValues.IsSoundIn};
+ghost use Rattle.uimg_its.specs.{Reading.{ReadsText, ReadsFront, PassesMark}, Steps.with_front};
 ghost use Rattle.uimg_its.specs.Reader.{string, string_in, file, expect, is_incbin, lone_file};
-ghost use Rattle.uimg_its.specs.FileValues.{IsSoundIn};
-ghost use Rattle.uimg_its.specs.Seen.{seen_word};
-ghost use Rattle.uimg_its.specs.declared.tokens.Mark.TheVariants.{ParenClose};
+ghost use Rattle.uimg_its.specs.{Seen.seen_word, declared.tokens.Mark.TheVariants.ParenClose};
+ghost use Rattle.uimg_its.specs.Answers.{Gives, IsOutside, is_no_file, is_unread, IsInText, OpensFiles};
 
 use crate::fault::{Construct, FaultKind};
 use crate::growth::{append, append_string, out_of_memory};

@@ -1,11 +1,9 @@
 //! The items of a body, up to the word that shows what they are.
 
-ghost use Rattle.std.specs.Prelude.{◌<◌};
-ghost use Rattle.std.specs.Option.{option_map};
-ghost use Rattle.uimg_its.specs.Answers.{IsInText};
-ghost use Rattle.uimg_its.specs.Reading.{ReadsText, ReadsFront};
-ghost use Rattle.uimg_its.specs.Reader.{item_of, item_after, word_name, label_first, item, unlabelled};
+ghost use Rattle.std.specs.{Prelude.◌<◌, Option.option_map};
+ghost use Rattle.uimg_its.specs.{Answers.IsInText, Reading.{ReadsText, ReadsFront}};
 ghost use Rattle.uimg_its.specs.Seen.{seen_word, item_is};
+ghost use Rattle.uimg_its.specs.Reader.{item_of, item_after, word_name, label_first, item, unlabelled};
 
 use crate::fault::FaultKind;
 use crate::lexer::{is_mark, need_word};

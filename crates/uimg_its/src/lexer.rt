@@ -1,10 +1,8 @@
 //! The words of a text, in order.
 
 ghost use Rattle.std.specs.Prelude.{◌≡◌, ◌<◌, length, IfSome, IfOk, false};
-ghost use Rattle.uimg_its.specs.Words.{words};
-ghost use Rattle.uimg_its.specs.Seen.{seen_word, Sees};
-ghost use Rattle.uimg_its.specs.Answers.{NeverInFile, IsInText};
-ghost use Rattle.uimg_its.specs.Reading.{ReadsFront, PassesMark};
+ghost use Rattle.uimg_its.specs.{Words.words, Seen.{seen_word, Sees}};
+ghost use Rattle.uimg_its.specs.{Answers.{NeverInFile, IsInText}, Reading.{ReadsFront, PassesMark}};
 ghost use Rattle.uimg_its.specs.Reader.{take_word, is_mark, expect};
 
 use crate::bytes::after;

@@ -1,15 +1,10 @@
 //! Lists of cells and of bytes.
 
-ghost use Rattle.std.specs.Prelude.{◌<◌, IfOk, length, false};
-ghost use Rattle.std.specs.Option.{option_map};
-ghost use Rattle.uimg_its.specs.Words.{words};
-ghost use Rattle.uimg_its.specs.Cells.{element};
-ghost use Rattle.uimg_its.specs.Answers.{IsInText};
-ghost use Rattle.uimg_its.specs.Reading.{ReadsText, ReadsFront};
-ghost use Rattle.uimg_its.specs.Steps.{with_front, step_front, without_rest};
-ghost use Rattle.uimg_its.specs.Reader.{element_word, element_step, list_items};
-ghost use Rattle.uimg_its.specs.Seen.{seen_word};
-ghost use Rattle.uimg_its.specs.declared.lists.Listed.TheVariants.{Cells, Bytes};
+ghost use Rattle.std.specs.{Prelude.{◌<◌, IfOk, length, false}, Option.option_map};
+ghost use Rattle.uimg_its.specs.{Words.words, Reading.{ReadsText, ReadsFront}};
+ghost use Rattle.uimg_its.specs.{Cells.element, Steps.{with_front, step_front, without_rest}};
+ghost use Rattle.uimg_its.specs.{Answers.IsInText, Reader.{element_word, element_step, list_items}};
+ghost use Rattle.uimg_its.specs.{Seen.seen_word, declared.lists.Listed.TheVariants.{Cells, Bytes}};
 
 use crate::fault::FaultKind;
 use crate::growth::append;

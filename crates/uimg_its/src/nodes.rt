@@ -3,11 +3,10 @@
 ghost use Rattle.std.specs.Prelude.{◌≡◌, ◌<◌, ◌≤◌, ◌++◌, ◌∷◌, [], IfSome, IfOk, OnOk, length};
 ghost use Rattle.uimg_base.specs.Named.{FileMap};
 ghost use Rattle.uimg_blob_writing.specs.LentFiles.{OfHonest};
-ghost use Rattle.uimg_its.specs.Words.{words};
-ghost use Rattle.uimg_its.specs.Answers.{Gives, IsInText, OnlyMemory, OpensFiles};
-ghost use Rattle.uimg_its.specs.Parts.{FileBytes, props_in_full, parts_of, all_parts_of, chain, child_found};
+ghost use Rattle.uimg_its.specs.{Words.words, Answers.{Gives, IsInText, OnlyMemory, OpensFiles}};
 ghost use Rattle.uimg_its.specs.FileValues.{AreSound, IsSoundNode, AreSoundNodes};
 ghost use Rattle.uimg_its.specs.Reader.{inside, child_step, children, node_within};
+ghost use Rattle.uimg_its.specs.Parts.{FileBytes, props_in_full, parts_of, all_parts_of, chain, child_found};
 
 use crate::fault::{Construct, FaultKind};
 use crate::growth::{copied, out_of_memory};

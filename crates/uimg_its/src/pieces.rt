@@ -1,9 +1,8 @@
 //! The start of a text: a gap, a word, or neither.
 
 ghost use Rattle.std.specs.Prelude.{◌≡◌, ◌≤◌, ◌<◌, ◌-◌, length, drop, slice_index, IfSome};
-ghost use Rattle.uimg_its.specs.Strings.{string_end};
+ghost use Rattle.uimg_its.specs.{Strings.string_end, Seen.{seen_word, IsFoundPiece}};
 ghost use Rattle.uimg_its.specs.Words.{comment, slash_piece, string_piece, name_word, piece};
-ghost use Rattle.uimg_its.specs.Seen.{seen_word, IsFoundPiece};
 
 use crate::bytes::{
     after, directive_length, is_blank, is_name_byte, line_length, mark_of, name_length,

@@ -2,14 +2,10 @@
 
 ghost use Rattle.std.specs.Prelude.{◌≡◌, ◌<◌, ◌≤◌, ◌++◌, ◌∷◌, [], false, IfOk, OnOk, length, map};
 ghost use Rattle.uimg_base.specs.Named.{FileMap};
-ghost use Rattle.uimg_blob_writing.specs.Properties.{property, content};
-ghost use Rattle.uimg_blob_writing.specs.LentFiles.{OfHonest};
-ghost use Rattle.uimg_its.specs.Words.{words};
-ghost use Rattle.uimg_its.specs.Answers.{Gives, OnlyMemory, OpensFiles};
-ghost use Rattle.uimg_its.specs.Steps.{step_front};
-ghost use Rattle.uimg_its.specs.Parts.{props_in_full};
+ghost use Rattle.uimg_blob_writing.specs.{Properties.{property, content}, LentFiles.OfHonest};
+ghost use Rattle.uimg_its.specs.{Words.words, Steps.step_front, Reader.{property_step, properties}};
+ghost use Rattle.uimg_its.specs.{Answers.{Gives, OnlyMemory, OpensFiles}, Parts.props_in_full};
 ghost use Rattle.uimg_its.specs.FileValues.{IsSoundIn, AreSound};
-ghost use Rattle.uimg_its.specs.Reader.{property_step, properties};
 
 use crate::growth::{copied, out_of_memory};
 use crate::items::{Item, read_item};

@@ -1,7 +1,6 @@
 //! Why and where reading stopped: the fault of a word at its place.
 
 ghost use Rattle.uimg_its.specs.Answers.{IsInText};
-ghost use Rattle.uimg_its.specs.declared.fault.FaultKind.TheVariants as kinds;
 
 use crate::fault::{Construct, FaultKind};
 use crate::tokens::{Mark, Token, Word};

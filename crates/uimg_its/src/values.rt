@@ -1,16 +1,12 @@
 //! Values, some of which stay files.
 
 ghost use Rattle.std.specs.Prelude.{◌≡◌, ◌<◌, ◌≤◌, Some, IfSome, IfOk, length, codes, false};
-ghost use Rattle.uimg_blob_writing.specs.Content.{content_bytes};
-ghost use Rattle.uimg_blob_writing.specs.Properties.{content};
+ghost use Rattle.uimg_blob_writing.specs.{Content.content_bytes, Properties.content};
 ghost use Rattle.uimg_blob_writing.specs.LentFiles.{OfHonest};
-ghost use Rattle.uimg_its.specs.Words.{words};
-ghost use Rattle.uimg_its.specs.Answers.{Gives, IsOutside, OpensFiles};
-ghost use Rattle.uimg_its.specs.Reading.{ReadsText};
-ghost use Rattle.uimg_its.specs.Steps.{with_front, step_front};
+ghost use Rattle.uimg_its.specs.{Words.words, Answers.{Gives, IsOutside, OpensFiles}};
+ghost use Rattle.uimg_its.specs.{Reading.ReadsText, Steps.{with_front, step_front}, Seen.seen_word};
 ghost use Rattle.uimg_its.specs.Reader.{is_last_value, spelled_value, value_step, values};
 ghost use Rattle.uimg_its.specs.FileValues.{IsSoundIn};
-ghost use Rattle.uimg_its.specs.Seen.{seen_word};
 
 use crate::growth::{append, append_string};
 use crate::incbin::{file, kept, lone_file};

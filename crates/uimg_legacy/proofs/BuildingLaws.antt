@@ -1,16 +1,10 @@
 -- What is told of an image that is built.
 use Rattle.std.proofs.Common.{◌≡◌, ◌<◌, ℕ, ◌^◌, List, [], length, Bool, false, true≢false, Result, Ok, Err, refl, arith}
-use Rattle.std.specs.List.{All}
-use Rattle.std.proofs.lemmas.List.{get_or_default}
-use Rattle.uimg_base.specs.Sink.{Sink}
-use Rattle.std.specs.Prelude.{is_err}
-use Rattle.uimg_base.specs.Writing.{Written}
-use Rattle.uimg_base.specs.Outcome.{Tells}
-use Rattle.uimg_legacy.specs.declared.options.Options.{Options}
-use Rattle.uimg_legacy.specs.declared.fault.Fault.{Fault}
-use Rattle.uimg_legacy.specs.declared.fault.Fault.TheVariants.{Legacy, Read, Put}
+use Rattle.std.{specs.{List.All, Prelude.is_err}, proofs.lemmas.List.get_or_default}
+use Rattle.uimg_base.specs.{Sink.Sink, Writing.Written, Outcome.Tells}
+use Rattle.uimg_legacy.specs.{declared.options.Options.Options, Faults.{is_refused, built_end}}
+use Rattle.uimg_legacy.specs.declared.fault.Fault.{Fault, TheVariants.{Legacy, Read, Put}}
 use Rattle.uimg_legacy.specs.Building.{data_of, data_to_build, legacy_image, build_of}
-use Rattle.uimg_legacy.specs.Faults.{is_refused, built_end}
 use Rattle.uimg_legacy.proofs.PlacedPartsLaws.{part_fits}
 
 -- each part is as short as the data

@@ -1,15 +1,9 @@
 -- A window of the table of sizes: its words, and how many of them are sizes.
 use Rattle.std.proofs.Common.{◌≡◌, ◌≤◌, ◌<◌, ℕ, zero, suc, ◌+◌, ◌-◌, ◌*◌, List, [], ◌∷◌, length, take, drop, get_or, Bool, true, false, not, cond, ◌==◌, min, ◌∙◌, ap, sym, refl, arith}
-use Rattle.std.specs.Prelude.{sum_by}
-use Rattle.std.specs.List.{prefix_len}
-use Rattle.std.proofs.Math.Seq.{take-add}
-use Rattle.std.proofs.lemmas.List.{take-take, drop-drop}
-use Rattle.std.proofs.lemmas.List.Sums.{prefix_len-le-length, sum_by-append}
-use Rattle.uimg_texts.specs.Slices.{slice}
-use Rattle.uimg_texts.specs.Numbers.{be32, up4}
-use Rattle.uimg_legacy.specs.Words.{whole_words}
-use Rattle.uimg_legacy.specs.Parts.{sizes, start}
-use Rattle.uimg_legacy.specs.Reading.{window}
+use Rattle.std.{specs.{Prelude.sum_by, List.prefix_len}, proofs.Math.Seq.take-add}
+use Rattle.std.proofs.lemmas.List.{take-take, drop-drop, Sums.{prefix_len-le-length, sum_by-append}}
+use Rattle.uimg_texts.specs.{Slices.slice, Numbers.{be32, up4}}
+use Rattle.uimg_legacy.specs.{Words.whole_words, Parts.{sizes, start}, Reading.window}
 use Rattle.uimg_legacy.proofs.PartsLaws.{cond_le, slice-slice, length-sizes, table_words}
 
 four : (n : ℕ) → 4 * suc n ≡ suc (suc (suc (suc (4 * n))))

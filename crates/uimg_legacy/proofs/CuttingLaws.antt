@@ -1,13 +1,10 @@
 -- Parts that are cut by their sizes, and those of them that are asked for.
 use Rattle.std.proofs.Common.{◌≡◌, ◌≢◌, ◌≤◌, ◌<◌, ◌+◌, ◌-◌, ◌*◌, ℕ, zero, suc, List, [], ◌∷◌, ◌++◌, length, length-append, take, drop, Bool, true, false, nat_lt, Option, Result, Ok, Err, refl, ap, sym, ◌∙◌, arith}
-use Rattle.std.specs.Prelude.{sum_by, if◌then◌else◌}
-use Rattle.std.specs.List.{AllByRecursion}
-use Rattle.std.proofs.lemmas.Bool.{lt-ltb, le-ltb, ltb-false}
+use Rattle.std.specs.{Prelude.{sum_by, if◌then◌else◌}, List.AllByRecursion}
+use Rattle.std.proofs.lemmas.{Bool.{lt-ltb, le-ltb, ltb-false}, List.Sums.sum_by-cons}
 use Rattle.std.proofs.lemmas.List.{append_assoc, append-nil, take-append-le, drop-append-le, length-drop}
-use Rattle.std.proofs.lemmas.List.Sums.{sum_by-cons}
 use Rattle.uimg_texts.specs.Numbers.{be32, up4}
-use Rattle.uimg_legacy.specs.declared.fault.LegacyFault.{LegacyFault}
-use Rattle.uimg_legacy.specs.declared.fault.LegacyFault.TheVariants.{PartOutside}
+use Rattle.uimg_legacy.specs.declared.fault.LegacyFault.{LegacyFault, TheVariants.PartOutside}
 use Rattle.uimg_legacy.specs.Words.{whole_words}
 use Rattle.uimg_legacy.specs.Unpacking.{Part, part_before, parts_by, part_if, is_part_asked, chosen_parts}
 
@@ -135,10 +132,6 @@ word_of (a ∷ b ∷ []) h = absurd (omega (arith, h))
 word_of (a ∷ b ∷ c ∷ []) h = absurd (omega (arith, h))
 word_of (a ∷ b ∷ c ∷ d ∷ []) h = refl
 word_of (a ∷ b ∷ c ∷ d ∷ e ∷ rest) h = absurd (omega (arith, h))
-
-pub words_none : whole_words [] ≡ []
-unfolding whole_words
-words_none = refl
 
 -- how many words there are
 pub count_words : (xs : List ℕ) (n : ℕ) → length xs ≡ 4 * n → length (whole_words xs) ≡ n

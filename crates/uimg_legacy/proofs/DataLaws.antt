@@ -1,24 +1,15 @@
 -- The data that were summed, and the parts that they have.
 use Rattle.std.proofs.Common.{◌≡◌, ◌≢◌, ◌≤◌, ◌<◌, ◌+◌, ◌-◌, ◌*◌, ℕ, zero, suc, List, [], ◌∷◌, ◌++◌, length, length-append, take, drop, get_or, Bool, true, false, true≢false, not, ◌==◌, ◌&&◌, ◌||◌, IsTrue, Option, Some, None, Result, Ok, Err, refl, ap, sym, subst, ◌∙◌, arith}
 use Rattle.std.specs.List.{AllByRecursion, list_any, before_first, prefix_len}
-use Rattle.std.proofs.Math.Dec.{eqb-suc-zero}
-use Rattle.std.proofs.lemmas.Bool.{ltb-true, eq-eqb, eqb-true, not-false}
+use Rattle.std.proofs.{Math.Dec.eqb-suc-zero, lemmas.Bool.{ltb-true, eq-eqb, eqb-true, not-false}}
 use Rattle.std.proofs.lemmas.List.{append_assoc, append-nil, drop_at, drop-take, drop-drop}
 use Rattle.std.proofs.lemmas.List.Sums.{prefix_len_stops}
-use Rattle.uimg_sums.specs.Crc.{crc}
-use Rattle.uimg_sums.specs.declared.crc.Crc.{Crc}
-use Rattle.uimg_sums.specs.CrcSums.{Holds}
-use Rattle.uimg_texts.specs.Numbers.{be32}
-use Rattle.uimg_texts.specs.Slices.{slice}
-use Rattle.uimg_base.specs.Device.{Device, SameDevice}
-use Rattle.uimg_base.proofs.Slices.{slice-add, length-slice}
-use Rattle.uimg_legacy.specs.declared.header.Header.{Header}
-use Rattle.uimg_legacy.specs.declared.fault.LegacyFault.{LegacyFault}
-use Rattle.uimg_legacy.specs.declared.fault.Fault.{Fault}
-use Rattle.uimg_legacy.specs.declared.fault.Fault.TheVariants.{Legacy, Read, Put}
-use Rattle.uimg_legacy.specs.declared.unpacking.takes.Walk.{Walk}
-use Rattle.uimg_legacy.specs.Words.{whole_words}
-use Rattle.uimg_legacy.specs.Image.{payload}
+use Rattle.uimg_sums.specs.{Crc.crc, declared.crc.Crc.Crc, CrcSums.Holds}
+use Rattle.uimg_texts.specs.{Numbers.be32, Slices.slice}
+use Rattle.uimg_base.{specs.Device.{Device, SameDevice}, proofs.Slices.{slice-add, length-slice}}
+use Rattle.uimg_legacy.specs.declared.{header.Header.Header, fault.LegacyFault.LegacyFault}
+use Rattle.uimg_legacy.specs.declared.fault.Fault.{Fault, TheVariants.{Legacy, Read, Put}}
+use Rattle.uimg_legacy.specs.{declared.unpacking.takes.Walk.Walk, Words.whole_words, Image.payload}
 use Rattle.uimg_legacy.specs.Parts.{has_parts, sizes, part_sizes}
 use Rattle.uimg_legacy.specs.Unpacking.{Part, part_if, is_part_asked, is_there, chosen_parts, parts_by, parts_in}
 use Rattle.uimg_legacy.specs.UnpackingSteps.{SumsPieceBetween, TakesPartBetween, Walked, RefusesBy, HoldsParts, IsWrong, TakesDataBetween}

@@ -1,7 +1,6 @@
 -- Whether one of the parts is empty, one part at a time.
 use Rattle.std.proofs.Common.{◌≡◌, ◌≢◌, ◌<◌, ◌+◌, ℕ, zero, suc, List, [], length, take, get_or, true, false, ◌==◌, ◌∙◌, refl}
-use Rattle.std.proofs.Math.Dec.{eqb-suc-zero}
-use Rattle.std.proofs.lemmas.List.Folds.{list_any_more, list_any_at}
+use Rattle.std.proofs.{Math.Dec.eqb-suc-zero, lemmas.List.Folds.{list_any_more, list_any_at}}
 use Rattle.uimg_legacy.specs.Building.{has_empty}
 
 -- no parts

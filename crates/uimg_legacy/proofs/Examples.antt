@@ -1,23 +1,17 @@
 -- Worked cases, so that a wrong rule in a definition does not check.
-use Rattle.std.proofs.Common.{◌≡◌, ℕ, List, [], ◌∷◌, ◌++◌, Ok, Err, refl}
-use Rattle.std.specs.Prelude.{codes}
+use Rattle.std.{proofs.Common.{◌≡◌, ℕ, List, [], ◌∷◌, ◌++◌, Ok, Err, refl}, specs.Prelude.codes}
 use Rattle.hex.specs.Hex.{encode_with}
 use Rattle.uimg_sums.specs.Crc.{crc, bits, number_of, xor_bits, polynomial, rem_by, rem, dividend, invert_prefix}
 use Rattle.uimg_base.specs.Outcome.{done, refused, told, after, line}
-use Rattle.uimg_texts.specs.Calendar.{civil_date}
-use Rattle.uimg_texts.specs.Times.{time_text}
-use Rattle.uimg_legacy.specs.declared.fault.LegacyFault.TheVariants.{NoTableEnd, PartOutside, NoSuchPart, EmptyPart}
-use Rattle.uimg_texts.specs.Numbers.{be32}
+use Rattle.uimg_texts.specs.{Calendar.civil_date, Times.time_text, Numbers.be32}
 use Rattle.uimg_texts.specs.Nul.{before_nul, text}
-use Rattle.uimg_legacy.specs.Words.{whole_words}
+use Rattle.uimg_legacy.specs.declared.fault.LegacyFault.TheVariants.{NoTableEnd, PartOutside, NoSuchPart, EmptyPart}
+use Rattle.uimg_legacy.specs.{Words.whole_words, Image.has_right_data, Report.verify_of}
 use Rattle.uimg_legacy.specs.Header.{head, has_right_crc, fields, header, spelled_with}
-use Rattle.uimg_legacy.specs.Image.{has_right_data}
 use Rattle.uimg_legacy.specs.Parts.{has_parts, sizes, part_sizes, start, is_outside}
-use Rattle.uimg_legacy.specs.Report.{verify_of}
 use Rattle.uimg_legacy.specs.Extraction.{listed_part, single, extract_of}
 use Rattle.uimg_legacy.specs.Building.{joined, size_table, has_empty, data_to_build, legacy_built}
-use Rattle.uimg_names.specs.declared.naming.Naming.TheVariants.{Profile}
-use Rattle.uimg_names.specs.Naming.{code_text}
+use Rattle.uimg_names.specs.{declared.naming.Naming.TheVariants.Profile, Naming.code_text}
 use Rattle.uimg_legacy.specs.Listing.{name_line, time_line, type_line, load_line, entry_line, head_text, part_line, part_lines, list_of}
 
 -- parts of 3, 4 and 5 bytes, each but the last padded to a multiple of 4

@@ -1,27 +1,19 @@
 -- The parts that are kept are those that extractions write.
-use Rattle.std.proofs.Common.{◌≡◌, ◌≤◌, ◌<◌, ◌+◌, ◌-◌, ◌*◌, ℕ, zero, suc, List, [], ◌∷◌, ◌++◌, length, take, drop, get_or, Bool, true, false, nat_lt, nat_le, ◌==◌, IsTrue, Option, Some, None, Result, Ok, Err, refl, ap, sym, subst, ◌∙◌, arith}
-use Rattle.std.specs.Prelude.{sum_by, if◌then◌else◌}
-use Rattle.std.specs.List.{AllByRecursion, list_any}
-use Rattle.std.proofs.lemmas.Bool.{lt-leb, le-ltb, ltb-false}
-use Rattle.std.proofs.lemmas.List.{length-drop, drop-drop}
+use Rattle.std.proofs.Common.{◌≡◌, ◌≤◌, ◌<◌, ◌+◌, ◌-◌, ◌*◌, ℕ, zero, suc, List, [], ◌∷◌, ◌++◌, length, take, drop, get_or, Bool, true, false, nat_lt, nat_le, ◌==◌, Option, Some, Result, Ok, Err, refl, ap, sym, subst, ◌∙◌, arith}
+use Rattle.std.specs.{Prelude.{sum_by, if◌then◌else◌}, List.{AllByRecursion, list_any}}
+use Rattle.std.proofs.lemmas.{Bool.{lt-leb, le-ltb, ltb-false}, List.{length-drop, drop-drop}}
 use Rattle.std.proofs.lemmas.List.Sums.{sum_by-cons}
 use Rattle.uimg_sums.specs.Crc.{crc}
-use Rattle.uimg_texts.specs.Slices.{slice}
-use Rattle.uimg_texts.specs.Numbers.{up4}
-use Rattle.uimg_base.specs.Outcome.{done, told}
-use Rattle.uimg_base.specs.Results.{◌>>=◌}
-use Rattle.uimg_legacy.specs.declared.header.Header.{Header}
-use Rattle.uimg_legacy.specs.declared.fault.LegacyFault.{LegacyFault}
-use Rattle.uimg_legacy.specs.declared.fault.LegacyFault.TheVariants.{NoTableEnd, NoSuchPart, Truncated}
-use Rattle.uimg_legacy.specs.declared.fault.Fault.{Fault}
-use Rattle.uimg_legacy.specs.Words.{whole_words}
-use Rattle.uimg_legacy.specs.Header.{header}
-use Rattle.uimg_legacy.specs.Image.{payload, has_right_data, legacy}
+use Rattle.uimg_texts.specs.{Slices.slice, Numbers.up4}
+use Rattle.uimg_base.specs.{Outcome.{done, told}, Results.◌>>=◌}
+use Rattle.uimg_legacy.specs.declared.{header.Header.Header, fault.LegacyFault.LegacyFault}
+use Rattle.uimg_legacy.specs.{declared.fault.Fault.Fault, Words.whole_words, Header.header}
+use Rattle.uimg_legacy.specs.Image.{payload, has_right_data}
 use Rattle.uimg_legacy.specs.Parts.{has_parts, sizes, part_sizes, start, is_outside}
 use Rattle.uimg_legacy.specs.Extraction.{listed_part, single, part_of_data, extract_of}
-use Rattle.uimg_legacy.specs.Unpacking.{Part, parts_by, parts_in, part_if, is_part_asked, is_there, chosen_parts, kept_if, data_there, unpacked, unpack_of, UnpacksBetween, ExtractsBetween}
-use Rattle.uimg_legacy.proofs.PartsLaws.{sizes-at, sizes_end}
-use Rattle.uimg_legacy.proofs.ChunkLaws.{sizes-le-words}
+use Rattle.uimg_legacy.specs.declared.fault.LegacyFault.TheVariants.{NoTableEnd, NoSuchPart, Truncated}
+use Rattle.uimg_legacy.specs.Unpacking.{Part, parts_by, parts_in, part_if, is_part_asked, is_there, chosen_parts, kept_if, data_there, unpack_of, UnpacksBetween, ExtractsBetween}
+use Rattle.uimg_legacy.proofs.{PartsLaws.{sizes-at, sizes_end}, ChunkLaws.sizes-le-words}
 use Rattle.uimg_legacy.proofs.CuttingLaws.{cut_first, positive}
 
 -- there are as many parts as sizes

@@ -1,17 +1,14 @@
 -- A header's bytes and its fields, each from the other.
 use Rattle.std.proofs.Common.{◌≡◌, ◌≤◌, ◌<◌, ℕ, ◌+◌, ◌-◌, ◌^◌, List, ◌∷◌, ◌++◌, length, take, drop, replicate, min, get_or, Bool, true, false, Ok, Err, nat_lt, ◌==◌, if◌then◌else◌, inl, inr, lit<, append-nil, append_assoc, length-take, length-drop, ◌∙◌, ap, sym, refl, arith, take-append-drop}
-use Rattle.std.specs.Int.{to_be_bytes, w32}
+use Rattle.std.{specs.Int.{to_be_bytes, w32}, proofs.lemmas.Bool.{cases_lt, eq-eqb, eqb-true}}
 use Rattle.std.proofs.lemmas.Nat.{be_bytes_4, from_be_bytes-to_be_bytes_4}
-use Rattle.std.proofs.lemmas.List.{take_all, take-append-le, take-replicate, drop-replicate, drop-drop, get_or-take, get_or-drop, drop_more, get_or_past}
-use Rattle.std.proofs.lemmas.Bool.{cases_lt, eq-eqb, eqb-true}
 use Rattle.std.proofs.Math.Seq.{take-append-add}
-use Rattle.uimg_texts.specs.Slices.{slice}
+use Rattle.std.proofs.lemmas.List.{take_all, take-append-le, take-replicate, drop-replicate, drop-drop, get_or-take, get_or-drop, drop_more, get_or_past}
+use Rattle.uimg_texts.specs.{Slices.slice, Numbers.be32}
 use Rattle.uimg_base.proofs.Slices.{length-slice}
-use Rattle.uimg_sums.specs.Crc.{crc}
-use Rattle.uimg_sums.proofs.CrcLaw.{crc_fits}
+use Rattle.uimg_sums.{specs.Crc.crc, proofs.CrcLaw.crc_fits}
 use Rattle.uimg_legacy.specs.declared.header.Header.{Header}
 use Rattle.uimg_legacy.specs.declared.fault.LegacyFault.TheVariants.{TooShort, BadMagic}
-use Rattle.uimg_texts.specs.Numbers.{be32}
 use Rattle.uimg_legacy.specs.Header.{magic, head, has_right_crc, without_crc, fields, header, spelled_with, spelled, padded_name}
 
 -- a part of a list, and what stands after it

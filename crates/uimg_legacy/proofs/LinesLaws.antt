@@ -1,9 +1,7 @@
 -- Lines of the listing, joined from pieces.
 use Rattle.std.proofs.Common.{◌≡◌, ◌<◌, ◌≤◌, ◌+◌, ◌-◌, ℕ, zero, suc, List, [], ◌∷◌, ◌++◌, length, get_or, true, false, append_assoc, add-one, refl, arith}
-use Rattle.std.specs.Prelude.{codes, slice_index}
-use Rattle.std.proofs.lemmas.Bool.{lt-ltb, le-ltb}
-use Rattle.uimg_base.specs.Outcome.{done, told}
-use Rattle.uimg_base.specs.Sink.{Sink, AppendsAll}
+use Rattle.std.{specs.Prelude.{codes, slice_index}, proofs.lemmas.Bool.{lt-ltb, le-ltb}}
+use Rattle.uimg_base.specs.{Outcome.{done, told}, Sink.{Sink, AppendsAll}}
 use Rattle.uimg_base.proofs.SinkLaws.{Appends-none}
 use Rattle.uimg_legacy.specs.Parts.{start, is_outside}
 use Rattle.uimg_legacy.specs.Listing.{labelled, type_text, part_line, part_lines, part_step}

@@ -1,17 +1,10 @@
 -- What was done to one part was done to the parts.
 use Rattle.std.proofs.Common.{◌≡◌, ◌<◌, ◌++◌, ℕ, List, length, map, get_or, set, Bool, false, IsTrue, Result, arith}
-use Rattle.std.specs.Prelude.{is_err}
-use Rattle.std.specs.Result.{OnOk}
-use Rattle.std.proofs.lemmas.List.{take_all}
+use Rattle.std.{specs.{Prelude.is_err, Result.OnOk}, proofs.lemmas.List.take_all}
 use Rattle.uimg_texts.specs.Slices.{slice}
-use Rattle.uimg_base.specs.Device.{Device, RisesIf}
-use Rattle.uimg_base.specs.Sink.{Sink}
-use Rattle.uimg_base.specs.Using.{Uses}
-use Rattle.uimg_base.specs.Writing.{Written}
-use Rattle.uimg_base.specs.Ranges.{Copies}
-use Rattle.uimg_base.specs.declared.source.SourceFault.{SourceFault}
-use Rattle.uimg_legacy.specs.declared.fault.Fault.{Fault}
-use Rattle.uimg_legacy.specs.Devices.{AreHonest, UsesAll, bytes_of}
+use Rattle.uimg_base.specs.{Device.{Device, RisesIf}, Sink.Sink, Using.Uses, Writing.Written}
+use Rattle.uimg_base.specs.{Ranges.Copies, declared.source.SourceFault.SourceFault}
+use Rattle.uimg_legacy.specs.{declared.fault.Fault.Fault, Devices.{AreHonest, UsesAll, bytes_of}}
 use Rattle.uimg_legacy.specs.PartSteps.{FeedsBetween, PutsPartsBetween, numbered}
 use Rattle.uimg_legacy.specs.Faults.{is_read, is_put, is_refused}
 use Rattle.uimg_legacy.proofs.DevicesLaws.{bytes_at, honest_at, uses_after}

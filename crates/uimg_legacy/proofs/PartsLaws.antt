@@ -1,20 +1,14 @@
 -- The table of sizes: its words, its end, and where parts start.
 use Rattle.std.proofs.Common.{◌≡◌, ◌≢◌, ◌≤◌, ◌<◌, ℕ, zero, suc, ◌+◌, ◌-◌, ◌*◌, ◌^◌, List, [], ◌∷◌, length, take, drop, get_or, Bool, true, false, not, cond, nat_lt, nat_le, ◌==◌, Ok, Err, ◌∙◌, ap, sym, subst, refl, arith, length-take}
-use Rattle.std.specs.Prelude.{sum_by}
-use Rattle.std.specs.Int.{from_be_bytes, w32}
-use Rattle.std.specs.List.{prefix_len, list_any}
-use Rattle.std.proofs.lemmas.Bool.{not-false, lt-leb, lt-ltb, le-ltb}
-use Rattle.std.proofs.Math.Dec.{eqb-suc-zero}
-use Rattle.std.proofs.lemmas.Grind.{common_steps}
+use Rattle.std.specs.{Prelude.sum_by, Int.{from_be_bytes, w32}, List.{prefix_len, list_any}}
+use Rattle.std.proofs.{lemmas.Bool.{not-false, lt-leb, lt-ltb, le-ltb}, Math.Dec.eqb-suc-zero}
+use Rattle.std.proofs.lemmas.{Grind.common_steps, List.Folds.list_any_at}
 use Rattle.std.proofs.lemmas.List.{take-take, drop-take, drop-drop, get_or-take, take_more}
-use Rattle.std.proofs.lemmas.List.Folds.{list_any_at}
 use Rattle.std.proofs.lemmas.List.Sums.{prefix_len-le-length, prefix_len_stops, sum_by_push}
-use Rattle.uimg_texts.specs.Slices.{slice}
+use Rattle.uimg_texts.specs.{Slices.slice, Numbers.{be32, up4}}
 use Rattle.uimg_base.proofs.Slices.{length-slice}
 use Rattle.uimg_legacy.specs.declared.fault.LegacyFault.TheVariants.{NoTableEnd, PartOutside, NoSuchPart}
-use Rattle.uimg_texts.specs.Numbers.{be32, up4}
-use Rattle.uimg_legacy.specs.Words.{whole_words}
-use Rattle.uimg_legacy.specs.Parts.{sizes, part_sizes, start, is_outside}
+use Rattle.uimg_legacy.specs.{Words.whole_words, Parts.{sizes, part_sizes, start, is_outside}}
 use Rattle.uimg_legacy.specs.Extraction.{listed_part}
 
 -- word i is the number at its place

@@ -1,14 +1,10 @@
 -- Where each part stands in the data that are built, and that it is read from there.
 use Rattle.std.proofs.Common.{◌≡◌, ◌≤◌, ◌<◌, ℕ, zero, suc, ◌+◌, ◌-◌, ◌*◌, List, [], ◌∷◌, ◌++◌, length, take, drop, map, get_or, Bool, true, false, nat_le, Ok, length-append, append_assoc, ◌∙◌, ap, sym, refl, arith}
-use Rattle.std.specs.Prelude.{sum_by}
-use Rattle.std.proofs.lemmas.Bool.{le-ltb, lt-leb}
+use Rattle.std.{specs.Prelude.sum_by, proofs.lemmas.{Bool.{le-ltb, lt-leb}, List.Sums.sum_by-cons}}
 use Rattle.std.proofs.lemmas.List.{take_all, take_at, drop_at, drop-drop, length-map, length-replicate, get_or-map}
-use Rattle.std.proofs.lemmas.List.Sums.{sum_by-cons}
-use Rattle.uimg_texts.specs.Slices.{slice}
-use Rattle.uimg_texts.specs.Numbers.{up4}
-use Rattle.uimg_legacy.specs.Parts.{start, is_outside}
+use Rattle.uimg_texts.specs.{Slices.slice, Numbers.up4}
+use Rattle.uimg_legacy.specs.{Parts.{start, is_outside}, Extraction.listed_part}
 use Rattle.uimg_legacy.specs.Building.{padding, joined, size_table, data_of}
-use Rattle.uimg_legacy.specs.Extraction.{listed_part}
 use Rattle.uimg_legacy.proofs.TableLaws.{length-table}
 
 -- where part i stands in the joined parts

@@ -1,8 +1,7 @@
 -- The places of parts, one at a time.
 use Rattle.std.proofs.Common.{◌≡◌, ◌<◌, ◌≤◌, ◌+◌, ◌-◌, ℕ, zero, suc, List, [], ◌∷◌, ◌++◌, append_assoc, append-nil, add-one, refl, ap, sym, ◌∙◌, arith, Bool, true, false, Result, Ok, Err}
 use Rattle.uimg_base.specs.declared.spans.Span.{Span}
-use Rattle.uimg_legacy.specs.declared.fault.LegacyFault.{LegacyFault}
-use Rattle.uimg_legacy.specs.declared.fault.LegacyFault.TheVariants.{PartOutside}
+use Rattle.uimg_legacy.specs.declared.fault.LegacyFault.{LegacyFault, TheVariants.PartOutside}
 use Rattle.uimg_legacy.specs.Parts.{is_outside}
 use Rattle.uimg_legacy.specs.Placing.{spans_before, span_of_part, place_step, places}
 

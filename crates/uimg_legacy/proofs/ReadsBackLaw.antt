@@ -2,23 +2,17 @@
 use Rattle.std.proofs.Common.{◌≡◌, ◌≤◌, ◌<◌, ℕ, zero, suc, ◌+◌, List, [], ◌∷◌, ◌++◌, length, map, get_or, Bool, true, false, nat_lt, ◌==◌, ◌&&◌, if◌then◌else◌, Result, Ok, Err, length-append, ◌∙◌, ap, sym, refl, arith}
 use Rattle.std.proofs.lemmas.Bool.{le-ltb, ltb-false, eq-eqb}
 use Rattle.std.proofs.lemmas.List.{take_all, take_at, drop_at, length-map}
-use Rattle.uimg_base.specs.Outcome.{done}
-use Rattle.uimg_base.specs.Results.{◌>>=◌}
+use Rattle.uimg_base.specs.{Outcome.done, Results.◌>>=◌}
 use Rattle.uimg_sums.specs.Crc.{crc}
-use Rattle.uimg_legacy.specs.declared.header.Header.{Header}
-use Rattle.uimg_legacy.specs.declared.options.Options.{Options}
-use Rattle.uimg_legacy.specs.declared.fault.LegacyFault.{LegacyFault}
+use Rattle.uimg_legacy.specs.declared.{header.Header.Header, options.Options.Options}
+use Rattle.uimg_legacy.specs.{declared.fault.LegacyFault.LegacyFault, Parts.{has_parts, is_outside}}
 use Rattle.uimg_legacy.specs.declared.fault.LegacyFault.TheVariants.{EmptyPart, TooLarge}
 use Rattle.uimg_legacy.specs.Header.{head, has_right_crc, fields, header_with, header, spelled}
-use Rattle.uimg_legacy.specs.Image.{payload, has_right_data, legacy}
-use Rattle.uimg_legacy.specs.Parts.{has_parts, is_outside}
-use Rattle.uimg_legacy.specs.Report.{verify_of}
-use Rattle.uimg_legacy.specs.Listing.{part_lines, tail_with}
-use Rattle.uimg_legacy.specs.Extraction.{single, part_of_data}
-use Rattle.uimg_legacy.specs.Building.{joined, size_table, data_of, header_for, legacy_image, has_empty, data_to_build}
+use Rattle.uimg_legacy.specs.{Image.{payload, has_right_data, legacy}, Report.verify_of}
+use Rattle.uimg_legacy.specs.{Listing.{part_lines, tail_with}, Extraction.{single, part_of_data}}
 use Rattle.uimg_legacy.specs.ReadsBack.{right_report, ReadsBack}
-use Rattle.uimg_legacy.proofs.TableLaws.{parts-table}
-use Rattle.uimg_legacy.proofs.PlacedPartsLaws.{part_inside, part-slice}
+use Rattle.uimg_legacy.specs.Building.{joined, size_table, data_of, header_for, legacy_image, has_empty, data_to_build}
+use Rattle.uimg_legacy.proofs.{TableLaws.parts-table, PlacedPartsLaws.{part_inside, part-slice}}
 
 -- the head of 64 bytes is that of an image that begins with them
 pub head-append : (bytes rest : List ℕ) → length bytes ≡ 64 → head (bytes ++ rest) ≡ head bytes

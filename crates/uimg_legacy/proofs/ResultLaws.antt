@@ -1,6 +1,5 @@
 -- What follows where there is a value.
-use Rattle.std.proofs.Common.{Result, Ok, Err}
-use Rattle.std.specs.Result.{OnOk}
+use Rattle.std.{proofs.Common.{Result, Ok, Err}, specs.Result.OnOk}
 
 pub OnOk-then : {T E : Type 0} (r : Result T E) (P Q : Type 0) → (P → Q) → OnOk r P → OnOk r Q
 OnOk-then (Ok x) P Q f p = f p

@@ -1,12 +1,8 @@
 -- A source that was called.
 use Rattle.std.proofs.Common.{◌≡◌, List, ℕ, Bool, false, IsTrue, Result, ◌∙◌, subst, sym}
-use Rattle.uimg_base.specs.declared.status.Status.{Status}
-use Rattle.uimg_base.specs.Device.{Device, SameDevice, RisesIf}
-use Rattle.uimg_base.specs.Held.{Held}
-use Rattle.uimg_base.specs.Sink.{Sink}
-use Rattle.uimg_base.specs.Outcome.{Outcome, Tells}
-use Rattle.uimg_legacy.specs.declared.fault.LegacyFault.{LegacyFault}
-use Rattle.uimg_legacy.specs.declared.fault.Fault.{Fault}
+use Rattle.uimg_base.specs.{declared.status.Status.Status, Device.{Device, SameDevice, RisesIf}}
+use Rattle.uimg_base.specs.{Held.Held, Sink.Sink, Outcome.{Outcome, Tells}}
+use Rattle.uimg_legacy.specs.declared.fault.{LegacyFault.LegacyFault, Fault.Fault}
 use Rattle.uimg_legacy.specs.Faults.{is_read, is_put, is_of_making, end_of}
 use Rattle.uimg_legacy.specs.Reading.{ReadsBetween, ReportsBetween}
 

@@ -1,12 +1,9 @@
 -- The table of sizes that is built is read as the parts' lengths.
 use Rattle.std.proofs.Common.{◌≡◌, ◌≤◌, ◌<◌, ℕ, ◌+◌, ◌*◌, ◌^◌, List, [], ◌∷◌, ◌++◌, length, map, Bool, true, false, Ok, ◌==◌, length-append, append_assoc, one-add, ◌∙◌, ap, refl, arith}
-use Rattle.std.specs.Int.{to_be_bytes, w32}
-use Rattle.std.specs.List.{flat_map, list_any, before_first}
-use Rattle.std.proofs.lemmas.Nat.{from_be_bytes-to_be_bytes_4}
-use Rattle.std.proofs.lemmas.Bool.{or_parts}
+use Rattle.std.specs.{Int.{to_be_bytes, w32}, List.{flat_map, list_any, before_first}}
+use Rattle.std.proofs.lemmas.{Nat.from_be_bytes-to_be_bytes_4, Bool.or_parts}
 use Rattle.uimg_texts.specs.Numbers.{be32}
-use Rattle.uimg_legacy.specs.Words.{whole_words}
-use Rattle.uimg_legacy.specs.Parts.{sizes, part_sizes}
+use Rattle.uimg_legacy.specs.{Words.whole_words, Parts.{sizes, part_sizes}}
 use Rattle.uimg_legacy.specs.Building.{padding, joined, size_table, has_empty}
 use Rattle.uimg_legacy.proofs.PartsLaws.{parts_some}
 

@@ -1,14 +1,10 @@
 -- Parts that are taken, each with the bytes behind it.
 use Rattle.std.proofs.Common.{◌≡◌, ◌≤◌, ◌+◌, ◌-◌, ℕ, List, [], ◌++◌, length, take, drop, length-append, Bool, IsTrue, Option, Some, None, ap, sym, subst, ◌∙◌, arith}
-use Rattle.std.specs.Io.KnownBytes.{Appends}
+use Rattle.std.specs.{Io.KnownBytes.Appends, Int.{from_be_bytes, w32}}
 use Rattle.std.proofs.lemmas.List.{append_assoc, take-take, take-append-le, take_all}
-use Rattle.uimg_sums.specs.declared.crc.Crc.{Crc}
-use Rattle.uimg_sums.specs.CrcSums.{Holds}
-use Rattle.std.specs.Int.{from_be_bytes, w32}
-use Rattle.uimg_texts.specs.Slices.{slice}
-use Rattle.uimg_texts.specs.Numbers.{be32}
-use Rattle.uimg_base.specs.Device.{Device, SameDevice}
-use Rattle.uimg_base.proofs.Slices.{slice-add}
+use Rattle.uimg_sums.specs.{declared.crc.Crc.Crc, CrcSums.Holds}
+use Rattle.uimg_texts.specs.{Slices.slice, Numbers.be32}
+use Rattle.uimg_base.{specs.Device.{Device, SameDevice}, proofs.Slices.slice-add}
 use Rattle.uimg_legacy.specs.Unpacking.{Part, part_if}
 use Rattle.uimg_legacy.specs.UnpackingSteps.{SumsPieceBetween, TakesPartBetween, TakesPaddedBetween}
 

@@ -1,20 +1,15 @@
 -- What is kept of an image, and what is told of it.
 use Rattle.std.proofs.Common.{◌≡◌, ◌≤◌, ◌<◌, ◌+◌, ◌*◌, ◌^◌, ℕ, List, [], ◌++◌, length, length-append, Bool, true, false, true≢false, ◌==◌, nat_lt, IsTrue, Option, Some, None, Result, Ok, Err, refl, ap, sym, subst, ◌∙◌, arith}
-use Rattle.std.proofs.lemmas.Bool.{lt-ltb, le-ltb, eq-eqb}
-use Rattle.std.proofs.lemmas.List.{take_all, drop_at}
+use Rattle.std.proofs.lemmas.{Bool.{lt-ltb, le-ltb, eq-eqb}, List.{take_all, drop_at}}
 use Rattle.uimg_sums.specs.Crc.{crc}
 use Rattle.uimg_base.specs.Device.{Device, SameDevice}
-use Rattle.uimg_legacy.specs.declared.header.Header.{Header}
-use Rattle.uimg_legacy.specs.declared.fault.LegacyFault.{LegacyFault}
-use Rattle.uimg_legacy.specs.declared.fault.LegacyFault.TheVariants.{Truncated}
-use Rattle.uimg_legacy.specs.declared.fault.Fault.{Fault}
-use Rattle.uimg_legacy.specs.declared.fault.Fault.TheVariants.{Legacy, Read, Put}
-use Rattle.uimg_legacy.specs.Header.{header, spelled, spelled_with}
-use Rattle.uimg_legacy.specs.Image.{payload}
-use Rattle.uimg_legacy.specs.Parts.{has_parts}
+use Rattle.uimg_legacy.specs.declared.{header.Header.Header, fault.LegacyFault.LegacyFault}
+use Rattle.uimg_legacy.specs.declared.fault.{LegacyFault.TheVariants.Truncated, Fault.Fault}
+use Rattle.uimg_legacy.specs.{declared.fault.Fault.TheVariants.{Legacy, Read, Put}, Image.payload}
+use Rattle.uimg_legacy.specs.{Header.{header, spelled, spelled_with}, Parts.has_parts}
 use Rattle.uimg_legacy.specs.Work.{data_read, sizes_read_with}
-use Rattle.uimg_legacy.specs.Unpacking.{Part, chosen_parts, parts_in, data_there, unpacked, unpack_of, AreRight, UnpacksBetween, KeepsRightBetween}
 use Rattle.uimg_legacy.specs.UnpackingSteps.{TakesDataBetween, SettlesBetween, unpack_work}
+use Rattle.uimg_legacy.specs.Unpacking.{Part, chosen_parts, parts_in, data_there, unpacked, unpack_of, AreRight, UnpacksBetween, KeepsRightBetween}
 use Rattle.uimg_legacy.proofs.HeaderLaws.{fields-spelled, header-spelled, length-spelled}
 use Rattle.uimg_legacy.proofs.ReadsBackLaw.{head-append, header_from}
 

@@ -1,23 +1,16 @@
 -- The parts that were taken, one after another.
 use Rattle.std.proofs.Common.{◌≡◌, ◌≤◌, ◌<◌, ◌+◌, ◌-◌, ◌*◌, ℕ, suc, List, [], ◌∷◌, ◌++◌, length, length-append, take, drop, get_or, Bool, IsTrue, Option, Result, Err, refl, ap, sym, subst, ◌∙◌, arith}
-use Rattle.std.specs.Prelude.{sum_by}
-use Rattle.std.proofs.Math.Seq.{drop-cons}
+use Rattle.std.{specs.Prelude.sum_by, proofs.{Math.Seq.drop-cons, lemmas.List.Sums.sum_by_push}}
 use Rattle.std.proofs.lemmas.List.{append_assoc, append-nil, take-append-drop, take-take}
-use Rattle.std.proofs.lemmas.List.Sums.{sum_by_push}
 use Rattle.uimg_sums.specs.CrcSums.{Holds}
-use Rattle.uimg_texts.specs.Numbers.{be32, up4}
-use Rattle.uimg_texts.specs.Slices.{slice}
-use Rattle.uimg_base.specs.Device.{Device, SameDevice}
-use Rattle.uimg_base.proofs.Slices.{slice-add, length-slice}
-use Rattle.uimg_legacy.specs.declared.unpacking.takes.Walk.{Walk}
-use Rattle.uimg_legacy.specs.declared.fault.LegacyFault.{LegacyFault}
-use Rattle.uimg_legacy.specs.declared.fault.LegacyFault.TheVariants as of
-use Rattle.uimg_legacy.specs.declared.fault.Fault.{Fault}
-use Rattle.uimg_legacy.specs.declared.fault.Fault.TheVariants.{Legacy, Read, Put}
-use Rattle.uimg_legacy.specs.Words.{whole_words}
-use Rattle.uimg_legacy.specs.Parts.{sizes}
+use Rattle.uimg_texts.specs.{Numbers.{be32, up4}, Slices.slice}
+use Rattle.uimg_base.{specs.Device.{Device, SameDevice}, proofs.Slices.{slice-add, length-slice}}
+use Rattle.uimg_legacy.specs.declared.{unpacking.takes.Walk.Walk, fault.LegacyFault.LegacyFault}
+use Rattle.uimg_legacy.specs.declared.fault.Fault.{Fault, TheVariants.{Legacy, Read, Put}}
+use Rattle.uimg_legacy.specs.{Words.whole_words, Parts.sizes}
 use Rattle.uimg_legacy.specs.Unpacking.{Part, part_if, is_part_asked, chosen_parts, parts_by}
 use Rattle.uimg_legacy.specs.UnpackingSteps.{TakesNextBetween, Walked, RefusesNext, RefusesBy}
+use Rattle.uimg_legacy.specs.declared.fault.LegacyFault.TheVariants as of
 use Rattle.uimg_legacy.proofs.PartsLaws.{slice-slice, length-sizes, table_words, sizes-at, sizes_end}
 use Rattle.uimg_legacy.proofs.ChunkLaws.{words-slice, sizes-le-words}
 use Rattle.uimg_legacy.proofs.CuttingLaws.{cut_none, cut_more, cut_outside, chosen_none, chosen_more, words_then, word_of, some_more, positive}

@@ -1,17 +1,13 @@
 -- Legacy images that are built from parts.
 use Rattle.std.specs.Prelude.{ℕ, ◌-◌, List, [], ◌∷◌, ◌++◌, length, replicate, nat_lt, ◌==◌, ◌&&◌}
 use Rattle.std.specs.Prelude.{if◌then◌else◌, Result, Ok, Err, Bool, true, false}
-use Rattle.std.specs.Int.{to_be_bytes, w32}
-use Rattle.std.specs.List.{flat_map, list_any}
+use Rattle.std.specs.{Int.{to_be_bytes, w32}, List.{flat_map, list_any}}
 use Rattle.uimg_sums.specs.Crc.{crc}
 use Rattle.uimg_base.specs.Outcome.{Outcome, done, told, unless_refused}
-use Rattle.uimg_legacy.specs.declared.header.Header.{Header}
-use Rattle.uimg_legacy.specs.declared.options.Options.{Options}
-use Rattle.uimg_legacy.specs.declared.fault.LegacyFault.{LegacyFault}
+use Rattle.uimg_legacy.specs.{declared.header.Header.Header, Header.spelled, Parts.has_parts}
+use Rattle.uimg_legacy.specs.declared.{options.Options.Options, fault.LegacyFault.LegacyFault}
 use Rattle.uimg_legacy.specs.declared.fault.LegacyFault.TheVariants.{EmptyPart, TooLarge}
 use Rattle.uimg_texts.specs.Numbers.{up4}
-use Rattle.uimg_legacy.specs.Header.{spelled}
-use Rattle.uimg_legacy.specs.Parts.{has_parts}
 
 -- the zeros that pad n bytes to a multiple of 4
 abbrev pub padding : ℕ → List ℕ

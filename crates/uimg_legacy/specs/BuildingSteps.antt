@@ -1,11 +1,8 @@
 -- What the steps of building an image return.
 use Rattle.std.specs.Prelude.{◌≡◌, ℕ, ⊤, List, length, Result, Ok, Err}
-use Rattle.uimg_legacy.specs.declared.header.Header.{Header}
-use Rattle.uimg_legacy.specs.declared.options.Options.{Options}
-use Rattle.uimg_legacy.specs.declared.fault.Fault.{Fault}
-use Rattle.uimg_legacy.specs.declared.fault.Fault.TheVariants.{Legacy}
+use Rattle.uimg_legacy.specs.declared.{header.Header.Header, options.Options.Options}
+use Rattle.uimg_legacy.specs.{declared.fault.Fault.{Fault, TheVariants.Legacy}, Parts.has_parts}
 use Rattle.uimg_legacy.specs.Header.{header, spelled}
-use Rattle.uimg_legacy.specs.Parts.{has_parts}
 use Rattle.uimg_legacy.specs.Building.{data_of, data_for, data_to_build, header_for}
 
 -- The result is the size of the data, or the fault of refused parts, unless a device failed.

@@ -1,15 +1,10 @@
 -- What building an image does and returns.
 use Rattle.std.specs.Prelude.{◌≡◌, ℕ, List, map, Result, Ok, IsTrue, OnOk}
-use Rattle.uimg_base.specs.Lent.{Lent}
-use Rattle.uimg_base.specs.Device.{Device, RisesIf}
-use Rattle.uimg_base.specs.Sink.{Sink}
-use Rattle.uimg_base.specs.Outcome.{Tells}
-use Rattle.uimg_legacy.specs.declared.options.Options.{Options}
-use Rattle.uimg_legacy.specs.declared.fault.Fault.{Fault}
+use Rattle.uimg_base.specs.{Lent.Lent, Device.{Device, RisesIf}, Sink.Sink, Outcome.Tells}
+use Rattle.uimg_legacy.specs.declared.{options.Options.Options, fault.Fault.Fault}
 use Rattle.uimg_legacy.specs.Faults.{is_read, is_put, is_refused, built_end, Gives}
-use Rattle.uimg_legacy.specs.Devices.{bytes_of, asked_of, AreHonest, UsesAll}
+use Rattle.uimg_legacy.specs.{Devices.{bytes_of, asked_of, AreHonest, UsesAll}, ReadsBack.ReadsBack}
 use Rattle.uimg_legacy.specs.Building.{data_for, data_to_build, legacy_built, build_of}
-use Rattle.uimg_legacy.specs.ReadsBack.{ReadsBack}
 
 -- What building does to the parts and the output. After a refusal nothing was written, and no byte
 -- of a part was requested.

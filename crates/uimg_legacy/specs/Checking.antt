@@ -1,15 +1,10 @@
 -- Whether an image's checksums are right.
 use Rattle.std.specs.Prelude.{◌≡◌, List, ℕ, Result, Ok, Err, Bool, true, false, Option, Some, None}
 use Rattle.std.specs.Prelude.{IfSome}
-use Rattle.uimg_base.specs.Outcome.{End, done, not_right, refused}
-use Rattle.uimg_base.specs.Results.{◌>>=◌}
-use Rattle.uimg_legacy.specs.declared.fault.LegacyFault.{LegacyFault}
-use Rattle.uimg_legacy.specs.declared.fault.Fault.{Fault}
-use Rattle.uimg_legacy.specs.declared.fault.Fault.TheVariants.{Legacy}
-use Rattle.uimg_legacy.specs.Faults.{Gives}
-use Rattle.uimg_legacy.specs.Header.{head, has_right_crc, fields}
-use Rattle.uimg_legacy.specs.Image.{has_right_data}
-use Rattle.uimg_legacy.specs.Report.{verify_of}
+use Rattle.uimg_base.specs.{Outcome.{End, done, not_right, refused}, Results.◌>>=◌}
+use Rattle.uimg_legacy.specs.{declared.fault.{LegacyFault.LegacyFault, Fault.Fault}, Faults.Gives}
+use Rattle.uimg_legacy.specs.{declared.fault.Fault.TheVariants.Legacy, Image.has_right_data}
+use Rattle.uimg_legacy.specs.{Header.{head, has_right_crc, fields}, Report.verify_of}
 
 -- the result for the data, if the header's checksum is right
 abbrev pub right_behind : Bool → Result Bool LegacyFault → Result Bool LegacyFault

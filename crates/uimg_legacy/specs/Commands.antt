@@ -1,15 +1,9 @@
 -- What a call that reads an image does, writes and returns.
 use Rattle.std.specs.Prelude.{◌≡◌, ℕ, List, [], false, Result, IsTrue}
-use Rattle.uimg_base.specs.Lent.{Lent}
-use Rattle.uimg_base.specs.Device.{Device, RisesIf}
-use Rattle.uimg_base.specs.Held.{Held}
-use Rattle.uimg_base.specs.Sink.{Sink}
-use Rattle.uimg_base.specs.Using.{UsesAtMost}
-use Rattle.uimg_base.specs.Outcome.{Outcome, Tells}
-use Rattle.uimg_base.specs.Ranges.{ReadsAhead}
+use Rattle.uimg_base.specs.{Lent.Lent, Device.{Device, RisesIf}, Held.Held, Sink.Sink}
+use Rattle.uimg_base.specs.{Using.UsesAtMost, Outcome.{Outcome, Tells}, Ranges.ReadsAhead}
 use Rattle.uimg_base.specs.declared.status.Status.{Status}
-use Rattle.uimg_legacy.specs.declared.fault.LegacyFault.{LegacyFault}
-use Rattle.uimg_legacy.specs.declared.fault.Fault.{Fault}
+use Rattle.uimg_legacy.specs.declared.fault.{LegacyFault.LegacyFault, Fault.Fault}
 use Rattle.uimg_legacy.specs.Faults.{is_read, is_put, is_of_making, end_of}
 
 -- A call that only reads. Of an honest device it requests at most `most` bytes.

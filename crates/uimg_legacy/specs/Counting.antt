@@ -1,11 +1,8 @@
 -- How many parts an image has.
 use Rattle.std.specs.Prelude.{ℕ, List, length, Result, Ok, Bool, true, false}
 use Rattle.uimg_base.specs.Results.{◌>>=◌}
-use Rattle.uimg_legacy.specs.declared.fault.LegacyFault.{LegacyFault}
-use Rattle.uimg_legacy.specs.declared.fault.Fault.{Fault}
-use Rattle.uimg_legacy.specs.declared.header.Header.{Header}
-use Rattle.uimg_legacy.specs.Faults.{Gives}
-use Rattle.uimg_legacy.specs.Image.{payload, legacy}
+use Rattle.uimg_legacy.specs.{declared.fault.{LegacyFault.LegacyFault, Fault.Fault}, Faults.Gives}
+use Rattle.uimg_legacy.specs.{declared.header.Header.Header, Image.{payload, legacy}}
 use Rattle.uimg_legacy.specs.Parts.{has_parts, part_sizes}
 
 -- the number of sizes in the table; for another type one, the data

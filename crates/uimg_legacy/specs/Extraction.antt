@@ -2,11 +2,9 @@
 use Rattle.std.specs.Prelude.{ℕ, List, length, slice_index, nat_le, ◌==◌, if◌then◌else◌, Result, Ok}
 use Rattle.std.specs.Prelude.{Err, Bool, true, false}
 use Rattle.uimg_texts.specs.Slices.{slice}
-use Rattle.uimg_base.specs.Outcome.{Outcome, done, told, unless_refused}
-use Rattle.uimg_base.specs.Results.{◌>>=◌}
-use Rattle.uimg_legacy.specs.declared.fault.LegacyFault.{LegacyFault}
+use Rattle.uimg_base.specs.{Outcome.{Outcome, done, told, unless_refused}, Results.◌>>=◌}
+use Rattle.uimg_legacy.specs.{declared.fault.LegacyFault.LegacyFault, Image.legacy}
 use Rattle.uimg_legacy.specs.declared.fault.LegacyFault.TheVariants.{PartOutside, NoSuchPart}
-use Rattle.uimg_legacy.specs.Image.{legacy}
 use Rattle.uimg_legacy.specs.Parts.{has_parts, part_sizes, start, is_outside}
 
 -- the part at a position, if the table has one and it ends inside the data

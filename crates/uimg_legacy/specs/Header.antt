@@ -3,13 +3,11 @@ use Rattle.std.specs.Prelude.{ℕ, List, ◌∷◌, ◌++◌, length, take, drop
 use Rattle.std.specs.Prelude.{nat_lt, ◌==◌, if◌then◌else◌, Result, Ok, Err, Bool, true, false}
 use Rattle.std.specs.Int.{to_be_bytes, w32}
 use Rattle.uimg_base.specs.Results.{◌>>=◌}
-use Rattle.uimg_texts.specs.Slices.{slice}
+use Rattle.uimg_texts.specs.{Slices.slice, Numbers.be32}
 use Rattle.uimg_sums.specs.Crc.{crc}
-use Rattle.uimg_legacy.specs.declared.header.Header.{Header}
-use Rattle.uimg_legacy.specs.declared.fault.LegacyFault.{LegacyFault}
+use Rattle.uimg_legacy.specs.declared.{header.Header.Header, fault.LegacyFault.LegacyFault}
 use Rattle.uimg_legacy.specs.declared.fault.LegacyFault.TheVariants.{TooShort, BadMagic}
 use Rattle.uimg_legacy.specs.declared.fault.LegacyFault.TheVariants.{BadHeaderCrc}
-use Rattle.uimg_texts.specs.Numbers.{be32}
 
 -- the magic number
 abbrev pub magic : ℕ

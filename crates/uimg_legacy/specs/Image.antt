@@ -4,8 +4,7 @@ use Rattle.std.specs.Prelude.{Bool, true, false}
 use Rattle.uimg_base.specs.Results.{◌>>=◌}
 use Rattle.uimg_texts.specs.Slices.{slice}
 use Rattle.uimg_sums.specs.Crc.{crc}
-use Rattle.uimg_legacy.specs.declared.header.Header.{Header}
-use Rattle.uimg_legacy.specs.declared.fault.LegacyFault.{LegacyFault}
+use Rattle.uimg_legacy.specs.declared.{header.Header.Header, fault.LegacyFault.LegacyFault}
 use Rattle.uimg_legacy.specs.declared.fault.LegacyFault.TheVariants.{Truncated, BadDataCrc}
 use Rattle.uimg_legacy.specs.Header.{header}
 

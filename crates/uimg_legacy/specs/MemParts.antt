@@ -1,7 +1,6 @@
 -- The parts of a taker in memory.
 use Rattle.std.specs.Prelude.{List, [], map, Bool, true, false}
-use Rattle.uimg_legacy.specs.declared.unpacking.mem_parts.MemPart.{MemPart}
-use Rattle.uimg_legacy.specs.Unpacking.{Part}
+use Rattle.uimg_legacy.specs.{declared.unpacking.mem_parts.MemPart.MemPart, Unpacking.Part}
 
 -- a part as its number and its bytes
 abbrev pub mem_part : {A : Type 0} → MemPart A → Part

@@ -1,16 +1,11 @@
 -- What the steps do that read the parts of an image to be built. Contracts see the devices of the
 -- parts before and after a step.
 use Rattle.std.specs.Prelude.{◌≡◌, ℕ, ◌<◌, ◌≤◌, ◌^◌, List, [], ◌++◌, length, map, slice_index_or, ⊤}
-use Rattle.std.specs.Prelude.{false, Result, OnOk, IfOk, is_err}
-use Rattle.std.specs.List.{All}
-use Rattle.uimg_base.specs.Lent.{Lent}
-use Rattle.uimg_base.specs.Device.{Device, RisesIf}
-use Rattle.uimg_base.specs.Sink.{Sink}
-use Rattle.uimg_base.specs.Writing.{Written}
+use Rattle.std.specs.{Prelude.{false, Result, OnOk, IfOk, is_err}, List.All}
+use Rattle.uimg_base.specs.{Lent.Lent, Device.{Device, RisesIf}, Sink.Sink, Writing.Written}
 use Rattle.uimg_base.specs.declared.source.SourceFault.{SourceFault}
-use Rattle.uimg_legacy.specs.declared.fault.Fault.{Fault}
+use Rattle.uimg_legacy.specs.{declared.fault.Fault.Fault, Faults.{is_read, is_put, is_refused}}
 use Rattle.uimg_legacy.specs.Devices.{bytes_of, AreHonest, UsesAll, AsksNone}
-use Rattle.uimg_legacy.specs.Faults.{is_read, is_put, is_refused}
 
 -- part i
 abbrev pub numbered : ℕ → List (List ℕ) → List ℕ

@@ -2,10 +2,9 @@
 use Rattle.std.specs.Prelude.{ℕ, ◌+◌, ◌*◌, List, length, take, slice_index, sum_by, nat_lt, ◌==◌}
 use Rattle.std.specs.Prelude.{◌||◌, if◌then◌else◌, Result, Ok, Err, Bool}
 use Rattle.std.specs.List.{before_first, list_any}
-use Rattle.uimg_legacy.specs.declared.fault.LegacyFault.{LegacyFault}
-use Rattle.uimg_legacy.specs.declared.fault.LegacyFault.TheVariants.{NoTableEnd}
-use Rattle.uimg_texts.specs.Numbers.{up4}
+use Rattle.uimg_legacy.specs.declared.fault.LegacyFault.{LegacyFault, TheVariants.NoTableEnd}
 use Rattle.uimg_legacy.specs.Words.{whole_words}
+use Rattle.uimg_texts.specs.Numbers.{up4}
 
 -- whether an image of this type has parts: multi (4) and script (6) do
 unfoldable pub has_parts : ℕ → Bool

@@ -2,18 +2,13 @@
 use Rattle.std.specs.Prelude.{◌≡◌, ℕ, zero, suc, ◌+◌, ⊤, List, [], ◌∷◌, ◌++◌, length, slice_index}
 use Rattle.std.specs.Prelude.{nat_lt, if◌then◌else◌, Result, Ok, Err, Bool, true, false, IsTrue}
 use Rattle.uimg_texts.specs.Slices.{slice}
-use Rattle.uimg_base.specs.Lent.{Lent}
-use Rattle.uimg_base.specs.Device.{Device}
-use Rattle.uimg_base.specs.Results.{◌>>=◌}
-use Rattle.uimg_base.specs.declared.spans.Span.{Span}
-use Rattle.uimg_legacy.specs.declared.fault.LegacyFault.{LegacyFault}
+use Rattle.uimg_base.specs.{Lent.Lent, Device.Device, Results.◌>>=◌, declared.spans.Span.Span}
+use Rattle.uimg_legacy.specs.declared.{fault.LegacyFault.LegacyFault, header.Header.Header}
 use Rattle.uimg_legacy.specs.declared.fault.LegacyFault.TheVariants.{PartOutside, Truncated}
-use Rattle.uimg_legacy.specs.declared.fault.Fault.TheVariants as of
-use Rattle.uimg_legacy.specs.declared.header.Header.{Header}
-use Rattle.uimg_legacy.specs.declared.placing.PartsFault.{PartsFault}
+use Rattle.uimg_legacy.specs.{declared.placing.PartsFault.PartsFault, Image.payload}
 use Rattle.uimg_legacy.specs.declared.placing.PartsFault.TheVariants.{Stopped, OutOfMemory}
-use Rattle.uimg_legacy.specs.Image.{payload}
 use Rattle.uimg_legacy.specs.Parts.{has_parts, sizes, part_sizes, start, is_outside}
+use Rattle.uimg_legacy.specs.declared.fault.Fault.TheVariants as of
 
 -- the span of a part in the file
 abbrev pub span_of_part : List ℕ → ℕ → Span

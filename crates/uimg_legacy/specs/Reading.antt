@@ -1,28 +1,15 @@
 -- What the steps that read an image do and return.
 use Rattle.std.specs.Prelude.{◌≡◌, ℕ, ◌+◌, ◌*◌, ◌≤◌, List, length, take, sum_by, Result, Bool}
 use Rattle.std.specs.Prelude.{false, IsTrue, IfOk, is_err}
-use Rattle.uimg_texts.specs.Slices.{slice}
-use Rattle.uimg_texts.specs.Numbers.{be32, up4}
-use Rattle.uimg_base.specs.Lent.{Lent}
-use Rattle.uimg_base.specs.Device.{Device, RisesIf}
-use Rattle.uimg_base.specs.Held.{Held}
-use Rattle.uimg_base.specs.Sink.{Sink}
-use Rattle.uimg_base.specs.Using.{Asks}
-use Rattle.uimg_base.specs.Outcome.{Outcome, Tells}
-use Rattle.uimg_base.specs.declared.source.SourceFault.{SourceFault}
-use Rattle.uimg_base.specs.declared.status.Status.{Status}
-use Rattle.uimg_legacy.specs.declared.fault.LegacyFault.{LegacyFault}
-use Rattle.uimg_legacy.specs.declared.fault.Fault.{Fault}
-use Rattle.uimg_legacy.specs.declared.header.Header.{Header}
-use Rattle.uimg_base.specs.declared.spans.Span.{Span}
-use Rattle.uimg_legacy.specs.Image.{payload, has_right_data, legacy}
-use Rattle.uimg_legacy.specs.Words.{whole_words}
-use Rattle.uimg_legacy.specs.Header.{spelled}
-use Rattle.uimg_legacy.specs.Parts.{has_parts, sizes}
-use Rattle.uimg_legacy.specs.Extraction.{part_of_data, part_at}
-use Rattle.uimg_legacy.specs.Listing.{tail_with, lines_of}
-use Rattle.uimg_legacy.specs.Report.{data_report}
-use Rattle.uimg_legacy.specs.Faults.{is_read, is_put, is_of_making, end_of, Gives}
+use Rattle.uimg_texts.specs.{Slices.slice, Numbers.{be32, up4}}
+use Rattle.uimg_base.specs.{Lent.Lent, Device.{Device, RisesIf}, Held.Held, Sink.Sink, Using.Asks}
+use Rattle.uimg_base.specs.{Outcome.{Outcome, Tells}, declared.source.SourceFault.SourceFault}
+use Rattle.uimg_base.specs.declared.{status.Status.Status, spans.Span.Span}
+use Rattle.uimg_legacy.specs.{declared.fault.LegacyFault.LegacyFault, Listing.{tail_with, lines_of}}
+use Rattle.uimg_legacy.specs.{declared.fault.Fault.Fault, Image.{payload, has_right_data, legacy}}
+use Rattle.uimg_legacy.specs.{declared.header.Header.Header, Extraction.{part_of_data, part_at}}
+use Rattle.uimg_legacy.specs.{Words.whole_words, Parts.{has_parts, sizes}, Report.data_report}
+use Rattle.uimg_legacy.specs.{Header.spelled, Faults.{is_read, is_put, is_of_making, end_of, Gives}}
 
 -- A step that reads. Over an honest device its result is about the bytes.
 pub record ReadsBetween {X : Type 0} (used : Bool → Device → Device → Type 0)

@@ -1,11 +1,9 @@
 -- What is read of a built image.
 use Rattle.std.specs.Prelude.{◌≡◌, ℕ, ◌<◌, List, ◌++◌, length, slice_index_or, codes, []}
 use Rattle.uimg_base.specs.Outcome.{Outcome, done, told, line}
-use Rattle.uimg_legacy.specs.declared.fault.LegacyFault.{LegacyFault}
+use Rattle.uimg_legacy.specs.{declared.fault.LegacyFault.LegacyFault, Report.verify_of}
+use Rattle.uimg_legacy.specs.{Listing.list_of, Extraction.extract_of}
 use Rattle.uimg_names.specs.declared.naming.Naming.{Naming}
-use Rattle.uimg_legacy.specs.Report.{verify_of}
-use Rattle.uimg_legacy.specs.Listing.{list_of}
-use Rattle.uimg_legacy.specs.Extraction.{extract_of}
 
 -- the report on an image whose checksums are right
 abbrev pub right_report : Outcome LegacyFault

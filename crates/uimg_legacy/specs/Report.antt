@@ -1,9 +1,8 @@
 -- The report on an image's checksums.
 use Rattle.std.specs.Prelude.{ℕ, List, codes, Result, Bool, true, false}
 use Rattle.uimg_base.specs.Outcome.{Outcome, done, not_right, told, after, unless_refused, line}
-use Rattle.uimg_legacy.specs.declared.fault.LegacyFault.{LegacyFault}
+use Rattle.uimg_legacy.specs.{declared.fault.LegacyFault.LegacyFault, Image.has_right_data}
 use Rattle.uimg_legacy.specs.Header.{head, has_right_crc, fields}
-use Rattle.uimg_legacy.specs.Image.{has_right_data}
 
 -- the line on the data's CRC
 abbrev pub data_line : Bool → Outcome LegacyFault

@@ -1,8 +1,7 @@
 -- What reading a table of sizes returns.
 use Rattle.std.specs.Prelude.{◌≡◌, ℕ, ◌+◌, ◌*◌, ⊤, List, length, Result, Ok, Err}
 use Rattle.uimg_texts.specs.Slices.{slice}
-use Rattle.uimg_legacy.specs.declared.fault.Fault.{Fault}
-use Rattle.uimg_legacy.specs.declared.fault.Fault.TheVariants.{Legacy}
+use Rattle.uimg_legacy.specs.declared.fault.Fault.{Fault, TheVariants.Legacy}
 use Rattle.uimg_legacy.specs.Parts.{sizes, part_sizes}
 
 -- The result is the number of sizes, or that the table has no end, unless a device failed.

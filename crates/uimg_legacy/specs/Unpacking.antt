@@ -1,24 +1,15 @@
 -- The parts of a legacy image, as they are unpacked.
 use Rattle.std.specs.Prelude.{◌≡◌, ⊤, ℕ, suc, ◌+◌, ◌*◌, List, [], ◌∷◌, ◌++◌, length, take, drop}
 use Rattle.std.specs.Prelude.{nat_lt, ◌==◌, if◌then◌else◌, Option, Some, None, Result, Ok, Err}
-use Rattle.std.specs.Prelude.{Bool, true, false, IsTrue}
+use Rattle.std.specs.{Prelude.{Bool, true, false, IsTrue}, List.AllByRecursion}
 use Rattle.uimg_texts.specs.Numbers.{up4}
-use Rattle.uimg_base.specs.Lent.{Lent}
-use Rattle.uimg_base.specs.Device.{Device}
+use Rattle.uimg_base.specs.{Lent.Lent, Device.Device, Outcome.{done, told}, Results.◌>>=◌}
 use Rattle.uimg_sums.specs.Crc.{crc}
-use Rattle.std.specs.List.{AllByRecursion}
-use Rattle.uimg_base.specs.Outcome.{done, told}
-use Rattle.uimg_base.specs.Results.{◌>>=◌}
-use Rattle.uimg_legacy.specs.declared.header.Header.{Header}
-use Rattle.uimg_legacy.specs.declared.fault.LegacyFault.{LegacyFault}
+use Rattle.uimg_legacy.specs.{declared.header.Header.Header, Parts.{has_parts, part_sizes}}
+use Rattle.uimg_legacy.specs.declared.fault.LegacyFault.{LegacyFault, TheVariants.NoSuchPart}
 use Rattle.uimg_legacy.specs.declared.fault.LegacyFault.TheVariants.{Truncated, PartOutside}
-use Rattle.uimg_legacy.specs.declared.fault.LegacyFault.TheVariants.{NoSuchPart}
-use Rattle.uimg_legacy.specs.declared.fault.Fault.{Fault}
-use Rattle.uimg_legacy.specs.declared.fault.Fault.TheVariants.{Legacy, Read, Put}
-use Rattle.uimg_legacy.specs.Header.{header as header_of}
-use Rattle.uimg_legacy.specs.Image.{payload}
-use Rattle.uimg_legacy.specs.Parts.{has_parts, part_sizes}
-use Rattle.uimg_legacy.specs.Extraction.{extract_of}
+use Rattle.uimg_legacy.specs.declared.fault.Fault.{Fault, TheVariants.{Legacy, Read, Put}}
+use Rattle.uimg_legacy.specs.{Header.header as header_of, Image.payload, Extraction.extract_of}
 
 -- a part of an image: its number and its bytes
 pub record Part : Type 0 where

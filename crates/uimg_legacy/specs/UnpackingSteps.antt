@@ -1,34 +1,18 @@
 -- What the steps of unpacking do, over any device.
 use Rattle.std.specs.Prelude.{◌≡◌, ◌≢◌, ⊤, ℕ, ◌+◌, ◌-◌, ◌*◌, ◌<◌, ◌≤◌, min, List, ◌++◌, length}
 use Rattle.std.specs.Prelude.{take, sum_by, ◌==◌, Option, Bool, true, false, Result, Ok, Err}
-use Rattle.std.specs.Prelude.{IsTrue, OnOk}
-use Rattle.std.specs.List.{AllByRecursion}
-use Rattle.uimg_texts.specs.Slices.{slice}
-use Rattle.uimg_texts.specs.Numbers.{be32, up4}
-use Rattle.uimg_sums.specs.Crc.{crc}
-use Rattle.uimg_sums.specs.Adding.{Adds}
-use Rattle.uimg_sums.specs.CrcSums.{Holds}
-use Rattle.uimg_sums.specs.declared.crc.Crc.{Crc}
-use Rattle.uimg_base.specs.Lent.{Lent}
-use Rattle.uimg_base.specs.Device.{Device}
-use Rattle.uimg_base.specs.Held.{Held}
-use Rattle.uimg_base.specs.Ranges.{SumsRange}
-use Rattle.uimg_legacy.specs.declared.header.Header.{Header}
-use Rattle.uimg_legacy.specs.declared.fault.LegacyFault.{LegacyFault}
+use Rattle.std.specs.{Prelude.{IsTrue, OnOk}, List.AllByRecursion}
+use Rattle.uimg_texts.specs.{Slices.slice, Numbers.{be32, up4}}
+use Rattle.uimg_sums.specs.{Crc.crc, Adding.Adds, CrcSums.Holds, declared.crc.Crc.Crc}
+use Rattle.uimg_base.specs.{Lent.Lent, Device.Device, Held.Held, Ranges.SumsRange}
+use Rattle.uimg_legacy.specs.declared.{header.Header.Header, fault.LegacyFault.LegacyFault}
 use Rattle.uimg_legacy.specs.declared.fault.LegacyFault.TheVariants.{BadDataCrc, PartOutside}
-use Rattle.uimg_legacy.specs.declared.fault.Fault.{Fault}
-use Rattle.uimg_legacy.specs.declared.fault.Fault.TheVariants.{Legacy, Read, Put}
-use Rattle.uimg_legacy.specs.declared.unpacking.takes.Parts.{Parts}
-use Rattle.uimg_legacy.specs.declared.unpacking.takes.PlacedPart.{PlacedPart}
-use Rattle.uimg_legacy.specs.declared.unpacking.takes.Walk.{Walk}
-use Rattle.uimg_legacy.specs.Faults.{is_read, is_of_making}
-use Rattle.uimg_legacy.specs.Words.{whole_words}
-use Rattle.uimg_legacy.specs.Image.{payload}
-use Rattle.uimg_legacy.specs.Header.{header}
-use Rattle.uimg_legacy.specs.Parts.{has_parts, sizes}
-use Rattle.uimg_legacy.specs.Work.{data_read, sizes_read_with}
+use Rattle.uimg_legacy.specs.declared.fault.Fault.{Fault, TheVariants.{Legacy, Read, Put}}
+use Rattle.uimg_legacy.specs.declared.unpacking.takes.{Parts.Parts, PlacedPart.PlacedPart}
+use Rattle.uimg_legacy.specs.{declared.unpacking.takes.Walk.Walk, Faults.{is_read, is_of_making}}
+use Rattle.uimg_legacy.specs.{Words.whole_words, Image.payload, Header.header, Unpacking.parts_in}
+use Rattle.uimg_legacy.specs.{Parts.{has_parts, sizes}, Work.{data_read, sizes_read_with}}
 use Rattle.uimg_legacy.specs.Unpacking.{Part, part_if, is_part_asked, chosen_parts, parts_by}
-use Rattle.uimg_legacy.specs.Unpacking.{parts_in}
 
 -- A step that takes parts. An honest taker keeps nothing new.
 pub record TakesBetween {X : Type 0} (used : Bool → Device → Device → Type 0)

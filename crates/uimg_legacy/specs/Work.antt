@@ -1,12 +1,9 @@
 -- The most bytes that a command requests.
 use Rattle.std.specs.Prelude.{ℕ, ◌+◌, ◌*◌, List, length, nat_lt, if◌then◌else◌, Result, Ok, Err}
 use Rattle.std.specs.Prelude.{Bool, true, false}
-use Rattle.uimg_legacy.specs.declared.header.Header.{Header}
-use Rattle.uimg_legacy.specs.declared.fault.LegacyFault.{LegacyFault}
-use Rattle.uimg_legacy.specs.Header.{header}
-use Rattle.uimg_legacy.specs.Image.{Image, payload, legacy}
+use Rattle.uimg_legacy.specs.declared.{header.Header.Header, fault.LegacyFault.LegacyFault}
+use Rattle.uimg_legacy.specs.{Header.header, Image.{Image, payload, legacy}, Extraction.extract_of}
 use Rattle.uimg_legacy.specs.Parts.{has_parts, sizes}
-use Rattle.uimg_legacy.specs.Extraction.{extract_of}
 
 -- The most bytes requested beside payloads, with `count` sizes: the `64 + 16 * (count + 1)` of
 -- metadata, less the four that the caller may have read to choose the format.

@@ -2,12 +2,10 @@
 
 ghost use Rattle.std.specs.Prelude.{◌≡◌, ◌≢◌, ℕ, List, ◌++◌, length, map, false};
 ghost use Rattle.uimg_sums.specs.Crc.{crc};
-ghost use Rattle.uimg_legacy.specs.Parts.{has_parts};
-ghost use Rattle.uimg_legacy.specs.Building.{data_of, data_for, header_for};
-ghost use Rattle.uimg_legacy.specs.BuildingSteps.{IsHeadFor};
+ghost use Rattle.uimg_legacy.specs.{Parts.has_parts, Building.{data_of, data_for, header_for}};
+ghost use Rattle.uimg_legacy.specs.{BuildingSteps.IsHeadFor, Devices.{bytes_of, AreHonest}};
 ghost use Rattle.uimg_legacy.specs.PartSteps.{FitWords, PutsParts, FindsInParts};
 ghost use Rattle.uimg_legacy.specs.Builds.{Builds, Decides, TellsBuilt, BuildsReadable};
-ghost use Rattle.uimg_legacy.specs.Devices.{bytes_of, AreHonest};
 
 use crate::built_data::{data_crc, put_data};
 use crate::fault::Fault;

@@ -1,10 +1,7 @@
 //! Whether an image's checksums are right, without a report.
 
-ghost use Rattle.uimg_base.specs.Honest.{IfHonest};
-ghost use Rattle.uimg_base.specs.Using.{UsesAtMost};
-ghost use Rattle.uimg_legacy.specs.Checking.{ChecksAs, Checks};
-ghost use Rattle.uimg_legacy.specs.Commands.{Inspects};
-ghost use Rattle.uimg_legacy.specs.Reading.{Reads};
+ghost use Rattle.uimg_base.specs.{Honest.IfHonest, Using.UsesAtMost};
+ghost use Rattle.uimg_legacy.specs.{Checking.{ChecksAs, Checks}, Commands.Inspects, Reading.Reads};
 ghost use Rattle.uimg_legacy.specs.Work.{verify_work};
 
 use crate::fault::Fault;

@@ -1,12 +1,9 @@
 //! How many parts an image has.
 
 ghost use Rattle.std.specs.Prelude.{◌+◌, ◌≤◌, length};
-ghost use Rattle.uimg_base.specs.Honest.{IfHonest};
-ghost use Rattle.uimg_base.specs.Using.{UsesAtMost};
-ghost use Rattle.uimg_legacy.specs.Counting.{CountsIn, CountsOf};
-ghost use Rattle.uimg_legacy.specs.Commands.{Inspects};
-ghost use Rattle.uimg_legacy.specs.Reading.{Reads};
-ghost use Rattle.uimg_legacy.specs.Work.{list_work, table_work};
+ghost use Rattle.uimg_base.specs.{Honest.IfHonest, Using.UsesAtMost};
+ghost use Rattle.uimg_legacy.specs.{Counting.{CountsIn, CountsOf}, Commands.Inspects};
+ghost use Rattle.uimg_legacy.specs.{Reading.Reads, Work.{list_work, table_work}};
 
 use crate::fault::Fault;
 use crate::header::Header;

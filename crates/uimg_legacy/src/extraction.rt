@@ -1,12 +1,9 @@
 //! Extraction: finds a part and writes it.
 
 ghost use Rattle.std.specs.Prelude.{◌≡◌, IsTrue};
-ghost use Rattle.uimg_base.specs.Honest.{IfHonest};
-ghost use Rattle.uimg_base.specs.Using.{UsesAtMost};
-ghost use Rattle.uimg_legacy.specs.Extraction.{extract_of};
-ghost use Rattle.uimg_legacy.specs.Work.{list_work, extract_work};
-ghost use Rattle.uimg_legacy.specs.Reading.{Reads, LocatesPart, EndsInFile};
-ghost use Rattle.uimg_legacy.specs.Faults.{is_refused};
+ghost use Rattle.uimg_base.specs.{Honest.IfHonest, Using.UsesAtMost};
+ghost use Rattle.uimg_legacy.specs.{Extraction.extract_of, Work.{list_work, extract_work}};
+ghost use Rattle.uimg_legacy.specs.{Reading.{Reads, LocatesPart, EndsInFile}, Faults.is_refused};
 ghost use Rattle.uimg_legacy.specs.Commands.{Inspects, Delivers, TellsOf, KeepsAhead};
 
 use crate::fault::Fault;

@@ -4,8 +4,7 @@ ghost use Rattle.std.specs.Prelude.{◌≡◌, true, Ok};
 ghost use Rattle.uimg_base.specs.Honest.{IfHonest};
 ghost use Rattle.uimg_texts.specs.Numbers.{be32};
 ghost use Rattle.uimg_legacy.specs.Header.{magic, head, has_right_crc, fields, header as header_of, spelled_with, spelled, padded_name};
-ghost use Rattle.uimg_legacy.specs.Faults.{GivesBy};
-ghost use Rattle.uimg_legacy.specs.Reading.{ReadsHead, IsSpelledIn};
+ghost use Rattle.uimg_legacy.specs.{Faults.GivesBy, Reading.{ReadsHead, IsSpelledIn}};
 
 use crate::fault::{Fault, LegacyFault};
 use byteorder::{BigEndian, ByteOrder};

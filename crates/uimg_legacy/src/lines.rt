@@ -1,8 +1,7 @@
 //! The lines of a listing.
 
 ghost use Rattle.std.specs.Prelude.{◌≡◌, ◌++◌, codes, is_err};
-ghost use Rattle.uimg_base.specs.Outcome.{line};
-ghost use Rattle.uimg_base.specs.Writing.{Writes};
+ghost use Rattle.uimg_base.specs.{Outcome.line, Writing.Writes};
 ghost use Rattle.uimg_texts.specs.Sizes.{size_text};
 ghost use Rattle.uimg_legacy.specs.Listing.{labelled, type_text, address_text, name_line, time_line, type_line, size_line, load_line, entry_line, head_text, part_line};
 

@@ -1,12 +1,9 @@
 //! The listing of an image.
 
 ghost use Rattle.std.specs.Prelude.{◌≡◌, ◌+◌, ◌*◌, ◌≤◌, length, false};
-ghost use Rattle.uimg_base.specs.Device.{RisesIf};
-ghost use Rattle.uimg_base.specs.Using.{Asks, UsesAtMost};
-ghost use Rattle.uimg_legacy.specs.Commands.{Delivers, TellsOf};
-ghost use Rattle.uimg_legacy.specs.Listing.{list_of};
-ghost use Rattle.uimg_legacy.specs.Work.{table_work, list_work};
-ghost use Rattle.uimg_legacy.specs.Reading.{Reports, TellsLines, tail_of};
+ghost use Rattle.uimg_base.specs.{Device.RisesIf, Using.{Asks, UsesAtMost}};
+ghost use Rattle.uimg_legacy.specs.{Commands.{Delivers, TellsOf}, Work.{table_work, list_work}};
+ghost use Rattle.uimg_legacy.specs.{Listing.list_of, Reading.{Reports, TellsLines, tail_of}};
 ghost use Rattle.uimg_legacy.specs.Faults.{is_read, is_put, is_of_making};
 
 use crate::fault::{Fault, LegacyFault};

@@ -1,12 +1,9 @@
 //! The size of the data built from parts, or why the parts are refused.
 
 ghost use Rattle.std.specs.Prelude.{◌≡◌, ◌+◌, ◌%◌, ◌&&◌, length, map, false};
-ghost use Rattle.uimg_legacy.specs.Parts.{has_parts};
-ghost use Rattle.uimg_legacy.specs.Building.{joined, data_of, has_empty};
-ghost use Rattle.uimg_legacy.specs.BuildingSteps.{MeasuresParts};
-ghost use Rattle.uimg_legacy.specs.Devices.{bytes_of, AsksNone};
-ghost use Rattle.uimg_legacy.specs.PartSteps.{Learns, SumsTo};
-ghost use Rattle.uimg_legacy.specs.Faults.{is_read, is_put};
+ghost use Rattle.uimg_legacy.specs.{Parts.has_parts, Building.{joined, data_of, has_empty}};
+ghost use Rattle.uimg_legacy.specs.{BuildingSteps.MeasuresParts, Devices.{bytes_of, AsksNone}};
+ghost use Rattle.uimg_legacy.specs.{PartSteps.{Learns, SumsTo}, Faults.{is_read, is_put}};
 
 use crate::fault::{Fault, LegacyFault};
 use crate::one_part::part_size;

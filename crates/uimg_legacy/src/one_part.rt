@@ -2,8 +2,7 @@
 
 ghost use Rattle.std.specs.Prelude.{◌≡◌, ℕ, ◌%◌, ◌^◌, ◌<◌, length, map, IfOk};
 ghost use Rattle.std.specs.Int.{to_be_bytes, w32};
-ghost use Rattle.uimg_legacy.specs.Building.{padding};
-ghost use Rattle.uimg_legacy.specs.Devices.{bytes_of, AreHonest};
+ghost use Rattle.uimg_legacy.specs.{Building.padding, Devices.{bytes_of, AreHonest}};
 ghost use Rattle.uimg_legacy.specs.PartSteps.{Learns, FeedsParts, PutsParts, numbered};
 
 use crate::fault::Fault;

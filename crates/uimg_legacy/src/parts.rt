@@ -1,11 +1,8 @@
 //! The parts of the types multi and script: how many, and where each is.
 
 ghost use Rattle.std.specs.Prelude.{◌≡◌, ◌+◌, ◌*◌, ◌≤◌, length, IfOk, is_err};
-ghost use Rattle.uimg_base.specs.Honest.{IfHonest};
-ghost use Rattle.uimg_base.specs.Using.{Asks, UsesAtMost};
-ghost use Rattle.uimg_legacy.specs.Parts.{has_parts};
-ghost use Rattle.uimg_legacy.specs.Work.{table_work};
-ghost use Rattle.uimg_legacy.specs.Tables.{Counts, sizes_work};
+ghost use Rattle.uimg_base.specs.{Honest.IfHonest, Using.{Asks, UsesAtMost}};
+ghost use Rattle.uimg_legacy.specs.{Parts.has_parts, Work.table_work, Tables.{Counts, sizes_work}};
 ghost use Rattle.uimg_legacy.specs.Reading.{Reads, FindsPart, IsWordAt};
 
 use crate::fault::{Fault, LegacyFault};

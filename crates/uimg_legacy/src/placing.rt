@@ -1,8 +1,7 @@
 //! Where all parts of an image are.
 
 ghost use Rattle.std.specs.Prelude.{◌≡◌, ◌+◌, ◌*◌, ◌≤◌, [], ◌∷◌, ◌++◌, length, IfOk, OnOk};
-ghost use Rattle.uimg_base.specs.Honest.{HonestSource};
-ghost use Rattle.uimg_base.specs.Using.{Asks, UsesWithin};
+ghost use Rattle.uimg_base.specs.{Honest.HonestSource, Using.{Asks, UsesWithin}};
 ghost use Rattle.uimg_legacy.specs.Placing.{spans_of_parts, is_unread, GivesPlaces, TellsSpans};
 ghost use Rattle.uimg_legacy.specs.Work.{table_work};
 

@@ -1,9 +1,7 @@
 //! The report on an image's checksums.
 
-ghost use Rattle.uimg_legacy.specs.Commands.{Delivers, TellsOf};
-ghost use Rattle.uimg_legacy.specs.Report.{verify_of};
-ghost use Rattle.uimg_legacy.specs.Reading.{Reports, report_on};
-ghost use Rattle.uimg_legacy.specs.Work.{data_read, verify_work};
+ghost use Rattle.uimg_legacy.specs.{Commands.{Delivers, TellsOf}, Report.verify_of};
+ghost use Rattle.uimg_legacy.specs.{Reading.{Reports, report_on}, Work.{data_read, verify_work}};
 ghost use Rattle.uimg_base.specs.Using.{Asks};
 
 use crate::fault::Fault;

@@ -2,8 +2,7 @@
 
 ghost use Rattle.std.specs.Prelude.{◌≡◌, ◌+◌, ◌*◌, ◌/◌, ◌^◌, ◌≤◌, length, sum_by};
 ghost use Rattle.uimg_texts.specs.Numbers.{up4};
-ghost use Rattle.uimg_legacy.specs.Words.{whole_words};
-ghost use Rattle.uimg_legacy.specs.Parts.{sizes};
+ghost use Rattle.uimg_legacy.specs.{Words.whole_words, Parts.sizes};
 ghost use Rattle.uimg_legacy.specs.Reading.{ReadsWords, sizes_from, rounded_from};
 
 use std::alloc::Allocator;

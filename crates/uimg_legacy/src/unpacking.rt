@@ -1,9 +1,8 @@
 //! Unpacking: parts are written while the image's data are summed.
 
 ghost use Rattle.std.specs.Prelude.{◌≡◌, [], IsTrue};
-ghost use Rattle.uimg_legacy.specs.Commands.{TakesOut};
+ghost use Rattle.uimg_legacy.specs.{Commands.TakesOut, UnpackingSteps.{Settles, unpack_work}};
 ghost use Rattle.uimg_legacy.specs.Unpacking.{AreRight, Unpacks, KeepsRight, Extracts};
-ghost use Rattle.uimg_legacy.specs.UnpackingSteps.{Settles, unpack_work};
 
 mod mem_parts;
 mod part_taker;

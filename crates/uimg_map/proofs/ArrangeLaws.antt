@@ -1,16 +1,10 @@
 -- What the rows of sorted things are for the things as they were given.
-use Rattle.std.proofs.Common.{◌≡◌, ◌≤◌, ◌<◌, ℕ, ◌+◌, ◌*◌, List, length, true, false, None, ◌∙◌, ap, sym, refl, subst, arith}
-use Rattle.std.specs.List.{list_any}
-use Rattle.std.specs.List.Sorted.{IsPermutation, IsSorted}
+use Rattle.std.proofs.Common.{◌≡◌, ◌≤◌, ◌<◌, ℕ, ◌+◌, ◌*◌, List, length, true, false, None, ◌∙◌, ap, sym, subst, arith}
+use Rattle.std.specs.List.{list_any, Sorted.{IsPermutation, IsSorted}}
 use Rattle.std.proofs.lemmas.List.Sorted.{length_permutation, list_any-IsPermutation}
-use Rattle.uimg_map.specs.declared.thing.Thing.{Thing}
-use Rattle.uimg_map.specs.declared.row.Row.{Row}
-use Rattle.uimg_map.specs.Rows.{rows_from, things_in}
-use Rattle.uimg_map.specs.Order.{InOrder}
-use Rattle.uimg_map.specs.Arranging.{Arranges}
-use Rattle.uimg_map.specs.Cover.{is_in_row, has_free, contains}
-use Rattle.uimg_map.proofs.RowsLaws.{things_in-rows, length-rows}
-use Rattle.uimg_map.proofs.OrderLaws.{thing_cmp, in_order}
+use Rattle.uimg_map.specs.{declared.{thing.Thing.Thing, row.Row.Row}, Rows.{rows_from, things_in}}
+use Rattle.uimg_map.specs.{Order.InOrder, Arranging.Arranges, Cover.{is_in_row, has_free, contains}}
+use Rattle.uimg_map.proofs.{RowsLaws.{things_in-rows, length-rows}, OrderLaws.{thing_cmp, in_order}}
 use Rattle.uimg_map.proofs.CoverLaws.{covered, free}
 
 module _ (size : ℕ) (given sorted : List Thing) (p : IsPermutation given sorted) (s : IsSorted thing_cmp sorted) (rows : List Row) (are : rows ≡ rows_from size None sorted) where

@@ -1,7 +1,6 @@
 -- The filled cells of a bar, by divisions.
-use Rattle.std.proofs.Common.{◌≡◌, ◌≤◌, ◌<◌, ℕ, ◌+◌, ◌-◌, ◌*◌, ◌/◌, Bool, true, false, nat_lt, nat_le, ◌∙◌, ap, sym, refl, arith}
-use Rattle.std.specs.Prelude.{◌&&◌}
-use Rattle.std.proofs.Math.Nat.{div-lt_iff_lt-mul, le-div_iff_mul-le, add-mul, one-mul}
+use Rattle.std.proofs.Common.{◌≡◌, ◌≤◌, ◌<◌, ℕ, ◌+◌, ◌-◌, ◌*◌, ◌/◌, Bool, nat_lt, nat_le, ◌∙◌, ap, sym, arith}
+use Rattle.std.{specs.Prelude.◌&&◌, proofs.Math.Nat.{div-lt_iff_lt-mul, le-div_iff_mul-le}}
 use Rattle.std.proofs.Math.Bool.{and_comm}
 use Rattle.std.proofs.lemmas.Bool.{ltb_from_iff, ltb-true, leb-true, lt-ltb, le-leb}
 

@@ -1,16 +1,12 @@
 -- Contents that grow by one thing and by the next.
 use Rattle.std.proofs.Common.{◌≡◌, ◌≤◌, ℕ, ◌+◌, List, [], ◌∷◌, ◌++◌, length, map, length-append, append_assoc, append-nil, add-zero, Bool, false, Option, Some, None, Result, Ok, Err, OnOk, IfErr, IsTrue, ◌∙◌, ap, sym, refl, subst, arith}
 use Rattle.std.proofs.lemmas.List.{map-append, length-map}
-use Rattle.uimg_base.specs.Device.{Device, RisesIf}
-use Rattle.uimg_base.specs.Using.{Asks, UsesAtMost}
-use Rattle.uimg_map.specs.declared.contents.Contents.{Contents}
-use Rattle.uimg_map.specs.declared.contents.Label.{Label}
-use Rattle.uimg_map.specs.declared.fault.MapFault.{MapFault}
-use Rattle.uimg_map.specs.declared.fault.MapFault.TheVariants.{OutOfMemory}
-use Rattle.uimg_map.specs.declared.thing.Thing.{Thing}
+use Rattle.uimg_base.specs.{Device.{Device, RisesIf}, Using.{Asks, UsesAtMost}}
+use Rattle.uimg_map.specs.declared.{contents.Contents.Contents, fault.MapFault.MapFault}
+use Rattle.uimg_map.specs.declared.{fault.MapFault.TheVariants.OutOfMemory, thing.Thing.Thing}
 use Rattle.uimg_map.specs.Contents.{numbered_things, GrowsBy, AddsFound, Gathers}
 use Rattle.uimg_map.specs.Faults.{is_read, stops}
-use Rattle.uimg_map.specs.Found.{What, Found, Told, read_label, earlier_fault, found_then, nothing, thing}
+use Rattle.uimg_map.specs.Found.{What, Found, Told, read_label, earlier_fault, found_then, nothing}
 
 -- things behind others have the numbers behind theirs
 numbered-append : (n : ℕ) (fs gs : List Found) → numbered_things n (fs ++ gs) ≡ numbered_things n fs ++ numbered_things (n + length fs) gs
@@ -60,15 +56,6 @@ grows_then {file} {m} {n} {a} {b} {c} p q =
           ∙ ap (λ (ws : List What). map (read_label file) a.labels.items ++ ws) (sym (map-append (λ (f : Found). f.what) m.found n.found));
       first = q.first ∙ ap (λ (f : Option MapFault). earlier_fault f n.fault) p.first ∙ first_of-assoc a.fault m.fault n.fault;
     }
-
--- by a label and a thing, whose number is the label's
-pub grows_by : (file : List ℕ) (label : Label) (place end : ℕ) (a b : Contents) → b.size ≡ a.size → b.labels.items ≡ a.labels.items ++ label ∷ [] → b.things.items ≡ a.things.items ++ record { place = place; end = end; number = length a.labels.items } ∷ [] → b.fault ≡ a.fault → GrowsBy file (thing (read_label file label) place end) a b
-grows_by file label place end a b size labels things first = record {
-  size = size;
-  things = things;
-  labels = ap (λ (ls : List Label). map (read_label file) ls) labels ∙ map-append (read_label file) a.labels.items (label ∷ []);
-  first = first ∙ first_of-none a.fault;
-}
 
 then_grows : {Y : Type 0} {file : List ℕ} {m : Told} {a b : Contents} (n : Told) (c : Contents) (r : Result Y MapFault) → GrowsBy file m a b → OnOk r (GrowsBy file n b c) → OnOk r (GrowsBy file (found_then m n) a c)
 then_grows n c (Ok y) p q = grows_then p q

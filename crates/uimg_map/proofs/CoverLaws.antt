@@ -1,15 +1,11 @@
 -- Each byte of the file is of a row, and what no row of a thing has is of no thing.
-use Rattle.std.proofs.Common.{◌≡◌, ◌≤◌, ◌<◌, ℕ, ◌+◌, List, [], ◌∷◌, ◌++◌, min, Bool, true, false, nat_lt, nat_le, Option, Some, None, ◌∙◌, ap, sym, refl, arith}
-use Rattle.std.specs.Prelude.{◌&&◌, ◌||◌, if◌then◌else◌}
-use Rattle.std.specs.List.{AllByRecursion, list_any}
-use Rattle.std.proofs.Math.Bool.{or-true, true≢false}
+use Rattle.std.proofs.Common.{◌≡◌, ◌≤◌, ◌<◌, ℕ, ◌+◌, List, [], ◌∷◌, ◌++◌, min, Bool, true, false, nat_lt, nat_le, Option, Some, ◌∙◌, ap, sym, refl, arith}
+use Rattle.std.specs.{Prelude.{◌&&◌, ◌||◌, if◌then◌else◌}, List.{AllByRecursion, list_any}}
+use Rattle.std.proofs.{Math.Bool.{or-true, true≢false}, lemmas.List.Folds.list_any-append}
 use Rattle.std.proofs.lemmas.Bool.{lt-ltb, le-leb, ltb-true, leb-true, lt-leb, le-ltb, ltb-false}
-use Rattle.std.proofs.lemmas.List.Folds.{list_any-append}
-use Rattle.uimg_map.specs.declared.thing.Thing.{Thing}
-use Rattle.uimg_map.specs.declared.row.Row.{Row}
+use Rattle.uimg_map.specs.{declared.{thing.Thing.Thing, row.Row.Row}, Order.{IsBefore, InOrder}}
 use Rattle.uimg_map.specs.declared.row.Row.TheVariants.{Taken, Gap, Rest}
 use Rattle.uimg_map.specs.Rows.{thing_end, further, overlapped, gap, rest, rows_of_thing, rows_from}
-use Rattle.uimg_map.specs.Order.{IsBefore, InOrder}
 use Rattle.uimg_map.specs.Cover.{within, contains, is_in_row, has_free}
 
 -- ---- a byte stands from a place up to an end, or doesn't

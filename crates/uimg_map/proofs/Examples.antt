@@ -6,11 +6,10 @@ use Rattle.uimg_fit_base.specs.Files.{number}
 use Rattle.uimg_fit_checking.specs.Survey.{ImageSaid}
 use Rattle.uimg_legacy.specs.declared.fault.LegacyFault.TheVariants.{TooShort, BadHeaderCrc, NoTableEnd, PartOutside}
 use Rattle.uimg_legacy.specs.Header.{head}
-use Rattle.uimg_map.specs.declared.fault.MapFault.TheVariants.{Fit}
-use Rattle.uimg_map.specs.FitContents.{is_value, image_told, images_told}
+use Rattle.uimg_map.specs.{declared.fault.MapFault.TheVariants.Fit, Reservations.block_end}
+use Rattle.uimg_map.specs.{FitContents.{is_value, image_told, images_told}, Reservations.end_among}
 use Rattle.uimg_map.specs.Found.{the_header, payload_of, embedded_of, the_table, part_at, the_padding, fault_of, refused_behind}
 use Rattle.uimg_map.specs.LegacyContents.{legacy_fault, refused_header, endless_told, parts_told, legacy_contents}
-use Rattle.uimg_map.specs.Reservations.{end_among, block_end}
 
 -- an image whose payload is the value of `data`, and one whose payload stands behind it, both of three bytes; one without a payload
 inner : ImageSaid

@@ -1,24 +1,17 @@
 -- The payloads of images, one at a time, and why there are none.
 use Rattle.std.proofs.Common.{◌≡◌, ◌≤◌, ◌<◌, ℕ, ◌+◌, ◌*◌, List, ◌∷◌, length, map, drop, get_or, false, Option, Some, Result, Ok, Err, OnOk, IfErr, IsTrue, le_refl, ◌∙◌, ap, sym, subst, arith}
-use Rattle.std.proofs.lemmas.List.{drop_more}
-use Rattle.std.proofs.Math.ListN.{drop_of_length-le}
-use Rattle.uimg_base.specs.Device.{Device, RisesIf}
-use Rattle.uimg_base.specs.Using.{Asks, UsesAtMost}
+use Rattle.std.proofs.{lemmas.List.drop_more, Math.ListN.drop_of_length-le}
+use Rattle.uimg_base.specs.{Device.{Device, RisesIf}, Using.{Asks, UsesAtMost}}
 use Rattle.uimg_blob_reading.specs.Counts.{index_cost}
-use Rattle.uimg_fit_checking.specs.declared.surveying.facts.ImageFacts.{ImageFacts}
-use Rattle.uimg_fit_checking.specs.declared.surveying.facts.Survey.{Survey}
+use Rattle.uimg_fit_checking.specs.declared.surveying.facts.{ImageFacts.ImageFacts, Survey.Survey}
 use Rattle.uimg_fit_checking.specs.declared.surveying.fault.SurveyFault.{SurveyFault}
 use Rattle.uimg_fit_checking.specs.Survey.{read_image, survey_of}
 use Rattle.uimg_fit_checking.specs.SurveyParts.{is_unread, Surveys}
-use Rattle.uimg_map.specs.declared.contents.Contents.{Contents}
-use Rattle.uimg_map.specs.declared.fault.MapFault.{MapFault}
-use Rattle.uimg_map.specs.Contents.{GrowsBy, Gathers}
-use Rattle.uimg_map.specs.Faults.{is_read, stops}
-use Rattle.uimg_map.specs.FitContents.{header_and_blocks, blocks_told, image_told, images_told, survey_told}
-use Rattle.uimg_map.specs.Work.{image_count}
-use Rattle.uimg_map.specs.declared.fdt_header.FdtHeader.{FdtHeader}
-use Rattle.uimg_map.specs.FdtHeader.{fdt_header_of}
+use Rattle.uimg_map.specs.declared.{contents.Contents.Contents, fault.MapFault.MapFault}
+use Rattle.uimg_map.specs.{Contents.{GrowsBy, Gathers}, Faults.{is_read, stops}, Work.image_count}
+use Rattle.uimg_map.specs.{declared.fdt_header.FdtHeader.FdtHeader, FdtHeader.fdt_header_of}
 use Rattle.uimg_map.specs.Reservations.{EndsBlock, block_end}
+use Rattle.uimg_map.specs.FitContents.{header_and_blocks, blocks_told, image_told, images_told, survey_told}
 use Rattle.uimg_map.proofs.ContentsLaws.{grows_none, grows_then, reads_then, reads_and_grows, gathers_as, at_most}
 use Rattle.uimg_map.proofs.ReservationsLaws.{end_is}
 

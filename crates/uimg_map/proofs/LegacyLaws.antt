@@ -1,21 +1,15 @@
 -- What is read of a legacy image, and what is found by it.
 use Rattle.std.proofs.Common.{◌≡◌, ℕ, ◌+◌, ◌*◌, List, length, true, false, Some, None, Result, Ok, Err, IsTrue, le_of_eq, ◌∙◌, ap, sym, arith}
-use Rattle.uimg_base.specs.Device.{Device}
-use Rattle.uimg_base.specs.Using.{Asks, UsesAtMost}
+use Rattle.uimg_base.specs.{Device.Device, Using.{Asks, UsesAtMost}}
 use Rattle.uimg_texts.specs.Slices.{slice}
-use Rattle.uimg_legacy.specs.declared.header.Header.{Header}
-use Rattle.uimg_legacy.specs.declared.fault.LegacyFault.{LegacyFault}
-use Rattle.uimg_legacy.specs.declared.fault.LegacyFault.TheVariants.{NoTableEnd}
-use Rattle.uimg_legacy.specs.Header.{header}
-use Rattle.uimg_legacy.specs.Image.{payload}
-use Rattle.uimg_legacy.specs.Parts.{has_parts, sizes, part_sizes}
-use Rattle.uimg_map.specs.declared.contents.Contents.{Contents}
-use Rattle.uimg_map.specs.declared.fault.MapFault.{MapFault}
+use Rattle.uimg_legacy.specs.declared.{header.Header.Header, fault.LegacyFault.LegacyFault}
+use Rattle.uimg_legacy.specs.{declared.fault.LegacyFault.TheVariants.NoTableEnd, Header.header}
+use Rattle.uimg_legacy.specs.{Image.payload, Parts.{has_parts, sizes, part_sizes}}
+use Rattle.uimg_map.specs.declared.{contents.Contents.Contents, fault.MapFault.MapFault}
 use Rattle.uimg_map.specs.Contents.{GrowsBy, AddsFound, Gathers}
-use Rattle.uimg_map.specs.Found.{the_table, Told, thing, found_then}
-use Rattle.uimg_map.specs.LegacyContents.{refused_header, header_told, parts_told, endless_told, table_told, data_told, legacy_told, legacy_contents}
-use Rattle.uimg_map.specs.Tables.{count_in}
+use Rattle.uimg_map.specs.{Found.{the_table, Told, thing, found_then}, Tables.count_in}
 use Rattle.uimg_map.specs.Work.{legacy_table_work, legacy_data_work, legacy_work}
+use Rattle.uimg_map.specs.LegacyContents.{refused_header, header_told, parts_told, endless_told, table_told, data_told, legacy_told, legacy_contents}
 use Rattle.uimg_map.proofs.ContentsLaws.{reads_then, adds_then, reads_and_adds, gathers_as, at_most}
 use Rattle.uimg_map.proofs.TableLaws.{is_counted, is_endless}
 

@@ -1,14 +1,10 @@
 -- What a sort ensures is the order of things.
-use Rattle.std.proofs.Common.{◌≡◌, ◌≤◌, ◌<◌, ℕ, zero, suc, ◌+◌, List, [], ◌∷◌, length, Bool, true, false, get_or, ap, sym, refl, subst, add-one, ◌∙◌, arith}
-use Rattle.std.specs.List.{AllByRecursion}
-use Rattle.std.specs.List.Sorted.{IsSorted}
-use Rattle.std.specs.Ordering.{is_lt, ordering_then, nat_cmp}
-use Rattle.std.specs.declared.cmp.Ordering.{Ordering}
+use Rattle.std.proofs.Common.{◌≡◌, ℕ, suc, List, [], ◌∷◌, false, get_or, ap, sym, refl, subst, add-one, ◌∙◌, arith}
+use Rattle.std.{specs.List.{AllByRecursion, Sorted.IsSorted}, proofs.lemmas.Map.Keys.ge_from_not_lt}
+use Rattle.std.specs.{Ordering.{is_lt, ordering_then, nat_cmp}, declared.cmp.Ordering.Ordering}
 use Rattle.std.specs.declared.cmp.Ordering.TheVariants.{Less, Equal, Greater}
-use Rattle.std.proofs.lemmas.Map.Keys.{ge_from_not_lt}
 use Rattle.std.proofs.lemmas.Cmp.{nat_cmp_total, tied_itself}
-use Rattle.uimg_map.specs.declared.thing.Thing.{Thing}
-use Rattle.uimg_map.specs.Order.{IsBefore, InOrder}
+use Rattle.uimg_map.specs.{declared.thing.Thing.Thing, Order.{IsBefore, InOrder}}
 
 -- by places, then ends, then numbers
 abbrev pub thing_cmp : Thing → Thing → Ordering

@@ -1,13 +1,10 @@
 -- The parts of a legacy image, one at a time.
 use Rattle.std.proofs.Common.{◌≡◌, ◌≤◌, ◌<◌, ℕ, zero, suc, ◌+◌, List, [], ◌∷◌, length, drop, get_or, Bool, true, false, nat_lt, nat_le, ◌∙◌, ap, sym, refl, subst, arith}
-use Rattle.std.proofs.lemmas.Bool.{leb-true, leb-false, le-leb, lt-leb}
-use Rattle.std.proofs.lemmas.List.{drop_more}
+use Rattle.std.proofs.lemmas.{Bool.{leb-true, leb-false, le-leb, lt-leb}, List.drop_more}
 use Rattle.std.proofs.Math.ListN.{drop_of_length-le}
 use Rattle.uimg_texts.specs.Numbers.{up4}
-use Rattle.uimg_map.specs.declared.contents.Contents.{Contents}
-use Rattle.uimg_map.specs.Contents.{GrowsBy}
-use Rattle.uimg_map.specs.Found.{Told, found_then, nothing}
-use Rattle.uimg_map.specs.LegacyContents.{is_end, part_told, parts_told}
+use Rattle.uimg_map.specs.{declared.contents.Contents.Contents, Found.{Told, found_then, nothing}}
+use Rattle.uimg_map.specs.{Contents.GrowsBy, LegacyContents.{is_end, part_told, parts_told}}
 use Rattle.uimg_map.proofs.ContentsLaws.{grows_none, grows_then}
 
 leb_by : (m n : ℕ) (b : Bool) → nat_le m n ≡ b → b ≡ nat_le (suc m) (suc n)

@@ -1,20 +1,16 @@
 -- A reservation block is gone over an entry at a time.
 use Rattle.std.proofs.Common.{◌≡◌, ◌≤◌, ◌<◌, ℕ, zero, suc, ◌+◌, ◌-◌, ◌*◌, ◌/◌, List, length, Bool, true, false, nat_lt, Option, Some, None, ◌∙◌, ap, sym, refl, subst, lit<, arith}
-use Rattle.std.proofs.Math.Nat.{le-div_iff_mul-le}
-use Rattle.std.proofs.lemmas.Bool.{ltb-true, ltb-false}
-use Rattle.uimg_texts.specs.Slices.{slice}
+use Rattle.std.proofs.{Math.Nat.le-div_iff_mul-le, lemmas.Bool.{ltb-true, ltb-false}}
 use Rattle.std.specs.Prelude.{IsTrue}
+use Rattle.uimg_texts.specs.Slices.{slice}
 use Rattle.uimg_base.specs.Device.{Device, SameDevice}
-use Rattle.uimg_map.specs.Reservations.{is_zero_entry, GoesOn, EndsBehind, EndsBlock, end_among, block_end}
+use Rattle.uimg_map.specs.Reservations.{is_zero_entry, GoesOn, EndsBlock, end_among, block_end}
 
 -- the entries up to a place do not end the block
 pub record Passed (file : List ℕ) (place at : ℕ) : Type 0 where
   pub count : ℕ
   pub at_is : at ≡ place + 16 * count
   pub goes_on : GoesOn file place count
-
-pub begun : (file : List ℕ) (place : ℕ) → Passed file place place
-begun file place = record { count = 0; at_is = omega arith; goes_on = λ j h. absurd (omega arith) }
 
 -- one more entry
 more_by : (file : List ℕ) (place count j : ℕ) → GoesOn file place count → is_zero_entry (slice file (place + 16 * count) 16) ≡ false → (b : Bool) → nat_lt j count ≡ b → j < count + 1 → is_zero_entry (slice file (place + 16 * j) 16) ≡ false
@@ -32,20 +28,6 @@ passed_more file place at p e =
       at_is = omega (arith, p.at_is);
       goes_on = λ j h. more_by file place p.count j p.goes_on here (nat_lt j p.count) refl h;
     }
-
-pub ends_behind : (file : List ℕ) (place at : ℕ) → Passed file place at → is_zero_entry (slice file at 16) ≡ true → at + 16 ≤ length file → EndsBehind file place (at + 16)
-ends_behind file place at p e inside = record {
-  count = p.count;
-  goes_on = p.goes_on;
-  last = subst (λ (n : ℕ). is_zero_entry (slice file n 16) ≡ true) p.at_is e;
-  end_is = omega (arith, p.at_is);
-  inside = inside;
-}
-
-pub ends_nowhere : (file : List ℕ) (place at : ℕ) → Passed file place at → length file < at + 16 → EndsBlock file place None
-ends_nowhere file place at p out = λ count inside j h.
-    let fewer : j < p.count = omega (arith, p.at_is, out, inside, h) in
-    p.goes_on j fewer
 
 -- the same of devices, where the entry was read
 pub passed_by : (d e : Device) (place at : ℕ) (is : Bool) → SameDevice d e → (IsTrue e.honest → is ≡ is_zero_entry (slice e.bytes at 16)) → is ≡ false → (IsTrue d.honest → Passed d.bytes place at) → IsTrue d.honest → Passed d.bytes place (at + 16)

@@ -1,8 +1,7 @@
 -- Of what the rows of things are made.
-use Rattle.std.proofs.Common.{◌≡◌, ◌≤◌, ◌<◌, ℕ, ◌+◌, ◌*◌, List, [], ◌∷◌, ◌++◌, length, min, Bool, true, false, nat_lt, Option, None, length-append, append_assoc, ◌∙◌, ap, sym, refl, arith}
+use Rattle.std.proofs.Common.{◌≡◌, ◌≤◌, ℕ, ◌+◌, ◌*◌, List, [], ◌∷◌, ◌++◌, length, min, Bool, true, false, nat_lt, Option, length-append, append_assoc, ◌∙◌, ap, sym, refl, arith}
 use Rattle.std.specs.Prelude.{if◌then◌else◌}
-use Rattle.uimg_map.specs.declared.thing.Thing.{Thing}
-use Rattle.uimg_map.specs.declared.row.Row.{Row}
+use Rattle.uimg_map.specs.declared.{thing.Thing.Thing, row.Row.Row}
 use Rattle.uimg_map.specs.declared.row.Row.TheVariants.{Taken, Gap, Rest}
 use Rattle.uimg_map.specs.Rows.{thing_end, further, overlapped, gap, rest, rows_of_thing, rows_from, thing_of, things_in}
 

@@ -1,16 +1,12 @@
 -- The table of sizes of a legacy image, a word at a time.
 use Rattle.std.proofs.Common.{◌≡◌, ◌≢◌, ◌≤◌, ◌<◌, ℕ, ◌+◌, ◌-◌, ◌*◌, ◌/◌, List, length, get_or, min, Bool, true, false, cond, nat_lt, Option, Some, None, Ok, Err, length-take, length-drop, ◌∙◌, ap, sym, refl, subst, arith}
-use Rattle.std.specs.Int.{from_be_bytes, w32}
-use Rattle.std.proofs.lemmas.Bool.{ltb-true, ltb-false, le-ltb}
+use Rattle.std.{specs.Int.{from_be_bytes, w32}, proofs.lemmas.Bool.{ltb-true, ltb-false, le-ltb}}
 use Rattle.std.specs.Prelude.{IsTrue}
 use Rattle.uimg_base.specs.Device.{Device, SameDevice}
-use Rattle.uimg_texts.specs.Numbers.{be32}
-use Rattle.uimg_texts.specs.Slices.{slice}
-use Rattle.uimg_legacy.specs.declared.fault.LegacyFault.TheVariants.{NoTableEnd}
-use Rattle.uimg_legacy.specs.Words.{whole_words}
-use Rattle.uimg_legacy.specs.Parts.{sizes, part_sizes}
+use Rattle.uimg_texts.specs.{Numbers.be32, Slices.slice}
+use Rattle.uimg_legacy.specs.{declared.fault.LegacyFault.TheVariants.NoTableEnd, Words.whole_words}
+use Rattle.uimg_legacy.{specs.Parts.{sizes, part_sizes}, proofs.ChunkLaws.sizes-le-words}
 use Rattle.uimg_legacy.proofs.PartsLaws.{words-at, length-words, slice-slice, sizes_more, sizes_end, parts_some, parts_none, sizes-at}
-use Rattle.uimg_legacy.proofs.ChunkLaws.{sizes-le-words}
 use Rattle.uimg_map.specs.Tables.{word_at, count_in}
 
 -- the file has a word, and this is it

@@ -1,12 +1,8 @@
 -- How the rows of a map follow from the things in a file.
 use Rattle.std.specs.Prelude.{◌≡◌, ◌≤◌, ◌<◌, ℕ, ◌+◌, ◌*◌, List, length, true, false, None}
-use Rattle.std.specs.List.{list_any}
-use Rattle.std.specs.List.Sorted.{IsPermutation}
-use Rattle.uimg_map.specs.declared.thing.Thing.{Thing}
-use Rattle.uimg_map.specs.declared.row.Row.{Row}
-use Rattle.uimg_map.specs.Rows.{rows_from, things_in}
-use Rattle.uimg_map.specs.Order.{InOrder}
-use Rattle.uimg_map.specs.Cover.{is_in_row, has_free, contains}
+use Rattle.std.specs.List.{list_any, Sorted.IsPermutation}
+use Rattle.uimg_map.specs.{declared.{thing.Thing.Thing, row.Row.Row}, Rows.{rows_from, things_in}}
+use Rattle.uimg_map.specs.{Order.InOrder, Cover.{is_in_row, has_free, contains}}
 
 -- these are the rows of these things in a file of `size` bytes
 pub record Arranges (size : ℕ) (things : List Thing) (rows : List Row) : Type 0 where

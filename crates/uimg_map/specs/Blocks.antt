@@ -1,8 +1,6 @@
 -- The blocks of a devicetree blob (Devicetree Specification, section 5.1).
-use Rattle.std.specs.Prelude.{ℕ, ◌+◌, ◌-◌, ◌^◌, min, max, List, [], ◌∷◌, Option}
-use Rattle.std.specs.Option.{unwrap_or}
-use Rattle.uimg_map.specs.declared.fdt_header.FdtHeader.{FdtHeader}
-use Rattle.uimg_map.specs.declared.thing.Thing.{Thing}
+use Rattle.std.specs.{Prelude.{ℕ, ◌+◌, ◌-◌, ◌^◌, min, max, List, [], ◌∷◌, Option}, Option.unwrap_or}
+use Rattle.uimg_map.specs.declared.{fdt_header.FdtHeader.FdtHeader, thing.Thing.Thing}
 
 -- The header and the three blocks by its numbers, in a file of `size` bytes; `end` is the end of
 -- the reservation block inside the file. Without one the block ends 16 bytes after its start or

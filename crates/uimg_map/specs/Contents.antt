@@ -1,14 +1,10 @@
 -- How contents grow by what is found in a file.
 use Rattle.std.specs.Prelude.{◌≡◌, ℕ, ◌+◌, List, [], ◌∷◌, ◌++◌, length, map, Result, OnOk, IfErr}
 use Rattle.std.specs.Prelude.{IsTrue}
-use Rattle.uimg_base.specs.Device.{Device}
-use Rattle.uimg_base.specs.Using.{UsesAtMost}
-use Rattle.uimg_map.specs.declared.contents.Contents.{Contents}
-use Rattle.uimg_map.specs.declared.fault.MapFault.{MapFault}
-use Rattle.uimg_map.specs.declared.fault.MapFault.TheVariants.{OutOfMemory}
-use Rattle.uimg_map.specs.declared.thing.Thing.{Thing}
-use Rattle.uimg_map.specs.Faults.{is_read, stops}
-use Rattle.uimg_map.specs.Found.{Found, Told, read_label, earlier_fault}
+use Rattle.uimg_base.specs.{Device.Device, Using.UsesAtMost}
+use Rattle.uimg_map.specs.declared.{contents.Contents.Contents, fault.MapFault.MapFault}
+use Rattle.uimg_map.specs.declared.{fault.MapFault.TheVariants.OutOfMemory, thing.Thing.Thing}
+use Rattle.uimg_map.specs.{Faults.{is_read, stops}, Found.{Found, Told, read_label, earlier_fault}}
 
 -- things in their order, numbered from `number` on
 abbrev pub numbered_things : ℕ → List Found → List Thing

@@ -1,7 +1,6 @@
 -- Which bytes are in a thing, and which in a row.
 use Rattle.std.specs.Prelude.{ℕ, nat_le, nat_lt, ◌&&◌, Bool, false}
-use Rattle.uimg_map.specs.declared.thing.Thing.{Thing}
-use Rattle.uimg_map.specs.declared.row.Row.{Row}
+use Rattle.uimg_map.specs.declared.{thing.Thing.Thing, row.Row.Row}
 use Rattle.uimg_map.specs.declared.row.Row.TheVariants.{Taken, Gap, Rest}
 
 -- whether a byte is in the range from an offset up to an end

@@ -2,8 +2,7 @@
 use Rattle.std.specs.Prelude.{Result, Err, Bool, true, false}
 use Rattle.uimg_blob_reading.specs.Faults.{refuses_memory}
 use Rattle.uimg_fit_base.specs.declared.fault.Fault.TheVariants as fit
-use Rattle.uimg_map.specs.declared.fault.MapFault.{MapFault}
-use Rattle.uimg_map.specs.declared.fault.MapFault.TheVariants.{Fit, Read, OutOfMemory}
+use Rattle.uimg_map.specs.declared.fault.MapFault.{MapFault, TheVariants.{Fit, Read, OutOfMemory}}
 
 -- the result is a failed read
 abbrev pub is_read : {X : Type 0} → Result X MapFault → Bool

@@ -2,21 +2,16 @@
 use Rattle.std.specs.Prelude.{ℕ, ◌+◌, List, [], ◌∷◌, length, ◌==◌, ◌&&◌, if◌then◌else◌, Bool, false}
 use Rattle.std.specs.Prelude.{Option, Some, None, Result, Ok, Err}
 use Rattle.uimg_base.specs.declared.spans.Span.{Span}
-use Rattle.uimg_fit_base.specs.declared.fault.Fault.{Fault}
-use Rattle.uimg_fit_base.specs.declared.fault.Fault.TheVariants as of
-use Rattle.uimg_fit_base.specs.declared.fault.FitFault.{FitFault}
+use Rattle.uimg_fit_base.specs.declared.fault.{Fault.Fault, FitFault.FitFault}
 use Rattle.uimg_fit_base.specs.declared.fault.FitFault.TheVariants.{DataOutside}
+use Rattle.uimg_fit_base.specs.declared.fault.Fault.TheVariants as of
 use Rattle.uimg_fit_checking.specs.Survey.{ImageSaid, Said, survey_of}
 use Rattle.uimg_fit_reading.specs.PayloadPlaces.{place_said}
-use Rattle.uimg_map.specs.declared.fault.MapFault.TheVariants.{Fit}
-use Rattle.uimg_map.specs.declared.fdt_header.FdtHeader.{FdtHeader}
-use Rattle.uimg_map.specs.declared.thing.Thing.{Thing}
-use Rattle.uimg_map.specs.Blocks.{blocks_by}
+use Rattle.uimg_map.specs.declared.{fault.MapFault.TheVariants.Fit, fdt_header.FdtHeader.FdtHeader}
+use Rattle.uimg_map.specs.{declared.thing.Thing.Thing, Blocks.blocks_by, FdtHeader.fdt_header_of}
 use Rattle.uimg_map.specs.Found.{What, the_header, the_reservations, the_structure, the_strings}
 use Rattle.uimg_map.specs.Found.{payload_of, embedded_of, Found, Told, found_then, nothing, thing}
-use Rattle.uimg_map.specs.Found.{refused, refused_at, refused_behind}
-use Rattle.uimg_map.specs.FdtHeader.{fdt_header_of}
-use Rattle.uimg_map.specs.Reservations.{block_end}
+use Rattle.uimg_map.specs.{Found.{refused, refused_at, refused_behind}, Reservations.block_end}
 
 -- things with what they are
 abbrev pub found_as : List What → List Thing → List Found

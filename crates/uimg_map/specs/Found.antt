@@ -1,8 +1,7 @@
 -- What is found in the file of an image.
 use Rattle.std.specs.Prelude.{ℕ, List, [], ◌∷◌, ◌++◌, nat_lt, if◌then◌else◌, Option, Some, None}
 use Rattle.uimg_texts.specs.Slices.{slice}
-use Rattle.uimg_map.specs.declared.fault.MapFault.{MapFault}
-use Rattle.uimg_map.specs.declared.contents.Label.{Label}
+use Rattle.uimg_map.specs.declared.{fault.MapFault.MapFault, contents.Label.Label}
 use Rattle.uimg_map.specs.declared.contents.Label.TheVariants as of
 
 -- What a thing is. A payload has the name of its image, a part its position.

@@ -2,16 +2,12 @@
 use Rattle.std.specs.Prelude.{ℕ, ◌+◌, ◌*◌, List, [], ◌∷◌, length, nat_lt, if◌then◌else◌, Bool, true}
 use Rattle.std.specs.Prelude.{false, Result, Ok, Err}
 use Rattle.uimg_texts.specs.Numbers.{up4}
-use Rattle.uimg_legacy.specs.declared.header.Header.{Header}
-use Rattle.uimg_legacy.specs.declared.fault.Fault.TheVariants as of
-use Rattle.uimg_legacy.specs.declared.fault.LegacyFault.{LegacyFault}
+use Rattle.uimg_legacy.specs.declared.{header.Header.Header, fault.LegacyFault.LegacyFault}
 use Rattle.uimg_legacy.specs.declared.fault.LegacyFault.TheVariants.{BadHeaderCrc, Truncated}
-use Rattle.uimg_legacy.specs.declared.fault.LegacyFault.TheVariants.{PartOutside}
-use Rattle.uimg_legacy.specs.Header.{header}
-use Rattle.uimg_legacy.specs.Image.{payload}
-use Rattle.uimg_legacy.specs.Parts.{has_parts, part_sizes}
-use Rattle.uimg_map.specs.declared.fault.MapFault.{MapFault}
-use Rattle.uimg_map.specs.declared.fault.MapFault.TheVariants.{Legacy}
+use Rattle.uimg_legacy.specs.{declared.fault.LegacyFault.TheVariants.PartOutside, Header.header}
+use Rattle.uimg_legacy.specs.{Image.payload, Parts.{has_parts, part_sizes}}
+use Rattle.uimg_legacy.specs.declared.fault.Fault.TheVariants as of
+use Rattle.uimg_map.specs.declared.fault.MapFault.{MapFault, TheVariants.Legacy}
 use Rattle.uimg_map.specs.Found.{the_header, the_table, the_data, part_at, the_padding, Told}
 use Rattle.uimg_map.specs.Found.{found_then, nothing, thing, refused_at, refused_behind}
 

@@ -1,13 +1,9 @@
 -- The map of an image's file.
 use Rattle.std.specs.Prelude.{◌≡◌, ℕ, List, length, map, if◌then◌else◌}
 use Rattle.uimg_fit_base.specs.Files.{begins_as_blob}
-use Rattle.uimg_map.specs.declared.map.Map.{Map}
-use Rattle.uimg_map.specs.declared.thing.Thing.{Thing}
-use Rattle.uimg_map.specs.Arranging.{Arranges}
-use Rattle.uimg_map.specs.Contents.{numbered_things}
-use Rattle.uimg_map.specs.FitContents.{fit_contents}
-use Rattle.uimg_map.specs.Found.{Told, read_label}
-use Rattle.uimg_map.specs.LegacyContents.{legacy_contents}
+use Rattle.uimg_map.specs.{declared.{map.Map.Map, thing.Thing.Thing}, Arranging.Arranges}
+use Rattle.uimg_map.specs.{Contents.numbered_things, FitContents.fit_contents}
+use Rattle.uimg_map.specs.{Found.{Told, read_label}, LegacyContents.legacy_contents}
 
 -- the rows are those of some things in a file of this size
 pub record IsMap (map : Map) : Type 0 where

@@ -1,6 +1,5 @@
 -- Things in the order of their offsets.
-use Rattle.std.specs.Prelude.{◌≡◌, ◌≤◌, ⊤, List, [], ◌∷◌}
-use Rattle.std.specs.List.{AllByRecursion}
+use Rattle.std.specs.{Prelude.{◌≡◌, ◌≤◌, ⊤, List, [], ◌∷◌}, List.AllByRecursion}
 use Rattle.uimg_map.specs.declared.thing.Thing.{Thing}
 
 -- lexicographic order, by offset, end and number

@@ -1,8 +1,7 @@
 -- The rows of the map of a file: its things, and the bytes in no thing.
 use Rattle.std.specs.Prelude.{ℕ, List, [], ◌∷◌, ◌++◌, min, nat_lt, if◌then◌else◌, Option, Some}
 use Rattle.std.specs.Prelude.{None}
-use Rattle.uimg_map.specs.declared.thing.Thing.{Thing}
-use Rattle.uimg_map.specs.declared.row.Row.{Row}
+use Rattle.uimg_map.specs.declared.{thing.Thing.Thing, row.Row.Row}
 use Rattle.uimg_map.specs.declared.row.Row.TheVariants.{Taken, Gap, Rest}
 
 -- where a thing ends; without one, the file's start

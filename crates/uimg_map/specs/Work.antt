@@ -2,14 +2,10 @@
 use Rattle.std.specs.Prelude.{ℕ, ◌+◌, ◌*◌, List, length, if◌then◌else◌, Bool, true, false, Result}
 use Rattle.std.specs.Prelude.{Ok, Err}
 use Rattle.uimg_blob_reading.specs.Counts.{index_cost}
-use Rattle.uimg_fit_base.specs.declared.fault.Fault.{Fault}
+use Rattle.uimg_fit_base.specs.{declared.fault.Fault.Fault, Files.begins_as_blob}
 use Rattle.uimg_fit_checking.specs.Survey.{Said, survey_of}
-use Rattle.uimg_legacy.specs.declared.header.Header.{Header}
-use Rattle.uimg_legacy.specs.declared.fault.LegacyFault.{LegacyFault}
-use Rattle.uimg_legacy.specs.Header.{header}
-use Rattle.uimg_legacy.specs.Image.{payload}
-use Rattle.uimg_legacy.specs.Parts.{has_parts, sizes}
-use Rattle.uimg_fit_base.specs.Files.{begins_as_blob}
+use Rattle.uimg_legacy.specs.declared.{header.Header.Header, fault.LegacyFault.LegacyFault}
+use Rattle.uimg_legacy.specs.{Header.header, Image.payload, Parts.{has_parts, sizes}}
 
 -- the number of images of a file
 abbrev pub image_count : Result Said Fault → ℕ

@@ -1,8 +1,7 @@
 //! The ten numbers at the beginning of a devicetree blob.
 
 ghost use Rattle.std.specs.Prelude.{◌≡◌, is_err, IfOk};
-ghost use Rattle.uimg_base.specs.Honest.{HonestSource};
-ghost use Rattle.uimg_base.specs.Using.{Asks};
+ghost use Rattle.uimg_base.specs.{Honest.HonestSource, Using.Asks};
 ghost use Rattle.uimg_map.specs.FdtHeader.{fdt_header_at_start, fdt_header_of};
 
 use uimg_base::{Source, SourceFault, be32_at};

@@ -1,17 +1,14 @@
 //! What is in the file of a FIT image.
 
 ghost use Rattle.std.specs.Prelude.{◌≡◌, ◌≤◌, ◌<◌, ◌+◌, ◌*◌, ◌^◌, length, map, ℕ, List, Ok, Err, IfErr, IsTrue, OnOk};
-ghost use Rattle.uimg_blob_reading.specs.Counts.{index_cost};
-ghost use Rattle.uimg_blob_reading.specs.Faults.{refuses_memory};
+ghost use Rattle.uimg_blob_reading.specs.{Counts.index_cost, Faults.refuses_memory};
 ghost use Rattle.uimg_fit_checking.specs.Survey.{read_image, survey_of};
 ghost use Rattle.uimg_fit_checking.specs.declared.surveying.facts.Survey.{Survey};
 ghost use Rattle.uimg_fit_checking.specs.SurveyParts.{ImageInside, SurveyInside, is_unread, Surveys};
-ghost use Rattle.uimg_map.specs.Contents.{GrowsBy, AddsFound, Gathers};
-ghost use Rattle.uimg_map.specs.Faults.{is_read, stops};
-ghost use Rattle.uimg_map.specs.FitContents.{blocks_told, is_value, what_payload, payload_told, image_told, images_told, survey_told, fit_contents};
-ghost use Rattle.uimg_map.specs.Found.{read_label};
-ghost use Rattle.uimg_map.specs.FdtHeader.{fdt_header_of};
+ghost use Rattle.uimg_map.specs.{Contents.{GrowsBy, AddsFound, Gathers}, Faults.{is_read, stops}};
+ghost use Rattle.uimg_map.specs.{Found.read_label, FdtHeader.fdt_header_of};
 ghost use Rattle.uimg_map.specs.Work.{image_count, fit_work};
+ghost use Rattle.uimg_map.specs.FitContents.{blocks_told, is_value, what_payload, payload_told, image_told, images_told, survey_told, fit_contents};
 
 use crate::blocks::blocks_of;
 use crate::contents::{Contents, Label};

@@ -1,14 +1,11 @@
 //! What is in the file of a legacy image.
 
-ghost use Rattle.std.specs.Prelude.{◌≡◌, ◌≤◌, ◌<◌, ◌+◌, ◌*◌, ◌^◌, length, ℕ, List, nat_lt, true, Some, IfOk, IsTrue, is_err};
-ghost use Rattle.uimg_base.specs.Honest.{HonestSource};
-ghost use Rattle.uimg_base.specs.Using.{Asks, UsesAtMost};
-ghost use Rattle.uimg_legacy.specs.Image.{payload};
-ghost use Rattle.uimg_legacy.specs.Parts.{has_parts, sizes, part_sizes};
-ghost use Rattle.uimg_map.specs.Contents.{AddsFound, Gathers};
-ghost use Rattle.uimg_map.specs.LegacyContents.{legacy_fault, is_bad_crc, refused_header, header_told, padding_told, part_told, parts_told, endless_told, table_told, data_told, legacy_contents};
-ghost use Rattle.uimg_map.specs.Tables.{word_at, count_in};
+ghost use Rattle.std.specs.Prelude.{◌≡◌, ◌<◌, ◌+◌, ◌*◌, ◌^◌, length, nat_lt, true, Some, IfOk, IsTrue, is_err};
+ghost use Rattle.uimg_base.specs.{Honest.HonestSource, Using.{Asks, UsesAtMost}};
+ghost use Rattle.uimg_legacy.specs.{Image.payload, Parts.{has_parts, sizes, part_sizes}};
+ghost use Rattle.uimg_map.specs.{Contents.{AddsFound, Gathers}, Tables.{word_at, count_in}};
 ghost use Rattle.uimg_map.specs.Work.{legacy_work, legacy_table_work};
+ghost use Rattle.uimg_map.specs.LegacyContents.{legacy_fault, is_bad_crc, refused_header, header_told, padding_told, part_told, parts_told, endless_told, table_told, data_told, legacy_contents};
 ghost use Rattle.uimg_texts.specs.Slices.{slice};
 
 use crate::contents::{Contents, Label};

@@ -1,12 +1,9 @@
 //! The map of an image's file.
 
 ghost use Rattle.std.specs.Prelude.{◌≡◌, length, IfOk, IfErr, IsTrue};
-ghost use Rattle.uimg_base.specs.Honest.{HonestSource};
-ghost use Rattle.uimg_base.specs.Using.{UsesAtMost};
-ghost use Rattle.uimg_map.specs.Contents.{Gathers};
-ghost use Rattle.uimg_map.specs.Faults.{is_read, stops};
+ghost use Rattle.uimg_base.specs.{Honest.HonestSource, Using.UsesAtMost};
+ghost use Rattle.uimg_map.specs.{Contents.Gathers, Faults.{is_read, stops}, Work.map_work};
 ghost use Rattle.uimg_map.specs.Maps.{contents_of, IsMap, IsMapOf};
-ghost use Rattle.uimg_map.specs.Work.{map_work};
 
 use crate::arranging::arrange;
 use crate::contents::{Contents, Label};

@@ -1,8 +1,7 @@
 //! Finds the end of the memory reservation block of a devicetree blob.
 
-ghost use Rattle.std.specs.Prelude.{◌≡◌, ◌+◌, ◌≤◌, length, is_err, IfOk, IfSome};
-ghost use Rattle.uimg_base.specs.Honest.{HonestSource};
-ghost use Rattle.uimg_base.specs.Using.{Asks};
+ghost use Rattle.std.specs.Prelude.{◌≡◌, ◌+◌, ◌≤◌, length, is_err, IfOk};
+ghost use Rattle.uimg_base.specs.{Honest.HonestSource, Using.Asks};
 ghost use Rattle.uimg_map.specs.Reservations.{is_zero_entry, EndsBlock};
 ghost use Rattle.uimg_texts.specs.Slices.{slice};
 

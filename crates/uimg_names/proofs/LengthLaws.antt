@@ -1,17 +1,13 @@
 -- No name is longer than 31 bytes.
 use Rattle.std.proofs.Common.{◌≡◌, ◌<◌, ℕ, List, [], ◌∷◌, length, find, Option, Some, None, Bool, true, nat_lt, cond, false, refl, ap, ◌∙◌, arith}
-use Rattle.std.specs.Option.{option_map, option_map_or}
-use Rattle.std.specs.List.{list_all}
-use Rattle.std.specs.Char.{to_ascii_lowercase}
+use Rattle.std.specs.{Option.{option_map, option_map_or}, List.list_all, Char.to_ascii_lowercase}
 use Rattle.std.specs.Str.{bytes_eq, str_eq_ignore_ascii_case, str_to_ascii_lowercase}
-use Rattle.std.proofs.lemmas.Bool.{and_parts, ltb-true}
-use Rattle.std.proofs.lemmas.List.{length-map}
+use Rattle.std.proofs.lemmas.{Bool.{and_parts, ltb-true}, List.length-map}
 use Rattle.std.proofs.lemmas.Slice.Eq.{bytes_eq-Decides}
 use Rattle.uimg_texts.specs.Names.{NameRow, code_of}
-use Rattle.uimg_names.specs.declared.field.Field.{Field}
-use Rattle.uimg_names.specs.declared.field.Field.TheVariants.{Architecture, System, Kind, Compression}
-use Rattle.uimg_names.specs.declared.naming.Naming.{Naming}
+use Rattle.uimg_names.specs.declared.{field.Field.Field, naming.Naming.Naming}
 use Rattle.uimg_names.specs.declared.naming.Naming.TheVariants.{Profile, All}
+use Rattle.uimg_names.specs.declared.field.Field.TheVariants.{Architecture, System, Kind, Compression}
 use Rattle.uimg_names.specs.Naming.{profile_rows, all_rows, unknown, code_in_any_case, code_text, code_named, name_text}
 
 -- each short name of some rows has at most 31 bytes

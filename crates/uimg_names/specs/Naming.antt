@@ -1,13 +1,10 @@
 -- The names of codes and the codes of names, in one of two sets of tables.
-use Rattle.std.specs.Prelude.{ℕ, List, Option, codes, find}
-use Rattle.std.specs.Option.{option_map, option_map_or}
+use Rattle.std.specs.{Prelude.{ℕ, List, Option, codes, find}, Option.{option_map, option_map_or}}
 use Rattle.std.specs.Str.{str_eq_ignore_ascii_case}
 use Rattle.uimg_texts.specs.Names.{NameRow, code_of, name_printed, os_table, arch_table, kind_table}
 use Rattle.uimg_texts.specs.Names.{comp_table}
-use Rattle.uimg_names.specs.declared.field.Field.{Field}
-use Rattle.uimg_names.specs.declared.field.Field.TheVariants.{Architecture, System, Kind}
-use Rattle.uimg_names.specs.declared.field.Field.TheVariants.{Compression}
-use Rattle.uimg_names.specs.declared.naming.Naming.{Naming}
+use Rattle.uimg_names.specs.declared.field.Field.{Field, TheVariants.{Architecture, System, Kind}}
+use Rattle.uimg_names.specs.declared.{field.Field.TheVariants.Compression, naming.Naming.Naming}
 use Rattle.uimg_names.specs.declared.naming.Naming.TheVariants.{Profile, All}
 use Rattle.uimg_names.specs.AllNames.{all_architectures, all_systems, all_types, all_compressions}
 

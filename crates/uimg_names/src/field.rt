@@ -1,9 +1,7 @@
 //! The fields of an image whose codes have names.
 
-ghost use Rattle.std.specs.Prelude.{◌≡◌, map};
-ghost use Rattle.std.specs.Str.{str_eq_ignore_ascii_case};
-ghost use Rattle.uimg_texts.specs.CodeRows.{row_of};
-ghost use Rattle.uimg_texts.specs.Names.{name_printed};
+ghost use Rattle.std.specs.{Prelude.{◌≡◌, map}, Str.str_eq_ignore_ascii_case};
+ghost use Rattle.uimg_texts.specs.{CodeRows.row_of, Names.name_printed};
 ghost use Rattle.uimg_names.specs.Naming.{unknown, all_rows, code_in_any_case};
 
 use crate::all_names::{ARCHITECTURES, COMPRESSIONS, SYSTEMS, TYPES};

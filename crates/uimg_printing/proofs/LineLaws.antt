@@ -3,10 +3,8 @@ use Rattle.std.proofs.Common.{◌≡◌, ℕ, zero, suc, ◌+◌, ◌/◌, ◌%�
 use Rattle.std.proofs.lemmas.Bool.{and_parts, cases_lt, cases_eq, le-leb}
 use Rattle.std.proofs.lemmas.List.Folds.{list_all-append}
 use Rattle.std.specs.Fmt.{digit_glyph, digits, digits_onto}
-use Rattle.json.specs.Token.{Token}
-use Rattle.json.specs.Print.{escape_byte, escape, quoted, token_text, separator, begins, ends, print, print_from}
-use Rattle.json.specs.Tree.{json_tokens, members_tokens}
-use Rattle.json.proofs.Printed.Strings.{escape_byte_plain}
+use Rattle.json.{specs.Token.Token, proofs.Printed.Strings.escape_byte_plain}
+use Rattle.json.specs.Print.{escape_byte, escape, quoted, token_text, separator, begins, ends, print_from}
 use Rattle.uimg_printing.specs.Objects.{is_one_line}
 
 -- two such texts are one

@@ -1,8 +1,6 @@
 -- How a name is printed.
 use Rattle.std.proofs.Common.{◌≡◌, ℕ, Bool, true, false, if◌then◌else◌, List, refl, ap}
-use Rattle.std.specs.Prelude.{chars}
-use Rattle.std.specs.List.{flat_map}
-use Rattle.std.specs.Str.{IsUtf8, is_utf8}
+use Rattle.std.specs.{Prelude.chars, List.flat_map, Str.{IsUtf8, is_utf8}}
 use Rattle.std.proofs.lemmas.Str.{IsUtf8-from_is_utf8}
 use Rattle.uimg_printing.specs.Printing.{letter_text, odd_text, printed}
 

@@ -1,15 +1,11 @@
 -- A name as it is printed has no control character of ASCII.
-use Rattle.std.proofs.Common.{◌≡◌, ℕ, zero, suc, ◌+◌, ◌/◌, ◌%◌, ◌<◌, ◌≤◌, ◌==◌, Bool, true, false, cond, not, ◌&&◌, ◌||◌, nat_lt, if◌then◌else◌, List, [], ◌∷◌, ◌++◌, inl, inr, refl, ap, ap₂, sym, ◌∙◌, arith, codes, decimal, ltb-true, lt-ltb, eqb-true}
-use Rattle.std.specs.Prelude.{chars}
-use Rattle.std.specs.Fmt.{digit_glyph, digits, digits_onto}
-use Rattle.std.specs.List.{flat_map}
-use Rattle.std.specs.Str.{is_utf8}
-use Rattle.std.proofs.lemmas.Bool.{and_parts, cases_lt, cases_eq, le-leb}
+use Rattle.std.proofs.Common.{◌≡◌, ℕ, zero, suc, ◌+◌, ◌/◌, ◌%◌, ◌<◌, ◌≤◌, ◌==◌, Bool, true, false, not, ◌&&◌, ◌||◌, nat_lt, if◌then◌else◌, List, [], ◌∷◌, ◌++◌, inl, inr, refl, ap, ap₂, sym, ◌∙◌, arith, codes, decimal, ltb-true, lt-ltb, eqb-true}
+use Rattle.std.specs.{Prelude.chars, Fmt.{digit_glyph, digits, digits_onto}, List.flat_map}
+use Rattle.std.{specs.Str.is_utf8, proofs.lemmas.Bool.{and_parts, cases_lt, cases_eq, le-leb}}
 use Rattle.std.proofs.lemmas.List.Folds.{list_all-append}
 use lib.Utf8.{encode, next}
-use Rattle.uimg_printing.specs.Counting.{counted}
-use Rattle.uimg_printing.specs.Hidden.{is_hidden}
-use Rattle.uimg_printing.specs.Printing.{digits_of, byte_text, ends_word, letter_text, odd_text, printed, is_shown}
+use Rattle.uimg_printing.specs.{Counting.counted, Hidden.is_hidden}
+use Rattle.uimg_printing.specs.Printing.{byte_text, ends_word, letter_text, odd_text, printed, is_shown}
 use Rattle.uimg_printing.proofs.PrintingLaws.{by_bool, printed_letters, printed_odd}
 
 -- two such texts are one
@@ -67,11 +63,6 @@ bytes_text bytes = flat_map byte_text bytes
 
 as_text : (b : ℕ) (rest : List ℕ) → is_shown (bytes_text rest) ≡ true → is_shown (bytes_text (b ∷ rest)) ≡ true
 as_text b rest r = joined (byte_text b) (bytes_text rest) (byte_shown b) r
-
--- what holds of one of two texts
-either : (p : List ℕ → Bool) (b : Bool) (x y : List ℕ) → p x ≡ true → p y ≡ true → p (cond b x y) ≡ true
-either p true x y h k = h
-either p false x y h k = k
 
 -- the bytes of a letter from 128 on: each is high
 encoded_high : (p : List ℕ → Bool) → p [] ≡ true → ((b : ℕ) (rest : List ℕ) → 128 ≤ b → p rest ≡ true → p (b ∷ rest) ≡ true)
@@ -152,14 +143,6 @@ some_digits (suc k) n rest h =
 pub decimal_shown : (n : ℕ) → is_shown (decimal n) ≡ true
 unfolding digits
 decimal_shown n = some_digits 64 n [] refl
-
--- digits of bytes
-pub digits_all : (bytes : List ℕ) → is_shown (flat_map digits_of bytes) ≡ true
-digits_all [] = refl
-digits_all (b ∷ bs) =
-    let first : is_shown (digit_glyph false (b / 16 % 16) ∷ []) ≡ true = below digit_shown 16 digits_shown (b / 16 % 16) (omega arith) in
-    let second : is_shown (digit_glyph false (b % 16) ∷ []) ≡ true = below digit_shown 16 digits_shown (b % 16) (omega arith) in
-    joined (digits_of b) (flat_map digits_of bs) (joined (digit_glyph false (b / 16 % 16) ∷ []) (digit_glyph false (b % 16) ∷ []) first second) (digits_all bs)
 
 one_of : (b : Bool) (x y : List ℕ) → is_shown x ≡ true → is_shown y ≡ true → is_shown (if b then x else y) ≡ true
 one_of true x y p q = p

@@ -1,13 +1,10 @@
 -- Values that nest little, and whose text is one line.
 use Rattle.std.proofs.Common.{◌≡◌, ℕ, zero, suc, ◌≤◌, Bool, true, false, List, [], ◌∷◌, ◌++◌, map, Some, None, Option, option_and_then, refl, ap, sym, ◌∙◌, append_assoc, append-nil, arith}
-use Rattle.std.specs.Prelude.{⊤}
-use Rattle.std.specs.Str.{is_utf8}
+use Rattle.std.specs.{Prelude.⊤, Str.is_utf8}
 use Rattle.json.specs.Json.{Json, null, boolean, number, string, array, object, Items, no_items, item, Members, no_members, member, document, max_depth, value, if_last}
-use Rattle.json.specs.Lex.{tokens}
-use Rattle.json.specs.Print.{print, print_from, quoted}
-use Rattle.json.specs.Token.{Token}
-use Rattle.json.specs.Tree.{json_tokens, items_tokens, members_tokens, depth, items_depth, members_depth}
+use Rattle.json.specs.{Lex.tokens, Print.{print, print_from, quoted}, Token.Token}
 use Rattle.json.proofs.Printed.Trees.{value-json_tokens}
+use Rattle.json.specs.Tree.{json_tokens, items_tokens, members_tokens, depth, items_depth, members_depth}
 use Rattle.uimg_printing.specs.Objects.{is_one_line}
 use Rattle.uimg_printing.specs.Members.{Member, members_of, items_of, number_member, number_if, string_member, text_json, beside, text_members}
 use Rattle.uimg_printing.proofs.LineLaws as line

@@ -1,12 +1,8 @@
 -- Steps of writing, one after another.
 use Rattle.std.proofs.Common.{◌≡◌, ℕ, List, [], ◌∷◌, ◌++◌, ap, sym, ◌∙◌, refl, append_assoc, append-nil}
-use Rattle.std.specs.List.{flat_map}
 use Rattle.std.proofs.lemmas.Grind.{flat_map-append}
-use Rattle.json.specs.Json.{Json}
-use Rattle.json.specs.Token.{Token}
-use Rattle.json.specs.Tree.{json_tokens, items_tokens, members_tokens}
-use Rattle.json.specs.Written.{Written}
-use Rattle.uimg_printing.specs.Members.{Member, members_of, items_of, object_of, array_of, member_tokens, tokens_of}
+use Rattle.json.specs.{Json.Json, Token.Token, Tree.{json_tokens, members_tokens}, Written.Written}
+use Rattle.uimg_printing.specs.Members.{Member, members_of, object_of, member_tokens, tokens_of}
 use Rattle.uimg_printing.specs.Steps.{Appended}
 
 pub then_appended : (s t u : Written) (a b : List Token) → Appended s t a → Appended t u b → Appended s u (a ++ b)
@@ -25,12 +21,6 @@ members_tokens_of (m ∷ ms) =
     ap (λ (l : List Token). Token.key m.0 ∷ (json_tokens m.1 ++ l)) (members_tokens_of ms)
     ∙ sym (append_assoc (member_tokens m) (tokens_of ms) (Token.end_object ∷ []))
 
-pub items_tokens_of : (js : List Json) → items_tokens (items_of js) ≡ flat_map json_tokens js ++ Token.end_array ∷ []
-items_tokens_of [] = refl
-items_tokens_of (j ∷ js) =
-    ap (λ (l : List Token). json_tokens j ++ l) (items_tokens_of js)
-    ∙ sym (append_assoc (json_tokens j) (flat_map json_tokens js) (Token.end_array ∷ []))
-
 pub tokens_append : (a b : List Member) → tokens_of (a ++ b) ≡ tokens_of a ++ tokens_of b
 tokens_append a b = flat_map-append member_tokens a b
 
@@ -38,11 +28,6 @@ tokens_append a b = flat_map-append member_tokens a b
 pub object_appended : (s t u v : Written) (ms : List Member) → Appended s t (Token.begin_object ∷ []) → Appended t u (tokens_of ms) → Appended u v (Token.end_object ∷ []) → Appended s v (json_tokens (object_of ms))
 object_appended s t u v ms p q r =
     appended_as s v _ _ (ap (λ (l : List Token). Token.begin_object ∷ l) (sym (members_tokens_of ms)))
-    (then_appended s t v _ _ p (then_appended t u v _ _ q r))
-
-pub array_appended : (s t u v : Written) (js : List Json) → Appended s t (Token.begin_array ∷ []) → Appended t u (flat_map json_tokens js) → Appended u v (Token.end_array ∷ []) → Appended s v (json_tokens (array_of js))
-array_appended s t u v js p q r =
-    appended_as s v _ _ (ap (λ (l : List Token). Token.begin_array ∷ l) (sym (items_tokens_of js)))
     (then_appended s t v _ _ p (then_appended t u v _ _ q r))
 
 -- one token
@@ -64,7 +49,3 @@ tokens_two a b n m j k =
     tokens_append a (b ++ (n, j) ∷ (m, k) ∷ [])
     ∙ ap (λ (l : List Token). tokens_of a ++ l) (tokens_append b ((n, j) ∷ (m, k) ∷ [])
     ∙ ap (λ (l : List Token). tokens_of b ++ ((Token.key n ∷ json_tokens j) ++ (Token.key m ∷ l))) (append-nil (json_tokens k)))
-
-pub tokens_last : (a : List Member) (name : List ℕ) (j : Json) → tokens_of (a ++ (name, j) ∷ []) ≡ tokens_of a ++ (Token.key name ∷ json_tokens j)
-tokens_last a name j =
-    tokens_append a ((name, j) ∷ []) ∙ ap (λ (l : List Token). tokens_of a ++ Token.key name ∷ l) (append-nil (json_tokens j))

@@ -1,13 +1,9 @@
 -- Texts, with their bytes beside them where they are not UTF-8.
 use Rattle.std.proofs.Common.{◌≡◌, List, [], ◌∷◌, ℕ, Bool, true, false, Option, Some, None, refl, ap, sym, subst, ◌∙◌}
-use Rattle.std.specs.Prelude.{option_map, ⊤}
-use Rattle.std.specs.Str.{IsUtf8, is_utf8}
-use Rattle.std.specs.Str.Lossy.{utf8_lossy}
+use Rattle.std.specs.{Prelude.{option_map, ⊤}, Str.{IsUtf8, is_utf8, Lossy.utf8_lossy}}
 use Rattle.std.proofs.lemmas.Str.{IsUtf8-from_is_utf8, is_utf8-from_IsUtf8}
-use Rattle.base64.specs.Engines.{standard}
-use Rattle.base64.specs.GeneralPurpose.{encode_of}
-use Rattle.json.specs.Token.{Token}
-use Rattle.json.specs.Written.{Written}
+use Rattle.base64.specs.{Engines.standard, GeneralPurpose.encode_of}
+use Rattle.json.specs.{Token.Token, Written.Written}
 use Rattle.uimg_printing.specs.Members.{text_json, beside, of_bytes, string_member, text_members, tokens_of}
 use Rattle.uimg_printing.specs.Steps.{Appended}
 use Rattle.uimg_printing.proofs.StepLaws.{then_appended, appended_as}

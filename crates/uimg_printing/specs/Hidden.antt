@@ -1,7 +1,6 @@
 -- Characters that are not visible as such: the general categories Cc, Cf, Zl and Zp of Unicode 15
 -- (Unicode Standard, section 4.5), the unassigned ones between them, and the backslash.
-use Rattle.std.specs.Prelude.{ℕ, nat_le, ◌&&◌, List, [], ◌∷◌, Bool}
-use Rattle.std.specs.List.{list_any}
+use Rattle.std.specs.{Prelude.{ℕ, nat_le, ◌&&◌, List, [], ◌∷◌, Bool}, List.list_any}
 
 -- the first and last character of each range
 abbrev pub hidden_ranges : List (ℕ × ℕ)

@@ -1,15 +1,9 @@
 -- Members of a JSON object (RFC 8259), and names, which need not be UTF-8.
 use Rattle.std.specs.Prelude.{ℕ, List, [], ◌∷◌, ◌++◌, codes, decimal, Bool, true, false, Option}
-use Rattle.std.specs.Prelude.{Some, None}
-use Rattle.std.specs.List.{flat_map}
-use Rattle.std.specs.Str.{is_utf8}
-use Rattle.std.specs.Str.Lossy.{utf8_lossy}
-use Rattle.base64.specs.Engines.{standard}
-use Rattle.base64.specs.GeneralPurpose.{encode_of}
+use Rattle.std.specs.{Prelude.{Some, None}, List.flat_map, Str.{is_utf8, Lossy.utf8_lossy}}
+use Rattle.base64.specs.{Engines.standard, GeneralPurpose.encode_of}
 use Rattle.json.specs.Json.{Json, object, array, string, number, Items, no_items, item, Members}
-use Rattle.json.specs.Json.{no_members, member}
-use Rattle.json.specs.Token.{Token}
-use Rattle.json.specs.Tree.{json_tokens}
+use Rattle.json.specs.{Json.{no_members, member}, Token.Token, Tree.json_tokens}
 
 -- a member: name and value
 abbrev pub Member : Type 0

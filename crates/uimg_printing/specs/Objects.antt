@@ -1,6 +1,5 @@
 -- Texts of one line.
-use Rattle.std.specs.Prelude.{ℕ, List, Bool, nat_le}
-use Rattle.std.specs.List.{list_all}
+use Rattle.std.specs.{Prelude.{ℕ, List, Bool, nat_le}, List.list_all}
 
 -- no byte is below 32, so none ends a line
 abbrev pub is_one_line : List ℕ → Bool

@@ -1,9 +1,7 @@
 -- Names in lines of text.
 use Rattle.std.specs.Prelude.{ℕ, ◌/◌, ◌%◌, ◌==◌, ◌&&◌, ◌||◌, not, nat_le, nat_lt, List, [], ◌∷◌}
 use Rattle.std.specs.Prelude.{◌++◌, codes, chars, encode_utf8, Bool, false, if◌then◌else◌}
-use Rattle.std.specs.Fmt.{digit_glyph}
-use Rattle.std.specs.List.{flat_map, list_all}
-use Rattle.std.specs.Str.{is_utf8}
+use Rattle.std.specs.{Fmt.digit_glyph, List.{flat_map, list_all}, Str.is_utf8}
 use Rattle.uimg_printing.specs.Hidden.{is_hidden}
 
 -- the two hexadecimal digits of a byte

@@ -1,7 +1,6 @@
 -- The steps of writing an object.
 use Rattle.std.specs.Prelude.{◌≡◌, ◌++◌, List, Result, OnOk}
-use Rattle.json.specs.Token.{Token}
-use Rattle.json.specs.Written.{Written}
+use Rattle.json.specs.{Token.Token, Written.Written}
 
 -- These tokens were appended.
 pub record Appended (old new : Written) (tokens : List Token) : Type 0 where

@@ -1,10 +1,7 @@
 //! Counts with a noun, and bytes in hexadecimal.
 
-ghost use Rattle.std.specs.Prelude.{◌≡◌, Some};
-ghost use Rattle.std.specs.Fmt.{WritesOnOk};
-ghost use Rattle.std.specs.List.{flat_map};
-ghost use Rattle.uimg_printing.specs.Counting.{counted};
-ghost use Rattle.uimg_printing.specs.Printing.{digits_of};
+ghost use Rattle.std.specs.{Prelude.Some, Fmt.WritesOnOk, List.flat_map};
+ghost use Rattle.uimg_printing.specs.{Counting.counted, Printing.digits_of};
 
 use crate::digits::put_digits;
 use std::fmt;

@@ -1,7 +1,6 @@
 //! The hexadecimal digits of a byte.
 
-ghost use Rattle.std.specs.Prelude.{◌≡◌, ◌<◌, false};
-ghost use Rattle.std.specs.Fmt.{digit_glyph, WritesOnOk};
+ghost use Rattle.std.specs.{Prelude.{◌≡◌, ◌<◌, false}, Fmt.{digit_glyph, WritesOnOk}};
 ghost use Rattle.uimg_printing.specs.Printing.{digits_of};
 
 use std::fmt;

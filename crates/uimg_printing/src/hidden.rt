@@ -1,7 +1,6 @@
 //! Characters that are not visible as such.
 
-ghost use Rattle.std.specs.Prelude.{◌≡◌};
-ghost use Rattle.std.specs.List.{list_any};
+ghost use Rattle.std.specs.{Prelude.◌≡◌, List.list_any};
 ghost use Rattle.uimg_printing.specs.Hidden.{is_in, is_hidden};
 
 // The control and format characters of Unicode 15, its line and paragraph separators, and the

@@ -1,6 +1,6 @@
 //! Members of JSON objects. Each call appends just these members, unless memory was refused.
 
-ghost use Rattle.std.specs.Prelude.{◌≡◌, ◌++◌, [], ◌∷◌};
+ghost use Rattle.std.specs.Prelude.{◌++◌, [], ◌∷◌};
 ghost use Rattle.json.specs.Token.{Token};
 ghost use Rattle.uimg_printing.specs.Members.{of_bytes, tokens_of, string_member, number_member, number_if, text_members};
 ghost use Rattle.uimg_printing.specs.Steps.{Appends};

@@ -1,8 +1,6 @@
 //! Names in lines of text.
 
-ghost use Rattle.std.specs.Prelude.{◌≡◌, Some, true, false, chars};
-ghost use Rattle.std.specs.Fmt.{WritesOnOk};
-ghost use Rattle.std.specs.List.{flat_map};
+ghost use Rattle.std.specs.{Prelude.{◌≡◌, Some, true, false, chars}, Fmt.WritesOnOk, List.flat_map};
 ghost use Rattle.uimg_printing.specs.Printing.{byte_text, ends_word, letter_text, odd_text, printed};
 
 use crate::digits::put_digits;

@@ -1,11 +1,8 @@
 //! Spelling of names that need not be UTF-8.
 
-ghost use Rattle.std.specs.Prelude.{◌≡◌, Some, None, IfOk, option_map};
-ghost use Rattle.std.specs.Str.{IsUtf8};
-ghost use Rattle.std.specs.Str.Lossy.{utf8_lossy};
-ghost use Rattle.std.specs.String.{string_bytes};
-ghost use Rattle.base64.specs.Engines.{standard};
-ghost use Rattle.base64.specs.GeneralPurpose.{encode_of};
+ghost use Rattle.std.specs.{Prelude.{◌≡◌, Some, None, IfOk, option_map}, Str.IsUtf8};
+ghost use Rattle.std.specs.{Str.Lossy.utf8_lossy, String.string_bytes};
+ghost use Rattle.base64.specs.{Engines.standard, GeneralPurpose.encode_of};
 
 use base64::engine::general_purpose::STANDARD;
 use std::alloc::{AllocError, Global};

@@ -1,11 +1,8 @@
 -- The names of a making's files.
 use Rattle.std.proofs.Common.{◌≡◌, ◌≢◌, ◌∙◌, ℕ, List, [], ◌∷◌, ◌++◌, Bool, true, false, map, length, if◌then◌else◌, ap, sym, refl, ◌==◌, arith}
-use Rattle.std.proofs.lemmas.List.{map-append}
-use Rattle.std.proofs.lemmas.List.Splits.{length-slice_split}
-use Rattle.uimg_legacy.specs.Parts.{has_parts}
-use Rattle.uimg_legacy.specs.declared.options.Options.{Options}
-use Rattle.uimg_requests.specs.Commands.{FitNames}
-use Rattle.uimg_requests.specs.Names.{between_colons, part_names}
+use Rattle.std.proofs.lemmas.List.{map-append, Splits.length-slice_split}
+use Rattle.uimg_legacy.specs.{Parts.has_parts, declared.options.Options.Options}
+use Rattle.uimg_requests.specs.{Commands.FitNames, Names.{between_colons, part_names}}
 
 -- one element more on both sides
 pub map_one_more : {X Y Z : Type 0} (f : X → Z) (g : Y → Z) (xs now : List X) (ys : List Y) (x : X) (y : Y) → now ≡ xs ++ x ∷ [] → map f xs ≡ map g ys → f x ≡ g y → map f now ≡ map g (ys ++ y ∷ [])

@@ -1,8 +1,6 @@
 -- What making needs of its command.
-use Rattle.std.specs.Prelude.{◌≡◌, ◌≢◌, ℕ, List, length, map, false, ⊤}
-use Rattle.std.proofs.Props.{props}
-use Rattle.uimg_legacy.specs.Parts.{has_parts}
-use Rattle.uimg_legacy.specs.declared.options.Options.{Options}
+use Rattle.std.{specs.Prelude.{◌≡◌, ◌≢◌, ℕ, List, length, map, false, ⊤}, proofs.Props.props}
+use Rattle.uimg_legacy.specs.{Parts.has_parts, declared.options.Options.Options}
 use Rattle.uimg_requests.specs.declared.make_command.MakeCommand.{MakeCommand}
 use Rattle.uimg_requests.specs.declared.make_command.MakeCommand.TheVariants.{Parts, Tree}
 

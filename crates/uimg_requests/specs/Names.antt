@@ -1,6 +1,5 @@
 -- The file names in the word of -d.
-use Rattle.std.specs.Prelude.{ℕ, List, [], ◌∷◌, ◌==◌, if◌then◌else◌}
-use Rattle.std.specs.List.{slice_split}
+use Rattle.std.specs.{Prelude.{ℕ, List, [], ◌∷◌, ◌==◌, if◌then◌else◌}, List.slice_split}
 use Rattle.uimg_legacy.specs.Parts.{has_parts}
 
 -- the texts between the colons of a word, before the first and after the last

@@ -1,8 +1,7 @@
 //! Requests of a command line, with the paths that it names.
 
 ghost use Rattle.std.specs.Prelude.{◌≡◌, ◌++◌, [], IfOk};
-ghost use Rattle.uimg_requests.specs.Names.{part_names};
-ghost use Rattle.uimg_requests.specs.Requests.{AsksParts, AsksSource};
+ghost use Rattle.uimg_requests.specs.{Names.part_names, Requests.{AsksParts, AsksSource}};
 ghost use Rattle.uimg_requests.specs.Commands.{HasFitNames, has_fit_names_prop};
 
 use crate::command::Command;

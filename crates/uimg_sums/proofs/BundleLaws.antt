@@ -1,15 +1,11 @@
 -- A sum is added to a bundle, and all of its sums are ended.
 use Rattle.std.proofs.Common.{◌≡◌, ◌∙◌, ◌+◌, ◌-◌, ◌<◌, ℕ, suc, List, [], ◌∷◌, ◌++◌, map, length, set, get_or, replicate, Some, None, ap, sym, arith, append_assoc, length-append}
-use Rattle.std.specs.Prelude.{Option}
-use Rattle.std.specs.Option.{option_map}
+use Rattle.std.{specs.{Prelude.Option, Option.option_map}, proofs.lemmas.Simd.map-map}
 use Rattle.std.proofs.lemmas.List.{map-set, map-append, length-map, set_at, get_or-map, same_lists}
-use Rattle.std.proofs.lemmas.Simd.{map-map}
 use Rattle.std.proofs.lemmas.List.Elements.{All-set}
-use Rattle.uimg_sums.specs.AnySum.{algo_of, SumHolds, padded_digest}
+use Rattle.uimg_sums.specs.{AnySum.{algo_of, SumHolds, padded_digest}, declared.algo.Algo.Algo}
 use Rattle.uimg_sums.specs.Bundle.{Holds, SlotHolds, digest_at, padded_digests, eight_slots}
-use Rattle.uimg_sums.specs.declared.algo.Algo.{Algo}
-use Rattle.uimg_sums.specs.declared.any_sum.AnySum.{AnySum}
-use Rattle.uimg_sums.specs.declared.bundle.Bundle.{Bundle}
+use Rattle.uimg_sums.specs.declared.{any_sum.AnySum.AnySum, bundle.Bundle.Bundle}
 
 -- the first free slot has the next algorithm
 set-eight_slots : (algos : List Algo) (algo : Algo) → length algos < 8 → set (eight_slots algos) (length algos) (Some algo) ≡ eight_slots (algos ++ algo ∷ [])

@@ -1,9 +1,7 @@
 -- The register after a message is the remainder.
 use Rattle.std.proofs.Common.{◌≡◌, ◌≤◌, ◌<◌, ℕ, zero, suc, ◌+◌, ◌-◌, ◌*◌, ◌/◌, ◌%◌, ◌^◌, List, [], ◌∷◌, ◌++◌, map, length, take, drop, replicate, Bool, true, false, not, nat_eq, cond, bit_xor, ◌∙◌, ap, sym, subst, refl, arith, append_assoc, length-append, get_or, lit<}
-use Rattle.std.proofs.lemmas.List.{length-map}
-use Rattle.std.specs.List.{flat_map, fold, AllByRecursion}
-use Rattle.std.proofs.lemmas.Nat.{xor_of_32, xor_shr, xor_mod, xor_comm}
-use Rattle.std.proofs.Math.Nat.{pow-succ'}
+use Rattle.std.{proofs.lemmas.List.length-map, specs.List.{flat_map, fold, AllByRecursion}}
+use Rattle.std.proofs.{lemmas.Nat.{xor_of_32, xor_shr, xor_mod, xor_comm}, Math.Nat.pow-succ'}
 use Rattle.std.proofs.lemmas.List.Sums.{fold-append}
 use Rattle.uimg_sums.specs.Crc.{bits, number_of, xor, xor_bits, polynomial, rem_by, rem, dividend, invert_prefix, crc}
 use Rattle.uimg_sums.specs.CrcSteps.{bit_step, bit_steps, byte_step, register_of}

@@ -1,10 +1,8 @@
 -- A byte's eight bit steps by the table.
 use Rattle.std.proofs.Common.{◌≡◌, ◌<◌, ℕ, zero, suc, ◌+◌, ◌*◌, ◌/◌, ◌%◌, ◌^◌, List, [], map, Bool, true, false, nat_eq, cond, bit_xor, ◌∙◌, ap, sym, refl, arith, get_or}
-use Rattle.std.specs.List.{range_with_len}
-use Rattle.std.specs.Int.Bits.{xor_zero_r}
+use Rattle.std.specs.{List.range_with_len, Int.Bits.xor_zero_r}
 use Rattle.std.proofs.lemmas.List.FromFn.{get_or-map-range_with_len}
-use Rattle.std.proofs.lemmas.Nat.{xor_shr, xor_mod, xor_comm, xor_block}
-use Rattle.std.proofs.Math.Nat.{pow-succ'}
+use Rattle.std.proofs.{lemmas.Nat.{xor_shr, xor_mod, xor_comm, xor_block}, Math.Nat.pow-succ'}
 use lib.Bits.{xor_assoc}
 use Rattle.uimg_sums.specs.CrcSteps.{bit_step, bit_steps}
 use Rattle.uimg_sums.specs.declared.crc_table.TheConstants.{CRC_TABLES}

@@ -1,16 +1,9 @@
 -- The steps of several bytes at once.
 use Rattle.std.proofs.Common.{◌≡◌, ◌<◌, ℕ, zero, suc, ◌+◌, ◌*◌, ◌^◌, List, [], ◌∷◌, ◌++◌, length, take, drop, get_or, bit_xor, ◌∙◌, ap, sym, arith}
-use Rattle.std.specs.List.{concat, fold}
-use Rattle.std.specs.Int.{from_le_bytes, w128}
-use Rattle.std.specs.Int.Bits.{xor_zero_r}
-use Rattle.std.specs.Simd.{first_chunks}
-use Rattle.std.specs.Slice.Scan.{digits_from}
-use Rattle.std.proofs.Math.ListN.{drop_of_length-le}
-use Rattle.std.proofs.Math.Seq.{drop-cons, take-add}
-use Rattle.std.proofs.lemmas.Nat.{xor_block}
-use Rattle.std.proofs.lemmas.List.{append-nil, take_more}
-use Rattle.std.proofs.lemmas.List.Folds.{concat-append}
-use Rattle.std.proofs.lemmas.List.Sums.{fold-append}
+use Rattle.std.specs.{List.{concat, fold}, Int.{from_le_bytes, w128, Bits.xor_zero_r}}
+use Rattle.std.{specs.{Simd.first_chunks, Slice.Scan.digits_from}, proofs.lemmas.Nat.xor_block}
+use Rattle.std.proofs.Math.{ListN.drop_of_length-le, Seq.{drop-cons, take-add}}
+use Rattle.std.proofs.lemmas.List.{append-nil, take_more, Folds.concat-append, Sums.fold-append}
 use lib.Bits.{xor_assoc}
 use Rattle.uimg_sums.specs.CrcSteps.{bit_step, bit_steps, byte_step}
 use Rattle.uimg_sums.proofs.CrcTable.{bit_steps-xor}

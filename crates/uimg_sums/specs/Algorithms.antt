@@ -1,13 +1,10 @@
 -- The checksum and hash algorithms: order, names, digest lengths, and digests.
-use Rattle.std.specs.Prelude.{ℕ, List, [], ◌∷◌, Option, codes, find}
-use Rattle.std.specs.Int.{to_be_bytes, w32}
+use Rattle.std.specs.{Prelude.{ℕ, List, [], ◌∷◌, Option, codes, find}, Int.{to_be_bytes, w32}}
 use Rattle.std.specs.Str.{bytes_eq}
 use Rattle.md5.specs.Md5.{md5}
 use Rattle.sha1.specs.Sha1.{sha1}
-use Rattle.sha2.specs.Sha256.{sha256}
-use Rattle.sha2.specs.Sha512.{sha384, sha512}
-use Rattle.uimg_sums.specs.Crc.{crc}
-use Rattle.uimg_sums.specs.declared.algo.Algo.{Algo}
+use Rattle.sha2.specs.{Sha256.sha256, Sha512.{sha384, sha512}}
+use Rattle.uimg_sums.specs.{Crc.crc, declared.algo.Algo.Algo}
 use Rattle.uimg_sums.specs.declared.algo.Algo.TheVariants.{Crc32, Md5, Sha1, Sha256, Sha384, Sha512}
 
 -- an algorithm's number, name, digest length in bytes, and the digest of a message

@@ -4,12 +4,10 @@ use Rattle.std.specs.List.{AllByRecursion}
 use Rattle.md5.specs.Md5 as md5
 use Rattle.sha1.specs.Sha1 as sha1
 use Rattle.sha2.specs.Hashers.{Holds256, Holds384, Holds512}
-use Rattle.uimg_sums.specs.CrcSteps.{register_of}
-use Rattle.uimg_sums.specs.declared.algo.Algo.{Algo}
-use Rattle.uimg_sums.specs.declared.algo.Algo.TheVariants as algos
-use Rattle.uimg_sums.specs.declared.any_sum.AnySum.{AnySum}
+use Rattle.uimg_sums.specs.{CrcSteps.register_of, declared.{algo.Algo.Algo, any_sum.AnySum.AnySum}}
 use Rattle.uimg_sums.specs.declared.any_sum.AnySum.TheVariants.{Crc32, Md5, Sha1, Sha256, Sha384}
 use Rattle.uimg_sums.specs.declared.any_sum.AnySum.TheVariants.{Sha512}
+use Rattle.uimg_sums.specs.declared.algo.Algo.TheVariants as algos
 
 -- the algorithm of a sum
 abbrev pub algo_of : AnySum → Algo

@@ -1,13 +1,8 @@
 -- Several sums over the same bytes.
 use Rattle.std.specs.Prelude.{◌≡◌, ◌-◌, ℕ, List, [], ◌∷◌, ◌++◌, Bool, true, false, map, length}
-use Rattle.std.specs.Prelude.{replicate, Option, Some, None, IfSome}
-use Rattle.std.specs.List.{All}
-use Rattle.std.specs.Option.{option_map}
-use Rattle.uimg_sums.specs.Algorithms.{digest_by}
-use Rattle.uimg_sums.specs.AnySum.{algo_of, SumHolds, padded_digest}
-use Rattle.uimg_sums.specs.declared.algo.Algo.{Algo}
-use Rattle.uimg_sums.specs.declared.any_sum.AnySum.{AnySum}
-use Rattle.uimg_sums.specs.declared.bundle.Bundle.{Bundle}
+use Rattle.std.specs.{Prelude.{replicate, Option, Some, None, IfSome}, List.All, Option.option_map}
+use Rattle.uimg_sums.specs.{Algorithms.digest_by, AnySum.{algo_of, SumHolds, padded_digest}}
+use Rattle.uimg_sums.specs.declared.{algo.Algo.Algo, any_sum.AnySum.AnySum, bundle.Bundle.Bundle}
 
 -- the algorithms, padded with `None` to eight slots
 abbrev pub eight_slots : List Algo → List (Option Algo)

@@ -2,8 +2,7 @@
 -- section 8).
 use Rattle.std.specs.Prelude.{ℕ, zero, suc, ◌+◌, ◌-◌, ◌*◌, ◌/◌, ◌%◌, List, [], ◌∷◌, ◌++◌, map}
 use Rattle.std.specs.Prelude.{length, take, drop, replicate, Bool, true, false, not, ◌==◌}
-use Rattle.std.specs.Prelude.{if◌then◌else◌}
-use Rattle.std.specs.List.{flat_map}
+use Rattle.std.specs.{Prelude.if◌then◌else◌, List.flat_map}
 
 -- the lowest n bits of a number, lowest first
 unfoldable pub bits : ℕ → ℕ → List Bool

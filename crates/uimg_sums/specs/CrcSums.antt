@@ -1,8 +1,6 @@
 -- Which bytes may have been fed to a CRC.
-use Rattle.std.specs.Prelude.{◌≡◌, ◌<◌, ℕ, List}
-use Rattle.std.specs.List.{AllByRecursion}
-use Rattle.uimg_sums.specs.CrcSteps.{register_of}
-use Rattle.uimg_sums.specs.declared.crc.Crc.{Crc}
+use Rattle.std.specs.{Prelude.{◌≡◌, ◌<◌, ℕ, List}, List.AllByRecursion}
+use Rattle.uimg_sums.specs.{CrcSteps.register_of, declared.crc.Crc.Crc}
 
 -- These bytes may have been fed to it.
 abbrev pub Holds : Crc → List ℕ → Type 0

@@ -1,8 +1,7 @@
 //! A sum with any of the algorithms.
 
 ghost use Rattle.std.specs.Prelude.{◌≡◌, ℕ, List, [], ◌++◌};
-ghost use Rattle.uimg_sums.specs.Algorithms.{digest_by};
-ghost use Rattle.uimg_sums.specs.AnySum.{algo_of, SumHolds, padded_digest};
+ghost use Rattle.uimg_sums.specs.{Algorithms.digest_by, AnySum.{algo_of, SumHolds, padded_digest}};
 
 use crate::algo::Algo;
 use crate::crc::Crc;

@@ -2,10 +2,9 @@
 
 ghost use Rattle.std.specs.Prelude.{◌≡◌, ◌==◌, ◌<◌, ℕ, List, [], ◌∷◌, ◌++◌, length, false, IsTrue, ◌↔◌};
 ghost use Rattle.std.specs.Option.{option_map};
-ghost use Rattle.uimg_sums.specs.Adding.{Adds, adds_nothing, adds_more};
+ghost use Rattle.uimg_sums.specs.{Adding.{Adds, adds_nothing, adds_more}, declared.algo.Algo.Algo};
 ghost use Rattle.uimg_sums.specs.AnySum.{algo_of, padded_digest};
 ghost use Rattle.uimg_sums.specs.Bundle.{Holds, SlotHolds, digest_at, padded_digests};
-ghost use Rattle.uimg_sums.specs.declared.algo.Algo.{Algo};
 
 use crate::algo::Algo;
 use crate::any_sum::AnySum;

@@ -1,11 +1,7 @@
 //! CRC-32.
 
-ghost use Rattle.std.specs.Prelude.{◌≡◌, ◌<◌, ℕ, List, true, IsTrue};
-ghost use Rattle.std.specs.List.{AllByRecursion};
-ghost use Rattle.std.specs.Int.{to_be_bytes, w32};
-ghost use Rattle.uimg_sums.specs.Crc.{crc};
-ghost use Rattle.uimg_sums.specs.CrcSteps.{register_of};
-ghost use Rattle.uimg_sums.specs.CrcSums.{Holds};
+ghost use Rattle.std.specs.{Prelude.{◌≡◌, ◌<◌, ℕ, List, true, IsTrue}, Int.{to_be_bytes, w32}};
+ghost use Rattle.uimg_sums.specs.{Crc.crc, CrcSums.Holds};
 
 use crate::crc_steps::{byte_steps_of, word_steps_of};
 use crate::sums::Summer;

@@ -1,7 +1,6 @@
 //! The steps of CRC-32: one byte, or sixteen at once.
 
-ghost use Rattle.std.specs.Prelude.{◌≡◌, ◌≤◌, ◌+◌, ◌*◌};
-ghost use Rattle.std.specs.List.{concat, fold};
+ghost use Rattle.std.specs.{Prelude.{◌≡◌, ◌≤◌, ◌+◌, ◌*◌}, List.{concat, fold}};
 ghost use Rattle.uimg_sums.specs.CrcSteps.{bit_steps, byte_step};
 
 use crate::crc_table::{crc_entry, entry_after};

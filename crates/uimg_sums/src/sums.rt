@@ -1,8 +1,7 @@
 //! The interfaces of sums over bytes that come in pieces: of one sum, and of one or several.
 
 ghost use Rattle.std.specs.Prelude.{ℕ, ◌≤◌, List, [], ◌++◌};
-ghost use Rattle.uimg_sums.specs.Adding.{Adds, adds_nothing, adds_more};
-ghost use Rattle.uimg_sums.specs.Digest.{PutsDigest};
+ghost use Rattle.uimg_sums.specs.{Adding.{Adds, adds_nothing, adds_more}, Digest.PutsDigest};
 
 /// A checksum or hash over bytes that come in pieces.
 ///

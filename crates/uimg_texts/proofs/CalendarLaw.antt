@@ -1,14 +1,11 @@
 -- The date of a day number is the one that `jiff` gives.
 use Rattle.std.proofs.Common.{◌≡◌, ◌≤◌, ◌<◌, ℕ, zero, suc, Bool, true, false, nat_lt, cond, inl, inr, refl, sym, ap, ◌∙◌, arith, add-one, ℤ, pos, ◌+ℤ◌, rules}
-use Rattle.std.proofs.lemmas.Bool.{cases_lt}
-use Rattle.std.proofs.lemmas.Bool.Decides.{nat_tests}
-use Rattle.jiff_core.specs.declared.civil.date.Date.{Date as JiffDate}
-use Rattle.jiff_core.specs.Calendar.{days_in_month, days_from_civil, day_count}
-use Rattle.jiff_core.specs.Date.{epoch_day}
-use Rattle.jiff_core.proofs.SignedLemmas.{signed_arith}
+use Rattle.std.proofs.lemmas.Bool.{cases_lt, Decides.nat_tests}
+use Rattle.jiff_core.specs.{declared.civil.date.Date.Date as JiffDate, Date.epoch_day}
+use Rattle.jiff_core.{specs.Calendar.{days_from_civil, day_count}, proofs.SignedLemmas.signed_arith}
+use Rattle.jiff_core.proofs.StandardFacts.{known_days}
 use Rattle.jiff_core.proofs.CalendarLemmas.{days_from_civil-day_count, day_count-lt_year, days_in_month_bounds}
 use Rattle.jiff_core.proofs.DateLemmas.{days_from_civil-day, days_from_civil-next_month, days_from_civil-next_year, days_from_civil-max, epoch_day_injective}
-use Rattle.jiff_core.proofs.StandardFacts.{known_days}
 use Rattle.uimg_texts.specs.Calendar.{Date, month_length, next_day, civil_date}
 
 -- a month and a day that the calendar has
@@ -21,9 +18,6 @@ pub record IsDay (d : Date) : Type 0 where
 -- the day number of a date
 abbrev pub number_of : Date → ℤ
 number_of d = days_from_civil (pos d.year) d.month d.day
-
-month_length-days_in_month : (y m : ℕ) → month_length y m ≡ days_in_month (pos y) m
-month_length-days_in_month y m = refl
 
 month_length_bounds : (y m : ℕ) → (month_length y m ≤ 31) × (28 ≤ month_length y m)
 month_length_bounds y m = days_in_month_bounds (pos y) m

@@ -1,10 +1,7 @@
 -- What a clock in UTC shows at a second.
 use Rattle.std.proofs.Common.{◌≡◌, ◌<◌, ℕ, ◌+◌, ◌*◌, ◌/◌, ◌%◌, ◌^◌, pos, arith}
-use Rattle.jiff_core.specs.declared.civil.datetime.DateTime.{DateTime}
-use Rattle.jiff_core.specs.Date.{epoch_day}
-use Rattle.jiff_core.specs.Time.{time_nanos}
-use Rattle.jiff_core.specs.DateTime.{civil_nanos}
-use Rattle.jiff_core.proofs.SignedLemmas.{signed_arith}
+use Rattle.jiff_core.specs.{declared.civil.datetime.DateTime.DateTime, DateTime.civil_nanos}
+use Rattle.jiff_core.{specs.{Date.epoch_day, Time.time_nanos}, proofs.SignedLemmas.signed_arith}
 use Rattle.jiff_core.proofs.DateTimeLemmas.{civil_nanos-parts, time_nanos_bound}
 use Rattle.uimg_texts.specs.Calendar.{civil_date}
 use Rattle.uimg_texts.proofs.CalendarLaw.{civil_date-number, same_date}

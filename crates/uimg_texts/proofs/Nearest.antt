@@ -1,8 +1,6 @@
 -- One number of hundredths alone is nearest, so that the search finds it.
 use Rattle.std.proofs.Common.{◌≡◌, ◌≤◌, ◌<◌, ℕ, zero, suc, ◌+◌, ◌*◌, ◌/◌, ◌%◌, Bool, true, false, nat_lt, nat_eq, IsTrue, ◌&&◌, ◌||◌, ◌⊎◌, inl, inr, refl, sym, ap, ◌∙◌, arith, add-one, div-le_self, mul-suc, mul-le-mul_left, mod-lt, mul_comm, le-mul_of_pos_right, add-zero}
-use Rattle.std.proofs.Math.Nat.{div-add-mod}
-use Rattle.std.proofs.lemmas.Bool.{cases_order}
-use Rattle.std.proofs.lemmas.Bool.Decides.{nat_tests}
+use Rattle.std.proofs.{Math.Nat.div-add-mod, lemmas.Bool.{cases_order, Decides.nat_tests}}
 use Rattle.uimg_texts.specs.Sizes.{distance, is_nearest, first_from, hundredths}
 
 -- what the test says

@@ -1,7 +1,6 @@
 -- The bytes of a time's line, joined.
 use Rattle.std.proofs.Common.{◌≡◌, ℕ, ◌/◌, ◌%◌, List, [], ◌∷◌, ◌++◌, length, get_or, append_assoc, append-nil, refl, ap, arith}
-use Rattle.uimg_texts.specs.Digits.{two_digits}
-use Rattle.uimg_texts.specs.Calendar.{civil_date, weekday}
+use Rattle.uimg_texts.specs.{Digits.two_digits, Calendar.{civil_date, weekday}}
 use Rattle.uimg_texts.specs.Times.{weekday_name, month_name, day_text, moment_text, time_text}
 
 -- the bytes of an array, before others

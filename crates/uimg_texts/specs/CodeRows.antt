@@ -1,6 +1,5 @@
 -- The tables in the code as tables of names.
-use Rattle.std.specs.Prelude.{ℕ, List}
-use Rattle.std.specs.Borrow.{Bor}
+use Rattle.std.specs.{Prelude.{ℕ, List}, Borrow.Bor}
 use Rattle.uimg_texts.specs.Names.{NameRow, row}
 
 -- a row of a table in the code

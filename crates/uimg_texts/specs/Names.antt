@@ -1,7 +1,6 @@
 -- Names of operating systems, architectures, image types, compressions; codes of U-Boot's image.h.
-use Rattle.std.specs.Prelude.{ℕ, List, [], ◌∷◌, ◌++◌, Option, codes, find, ◌==◌}
+use Rattle.std.specs.{Prelude.{ℕ, List, [], ◌∷◌, ◌++◌, Option, codes, find, ◌==◌}, Str.bytes_eq}
 use Rattle.std.specs.Option.{option_map, option_map_or}
-use Rattle.std.specs.Str.{bytes_eq}
 
 -- a name as users write it, its code, and the name as printed; the codes are those of image.h, the
 -- choice of rows (the profile) is this project's

@@ -1,6 +1,5 @@
 -- Big-endian numbers of 32 bits (U-Boot's image.h; Devicetree Specification, section 5.2).
-use Rattle.std.specs.Prelude.{ℕ, ◌+◌, ◌*◌, ◌/◌, List}
-use Rattle.std.specs.Int.{from_be_bytes, w32}
+use Rattle.std.specs.{Prelude.{ℕ, ◌+◌, ◌*◌, ◌/◌, List}, Int.{from_be_bytes, w32}}
 use Rattle.uimg_texts.specs.Slices.{slice}
 
 -- the big-endian number of the four bytes at an offset

@@ -1,8 +1,7 @@
 -- Times in seconds since 1 January 1970, 00:00:00 UTC as texts.
 use Rattle.std.specs.Prelude.{ℕ, ◌+◌, ◌-◌, ◌/◌, ◌%◌, nat_lt, if◌then◌else◌, List, [], ◌∷◌, ◌++◌}
 use Rattle.std.specs.Prelude.{slice_index_or, codes}
-use Rattle.uimg_texts.specs.Digits.{two_digits}
-use Rattle.uimg_texts.specs.Calendar.{civil_date, weekday}
+use Rattle.uimg_texts.specs.{Digits.two_digits, Calendar.{civil_date, weekday}}
 
 -- 0 is Sunday
 abbrev pub weekday_name : ℕ → List ℕ

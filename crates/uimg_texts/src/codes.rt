@@ -1,8 +1,7 @@
 //! Tables of codes, and look-ups in them.
 
 ghost use Rattle.std.specs.Prelude.{◌≡◌, map};
-ghost use Rattle.uimg_texts.specs.Names.{code_of, name_printed};
-ghost use Rattle.uimg_texts.specs.CodeRows.{row_of};
+ghost use Rattle.uimg_texts.specs.{Names.{code_of, name_printed}, CodeRows.row_of};
 
 /// A row of a table of codes: a name as in command lines and FIT properties, its code in a legacy
 /// header, and the name as in listings.

@@ -1,9 +1,7 @@
 //! The payloads after the blob: checked, and written one after another.
 
-ghost use Rattle.std.specs.Prelude.{◌≡◌, ◌≤◌, ◌^◌, map, false, Ok, Err};
-ghost use Rattle.std.specs.List.{flat_map};
-ghost use Rattle.uimg_blob_writing.specs.Pieces.{WritesPieces};
-ghost use Rattle.uimg_blob_writing.specs.Trees.{node_of};
+ghost use Rattle.std.specs.{Prelude.{◌≡◌, ◌≤◌, ◌^◌, map, false, Ok, Err}, List.flat_map};
+ghost use Rattle.uimg_blob_writing.specs.{Pieces.WritesPieces, Trees.node_of};
 ghost use Rattle.uimg_fit_building.specs.Behind.{entry, payload_pieces, images_in, padded_sizes, behind_pieces, end_fault, fault_in};
 ghost use Rattle.uimg_fit_base.specs.Placements.{align_of};
 ghost use Rattle.uimg_fit_building.specs.Refusing.{is_low};

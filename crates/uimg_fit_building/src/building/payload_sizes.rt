@@ -1,8 +1,7 @@
 //! The sizes of the payloads after the blob.
 
 ghost use Rattle.std.specs.Prelude.{◌≡◌, ◌^◌, ◌%◌, min, map};
-ghost use Rattle.uimg_fit_building.specs.Behind.{entry, padded_sizes};
-ghost use Rattle.uimg_fit_building.specs.UnreadTrees.{padded_size_of};
+ghost use Rattle.uimg_fit_building.specs.{Behind.{entry, padded_sizes}, UnreadTrees.padded_size_of};
 
 use crate::payloads::payload_of;
 use std::alloc::Allocator;

@@ -1,17 +1,13 @@
 //! The hash nodes of one image, with their digests.
 
-ghost use Rattle.std.specs.Prelude.{◌≡◌, ℕ, List, map, true, IsOkUnless, IfOk};
-ghost use Rattle.std.specs.List.{filter};
+ghost use Rattle.std.specs.{Prelude.{◌≡◌, ℕ, List, map, true, IsOkUnless, IfOk}, List.filter};
 ghost use Rattle.uimg_sums.specs.Algorithms.{digest_by};
 ghost use Rattle.uimg_blob_reading.specs.Roles.{is_hash};
-ghost use Rattle.uimg_blob_writing.specs.Content.{bytes};
-ghost use Rattle.uimg_blob_writing.specs.Properties.{content};
-ghost use Rattle.uimg_fit_building.specs.Filling.{algo_by};
-ghost use Rattle.uimg_fit_building.specs.Behind.{entry};
-ghost use Rattle.uimg_fit_building.specs.DigestBytes.{zeroed};
+ghost use Rattle.uimg_blob_writing.specs.{Content.bytes, Properties.content};
+ghost use Rattle.uimg_fit_building.specs.{Filling.algo_by, Behind.entry, DigestBytes.zeroed};
 ghost use Rattle.uimg_fit_building.specs.HashSteps.{SetsHash, SetsChild, SetsChildren};
-ghost use Rattle.uimg_fit_base.specs.AlgoSets.{has, no_algos, set_of, AreDigests};
 ghost use Rattle.uimg_fit_building.specs.PayloadSums.{in_memory, all_marked};
+ghost use Rattle.uimg_fit_base.specs.AlgoSets.{has, no_algos, set_of, AreDigests};
 ghost use Rattle.uimg_fit_base.specs.declared.fault.FitFault.TheVariants.{OutOfMemory};
 
 use crate::setting::{copied, first_value, with_value};

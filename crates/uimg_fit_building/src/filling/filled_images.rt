@@ -1,21 +1,14 @@
 //! The images of a tree, filled one after another.
 
-ghost use Rattle.std.specs.Prelude.{◌≡◌, ◌≢◌, ℕ, List, [], map, Some, IsTrue, OnOk};
-ghost use Rattle.std.specs.List.{filter};
-ghost use Rattle.uimg_blob_reading.specs.LookUps.{listed};
-ghost use Rattle.uimg_blob_reading.specs.Roles.{is_hash};
-ghost use Rattle.uimg_blob_writing.specs.Content.{IsKept};
-ghost use Rattle.uimg_blob_writing.specs.Properties.{content};
-ghost use Rattle.uimg_blob_writing.specs.Trees.{siblings};
+ghost use Rattle.std.specs.{Prelude.{◌≡◌, ◌≢◌, ℕ, List, [], map, Some, IsTrue, OnOk}, List.filter};
+ghost use Rattle.uimg_blob_reading.specs.{LookUps.listed, Roles.is_hash};
+ghost use Rattle.uimg_blob_writing.specs.{Content.IsKept, Properties.content, Trees.siblings};
 ghost use Rattle.uimg_blob_writing.specs.LentFiles.{OfHonest};
-ghost use Rattle.uimg_fit_building.specs.FillAnswers.{OpensKept};
-ghost use Rattle.uimg_fit_building.specs.Behind.{entry};
-ghost use Rattle.uimg_fit_building.specs.Filling.{each};
-ghost use Rattle.uimg_fit_building.specs.FillOrder.{FillsNext};
-ghost use Rattle.uimg_fit_building.specs.ImageFillings.{hashed_in, filled_over, FillsHashes, FillsImage, FillsImages, IsKeptImage};
+ghost use Rattle.uimg_fit_building.specs.{FillAnswers.OpensKept, Behind.entry, Filling.each};
+ghost use Rattle.uimg_fit_building.specs.{FillOrder.FillsNext, PayloadSums.no_files};
 ghost use Rattle.uimg_fit_building.specs.ImageSteps.{OpensImages, AnswersInOrder};
-ghost use Rattle.uimg_fit_building.specs.PayloadSums.{no_files};
 ghost use Rattle.uimg_fit_building.specs.DigestBytes.{zeroed_child, zeroed_image};
+ghost use Rattle.uimg_fit_building.specs.ImageFillings.{hashed_in, filled_over, FillsHashes, FillsImage, FillsImages, IsKeptImage};
 
 use crate::filling::filled_hashes::{algos_of, fill_children};
 use crate::filling::payload_sums::payload_digests;

@@ -1,10 +1,8 @@
 //! Sums of a payload by all algorithms in use, in one pass.
 
 ghost use Rattle.std.specs.Prelude.{◌≡◌, length, IsOkUnless, IfOk, OnOk};
-ghost use Rattle.uimg_base.specs.Honest.{HonestSource};
-ghost use Rattle.uimg_base.specs.Device.{RisesIf};
-ghost use Rattle.uimg_blob_writing.specs.Content.{content_bytes, file};
-ghost use Rattle.uimg_blob_writing.specs.Properties.{content};
+ghost use Rattle.uimg_base.specs.{Honest.HonestSource, Device.RisesIf};
+ghost use Rattle.uimg_blob_writing.specs.{Content.{content_bytes, file}, Properties.content};
 ghost use Rattle.uimg_blob_writing.specs.LentFiles.{OfHonest};
 ghost use Rattle.uimg_fit_building.specs.FillAnswers.{fails_to_read};
 ghost use Rattle.uimg_fit_building.specs.PayloadSteps.{ReadsPayload, Feeds};

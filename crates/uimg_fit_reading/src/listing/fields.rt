@@ -1,19 +1,14 @@
 //! The lines of rows.
-ghost use Rattle.std.specs.Prelude.{◌≡◌, ◌+◌, ◌≤◌, ◌++◌, length, true};
-ghost use Rattle.std.specs.List.{list_all, sum_by};
+ghost use Rattle.std.specs.{Prelude.{◌≡◌, ◌+◌, ◌≤◌, ◌++◌, length, true}, List.{list_all, sum_by}};
 ghost use Rattle.std.specs.Option.{option_map_or};
 ghost use Rattle.uimg_base.specs.Outcome.{line};
-ghost use Rattle.uimg_texts.specs.Nul.{text};
-ghost use Rattle.uimg_texts.specs.Sizes.{size_text};
+ghost use Rattle.uimg_texts.specs.{Nul.text, Sizes.size_text};
 ghost use Rattle.uimg_fit_base.specs.Files.{bytes_in};
-ghost use Rattle.uimg_fit_reading.specs.Nodes.{HasNode, OfAnyNode};
-ghost use Rattle.uimg_fit_reading.specs.OpenFits.{InFit};
-ghost use Rattle.uimg_fit_reading.specs.Puts.{Leaves, Puts, PutsOwn};
+ghost use Rattle.uimg_fit_reading.specs.{Nodes.{HasNode, OfAnyNode}, OpenFits.InFit, Telling.Lists};
+ghost use Rattle.uimg_fit_reading.specs.{Puts.{Leaves, Puts, PutsOwn}, Values.in_span};
 ghost use Rattle.uimg_fit_reading.specs.Rows.{keeps_row, row_cost, row_lines, rows_lines};
-ghost use Rattle.uimg_fit_reading.specs.Shows.{value_lines, value_cost, shown, time_line, size_line};
-ghost use Rattle.uimg_fit_reading.specs.Telling.{Lists};
-ghost use Rattle.uimg_fit_reading.specs.Values.{in_span};
 ghost use Rattle.uimg_fit_reading.specs.PayloadPlaces.{Ends};
+ghost use Rattle.uimg_fit_reading.specs.Shows.{value_lines, value_cost, shown, time_line, size_line};
 
 use crate::listing::addresses::put_address_line;
 use crate::listing::hexadecimal::put_hexadecimal_line;

@@ -4,9 +4,7 @@ ghost use Rattle.uimg_base.specs.Outcome.{line};
 ghost use Rattle.uimg_texts.specs.Nul.{text};
 ghost use Rattle.uimg_fit_base.specs.Files.{bytes_in};
 ghost use Rattle.uimg_fit_reading.specs.Heads.{span_size, description_line, created_line, default_line};
-ghost use Rattle.uimg_fit_reading.specs.Puts.{Puts, PutsOwn};
-ghost use Rattle.uimg_fit_reading.specs.Values.{in_span};
-ghost use Rattle.uimg_fit_reading.specs.PayloadPlaces.{Ends};
+ghost use Rattle.uimg_fit_reading.specs.{Puts.{Puts, PutsOwn}, Values.in_span, PayloadPlaces.Ends};
 
 use crate::listing::fields::put_text_line;
 use crate::puts::{put, put_line};

@@ -1,16 +1,12 @@
 //! The lines of images and configurations.
 ghost use Rattle.std.specs.Prelude.{◌≡◌, ◌<◌, ◌+◌, ◌*◌, ◌^◌, ◌++◌, codes, true, IfOk};
 ghost use Rattle.std.specs.List.{flat_map, sum_by};
-ghost use Rattle.uimg_blob_reading.specs.LookUps.{hashes};
-ghost use Rattle.uimg_blob_reading.specs.Roles.{in_images, in_image, is_hash};
-ghost use Rattle.uimg_fit_reading.specs.Allowances.{text_sizes, node_allowance};
+ghost use Rattle.uimg_blob_reading.specs.{LookUps.hashes, Roles.{in_images, in_image, is_hash}};
+ghost use Rattle.uimg_fit_reading.specs.{Allowances.{text_sizes, node_allowance}, OpenFits.InFit};
 ghost use Rattle.uimg_fit_reading.specs.Listing.{hash_node_lines, size_in};
 ghost use Rattle.uimg_fit_reading.specs.NodeLines.{ListsNode, ListsNodes};
-ghost use Rattle.uimg_fit_reading.specs.Rows.{image_rows, rows_lines, title};
-ghost use Rattle.uimg_fit_reading.specs.Nodes.{HasNode, HasNodes, OfHashes, OfNode};
-ghost use Rattle.uimg_fit_reading.specs.OpenFits.{InFit};
-ghost use Rattle.uimg_fit_reading.specs.Puts.{Leaves};
-ghost use Rattle.uimg_fit_reading.specs.Telling.{Lists};
+ghost use Rattle.uimg_fit_reading.specs.{Rows.{image_rows, rows_lines, title}, Telling.Lists};
+ghost use Rattle.uimg_fit_reading.specs.{Nodes.{HasNode, HasNodes, OfHashes, OfNode}, Puts.Leaves};
 
 use crate::listing::fields::put_rows;
 use crate::listing::rows::{CONFIGURATION, Facts, HASH, NO_FACTS, image_rows};

@@ -2,8 +2,7 @@
 
 ghost use Rattle.std.specs.Prelude.{◌≡◌, ◌+◌, ◌≤◌, ◌<◌, length, take, drop, IfOk};
 ghost use Rattle.uimg_base.specs.Honest.{IfHonest};
-ghost use Rattle.uimg_fit_reading.specs.Values.{pieces, in_span};
-ghost use Rattle.uimg_fit_reading.specs.Shows.{lines_of};
+ghost use Rattle.uimg_fit_reading.specs.{Values.{pieces, in_span}, Shows.lines_of};
 ghost use Rattle.uimg_fit_reading.specs.Lists.{start_of, emitted, line_after, IsPiece};
 ghost use Rattle.uimg_fit_reading.specs.Puts.{Puts, PutsOwn, PutsFrom};
 

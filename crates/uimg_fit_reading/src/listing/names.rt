@@ -1,12 +1,8 @@
 //! Prints types, architectures, systems and compressions, with the names of a set.
 
 ghost use Rattle.std.specs.Prelude.{◌≡◌, ◌+◌, ◌≤◌, ◌++◌, min, length, is_err, IfOk};
-ghost use Rattle.uimg_base.specs.Honest.{HonestSource};
-ghost use Rattle.uimg_base.specs.Outcome.{line};
-ghost use Rattle.uimg_base.specs.Using.{Asks};
-ghost use Rattle.uimg_fit_reading.specs.Shows.{name_in};
-ghost use Rattle.uimg_fit_reading.specs.Puts.{PutsFrom};
-ghost use Rattle.uimg_fit_reading.specs.Values.{in_span};
+ghost use Rattle.uimg_base.specs.{Honest.HonestSource, Outcome.line, Using.Asks};
+ghost use Rattle.uimg_fit_reading.specs.{Shows.name_in, Puts.PutsFrom, Values.in_span};
 
 use crate::puts::put_line;
 use std::io::Write;

@@ -1,12 +1,9 @@
 //! The title of a node, and its rows.
 ghost use Rattle.std.specs.Prelude.{◌≡◌, ◌+◌, ◌≤◌, ◌++◌, length, decimal, codes, true};
 ghost use Rattle.std.specs.List.{list_all, sum_by};
-ghost use Rattle.uimg_fit_reading.specs.Nodes.{HasNode, OfAnyNode};
-ghost use Rattle.uimg_fit_reading.specs.OpenFits.{InFit};
-ghost use Rattle.uimg_fit_reading.specs.Puts.{Leaves, Puts, PutsOwn};
+ghost use Rattle.uimg_fit_reading.specs.{Nodes.{HasNode, OfAnyNode}, OpenFits.InFit, Telling.Lists};
+ghost use Rattle.uimg_fit_reading.specs.{Puts.{Leaves, Puts, PutsOwn}, Values.in_span};
 ghost use Rattle.uimg_fit_reading.specs.Rows.{keeps_row, row_cost, rows_lines, title};
-ghost use Rattle.uimg_fit_reading.specs.Telling.{Lists};
-ghost use Rattle.uimg_fit_reading.specs.Values.{in_span};
 
 use crate::listing::fields::put_rows;
 use crate::listing::rows::{Facts, Row};

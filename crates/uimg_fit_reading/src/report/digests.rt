@@ -1,13 +1,10 @@
 //! The digests that the hash nodes of an image are compared with, from one pass over its payload.
 ghost use Rattle.std.specs.Prelude.{◌≡◌, ◌+◌, ◌≤◌, length, is_err, IfOk, if◌then◌else◌};
-ghost use Rattle.uimg_base.specs.Honest.{HonestSource};
-ghost use Rattle.uimg_base.specs.Using.{Asks, Uses};
+ghost use Rattle.uimg_base.specs.{Honest.HonestSource, Using.{Asks, Uses}};
 ghost use Rattle.uimg_fit_base.specs.AlgoSets.{is_empty, set_of, AreDigests};
-ghost use Rattle.uimg_fit_reading.specs.HashReports.{FindsAlgos, FindsDigests};
+ghost use Rattle.uimg_fit_reading.specs.{HashReports.{FindsAlgos, FindsDigests}, Plans.with_plan};
 ghost use Rattle.uimg_fit_reading.specs.Nodes.{OfHashes, HasNodes};
-ghost use Rattle.uimg_fit_reading.specs.OpenFits.{file_of, InFit, Keeps};
-ghost use Rattle.uimg_fit_reading.specs.Plans.{with_plan};
-ghost use Rattle.uimg_fit_reading.specs.Values.{in_span};
+ghost use Rattle.uimg_fit_reading.specs.{OpenFits.{file_of, InFit, Keeps}, Values.in_span};
 
 use crate::nodes::next_hash;
 use crate::open_fit::OpenFit;

@@ -3,9 +3,7 @@ ghost use Rattle.std.specs.Prelude.{◌+◌, ◌≤◌, ◌++◌, length, codes}
 ghost use Rattle.uimg_base.specs.Outcome.{line};
 ghost use Rattle.uimg_fit_base.specs.Report.{word_text};
 ghost use Rattle.uimg_fit_reading.specs.Plans.{LineInside, span_length, algo_text, names_text, end_text, hash_text};
-ghost use Rattle.uimg_fit_reading.specs.Puts.{Puts, PutsOwn};
-ghost use Rattle.uimg_fit_reading.specs.Values.{in_span};
-ghost use Rattle.uimg_fit_reading.specs.PayloadPlaces.{Ends};
+ghost use Rattle.uimg_fit_reading.specs.{Puts.{Puts, PutsOwn}, Values.in_span, PayloadPlaces.Ends};
 
 use crate::puts::{put, put_line, put_span};
 use std::alloc::Allocator;

@@ -1,9 +1,7 @@
 //! Reports on the hash nodes of an image.
 ghost use Rattle.std.specs.Prelude.{◌+◌, ◌≤◌, length};
-ghost use Rattle.uimg_fit_reading.specs.HashReports.{PutsHashes, ReportsHashes};
-ghost use Rattle.uimg_fit_reading.specs.Nodes.{HasNodes};
-ghost use Rattle.uimg_fit_reading.specs.OpenFits.{file_of, InFit};
-ghost use Rattle.uimg_fit_reading.specs.Puts.{Leaves};
+ghost use Rattle.uimg_fit_reading.specs.{HashReports.{PutsHashes, ReportsHashes}, Nodes.HasNodes};
+ghost use Rattle.uimg_fit_reading.specs.{OpenFits.{file_of, InFit}, Puts.Leaves};
 
 use crate::nodes::next_hash;
 use crate::open_fit::OpenFit;

@@ -1,8 +1,7 @@
 //! Reports on images, one after the other.
 ghost use Rattle.std.specs.Prelude.{◌≡◌, ◌+◌, ◌≤◌, length};
 ghost use Rattle.uimg_fit_reading.specs.ImageReports.{ReportsFound, ReportsImage, ReportsImages, report_status};
-ghost use Rattle.uimg_fit_reading.specs.Nodes.{HasNode, HasNodes};
-ghost use Rattle.uimg_fit_reading.specs.OpenFits.{file_of, InFit};
+ghost use Rattle.uimg_fit_reading.specs.{Nodes.{HasNode, HasNodes}, OpenFits.{file_of, InFit}};
 ghost use Rattle.uimg_fit_reading.specs.Puts.{Leaves, LeavesOrRefuses};
 
 use crate::nodes::{first_hash, name_of, next_of};

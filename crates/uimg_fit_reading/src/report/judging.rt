@@ -1,14 +1,10 @@
 //! The word of a hash node, and its line.
 ghost use Rattle.std.specs.Prelude.{◌≡◌, ℕ, ◌+◌, ◌≤◌, List, length, is_err, IfOk};
 ghost use Rattle.uimg_base.specs.Using.{Asks};
-ghost use Rattle.uimg_fit_base.specs.AlgoSets.{set_of, AreDigests};
-ghost use Rattle.uimg_fit_base.specs.Report.{word_of};
-ghost use Rattle.uimg_fit_reading.specs.HashReports.{PutsHash, verdict_line};
-ghost use Rattle.uimg_fit_reading.specs.Nodes.{OfHash, HasNode};
-ghost use Rattle.uimg_fit_reading.specs.OpenFits.{file_of, InFit};
-ghost use Rattle.uimg_fit_reading.specs.Plans.{IsCovered, algo_length, hash_plan};
-ghost use Rattle.uimg_fit_reading.specs.Puts.{Leaves};
-ghost use Rattle.uimg_fit_reading.specs.Telling.{Lists};
+ghost use Rattle.uimg_fit_base.specs.{AlgoSets.{set_of, AreDigests}, Report.word_of};
+ghost use Rattle.uimg_fit_reading.specs.{HashReports.{PutsHash, verdict_line}, Telling.Lists};
+ghost use Rattle.uimg_fit_reading.specs.{Nodes.{OfHash, HasNode}, OpenFits.{file_of, InFit}};
+ghost use Rattle.uimg_fit_reading.specs.{Plans.{IsCovered, algo_length, hash_plan}, Puts.Leaves};
 ghost use Rattle.uimg_fit_reading.specs.Values.{in_span};
 
 use crate::nodes::{name_of, value_of};

@@ -2,14 +2,11 @@
 ghost use Rattle.std.specs.Prelude.{◌≡◌, ◌+◌, ◌≤◌, ℕ, List, length, take, is_err, IfOk};
 ghost use Rattle.std.specs.Str.{bytes_eq};
 ghost use Rattle.uimg_sums.specs.Algorithms.{algo_named};
-ghost use Rattle.uimg_base.specs.Honest.{HonestSource};
-ghost use Rattle.uimg_base.specs.Using.{Asks};
-ghost use Rattle.uimg_fit_base.specs.AlgoSets.{set_of, AreDigests};
-ghost use Rattle.uimg_fit_base.specs.Report.{word_of};
-ghost use Rattle.uimg_fit_reading.specs.Nodes.{OfHash, HasNode};
-ghost use Rattle.uimg_fit_reading.specs.Plans.{plan_by_value, plan_by_algo, plan_by_name, hash_plan, text_in, IsOf, EndsIn, IsCovered, IsCompared, word_by};
-ghost use Rattle.uimg_fit_reading.specs.Values.{in_span};
+ghost use Rattle.uimg_base.specs.{Honest.HonestSource, Using.Asks};
+ghost use Rattle.uimg_fit_base.specs.{AlgoSets.{set_of, AreDigests}, Report.word_of};
+ghost use Rattle.uimg_fit_reading.specs.{Nodes.{OfHash, HasNode}, Values.in_span};
 ghost use Rattle.uimg_fit_reading.specs.PayloadPlaces.{Ends};
+ghost use Rattle.uimg_fit_reading.specs.Plans.{plan_by_value, plan_by_algo, plan_by_name, hash_plan, text_in, IsOf, EndsIn, IsCovered, IsCompared, word_by};
 
 use crate::nodes::value_of;
 use std::alloc::Allocator;

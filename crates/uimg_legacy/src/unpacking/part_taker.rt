@@ -1,6 +1,6 @@
 //! The trait of those who are given unpacked parts.
 
-ghost use Rattle.std.specs.Prelude.{◌≡◌, ℕ, [], ◌∷◌, ◌++◌, List, Bool, false, Some, IfOk, OnOk, OnErr, IsTrue};
+ghost use Rattle.std.specs.Prelude.{◌≡◌, ℕ, [], ◌++◌, List, Bool, false, Some, IfOk, OnOk, OnErr, IsTrue};
 ghost use Rattle.uimg_legacy.specs.Unpacking.{Part, AreRight, part_if};
 ghost use Rattle.std.specs.Prelude.{true};
 

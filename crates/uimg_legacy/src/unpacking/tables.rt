@@ -3,8 +3,7 @@
 ghost use Rattle.std.specs.Prelude.{◌+◌, ◌*◌, ◌≤◌, length, min, IfOk};
 ghost use Rattle.uimg_base.specs.Using.{UsesAtMost};
 ghost use Rattle.uimg_legacy.specs.Reading.{Reads, ReadsWords, sizes_from};
-ghost use Rattle.uimg_legacy.specs.Tables.{Counts, sizes_work};
-ghost use Rattle.uimg_legacy.specs.UnpackingSteps.{SumsPiece};
+ghost use Rattle.uimg_legacy.specs.{Tables.{Counts, sizes_work}, UnpackingSteps.SumsPiece};
 
 use crate::fault::{Fault, LegacyFault};
 use crate::table::leading_sizes;

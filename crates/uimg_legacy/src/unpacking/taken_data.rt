@@ -2,8 +2,7 @@
 
 ghost use Rattle.std.specs.Prelude.{◌≡◌, ◌+◌, ◌≤◌, length, true, false, IsTrue};
 ghost use Rattle.uimg_base.specs.Using.{UsesAtMost};
-ghost use Rattle.uimg_legacy.specs.Parts.{has_parts};
-ghost use Rattle.uimg_legacy.specs.Unpacking.{is_there};
+ghost use Rattle.uimg_legacy.specs.{Parts.has_parts, Unpacking.is_there};
 ghost use Rattle.uimg_legacy.specs.UnpackingSteps.{Takes, TakesData, listed_work, data_work};
 
 use crate::fault::{Fault, LegacyFault};

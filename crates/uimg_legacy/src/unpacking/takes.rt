@@ -1,10 +1,8 @@
 //! Takes parts one after another, by their sizes in the table.
 
 ghost use Rattle.std.specs.Prelude.{◌≡◌, ◌+◌, ◌-◌, ◌*◌, ◌≤◌, length, false, true};
-ghost use Rattle.uimg_base.specs.Honest.{IfHonest};
-ghost use Rattle.uimg_base.specs.Using.{Asks};
-ghost use Rattle.uimg_legacy.specs.Faults.{is_refused};
-ghost use Rattle.uimg_legacy.specs.Unpacking.{is_part_asked};
+ghost use Rattle.uimg_base.specs.{Honest.IfHonest, Using.Asks};
+ghost use Rattle.uimg_legacy.specs.{Faults.is_refused, Unpacking.is_part_asked};
 ghost use Rattle.uimg_legacy.specs.UnpackingSteps.{Takes, TakesPart, TakesNext, PaysWalked, Walks, RefusesNumber, RefusesFrom};
 
 use crate::fault::{Fault, LegacyFault};

@@ -1,6 +1,5 @@
 //! MD5.
 
-ghost use Rattle.std.specs.Prelude.{◌≡◌, ℕ, List, [], ◌++◌};
 ghost use Rattle.md5.specs.Md5.{Holds, md5};
 
 use crate::sums::Summer;

@@ -1,6 +1,5 @@
 //! SHA-1.
 
-ghost use Rattle.std.specs.Prelude.{◌≡◌, ℕ, List, [], ◌++◌};
 ghost use Rattle.sha1.specs.Sha1.{Holds, sha1};
 
 use crate::sums::Summer;

@@ -1,8 +1,6 @@
 //! SHA-256, SHA-384 and SHA-512.
 
-ghost use Rattle.std.specs.Prelude.{◌≡◌, ℕ, List, [], ◌++◌};
-ghost use Rattle.sha2.specs.Hashers.{Holds256, Holds384, Holds512};
-ghost use Rattle.sha2.specs.Sha256.{sha256};
+ghost use Rattle.sha2.specs.{Hashers.{Holds256, Holds384, Holds512}, Sha256.sha256};
 ghost use Rattle.sha2.specs.Sha512.{sha384, sha512};
 
 use crate::sums::Summer;

@@ -1,5 +1,4 @@
-use Rattle.std.proofs.Common.{◌≡◌, ◌≤◌, take}
-use Rattle.std.specs.List.{flat_map}
+use Rattle.std.{proofs.Common.{◌≡◌, ◌≤◌, take}, specs.List.flat_map}
 use Rattle.uimg_base.proofs.output.gather.Given as goal
 
 -- the pieces so far stand at the beginning

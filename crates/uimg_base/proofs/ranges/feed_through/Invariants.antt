@@ -1,6 +1,5 @@
 use Rattle.std.proofs.Common.{◌≡◌, ◌≤◌, ◌-◌}
-use Rattle.uimg_base.specs.Device.{SameDevice, asked_more}
-use Rattle.uimg_base.specs.Ranges.{SumsRange}
+use Rattle.uimg_base.specs.{Device.{SameDevice, asked_more}, Ranges.SumsRange}
 use Rattle.uimg_base.proofs.ranges.feed_through.Given as goal
 
 -- the first `done` bytes were asked for and fed

@@ -1,7 +1,6 @@
 use Rattle.std.proofs.Common.{◌+◌, IsTrue, subst, sym, arith, ℕ, List, Bool, ◌∙◌, rules}
 use Rattle.uimg_texts.specs.Slices.{slice}
-use Rattle.uimg_base.specs.Ranges.{TakesRange}
-use Rattle.uimg_base.specs.Sink.{AppendsPrefix}
+use Rattle.uimg_base.specs.{Ranges.TakesRange, Sink.AppendsPrefix}
 use Rattle.uimg_base.proofs.Slices.{AppendsFirst-more}
 use Rattle.uimg_base.proofs.RangeLaws.{nothing_taken, more_taken, taken_right}
 use Rattle.uimg_base.proofs.ranges.take_through.Goals as goal

@@ -1,6 +1,5 @@
 use Rattle.std.proofs.Common.{◌≡◌, ◌≤◌, ◌-◌}
-use Rattle.uimg_base.specs.Device.{SameDevice, asked_more}
-use Rattle.uimg_base.specs.Ranges.{TakesRange}
+use Rattle.uimg_base.specs.{Device.{SameDevice, asked_more}, Ranges.TakesRange}
 use Rattle.uimg_base.proofs.ranges.take_through.Given as goal
 
 -- the first `done` bytes were asked for, summed and written

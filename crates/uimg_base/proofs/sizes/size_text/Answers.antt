@@ -1,5 +1,4 @@
-use Rattle.std.proofs.Common.{ℕ, List, subst, ◌∙◌}
-use Rattle.std.specs.Prelude.{is_err}
+use Rattle.std.{proofs.Common.{ℕ, List, subst, ◌∙◌}, specs.Prelude.is_err}
 use Rattle.uimg_base.specs.Writing.{Writes}
 use Rattle.uimg_base.proofs.SizeLine.{size_text-parts}
 use Rattle.uimg_base.proofs.sizes.size_text.Goals as goal

@@ -1,8 +1,7 @@
 //! Parts that are taken out of images, also when memory is refused, or the device fails or returns
 //! other bytes the second time.
 
-ghost use Rattle.std.specs.Prelude.{◌≡◌, false};
-ghost use Rattle.std.proofs.Common.{rules};
+ghost use Rattle.std.{specs.Prelude.false, proofs.Common.rules};
 
 use super::images::{PLACE, make};
 use crate::samples::legacy::THREE_PART_MULTI;

@@ -1,7 +1,6 @@
 //! A source of zeros that takes no memory.
 
-ghost use Rattle.std.specs.Prelude.{◌≡◌, ◌^◌, ◌<◌, false};
-ghost use Rattle.std.proofs.Common.{rules};
+ghost use Rattle.std.{specs.Prelude.{◌^◌, ◌<◌, false}, proofs.Common.rules};
 ghost use Rattle.uimg_base.specs.Zeros.{zeros, zeros_short};
 
 use uimg_base::{Source, SourceFault};

@@ -1,11 +1,7 @@
 use Rattle.std.proofs.Common.{◌+◌, ◌∙◌, ap, sym, refl, ℕ, List, set, get_or, rules}
 use Rattle.uimg_base.specs.Held.{Held}
-use Rattle.uimg_blob_reading.specs.Grammar.{none}
-use Rattle.uimg_blob_reading.specs.Roles.{role_at}
-use Rattle.uimg_blob_reading.specs.Kept.{span_word}
-use Rattle.uimg_blob_reading.specs.SoFar.{next_level}
-use Rattle.uimg_blob_reading.proofs.RoleLaws.{row_at}
-use Rattle.uimg_blob_reading.proofs.KeyLaws.{named_some, named_none}
+use Rattle.uimg_blob_reading.specs.{Grammar.none, Roles.role_at, Kept.span_word, SoFar.next_level}
+use Rattle.uimg_blob_reading.proofs.{RoleLaws.row_at, KeyLaws.{named_some, named_none}}
 use Rattle.uimg_blob_reading.proofs.ValueLaws.{absent}
 use Rattle.uimg_blob_reading.proofs.KeepLaws.{placed_at, unchanged, changed, again, kept_word}
 use Rattle.uimg_blob_reading.proofs.entries.keep.Goals as goal

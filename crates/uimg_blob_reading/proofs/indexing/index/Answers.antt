@@ -1,8 +1,6 @@
 use Rattle.std.proofs.Common.{rules, ◌≤◌, ◌+◌, ◌∙◌, sym, ap, subst, Bool, IsTrue, length, refl, arith}
 use Rattle.uimg_base.specs.Held.{Held}
-use Rattle.uimg_blob_reading.specs.Blob.{blocks}
-use Rattle.uimg_blob_reading.specs.Counts.{index_cost, nodes_met}
-use Rattle.uimg_blob_reading.specs.Passes.{tokens_in}
+use Rattle.uimg_blob_reading.specs.{Blob.blocks, Counts.{index_cost, nodes_met}, Passes.tokens_in}
 use Rattle.uimg_blob_reading.proofs.KeyLaws.{passed_on}
 use Rattle.uimg_blob_reading.proofs.IndexLaws.{header_err, indexed_err, tree_is, within_cost, prefix_file, prefix_header, so_far_header, so_far_file, finds}
 use Rattle.uimg_blob_reading.proofs.indexing.index.Goals as goal

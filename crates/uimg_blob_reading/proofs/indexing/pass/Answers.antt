@@ -1,12 +1,8 @@
 use Rattle.std.proofs.Common.{◌∙◌, ap, sym, subst, refl, Result, IfErr, Option, Ok, Err, Some, None, IfSome, length, ◌≤◌, ◌<◌, ◌+◌, rules, arith}
-use Rattle.uimg_blob_reading.proofs.KeyLaws.{passed_on}
-use Rattle.uimg_blob_reading.specs.declared.fault.IndexFault.{IndexFault}
-use Rattle.uimg_blob_reading.specs.declared.states.State.{State}
-use Rattle.uimg_blob_reading.specs.Extents.{blocks_of}
-use Rattle.uimg_blob_reading.specs.Tokens.{tokens}
-use Rattle.uimg_blob_reading.specs.Walk.{begun}
+use Rattle.uimg_blob_reading.proofs.{KeyLaws.passed_on, PhaseLaws.holds_within}
+use Rattle.uimg_blob_reading.specs.declared.{fault.IndexFault.IndexFault, states.State.State}
+use Rattle.uimg_blob_reading.specs.{Extents.blocks_of, Tokens.tokens, Walk.begun}
 use Rattle.uimg_blob_reading.specs.Passes.{PassesToken, StopsAt}
-use Rattle.uimg_blob_reading.proofs.PhaseLaws.{holds_within}
 use Rattle.uimg_blob_reading.proofs.IndexLaws.{begins, goes_on, ends_ok, ends_passed, ends_err, steps_same, paid_same, last_paid, stay_err, prefix_err, stops_at}
 use Rattle.uimg_blob_reading.proofs.indexing.pass.Goals as goal
 

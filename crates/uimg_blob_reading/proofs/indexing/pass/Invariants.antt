@@ -1,10 +1,6 @@
 use Rattle.std.proofs.Common.{◌≡◌, ◌<◌, ◌≤◌, ◌+◌, ◌-◌, max, length}
-use Rattle.uimg_base.specs.Device.{SameDevice}
-use Rattle.uimg_base.specs.Held.{held_bytes}
-use Rattle.uimg_blob_reading.specs.Extents.{blocks_of}
-use Rattle.uimg_blob_reading.specs.Tokens.{tokens}
-use Rattle.uimg_blob_reading.specs.Walk.{begun}
-use Rattle.uimg_blob_reading.specs.Passes.{Pass}
+use Rattle.uimg_base.specs.{Device.SameDevice, Held.held_bytes}
+use Rattle.uimg_blob_reading.specs.{Extents.blocks_of, Tokens.tokens, Walk.begun, Passes.Pass}
 use Rattle.uimg_blob_reading.proofs.indexing.pass.Given as goal
 
 -- the pass is at the state

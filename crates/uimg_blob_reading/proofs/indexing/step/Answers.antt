@@ -1,11 +1,8 @@
 use Rattle.std.proofs.Common.{◌∙◌, sym, ap, subst, refl, Result, Option, rules}
 use Rattle.uimg_base.specs.Held.{Held}
-use Rattle.uimg_blob_reading.specs.declared.fault.IndexFault.{IndexFault}
-use Rattle.uimg_blob_reading.specs.declared.fault.IndexFault.TheVariants.{Read}
-use Rattle.uimg_blob_reading.specs.declared.states.State.{State}
-use Rattle.uimg_blob_reading.specs.Extents.{blocks_of}
-use Rattle.uimg_blob_reading.specs.Tokens.{token_at, next}
-use Rattle.uimg_blob_reading.specs.Passes.{step, PassesToken}
+use Rattle.uimg_blob_reading.specs.declared.fault.IndexFault.{IndexFault, TheVariants.Read}
+use Rattle.uimg_blob_reading.specs.{declared.states.State.State, Extents.blocks_of}
+use Rattle.uimg_blob_reading.specs.{Tokens.{token_at, next}, Passes.{step, PassesToken}}
 use Rattle.uimg_blob_reading.proofs.KeyLaws.{passed_on, on_err}
 use Rattle.uimg_blob_reading.proofs.PassLaws.{acts_read, refuses_read}
 use Rattle.uimg_blob_reading.proofs.ActLaws.{adds_grows, found, step_goes, step_ends}

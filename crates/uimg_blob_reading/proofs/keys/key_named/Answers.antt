@@ -1,7 +1,5 @@
 use Rattle.std.proofs.Common.{◌≡◌, ◌∙◌, ℕ, List, [], ◌∷◌, map, Bool, true, false, refl, if◌then◌else◌}
-use Rattle.std.specs.Prelude.{Option, Some, find}
-use Rattle.std.specs.Option.{option_map}
-use Rattle.std.specs.Str.{bytes_eq}
+use Rattle.std.specs.{Prelude.{Option, Some, find}, Option.option_map, Str.bytes_eq}
 use Rattle.uimg_blob_reading.specs.declared.keys.Key.{Key}
 use Rattle.uimg_blob_reading.specs.Keys.{KeyRow, name_of, all_keys, key_of_name}
 use Rattle.uimg_blob_reading.proofs.keys.key_named.Goals as goal

@@ -1,6 +1,5 @@
 use Rattle.std.proofs.Common.{◌+◌, ℕ, Option, Result, IfOk, subst, rules, arith}
-use Rattle.uimg_blob_reading.specs.declared.fault.BlobFault.{BlobFault}
-use Rattle.uimg_blob_reading.specs.declared.tokens.Head.{Head}
+use Rattle.uimg_blob_reading.specs.declared.{fault.BlobFault.BlobFault, tokens.Head.Head}
 use Rattle.uimg_blob_reading.specs.Places.{IsHead, HeadWithin, NameIs}
 use Rattle.uimg_blob_reading.proofs.PropertyLaws.{over, place_found}
 use Rattle.uimg_blob_reading.proofs.places.find_place.Goals as goal

@@ -1,7 +1,6 @@
 use Rattle.std.proofs.Common.{◌≡◌, ◌≤◌, ◌<◌, ◌+◌, ◌*◌, ◌∙◌, ℕ, [], length, Option, Ok, Err, IfSome, subst, rules, arith}
 use Rattle.std.specs.Option.{MatchOption}
-use Rattle.uimg_blob_reading.specs.Extents.{blocks_of}
-use Rattle.uimg_blob_reading.specs.Properties.{TakesOne}
+use Rattle.uimg_blob_reading.specs.{Extents.blocks_of, Properties.TakesOne}
 use Rattle.uimg_blob_reading.proofs.TellLaws.{took_more, took_all, took_err, passed, step_over}
 use Rattle.uimg_blob_reading.proofs.properties.gather.Goals as goal
 

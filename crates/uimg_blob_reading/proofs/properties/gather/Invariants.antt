@@ -1,11 +1,8 @@
 use Rattle.std.proofs.Common.{◌≡◌, ◌≤◌, ◌<◌, ◌+◌, ◌-◌, ◌*◌, ◌^◌, ℕ, List, [], length, IsTrue}
 use Rattle.std.specs.List.{All}
 use Rattle.uimg_base.specs.Device.{SameDevice}
-use Rattle.uimg_blob_reading.specs.Tokens.{Property}
-use Rattle.uimg_blob_reading.specs.Extents.{blocks_of}
-use Rattle.uimg_blob_reading.specs.Owns.{LeftFrom}
-use Rattle.uimg_blob_reading.specs.Places.{EndsBy}
-use Rattle.uimg_blob_reading.specs.Properties.{TookFrom}
+use Rattle.uimg_blob_reading.specs.{Tokens.Property, Extents.blocks_of, Owns.LeftFrom}
+use Rattle.uimg_blob_reading.specs.{Places.EndsBy, Properties.TookFrom}
 use Rattle.uimg_blob_reading.proofs.properties.gather.Given as goal
 
 -- the tokens before the place were taken

@@ -1,10 +1,7 @@
 use Rattle.std.proofs.Common.{◌≡◌, ◌++◌, ◌∷◌, [], List, length, ap, sym, subst, length-append, rules, arith}
-use Rattle.std.specs.List.{All}
-use Rattle.std.proofs.lemmas.List.Elements.{All-push}
-use Rattle.uimg_blob_reading.specs.declared.places.Met.{Met}
-use Rattle.uimg_blob_reading.specs.declared.places.PropertyPlace.{PropertyPlace}
-use Rattle.uimg_blob_reading.specs.Tokens.{token_at}
-use Rattle.uimg_blob_reading.specs.Extents.{blocks_of}
+use Rattle.std.{specs.List.All, proofs.lemmas.List.Elements.All-push}
+use Rattle.uimg_blob_reading.specs.declared.places.{Met.Met, PropertyPlace.PropertyPlace}
+use Rattle.uimg_blob_reading.specs.{Tokens.token_at, Extents.blocks_of}
 use Rattle.uimg_blob_reading.specs.Places.{IsMet, MetWithin, Lies, EndsBy}
 use Rattle.uimg_blob_reading.proofs.TellLaws.{paid_left, takes_place, takes_nop, takes_edge, takes_strange}
 use Rattle.uimg_blob_reading.proofs.properties.step.Goals as goal

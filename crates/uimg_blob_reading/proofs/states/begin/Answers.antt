@@ -1,7 +1,6 @@
 use Rattle.std.proofs.Common.{◌∙◌, ◌+◌, ◌++◌, ◌∷◌, [], sym, ap, ℕ, arith}
 use Rattle.uimg_blob_reading.specs.Entering.{begun_entry}
-use Rattle.uimg_blob_reading.proofs.PassLaws.{begin_goes}
-use Rattle.uimg_blob_reading.proofs.ActLaws.{begin_does, was_entered}
+use Rattle.uimg_blob_reading.proofs.{PassLaws.begin_goes, ActLaws.{begin_does, was_entered}}
 use Rattle.uimg_blob_reading.proofs.states.begin.Goals as goal
 
 pub returns : goal.returns

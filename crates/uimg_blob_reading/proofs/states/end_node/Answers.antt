@@ -1,6 +1,5 @@
 use Rattle.std.proofs.Common.{refl}
-use Rattle.uimg_blob_reading.proofs.PassLaws.{end_goes, length_ended}
-use Rattle.uimg_blob_reading.proofs.ActLaws.{end_does}
+use Rattle.uimg_blob_reading.proofs.{PassLaws.{end_goes, length_ended}, ActLaws.end_does}
 use Rattle.uimg_blob_reading.proofs.states.end_node.Goals as goal
 
 pub returns : goal.returns

@@ -1,5 +1,4 @@
-use Rattle.uimg_blob_reading.proofs.PhaseLaws.{is_after_by}
-use Rattle.uimg_blob_reading.proofs.KeyLaws.{none_from}
+use Rattle.uimg_blob_reading.proofs.{PhaseLaws.is_after_by, KeyLaws.none_from}
 use Rattle.uimg_blob_reading.proofs.states.is_after.Goals as goal
 
 pub returns-then-is_none : goal.returns-then-is_none

@@ -1,6 +1,5 @@
 use Rattle.std.proofs.Common.{◌∙◌, ◌+◌, sym, ap, ℕ, arith}
-use Rattle.uimg_blob_reading.proofs.PassLaws.{prop_goes}
-use Rattle.uimg_blob_reading.proofs.ActLaws.{property_does, same_adds}
+use Rattle.uimg_blob_reading.proofs.{PassLaws.prop_goes, ActLaws.{property_does, same_adds}}
 use Rattle.uimg_blob_reading.proofs.states.property.Goals as goal
 
 pub returns : goal.returns

@@ -1,7 +1,5 @@
-use Rattle.std.proofs.Common.{ap, Bool, ◌∙◌}
-use Rattle.std.specs.Option.{is_some}
-use Rattle.uimg_blob_reading.specs.Roles.{role_at}
-use Rattle.uimg_blob_reading.specs.Passes.{child_level}
+use Rattle.std.{proofs.Common.{ap, Bool, ◌∙◌}, specs.Option.is_some}
+use Rattle.uimg_blob_reading.specs.{Roles.role_at, Passes.child_level}
 use Rattle.uimg_blob_reading.proofs.PassLaws.{root_in, child_in}
 use Rattle.uimg_blob_reading.proofs.states.role_for.Goals as goal
 

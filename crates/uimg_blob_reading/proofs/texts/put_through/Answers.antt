@@ -1,10 +1,7 @@
 use Rattle.std.proofs.Common.{◌≡◌, ◌+◌, ◌∙◌, IsTrue, subst, sym, ap, refl, ℕ, List, Bool, true, false, is_err, None, arith, rules}
 use Rattle.std.specs.Option.{is_some}
-use Rattle.uimg_texts.specs.Nul.{before_nul, text}
-use Rattle.uimg_texts.specs.Slices.{slice}
-use Rattle.uimg_base.specs.Sink.{AppendsAll}
-use Rattle.uimg_base.specs.Writing.{Written}
-use Rattle.uimg_base.proofs.SinkLaws.{Appends-none}
+use Rattle.uimg_texts.specs.{Nul.{before_nul, text}, Slices.slice}
+use Rattle.uimg_base.{specs.{Sink.AppendsAll, Writing.Written}, proofs.SinkLaws.Appends-none}
 use Rattle.uimg_base.proofs.Slices.{AppendsAll-slice}
 use Rattle.uimg_blob_reading.proofs.TextLaws.{nul_nothing, text_stopped, text_put, text_all, still_without, without_nul, written_all, written_some}
 use Rattle.uimg_blob_reading.proofs.texts.put_through.Goals as goal

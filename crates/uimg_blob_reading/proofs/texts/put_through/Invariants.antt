@@ -1,8 +1,6 @@
 use Rattle.std.proofs.Common.{◌≡◌, ◌≤◌, ◌+◌, ◌-◌, None, IsTrue}
-use Rattle.uimg_base.specs.Device.{SameDevice}
-use Rattle.uimg_texts.specs.Nul.{before_nul}
-use Rattle.uimg_texts.specs.Slices.{slice}
-use Rattle.uimg_base.specs.Sink.{AppendsAll}
+use Rattle.uimg_base.specs.{Device.SameDevice, Sink.AppendsAll}
+use Rattle.uimg_texts.specs.{Nul.before_nul, Slices.slice}
 use Rattle.uimg_blob_reading.proofs.texts.put_through.Given as goal
 
 -- the first `done` bytes were asked for and written, and have no NUL

@@ -1,9 +1,7 @@
 use Rattle.std.proofs.Common.{◌≡◌, ◌∙◌, sym, ap, ℕ, List, length, take, nat_lt, length-take, arith}
-use Rattle.uimg_texts.specs.Nul.{text}
-use Rattle.uimg_texts.specs.Slices.{slice}
+use Rattle.uimg_texts.specs.{Nul.text, Slices.slice}
 use Rattle.uimg_base.proofs.Slices.{length-slice}
-use Rattle.uimg_blob_reading.proofs.KeyLaws.{from_ok}
-use Rattle.uimg_blob_reading.proofs.TextLaws.{text_short}
+use Rattle.uimg_blob_reading.proofs.{KeyLaws.from_ok, TextLaws.text_short}
 use Rattle.uimg_blob_reading.proofs.texts.put_window.Goals as goal
 
 pub returns-clause-ended : goal.returns-clause-ended

@@ -1,6 +1,5 @@
 use Rattle.std.proofs.Common.{List, ℕ, subst, length-take, rules, arith}
-use Rattle.uimg_blob_reading.specs.Tokens.{begins}
-use Rattle.uimg_blob_reading.specs.ReadTokens.{IsReadAs}
+use Rattle.uimg_blob_reading.specs.{Tokens.begins, ReadTokens.IsReadAs}
 use Rattle.uimg_blob_reading.proofs.tokens.read_begin_node.Goals as goal
 
 pub returns : goal.returns

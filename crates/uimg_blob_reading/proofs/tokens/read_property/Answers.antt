@@ -1,11 +1,8 @@
 use Rattle.std.proofs.Common.{◌≡◌, ◌+◌, Option, Result, IfOk, subst, rules, arith}
 use Rattle.std.specs.Option.{option_map}
 use Rattle.uimg_texts.specs.Nul.{before_nul}
-use Rattle.uimg_blob_reading.specs.declared.fault.BlobFault.{BlobFault}
-use Rattle.uimg_blob_reading.specs.declared.keys.Key.{Key}
-use Rattle.uimg_blob_reading.specs.declared.tokens.Head.{Head}
-use Rattle.uimg_blob_reading.specs.Keys.{key_named}
-use Rattle.uimg_blob_reading.specs.Tokens.{reach}
+use Rattle.uimg_blob_reading.specs.declared.{fault.BlobFault.BlobFault, keys.Key.Key}
+use Rattle.uimg_blob_reading.specs.{declared.tokens.Head.Head, Keys.key_named, Tokens.reach}
 use Rattle.uimg_blob_reading.specs.Places.{IsHead, HeadWithin}
 use Rattle.uimg_blob_reading.proofs.PropertyLaws.{over, key_read}
 use Rattle.uimg_blob_reading.proofs.tokens.read_property.Goals as goal

@@ -1,7 +1,6 @@
 use Rattle.std.proofs.Common.{rules, ◌≡◌, ◌≤◌, ◌-◌, ◌+◌, ◌++◌, ℕ, List, take, replicate, is_err, true, false, ap, subst, ◌∙◌, arith}
 use Rattle.std.proofs.lemmas.List.{take-replicate, replicate-append-replicate}
-use Rattle.uimg_base.specs.Writing.{Writes}
-use Rattle.uimg_base.proofs.WritingLaws.{◌▷◌, stops}
+use Rattle.uimg_base.{specs.Writing.Writes, proofs.WritingLaws.{◌▷◌, stops}}
 use Rattle.uimg_blob_writing.proofs.alignment.put_zeros.Goals as goal
 
 abbrev zeros : ℕ → List ℕ

@@ -1,13 +1,9 @@
 use Rattle.std.proofs.Common.{◌≡◌, ◌<◌, ◌+◌, suc, drop, ◌∙◌, ap, sym, subst, List, [], ◌∷◌, ℕ, true, false, Option, Some, arith}
-use Rattle.std.proofs.lemmas.List.{drop_more}
-use Rattle.std.proofs.Math.ListN.{drop_of_length-le}
+use Rattle.std.proofs.{lemmas.List.drop_more, Math.ListN.drop_of_length-le}
 use Rattle.std.specs.Option.{option_or}
-use Rattle.uimg_blob_reading.specs.declared.fault.BlobFault.{BlobFault}
-use Rattle.uimg_blob_writing.specs.declared.tree.Node.{Node}
-use Rattle.uimg_blob_reading.specs.Plain.{no_node}
-use Rattle.uimg_blob_writing.specs.Content.{Unread, count}
-use Rattle.uimg_blob_writing.specs.Trees.{siblings}
-use Rattle.uimg_blob_writing.specs.Measured.{is_name, bad_name}
+use Rattle.uimg_blob_reading.specs.{declared.fault.BlobFault.BlobFault, Plain.no_node}
+use Rattle.uimg_blob_writing.specs.{declared.tree.Node.Node, Content.{Unread, count}}
+use Rattle.uimg_blob_writing.specs.{Trees.siblings, Measured.{is_name, bad_name}}
 use Rattle.uimg_blob_writing.proofs.NodeLaws.{count-at}
 use Rattle.uimg_blob_writing.proofs.MeasuredLaws.{node-bad, bad_name-more, bad_name-below, bad_name-properties, bad_name-none, fault-err}
 use Rattle.uimg_blob_writing.proofs.checking.+check_names.Goals as goal

@@ -1,7 +1,5 @@
 use Rattle.std.proofs.Common.{◌≡◌, drop, suc}
-use Rattle.uimg_blob_writing.specs.Content.{count}
-use Rattle.uimg_blob_writing.specs.Trees.{siblings}
-use Rattle.uimg_blob_writing.specs.Measured.{bad_name}
+use Rattle.uimg_blob_writing.specs.{Content.count, Trees.siblings, Measured.bad_name}
 use Rattle.uimg_blob_writing.proofs.checking.+check_names.Given as goal
 
 abbrev pub decreases-check_names : goal.decreases-check_names

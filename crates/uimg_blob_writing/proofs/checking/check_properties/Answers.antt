@@ -1,11 +1,8 @@
 use Rattle.std.proofs.Common.{◌≡◌, ◌+◌, map, drop, ◌∙◌, ap, sym, List, [], ◌∷◌, ℕ, true, false}
-use Rattle.std.proofs.lemmas.List.{drop_more}
-use Rattle.std.proofs.Math.ListN.{drop_of_length-le}
-use Rattle.uimg_blob_writing.specs.declared.props.Prop.{Prop}
-use Rattle.uimg_blob_reading.specs.Plain.{NamedOf}
-use Rattle.uimg_blob_writing.specs.Content.{Content}
-use Rattle.uimg_blob_writing.specs.Properties.{property}
+use Rattle.std.proofs.{lemmas.List.drop_more, Math.ListN.drop_of_length-le}
+use Rattle.uimg_blob_writing.specs.{declared.props.Prop.Prop, Content.Content, Properties.property}
 use Rattle.uimg_blob_writing.specs.Measured.{is_name, bad_property}
+use Rattle.uimg_blob_reading.specs.Plain.{NamedOf}
 use Rattle.uimg_blob_writing.proofs.MeasuredLaws.{property-good, property-bad, property-none}
 use Rattle.uimg_blob_writing.proofs.checking.check_properties.Goals as goal
 

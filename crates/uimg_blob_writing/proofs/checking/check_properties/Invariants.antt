@@ -1,6 +1,5 @@
 use Rattle.std.proofs.Common.{◌≡◌, map, drop}
-use Rattle.uimg_blob_writing.specs.Properties.{property}
-use Rattle.uimg_blob_writing.specs.Measured.{bad_property}
+use Rattle.uimg_blob_writing.specs.{Properties.property, Measured.bad_property}
 use Rattle.uimg_blob_writing.proofs.checking.check_properties.Given as goal
 
 -- the first bad name stands at the index or later

@@ -1,6 +1,5 @@
 use Rattle.std.proofs.Common.{◌≡◌, ◌<◌, suc, ap, sym, subst, arith}
-use Rattle.uimg_blob_writing.specs.declared.tree.Node.{Node}
-use Rattle.uimg_blob_writing.specs.Content.{Unread, count}
+use Rattle.uimg_blob_writing.specs.{declared.tree.Node.Node, Content.{Unread, count}}
 use Rattle.uimg_blob_writing.specs.Trees.{siblings}
 use Rattle.uimg_blob_writing.proofs.NodeLaws.{count-at}
 use Rattle.uimg_blob_writing.proofs.copying.+copy_this.Goals as goal

@@ -1,15 +1,11 @@
 use Rattle.std.proofs.Common.{◌≡◌, ◌≤◌, ◌<◌, ◌+◌, ◌^◌, min, length, ◌∙◌, ap, sym, subst, List, ℕ, Bor, arith}
 use Rattle.uimg_blob_reading.specs.declared.fault.BlobFault.TheVariants.{OutOfMemory}
-use Rattle.uimg_blob_writing.specs.Alignment.{aligned}
-use Rattle.uimg_blob_writing.specs.Encoding.{strings, names_of, with_names_in}
-use Rattle.uimg_blob_writing.specs.Layouts.{Plan, plan_of, nodes_size, totalsize}
-use Rattle.uimg_blob_writing.specs.Measured.{measured}
-use Rattle.uimg_blob_writing.specs.Names.{name_texts}
-use Rattle.uimg_blob_writing.specs.Trees.{node_of}
+use Rattle.uimg_blob_writing.specs.{Alignment.aligned, Encoding.{strings, names_of, with_names_in}}
+use Rattle.uimg_blob_writing.specs.{Layouts.{Plan, plan_of, nodes_size, totalsize}, Trees.node_of}
+use Rattle.uimg_blob_writing.specs.{Measured.measured, Names.name_texts}
 use Rattle.uimg_blob_writing.proofs.MeasuredLaws.{are_named, not-memory, same-fault}
+use Rattle.uimg_blob_writing.proofs.{AlignmentLaws.large-by, TotalLaws.encode-size}
 use Rattle.uimg_blob_writing.proofs.PlanLaws.{on-ok, measured-ok, measured-large, measured-bad, Measures-bad}
-use Rattle.uimg_blob_writing.proofs.AlignmentLaws.{large-by}
-use Rattle.uimg_blob_writing.proofs.TotalLaws.{encode-size}
 use Rattle.uimg_blob_writing.proofs.measuring.measure_by.Goals as goal
 
 pub returns-in_err-check_names-clause-measured : goal.returns-in_err-check_names-clause-measured

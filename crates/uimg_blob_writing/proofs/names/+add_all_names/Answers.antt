@@ -1,13 +1,8 @@
 use Rattle.std.proofs.Common.{◌≡◌, ◌<◌, map, drop, ℕ, suc, ◌+◌, ◌∙◌, ap, sym, subst, List, [], ◌∷◌, Bor, arith, length}
-use Rattle.std.proofs.lemmas.List.{drop_more}
-use Rattle.std.proofs.Math.ListN.{drop_of_length-le}
-use Rattle.uimg_blob_writing.specs.declared.tree.Node.{Node}
-use Rattle.uimg_blob_writing.specs.Content.{Unread, count}
-use Rattle.uimg_blob_writing.specs.Trees.{siblings}
-use Rattle.uimg_blob_writing.specs.Names.{name_texts}
-use Rattle.uimg_blob_writing.specs.Encoding.{with_names, with_names_in}
-use Rattle.uimg_blob_writing.proofs.NameLaws.{on-err, length-with_names_in}
-use Rattle.uimg_blob_writing.proofs.NodeLaws.{count-at}
+use Rattle.std.proofs.{lemmas.List.drop_more, Math.ListN.drop_of_length-le}
+use Rattle.uimg_blob_writing.specs.{declared.tree.Node.Node, Encoding.{with_names, with_names_in}}
+use Rattle.uimg_blob_writing.specs.{Content.{Unread, count}, Trees.siblings, Names.name_texts}
+use Rattle.uimg_blob_writing.proofs.{NameLaws.{on-err, length-with_names_in}, NodeLaws.count-at}
 use Rattle.uimg_blob_writing.proofs.names.+add_all_names.Goals as goal
 
 pub add_all_names-requires : goal.add_all_names-requires

@@ -1,6 +1,5 @@
 use Rattle.std.proofs.Common.{◌≡◌, map, drop, suc}
-use Rattle.uimg_blob_writing.specs.Encoding.{with_names, with_names_in}
-use Rattle.uimg_blob_writing.specs.Content.{count}
+use Rattle.uimg_blob_writing.specs.{Encoding.{with_names, with_names_in}, Content.count}
 use Rattle.uimg_blob_writing.specs.Trees.{siblings}
 use Rattle.uimg_blob_writing.proofs.names.+add_all_names.Given as goal
 

@@ -1,9 +1,6 @@
 use Rattle.std.proofs.Common.{◌≡◌, ◌++◌, map, ℕ, ◌∙◌, ap, sym, refl, true, false, List, [], ◌∷◌, Bor, length, length-append, arith}
-use Rattle.std.proofs.lemmas.List.{map-append}
-use Rattle.std.specs.List.{list_any}
-use Rattle.std.specs.Str.{bytes_eq}
-use Rattle.uimg_blob_writing.specs.Names.{name_texts}
-use Rattle.uimg_blob_writing.specs.Encoding.{with_name}
+use Rattle.std.{proofs.lemmas.List.map-append, specs.{List.list_any, Str.bytes_eq}}
+use Rattle.uimg_blob_writing.specs.{Names.name_texts, Encoding.with_name}
 use Rattle.uimg_blob_writing.proofs.NameLaws.{on-err}
 use Rattle.uimg_blob_writing.proofs.names.add_name.Goals as goal
 

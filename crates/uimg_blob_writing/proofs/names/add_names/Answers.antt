@@ -1,12 +1,8 @@
 use Rattle.std.proofs.Common.{◌≡◌, map, drop, ℕ, ◌+◌, ◌∙◌, ap, sym, List, [], ◌∷◌, Bor, length, arith, ◌<◌, subst}
-use Rattle.std.proofs.lemmas.List.{drop_more}
-use Rattle.std.proofs.Math.ListN.{drop_of_length-le}
-use Rattle.uimg_blob_writing.specs.declared.props.Prop.{Prop}
+use Rattle.std.proofs.{lemmas.List.drop_more, Math.ListN.drop_of_length-le}
+use Rattle.uimg_blob_writing.specs.{declared.props.Prop.Prop, Content.Content, Properties.property}
+use Rattle.uimg_blob_writing.specs.{Names.name_texts, Encoding.{with_name, with_names}}
 use Rattle.uimg_blob_reading.specs.Plain.{NamedOf}
-use Rattle.uimg_blob_writing.specs.Content.{Content}
-use Rattle.uimg_blob_writing.specs.Properties.{property}
-use Rattle.uimg_blob_writing.specs.Names.{name_texts}
-use Rattle.uimg_blob_writing.specs.Encoding.{with_name, with_names}
 use Rattle.uimg_blob_writing.proofs.NameLaws.{on-err, length-with_names}
 use Rattle.uimg_blob_writing.proofs.names.add_names.Goals as goal
 

@@ -1,6 +1,5 @@
 use Rattle.std.proofs.Common.{◌≡◌, map, drop}
-use Rattle.uimg_blob_writing.specs.Encoding.{with_names}
-use Rattle.uimg_blob_writing.specs.Properties.{property}
+use Rattle.uimg_blob_writing.specs.{Encoding.with_names, Properties.property}
 use Rattle.uimg_blob_writing.proofs.names.add_names.Given as goal
 
 -- what the properties from the index on add to the names so far is what all add

@@ -1,7 +1,5 @@
 use Rattle.std.proofs.Common.{◌≡◌, map, ℕ, ◌||◌, ◌∙◌, ap, sym, Bool, true, false, List, [], ◌∷◌, slice_index_or, Bor}
-use Rattle.std.proofs.lemmas.List.{drop_more}
-use Rattle.std.proofs.Math.ListN.{drop_of_length-le}
-use Rattle.std.specs.List.{list_any}
+use Rattle.std.{proofs.{lemmas.List.drop_more, Math.ListN.drop_of_length-le}, specs.List.list_any}
 use Rattle.std.specs.Str.{bytes_eq}
 use Rattle.uimg_blob_writing.proofs.names.has_name.Goals as goal
 

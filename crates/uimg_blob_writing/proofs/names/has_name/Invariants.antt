@@ -1,6 +1,4 @@
-use Rattle.std.proofs.Common.{◌≡◌, map, drop}
-use Rattle.std.specs.List.{list_any}
-use Rattle.std.specs.Str.{bytes_eq}
+use Rattle.std.{proofs.Common.{◌≡◌, map, drop}, specs.{List.list_any, Str.bytes_eq}}
 use Rattle.uimg_blob_writing.proofs.names.has_name.Given as goal
 
 -- none of the names before the index is the name

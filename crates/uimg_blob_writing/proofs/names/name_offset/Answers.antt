@@ -1,7 +1,5 @@
 use Rattle.std.proofs.Common.{◌≡◌, ◌<◌, length, map, drop, ℕ, ◌+◌, ◌∙◌, ap, sym, refl, true, false, List, [], ◌∷◌, slice_index_or, Bor, length-append, arith}
-use Rattle.std.proofs.lemmas.List.{drop_more}
-use Rattle.std.proofs.Math.ListN.{drop_of_length-le}
-use Rattle.std.specs.Str.{bytes_eq}
+use Rattle.std.{proofs.{lemmas.List.drop_more, Math.ListN.drop_of_length-le}, specs.Str.bytes_eq}
 use Rattle.uimg_blob_writing.specs.Encoding.{strings, with_nul, name_offset}
 use Rattle.uimg_blob_writing.proofs.names.name_offset.Goals as goal
 

@@ -2,12 +2,9 @@ use Rattle.std.proofs.Common.{◌≡◌, ◌<◌, ◌^◌, ◌++◌, ℕ, List, 
 use Rattle.std.specs.List.{flat_map}
 use Rattle.uimg_base.specs.Writing.{Writes}
 use Rattle.uimg_blob_reading.specs.Plain.{AllValues}
-use Rattle.uimg_blob_writing.specs.declared.fault.TreeFault.TheVariants.{Put}
-use Rattle.uimg_blob_writing.specs.declared.tree.Node.{Node}
-use Rattle.uimg_blob_writing.specs.Content.{Content, Unread, bytes, size_of, count}
-use Rattle.uimg_blob_writing.specs.Encoding.{word}
-use Rattle.uimg_blob_writing.specs.Names.{name_texts}
-use Rattle.uimg_blob_writing.specs.Trees.{siblings, node_of}
+use Rattle.uimg_blob_writing.specs.declared.{fault.TreeFault.TheVariants.Put, tree.Node.Node}
+use Rattle.uimg_blob_writing.specs.{Content.{Content, Unread, bytes, size_of, count}, Encoding.word}
+use Rattle.uimg_blob_writing.specs.{Names.name_texts, Trees.{siblings, node_of}}
 use Rattle.uimg_blob_writing.specs.Pieces.{begin_bytes, property_pieces, nodes_pieces, WritesPieces}
 use Rattle.uimg_blob_writing.proofs.NodeLaws.{siblings-pieces, values-at, count-at}
 use Rattle.uimg_blob_writing.proofs.WritesLaws.{went_well, failed, refused, ◌▶◌, before, all-put, prefix-put, each-goes, each-stops, each-all}

@@ -1,8 +1,5 @@
-use Rattle.std.proofs.Common.{take, suc}
-use Rattle.std.specs.List.{flat_map}
-use Rattle.uimg_blob_writing.specs.Content.{count}
-use Rattle.uimg_blob_writing.specs.Names.{name_texts}
-use Rattle.uimg_blob_writing.specs.Trees.{node_of}
+use Rattle.std.{proofs.Common.{take, suc}, specs.List.flat_map}
+use Rattle.uimg_blob_writing.specs.{Content.count, Names.name_texts, Trees.node_of}
 use Rattle.uimg_blob_writing.specs.Pieces.{nodes_pieces, WritesPieces}
 use Rattle.uimg_blob_writing.proofs.WritesLaws.{went_well}
 use Rattle.uimg_blob_writing.proofs.nodes.+put_nodes.Given as goal

@@ -1,7 +1,6 @@
 use Rattle.std.proofs.Common.{true, false, ℕ, subst}
 use Rattle.uimg_base.specs.Writing.{Writes}
-use Rattle.uimg_blob_writing.specs.declared.fault.TreeFault.TheVariants.{Put}
-use Rattle.uimg_blob_writing.specs.Alignment.{padding_by}
+use Rattle.uimg_blob_writing.specs.{declared.fault.TreeFault.TheVariants.Put, Alignment.padding_by}
 use Rattle.uimg_blob_writing.proofs.WritesLaws.{refused, ◌▶◌, all-put, prefix-put}
 use Rattle.uimg_blob_writing.proofs.payloads.put_aligned.Goals as goal
 

@@ -1,7 +1,6 @@
 use Rattle.std.proofs.Common.{List, [], ◌∷◌}
-use Rattle.uimg_blob_writing.specs.declared.fault.TreeFault.TheVariants.{Put}
+use Rattle.uimg_blob_writing.specs.{declared.fault.TreeFault.TheVariants.Put, Pieces.padding}
 use Rattle.uimg_blob_writing.specs.Content.{Content, bytes, file}
-use Rattle.uimg_blob_writing.specs.Pieces.{padding}
 use Rattle.uimg_blob_writing.proofs.WritesLaws.{refused, ◌▶◌, before, all-put, prefix-put}
 use Rattle.uimg_blob_writing.proofs.properties.put_from_file.Goals as goal
 

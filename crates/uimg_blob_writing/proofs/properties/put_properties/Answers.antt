@@ -1,11 +1,8 @@
-use Rattle.std.proofs.Common.{◌<◌, ◌^◌, List, ap, sym, subst, ◌∙◌}
-use Rattle.std.proofs.lemmas.List.Folds.{flat_map-map}
+use Rattle.std.proofs.{Common.{◌<◌, ◌^◌, List, ap, sym, subst, ◌∙◌}, lemmas.List.Folds.flat_map-map}
 use Rattle.std.specs.List.{flat_map, AllByRecursion}
 use Rattle.uimg_blob_reading.specs.Plain.{NamedOf}
-use Rattle.uimg_blob_writing.specs.declared.props.Prop.{Prop}
-use Rattle.uimg_blob_writing.specs.Content.{Content, size_of}
-use Rattle.uimg_blob_writing.specs.Names.{name_texts}
-use Rattle.uimg_blob_writing.specs.Properties.{content, property}
+use Rattle.uimg_blob_writing.specs.{declared.props.Prop.Prop, Content.{Content, size_of}}
+use Rattle.uimg_blob_writing.specs.{Names.name_texts, Properties.{content, property}}
 use Rattle.uimg_blob_writing.specs.Pieces.{property_pieces, WritesPieces}
 use Rattle.uimg_blob_writing.proofs.WritesLaws.{went_well, failed, refused, each-goes, each-stops, each-all, all-at}
 use Rattle.uimg_blob_writing.proofs.properties.put_properties.Goals as goal

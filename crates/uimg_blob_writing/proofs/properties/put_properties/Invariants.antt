@@ -1,7 +1,5 @@
-use Rattle.std.proofs.Common.{take}
-use Rattle.std.specs.List.{flat_map}
-use Rattle.uimg_blob_writing.specs.Names.{name_texts}
-use Rattle.uimg_blob_writing.specs.Properties.{property}
+use Rattle.std.{proofs.Common.take, specs.List.flat_map}
+use Rattle.uimg_blob_writing.specs.{Names.name_texts, Properties.property}
 use Rattle.uimg_blob_writing.specs.Pieces.{property_pieces, WritesPieces}
 use Rattle.uimg_blob_writing.proofs.WritesLaws.{went_well}
 use Rattle.uimg_blob_writing.proofs.properties.put_properties.Given as goal

@@ -1,10 +1,8 @@
 use Rattle.std.proofs.Common.{◌≡◌, ◌++◌, ℕ, List, [], ◌∷◌, length, ap, subst, ◌∙◌, refl, true, false}
 use Rattle.uimg_base.specs.Writing.{Writes}
 use Rattle.uimg_blob_reading.specs.Plain.{NamedOf}
-use Rattle.uimg_blob_writing.specs.declared.fault.TreeFault.TheVariants.{Put}
-use Rattle.uimg_blob_writing.specs.Content.{Content, bytes, file, size_of}
-use Rattle.uimg_blob_writing.specs.Encoding.{name_offset}
-use Rattle.uimg_blob_writing.specs.Names.{name_texts}
+use Rattle.uimg_blob_writing.specs.{declared.fault.TreeFault.TheVariants.Put, Encoding.name_offset}
+use Rattle.uimg_blob_writing.specs.{Content.{Content, bytes, file, size_of}, Names.name_texts}
 use Rattle.uimg_blob_writing.specs.Properties.{content, property}
 use Rattle.uimg_blob_writing.specs.Pieces.{head_bytes, padding, property_pieces, WritesPieces}
 use Rattle.uimg_blob_writing.proofs.WritesLaws.{went_well, failed, refused, together}

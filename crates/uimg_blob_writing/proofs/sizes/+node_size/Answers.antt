@@ -1,12 +1,9 @@
 use Rattle.std.proofs.Common.{◌≡◌, ◌<◌, length, drop, ℕ, suc, ◌+◌, ◌∙◌, ap, sym, subst, refl, List, [], ◌∷◌, arith}
-use Rattle.std.proofs.lemmas.List.{drop_more}
-use Rattle.std.proofs.Math.ListN.{drop_of_length-le}
+use Rattle.std.proofs.{lemmas.List.drop_more, Math.ListN.drop_of_length-le}
 use Rattle.uimg_texts.specs.Numbers.{up4}
-use Rattle.uimg_blob_writing.specs.declared.tree.Node.{Node}
+use Rattle.uimg_blob_writing.specs.{declared.tree.Node.Node, Layouts.{properties_size, nodes_size}}
+use Rattle.uimg_blob_writing.specs.{Content.{Content, Unread, count}, Trees.{siblings, node_of}}
 use Rattle.uimg_blob_reading.specs.Plain.{NamedOf, no_node, a_node}
-use Rattle.uimg_blob_writing.specs.Content.{Content, Unread, count}
-use Rattle.uimg_blob_writing.specs.Trees.{siblings, node_of}
-use Rattle.uimg_blob_writing.specs.Layouts.{properties_size, nodes_size}
 use Rattle.uimg_blob_writing.proofs.NodeLaws.{count-at}
 use Rattle.uimg_blob_writing.proofs.sizes.+node_size.Goals as goal
 

@@ -1,7 +1,6 @@
 use Rattle.std.proofs.Common.{◌≡◌, ◌+◌, ◌^◌, ◌≤◌, min, drop, suc, length}
 use Rattle.uimg_texts.specs.Numbers.{up4}
-use Rattle.uimg_blob_writing.specs.Content.{count}
-use Rattle.uimg_blob_writing.specs.Layouts.{properties_size, nodes_size}
+use Rattle.uimg_blob_writing.specs.{Content.count, Layouts.{properties_size, nodes_size}}
 use Rattle.uimg_blob_writing.specs.Trees.{siblings}
 use Rattle.uimg_blob_writing.proofs.sizes.+node_size.Given as goal
 

@@ -1,6 +1,5 @@
 use Rattle.std.proofs.Common.{◌≡◌, ◌+◌, ◌≤◌, ◌^◌, min, map, drop}
-use Rattle.uimg_blob_writing.specs.Layouts.{properties_size}
-use Rattle.uimg_blob_writing.specs.Properties.{property}
+use Rattle.uimg_blob_writing.specs.{Layouts.properties_size, Properties.property}
 use Rattle.uimg_blob_writing.proofs.sizes.properties_size.Given as goal
 
 -- the size so far and that of the properties from the index on are the whole

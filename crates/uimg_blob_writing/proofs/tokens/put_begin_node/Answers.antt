@@ -1,7 +1,6 @@
 use Rattle.std.proofs.Common.{◌≡◌, ◌++◌, ◌-◌, ◌%◌, is_err, ℕ, length, take, List, [], ◌∷◌, ap, subst, ◌∙◌}
 use Rattle.uimg_base.specs.Writing.{Writes}
-use Rattle.uimg_blob_writing.specs.Encoding.{word}
-use Rattle.uimg_blob_writing.specs.Pieces.{begin_bytes}
+use Rattle.uimg_blob_writing.specs.{Encoding.word, Pieces.begin_bytes}
 use Rattle.uimg_blob_writing.proofs.PaddingLaws.{name-padded}
 use Rattle.uimg_blob_writing.proofs.tokens.put_begin_node.Goals as goal
 

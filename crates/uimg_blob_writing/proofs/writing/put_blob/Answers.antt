@@ -1,12 +1,8 @@
 use Rattle.std.proofs.Common.{◌≡◌, ◌^◌, ◌+◌, ◌++◌, ℕ, List, [], ◌∷◌, length, false, true, ap, subst, ◌∙◌, arith}
 use Rattle.uimg_base.specs.Writing.{Writes}
-use Rattle.uimg_blob_writing.specs.declared.fault.TreeFault.TheVariants.{Put}
-use Rattle.uimg_blob_writing.specs.Content.{Content, bytes}
-use Rattle.uimg_blob_writing.specs.Encoding.{word, strings}
-use Rattle.uimg_blob_writing.specs.Layouts.{Plan, nodes_size}
-use Rattle.uimg_blob_writing.specs.Names.{name_texts}
-use Rattle.uimg_blob_writing.specs.Trees.{node_of}
-use Rattle.uimg_blob_writing.specs.Alignment.{padding_by}
+use Rattle.uimg_blob_writing.specs.{declared.fault.TreeFault.TheVariants.Put, Names.name_texts}
+use Rattle.uimg_blob_writing.specs.{Content.{Content, bytes}, Encoding.{word, strings}}
+use Rattle.uimg_blob_writing.specs.{Layouts.{Plan, nodes_size}, Trees.node_of, Alignment.padding_by}
 use Rattle.uimg_blob_writing.specs.Pieces.{nodes_pieces, blob_pieces, WritesPieces}
 use Rattle.uimg_blob_writing.proofs.SizeLaws.{small-values}
 use Rattle.uimg_blob_writing.proofs.WritesLaws.{went_well, failed, refused, ◌▶◌, before, all-put, prefix-put}

@@ -1,8 +1,7 @@
 use Rattle.std.proofs.Common.{◌≡◌, ◌+◌, ◌++◌, List, ℕ, [], length, is_err, replicate, append_assoc, append-nil, ◌∙◌, ap, subst}
 use Rattle.uimg_base.specs.Writing.{Writes}
 use Rattle.uimg_blob_reading.specs.Blob.{magic}
-use Rattle.uimg_blob_writing.specs.Encoding.{word, strings}
-use Rattle.uimg_blob_writing.specs.Layouts.{Plan, totalsize}
+use Rattle.uimg_blob_writing.specs.{Encoding.{word, strings}, Layouts.{Plan, totalsize}}
 use Rattle.uimg_blob_writing.proofs.writing.put_header.Goals as goal
 
 joined : (a b c d e f h i j k z a' b' c' d' e' f' h' i' j' k' : List ℕ) → a ≡ a' → b ≡ b' → c ≡ c' → d ≡ d' → e ≡ e' → f ≡ f' → h ≡ h' → i ≡ i' → j ≡ j' → k ≡ k'

@@ -1,11 +1,7 @@
 use Rattle.std.proofs.Common.{rules, ◌≡◌, ◌+◌, ◌++◌, ◌∙◌, List, ℕ, [], suc, is_err, true, false, take, drop, get_or, ap, sym, subst, Bor, arith}
-use Rattle.std.proofs.lemmas.List.{take_all}
-use Rattle.std.proofs.lemmas.List.Folds.{flat_map-map}
-use Rattle.std.specs.List.{flat_map}
-use Rattle.uimg_base.specs.Writing.{Writes}
-use Rattle.uimg_base.proofs.WritingLaws.{stops, ◌▷◌}
-use Rattle.uimg_blob_writing.specs.Encoding.{with_nul, strings}
-use Rattle.uimg_blob_writing.specs.Names.{name_texts}
+use Rattle.std.{proofs.lemmas.List.{take_all, Folds.flat_map-map}, specs.List.flat_map}
+use Rattle.uimg_base.{specs.Writing.Writes, proofs.WritingLaws.{stops, ◌▷◌}}
+use Rattle.uimg_blob_writing.specs.{Encoding.{with_nul, strings}, Names.name_texts}
 use Rattle.uimg_blob_writing.proofs.WritesLaws.{flat_map-at, flat_map-suc}
 use Rattle.uimg_blob_writing.proofs.writing.put_strings.Goals as goal
 

@@ -1,5 +1,4 @@
-use Rattle.std.proofs.Common.{false, take}
-use Rattle.std.specs.List.{flat_map}
+use Rattle.std.{proofs.Common.{false, take}, specs.List.flat_map}
 use Rattle.uimg_base.specs.Writing.{Writes}
 use Rattle.uimg_blob_writing.specs.Encoding.{with_nul}
 use Rattle.uimg_blob_writing.proofs.writing.put_strings.Given as goal

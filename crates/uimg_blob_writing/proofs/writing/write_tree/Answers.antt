@@ -1,12 +1,9 @@
 use Rattle.std.proofs.Common.{◌<◌, ◌^◌, List, ℕ, is_err, subst}
 use Rattle.uimg_base.specs.Writing.{Written}
-use Rattle.uimg_blob_writing.specs.Content.{IsKept, IsBytes}
-use Rattle.uimg_blob_writing.specs.Layouts.{Plan, totalsize}
-use Rattle.uimg_blob_writing.specs.Trees.{node_of}
-use Rattle.uimg_blob_writing.specs.Pieces.{blob_pieces, WritesPieces}
-use Rattle.uimg_blob_writing.proofs.WritesLaws.{on-ok}
+use Rattle.uimg_blob_writing.specs.{Content.{IsKept, IsBytes}, Layouts.{Plan, totalsize}}
+use Rattle.uimg_blob_writing.specs.{Trees.node_of, Pieces.{blob_pieces, WritesPieces}}
+use Rattle.uimg_blob_writing.proofs.{WritesLaws.on-ok, TotalLaws.root-reads_back}
 use Rattle.uimg_blob_writing.proofs.PieceLaws.{blob-holds, blob-held, blob-joined}
-use Rattle.uimg_blob_writing.proofs.TotalLaws.{root-reads_back}
 use Rattle.uimg_blob_writing.proofs.writing.write_tree.Goals as goal
 
 pub returns : goal.returns

@@ -1,5 +1,4 @@
-use Rattle.std.proofs.Common.{◌≡◌, ◌+◌, drop}
-use Rattle.std.specs.Prelude.{◌==◌, find}
+use Rattle.std.{proofs.Common.{◌≡◌, ◌+◌, drop}, specs.Prelude.{◌==◌, find}}
 use Rattle.uimg_sums.specs.Algorithms.{all_algos, number}
 use Rattle.uimg_c.specs.Codes.{strength}
 use Rattle.uimg_c.proofs.checks.strength.Given as goal

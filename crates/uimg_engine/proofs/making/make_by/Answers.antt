@@ -1,10 +1,7 @@
 use Rattle.std.proofs.Common.{rules, ◌≡◌, Some, [], ℕ, List, Ok, Bool, IsTrue, subst, sym}
-use Rattle.uimg_base.specs.Outcome.{Tells}
-use Rattle.uimg_engine.specs.Faults.{end_of}
-use Rattle.uimg_engine.specs.Commands.{listing_of}
-use Rattle.std.specs.Bool.{⊤}
-use Rattle.std.proofs.lemmas.Result.{err_from_is_err_and}
-use Rattle.uimg_base.specs.declared.status.Status.{Status}
+use Rattle.std.{specs.Bool.⊤, proofs.lemmas.Result.err_from_is_err_and}
+use Rattle.uimg_base.specs.{Outcome.Tells, declared.status.Status.Status}
+use Rattle.uimg_engine.specs.{Faults.end_of, Commands.listing_of}
 use Rattle.uimg_engine.proofs.CommandLaws.{building_stops_command, keeping_command, listing_makes_command, listing_stops_command, listing_loses_none, room_stays, holds_nothing, holds_listed}
 use Rattle.uimg_engine.proofs.making.make_by.Goals as goal
 

@@ -1,6 +1,4 @@
-use Rattle.std.proofs.Common.{rules}
-use Rattle.std.specs.Bool.{⊤}
-use Rattle.std.proofs.lemmas.Result.{err_from_is_err_and}
+use Rattle.std.{proofs.{Common.rules, lemmas.Result.err_from_is_err_and}, specs.Bool.⊤}
 use Rattle.uimg_engine.proofs.MakingLaws.{none_fails, no_read_kept}
 use Rattle.uimg_engine.proofs.making_parts.build_opened.Goals as goal
 

@@ -1,5 +1,4 @@
-use Rattle.std.proofs.lemmas.List.{take-map}
-use Rattle.std.proofs.Math.ListN.{length-map}
+use Rattle.std.proofs.{lemmas.List.take-map, Math.ListN.length-map}
 use Rattle.uimg_engine.proofs.MakingLaws.{have_files}
 use Rattle.uimg_engine.proofs.making_parts.open_all.Goals as goal
 

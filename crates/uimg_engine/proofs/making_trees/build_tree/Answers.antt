@@ -1,5 +1,4 @@
-use Rattle.std.specs.Bool.{⊤}
-use Rattle.std.proofs.lemmas.Result.{err_from_is_err_and}
+use Rattle.std.{specs.Bool.⊤, proofs.lemmas.Result.err_from_is_err_and}
 use Rattle.uimg_blob_writing.specs.Trees.{node_of}
 use Rattle.uimg_engine.proofs.TreeLaws.{still_honest, still_complete, kept_by, built_source, unbuilt_source, payload_of_building, text_of_building, lacks_of_building, read_of_building, lost_of_building, opens_last}
 use Rattle.uimg_engine.proofs.making_trees.build_tree.Goals as goal

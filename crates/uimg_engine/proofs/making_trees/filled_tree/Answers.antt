@@ -1,8 +1,6 @@
 use Rattle.std.proofs.Common.{ℕ, List, Option, ◌∙◌, subst, refl}
 use Rattle.std.proofs.lemmas.Result.{err_from_is_err_and}
-use Rattle.uimg_blob_writing.specs.Content.{AreKept}
-use Rattle.uimg_blob_writing.specs.Trees.{node_of}
-use Rattle.uimg_blob_writing.specs.declared.tree.Tree.{Tree}
+use Rattle.uimg_blob_writing.specs.{Content.AreKept, Trees.node_of, declared.tree.Tree.Tree}
 use Rattle.uimg_engine.specs.declared.fault.Fault.TheVariants.{Fit}
 use Rattle.uimg_engine.proofs.TreeLaws.{same_twice, still_honest, still_complete, kept_by, refused_text, spelled_tree, filled_source_of, unfilled_source, payload_of_filling, lost_of_filling, opens_last}
 use Rattle.uimg_engine.proofs.making_trees.filled_tree.Goals as goal

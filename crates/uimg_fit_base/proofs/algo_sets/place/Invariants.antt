@@ -1,5 +1,4 @@
-use Rattle.std.proofs.Common.{◌≡◌, take}
-use Rattle.std.specs.List.{count_by}
+use Rattle.std.{proofs.Common.{◌≡◌, take}, specs.List.count_by}
 use Rattle.uimg_fit_base.specs.AlgoSets.{has}
 use Rattle.uimg_fit_base.proofs.algo_sets.place.Given as goal
 

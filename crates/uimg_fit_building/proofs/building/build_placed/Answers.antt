@@ -1,10 +1,6 @@
 use Rattle.std.proofs.Common.{◌≡◌, ◌≤◌, ℕ, Some, None, Result, Ok, Err, ap, sym, subst, ◌∙◌, arith}
-use Rattle.uimg_blob_writing.specs.Content.{Unread}
-use Rattle.uimg_blob_writing.specs.Layouts.{Plan, totalsize}
-use Rattle.uimg_blob_writing.specs.Trees.{node_of}
-use Rattle.uimg_fit_base.specs.declared.fault.Fault.{Fault}
-use Rattle.uimg_fit_base.specs.declared.fault.Fault.TheVariants.{Fit}
-use Rattle.uimg_fit_base.specs.Placements.{align_of}
+use Rattle.uimg_blob_writing.specs.{Content.Unread, Layouts.{Plan, totalsize}, Trees.node_of}
+use Rattle.uimg_fit_base.specs.{declared.fault.Fault.{Fault, TheVariants.Fit}, Placements.align_of}
 use Rattle.uimg_fit_building.specs.Behind.{images_in, padded_sizes, end_fault}
 use Rattle.uimg_fit_building.specs.BuildSteps.{of_writing, MeasuresTree}
 use Rattle.uimg_fit_building.proofs.BuildLaws.{refused, unmeasured, no_room, all-sent, not-sent, no-low}

@@ -1,6 +1,5 @@
 use Rattle.std.proofs.Common.{Result, Err, sym, subst}
-use Rattle.uimg_blob_writing.specs.Layouts.{Plan}
-use Rattle.uimg_blob_writing.specs.Trees.{node_of}
+use Rattle.uimg_blob_writing.specs.{Layouts.Plan, Trees.node_of}
 use Rattle.uimg_fit_base.specs.declared.fault.Fault.{Fault}
 use Rattle.uimg_fit_building.specs.BuildSteps.{MeasuresTree}
 use Rattle.uimg_fit_building.proofs.BuildLaws.{measured-err}

@@ -1,16 +1,11 @@
 use Rattle.std.proofs.Common.{◌≡◌, ℕ, List, Option, Bool, true, false, IsTrue, is_err, ap, sym, subst, ◌∙◌}
-use Rattle.std.specs.Bool.{OnFalse}
-use Rattle.std.specs.List.{AllByRecursion}
-use Rattle.uimg_base.specs.Sink.{Sink}
-use Rattle.uimg_base.specs.Writing.{Written}
+use Rattle.std.specs.{Bool.OnFalse, List.AllByRecursion}
+use Rattle.uimg_base.specs.{Sink.Sink, Writing.Written}
 use Rattle.uimg_blob_reading.specs.Plain.{Nodes}
-use Rattle.uimg_blob_writing.specs.Content.{Unread, AreKept, IsKept, in_full}
-use Rattle.uimg_blob_writing.specs.Encoding.{encode_by}
-use Rattle.uimg_blob_writing.specs.Layouts.{Plan, plan_of, totalsize}
-use Rattle.uimg_blob_writing.specs.Trees.{node_of}
+use Rattle.uimg_blob_writing.specs.{Content.{Unread, AreKept, IsKept, in_full}, Encoding.encode_by}
+use Rattle.uimg_blob_writing.specs.{Layouts.{Plan, plan_of, totalsize}, Trees.node_of}
 use Rattle.uimg_fit_base.specs.Placements.{align_of}
-use Rattle.uimg_fit_building.specs.Behind.{behind_pieces}
-use Rattle.uimg_fit_building.specs.Building.{placed_blob, behind}
+use Rattle.uimg_fit_building.specs.{Behind.behind_pieces, Building.{placed_blob, behind}}
 use Rattle.uimg_fit_building.specs.UnreadTrees.{moved_unread}
 use Rattle.uimg_fit_building.proofs.KeptLaws.{kept-then}
 use Rattle.uimg_fit_building.proofs.SendLaws.{Text, went_well, failed, goes, stops, refused, blob-sent, behind-sent}

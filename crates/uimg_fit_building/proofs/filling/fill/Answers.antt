@@ -1,20 +1,12 @@
 use Rattle.std.proofs.Common.{◌≡◌, ◌∙◌, List, length, ap, sym, subst, arith, false, Err, codes}
-use Rattle.std.specs.List.{AllByRecursion}
-use Rattle.std.specs.Option.{IfSome, IsSomeAnd}
-use Rattle.std.specs.Bool.{⊤}
-use Rattle.uimg_blob_reading.specs.LookUps.{images}
-use Rattle.uimg_blob_reading.specs.Plain.{NamedOf, no_node, a_node}
-use Rattle.uimg_blob_writing.specs.Content.{Content, Unread, bytes}
-use Rattle.uimg_blob_writing.specs.Encoding.{word}
-use Rattle.uimg_blob_writing.specs.Trees.{siblings, node_of}
-use Rattle.uimg_blob_writing.specs.declared.tree.Node.{Node}
-use Rattle.uimg_blob_writing.specs.declared.tree.Tree.{Tree}
+use Rattle.std.specs.{List.AllByRecursion, Option.{IfSome, IsSomeAnd}, Bool.⊤}
+use Rattle.uimg_blob_reading.specs.{LookUps.images, Plain.{NamedOf, no_node, a_node}}
+use Rattle.uimg_blob_writing.specs.{Content.{Content, Unread, bytes}, Encoding.word}
+use Rattle.uimg_blob_writing.specs.{Trees.{siblings, node_of}, declared.tree.{Node.Node, Tree.Tree}}
 use Rattle.uimg_fit_building.specs.FillAnswers.{opens_no_file, fails_to_read, FillsAnswer}
-use Rattle.uimg_fit_building.specs.FillOrder.{IsPassed, FillsInOrder}
+use Rattle.uimg_fit_building.specs.{FillOrder.{IsPassed, FillsInOrder}, PayloadSums.no_files}
+use Rattle.uimg_fit_building.specs.{Filling.{with, in_first, each}, DigestBytes.zeroed_below}
 use Rattle.uimg_fit_building.specs.ImageFillings.{IsKeptImage, images_among, FillsBelow, fault_among, filled_over}
-use Rattle.uimg_fit_building.specs.Filling.{with, in_first, each}
-use Rattle.uimg_fit_building.specs.PayloadSums.{no_files}
-use Rattle.uimg_fit_building.specs.DigestBytes.{zeroed_below}
 use Rattle.uimg_fit_building.proofs.EachLaws.{written-back}
 use Rattle.uimg_fit_building.proofs.FillOrderLaws.{by-refusal, order-passed}
 use Rattle.uimg_fit_building.proofs.FillTreeLaws.{kept-below, told-filled, told-refused}

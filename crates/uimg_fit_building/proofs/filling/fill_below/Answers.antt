@@ -1,17 +1,11 @@
 use Rattle.std.proofs.Common.{rules, ◌≡◌, ◌∙◌, ◌<◌, ◌≤◌, ℕ, List, Option, Some, length, get_or, set, ap, sym, subst, arith}
-use Rattle.std.specs.List.{AllByRecursion}
-use Rattle.std.specs.Bool.{⊤}
+use Rattle.std.specs.{List.AllByRecursion, Bool.⊤}
 use Rattle.uimg_blob_reading.specs.LookUps.{NodeOf, listed}
-use Rattle.uimg_blob_writing.specs.Content.{Content}
-use Rattle.uimg_blob_writing.specs.Trees.{siblings}
-use Rattle.uimg_blob_writing.specs.declared.tree.Node.{Node}
-use Rattle.uimg_fit_building.specs.FillOrder.{FillsInOrder}
-use Rattle.uimg_fit_building.specs.Filling.{each}
+use Rattle.uimg_blob_writing.specs.{Content.Content, Trees.siblings, declared.tree.Node.Node}
+use Rattle.uimg_fit_building.specs.{FillOrder.FillsInOrder, Filling.each, PayloadSums.no_files}
 use Rattle.uimg_fit_building.specs.ImageFillings.{filled_over, IsKeptImage, FillsParent, FillsBelow}
-use Rattle.uimg_fit_building.specs.PayloadSums.{no_files}
 use Rattle.uimg_fit_building.specs.DigestBytes.{zeroed_parent, zeroed_below}
-use Rattle.uimg_fit_building.proofs.FilledHashLaws.{on-ok}
-use Rattle.uimg_fit_building.proofs.DigestBytesLaws.{below-zeroed}
+use Rattle.uimg_fit_building.proofs.{FilledHashLaws.on-ok, DigestBytesLaws.below-zeroed}
 use Rattle.uimg_fit_building.proofs.FillTreeLaws.{before, with_children, none-among, no-images, among-found, root-told, images-kept}
 use Rattle.uimg_fit_building.proofs.filling.fill_below.Goals as goal
 

@@ -1,18 +1,12 @@
 use Rattle.std.proofs.Common.{rules, ◌≡◌, ◌∙◌, List, Some, length, map, ap, sym, subst, arith}
-use Rattle.std.specs.List.{AllByRecursion}
-use Rattle.std.specs.Bool.{⊤}
+use Rattle.std.specs.{List.AllByRecursion, Bool.⊤}
 use Rattle.uimg_blob_reading.specs.LookUps.{NodeOf, listed}
-use Rattle.uimg_blob_writing.specs.Content.{Content, Unread}
-use Rattle.uimg_blob_writing.specs.Trees.{siblings}
+use Rattle.uimg_blob_writing.specs.{Content.{Content, Unread}, Trees.siblings}
 use Rattle.uimg_blob_writing.specs.declared.tree.Node.{Node}
-use Rattle.uimg_fit_building.specs.Behind.{entry}
-use Rattle.uimg_fit_building.specs.Filling.{each}
-use Rattle.uimg_fit_building.specs.FillOrder.{FillsInOrder}
-use Rattle.uimg_fit_building.specs.ImageFillings.{filled_over, IsKeptImage}
-use Rattle.uimg_fit_building.specs.PayloadSums.{no_files}
+use Rattle.uimg_fit_building.specs.{Behind.entry, Filling.each, FillOrder.FillsInOrder}
+use Rattle.uimg_fit_building.specs.{ImageFillings.{filled_over, IsKeptImage}, PayloadSums.no_files}
 use Rattle.uimg_fit_building.specs.DigestBytes.{zeroed_image}
-use Rattle.uimg_fit_building.proofs.EachLaws.{written-back}
-use Rattle.uimg_fit_building.proofs.FilledHashLaws.{on-ok}
+use Rattle.uimg_fit_building.proofs.{EachLaws.written-back, FilledHashLaws.on-ok}
 use Rattle.uimg_fit_building.proofs.ImageFillLaws.{listed-siblings, siblings-each}
 use Rattle.uimg_fit_building.proofs.FillTreeLaws.{parent-told}
 use Rattle.uimg_fit_building.proofs.filling.fill_parent.Goals as goal

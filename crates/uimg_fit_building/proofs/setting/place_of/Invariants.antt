@@ -1,6 +1,5 @@
 use Rattle.std.proofs.Common.{◌≡◌, map, drop, take, ◌++◌}
-use Rattle.uimg_blob_writing.specs.Content.{Content}
-use Rattle.uimg_blob_writing.specs.Properties.{property}
+use Rattle.uimg_blob_writing.specs.{Content.Content, Properties.property}
 use Rattle.uimg_fit_building.specs.Filling.{with}
 use Rattle.uimg_fit_building.proofs.setting.place_of.Given as goal
 

@@ -1,5 +1,4 @@
-use Rattle.std.proofs.Common.{rules, ◌∙◌, ap, map}
-use Rattle.std.proofs.lemmas.Fn.{filter_same}
+use Rattle.std.proofs.{Common.{rules, ◌∙◌, ap, map}, lemmas.Fn.filter_same}
 use Rattle.uimg_blob_writing.specs.Properties.{property}
 use Rattle.uimg_fit_building.proofs.SettingLaws.{external-kept, kept-external}
 use Rattle.uimg_fit_building.proofs.setting.remove_external.Goals as goal

@@ -1,6 +1,5 @@
 use Rattle.std.proofs.Common.{rules, arith, ◌∙◌, subst, ap, map, ◌≡◌, List, ℕ}
-use Rattle.uimg_blob_writing.specs.declared.props.Prop.{Prop}
-use Rattle.uimg_blob_writing.specs.Properties.{property}
+use Rattle.uimg_blob_writing.specs.{declared.props.Prop.Prop, Properties.property}
 use Rattle.uimg_fit_building.proofs.FilledHashLaws.{on-ok}
 use Rattle.uimg_fit_building.proofs.SettingLaws.{set-property, push-property, IsSetAt}
 use Rattle.uimg_fit_building.proofs.setting.set_first.Goals as goal

@@ -1,13 +1,9 @@
-use Rattle.std.proofs.Common.{refl, sym, subst, Result, length}
-use Rattle.uimg_base.specs.Outcome.{Tells}
-use Rattle.uimg_base.specs.declared.status.Status.{Status}
-use Rattle.uimg_fit_base.specs.declared.fault.Fault.{Fault}
-use Rattle.uimg_fit_base.specs.Extraction.{extract_of}
+use Rattle.std.{proofs.Common.{refl, sym, subst, Result, length}, specs.Prelude.IsTrue}
+use Rattle.uimg_base.specs.{Outcome.Tells, declared.status.Status.Status}
+use Rattle.uimg_fit_base.specs.{declared.fault.Fault.Fault, Extraction.extract_of}
 use Rattle.uimg_fit_base.specs.Faults.{of_move, end_of, is_refused}
-use Rattle.uimg_fit_reading.specs.Rooms.{DeliversBetween}
-use Rattle.uimg_fit_reading.specs.Work.{list_work, extract_work}
+use Rattle.uimg_fit_reading.specs.{Rooms.DeliversBetween, Work.{list_work, extract_work}}
 use Rattle.uimg_fit_reading.proofs.ExtractionLaws.{at_least, refusal_delivers, refusal_told, refusal_ahead, stop_delivers, stop_ahead, stop_told, stop_unrefused}
-use Rattle.std.specs.Prelude.{IsTrue}
 use Rattle.uimg_fit_reading.proofs.PassedLaws.{passed_on}
 use Rattle.uimg_fit_reading.proofs.extraction.extract.Goals as goal
 

@@ -1,5 +1,4 @@
-use Rattle.std.proofs.Common.{Option, sym, ◌∙◌, subst}
-use Rattle.std.specs.Prelude.{ℕ}
+use Rattle.std.{proofs.Common.{Option, sym, ◌∙◌, subst}, specs.Prelude.ℕ}
 use Rattle.uimg_fit_reading.specs.Nodes.{HasImages}
 use Rattle.uimg_fit_reading.proofs.ImageLaws.{begin, row_within, lacks_images}
 use Rattle.uimg_fit_reading.proofs.images.first_image.Goals as goal

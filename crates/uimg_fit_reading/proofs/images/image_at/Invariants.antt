@@ -1,6 +1,5 @@
 use Rattle.std.proofs.Common.{◌<◌, length, IfSome}
-use Rattle.uimg_blob_reading.specs.Grammar.{Siblings}
-use Rattle.uimg_blob_reading.specs.Indexed.{IsIndexed}
+use Rattle.uimg_blob_reading.specs.{Grammar.Siblings, Indexed.IsIndexed}
 use Rattle.uimg_fit_reading.proofs.ImageLaws.{LeftImages}
 use Rattle.uimg_fit_reading.proofs.images.image_at.Given as goal
 

@@ -1,14 +1,10 @@
 use Rattle.std.proofs.Common.{ℕ, List, Option, Some, None, refl, sym, subst}
 use Rattle.std.proofs.lemmas.Result.{err_from_is_err_and}
-use Rattle.uimg_base.specs.Outcome.{End, done}
-use Rattle.uimg_base.specs.Sink.{AppendsAll, AppendsPrefix}
-use Rattle.uimg_blob_reading.specs.LookUps.{NodeOf, images}
-use Rattle.uimg_blob_reading.specs.Spots.{Spot, spots}
+use Rattle.uimg_base.specs.{Outcome.{End, done}, Sink.{AppendsAll, AppendsPrefix}}
+use Rattle.uimg_blob_reading.specs.{LookUps.{NodeOf, images}, Spots.{Spot, spots}}
 use Rattle.uimg_fit_base.specs.declared.fault.Fault.{Fault}
-use Rattle.uimg_fit_reading.specs.Listing.{lists}
-use Rattle.uimg_fit_reading.specs.ListingParts.{body_allowance, TellsWithinBetween}
-use Rattle.uimg_fit_reading.proofs.ListingLaws.{body_is}
-use Rattle.uimg_fit_reading.proofs.WithinLaws.{no_end}
+use Rattle.uimg_fit_reading.specs.{Listing.lists, ListingParts.{body_allowance, TellsWithinBetween}}
+use Rattle.uimg_fit_reading.proofs.{ListingLaws.body_is, WithinLaws.no_end}
 use Rattle.uimg_fit_reading.proofs.listing.list_body.Goals as goal
 
 pub returns-in_err-put_body-clause-told : goal.returns-in_err-put_body-clause-told

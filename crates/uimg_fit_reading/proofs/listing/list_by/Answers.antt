@@ -1,22 +1,13 @@
 use Rattle.std.proofs.Common.{rules, ◌≤◌, ◌+◌, ◌++◌, ℕ, List, length, Option, Bool, refl, IsTrue, codes, ap, sym, ◌∙◌, subst, arith}
-use Rattle.std.specs.Option.{option_and_then}
-use Rattle.std.proofs.lemmas.Result.{err_from_is_err_and}
-use Rattle.uimg_base.specs.Held.{Held}
-use Rattle.uimg_base.specs.Outcome.{End, Outcome, Tells}
-use Rattle.uimg_base.specs.Sink.{AppendsAll, AppendsPrefix}
-use Rattle.uimg_base.proofs.SinkLaws.{prefix_first}
-use Rattle.uimg_base.proofs.OutcomeLaws.{Tells-after}
-use Rattle.uimg_blob_reading.specs.LookUps.{images}
-use Rattle.uimg_blob_reading.specs.Spots.{spots}
-use Rattle.uimg_fit_base.specs.declared.fault.Fault.{Fault}
-use Rattle.uimg_fit_base.specs.Faults.{end_of}
+use Rattle.std.{specs.Option.option_and_then, proofs.lemmas.Result.err_from_is_err_and}
+use Rattle.uimg_base.{specs.Held.Held, proofs.{SinkLaws.prefix_first, OutcomeLaws.Tells-after}}
+use Rattle.uimg_base.specs.{Outcome.{End, Outcome, Tells}, Sink.{AppendsAll, AppendsPrefix}}
+use Rattle.uimg_blob_reading.specs.{LookUps.images, Spots.spots}
+use Rattle.uimg_fit_base.specs.{declared.fault.Fault.Fault, Faults.end_of}
 use Rattle.uimg_fit_base.specs.Files.{number, bytes_in, number_in, root_own}
-use Rattle.uimg_fit_reading.specs.Heads.{description_line, created_line}
-use Rattle.uimg_fit_reading.specs.Listing.{lists, list_of, head_lines}
-use Rattle.uimg_fit_reading.specs.Nodes.{HasTree}
-use Rattle.uimg_fit_reading.specs.Work.{list_work}
-use Rattle.uimg_fit_reading.proofs.ListingLaws.{head_is, list_is}
-use Rattle.uimg_fit_reading.proofs.SharesLaws.{one_text}
+use Rattle.uimg_fit_reading.specs.{Heads.{description_line, created_line}, Nodes.HasTree}
+use Rattle.uimg_fit_reading.specs.{Listing.{lists, list_of, head_lines}, Work.list_work}
+use Rattle.uimg_fit_reading.proofs.{ListingLaws.{head_is, list_is}, SharesLaws.one_text}
 use Rattle.uimg_fit_reading.proofs.TellingLaws.{read_same}
 use Rattle.uimg_fit_reading.proofs.WithinLaws.{no_end, paid, read_size, root_allowed, body_allowed}
 use Rattle.uimg_fit_reading.proofs.listing.list_by.Goals as goal

@@ -1,12 +1,8 @@
-use Rattle.std.proofs.Common.{is_err}
-use Rattle.std.specs.List.{sum_by}
-use Rattle.uimg_blob_reading.specs.LookUps.{configurations}
-use Rattle.uimg_blob_reading.specs.Spots.{spots}
-use Rattle.uimg_fit_reading.specs.Allowances.{node_allowance}
+use Rattle.std.{proofs.Common.is_err, specs.List.sum_by}
+use Rattle.uimg_blob_reading.specs.{LookUps.configurations, Spots.spots}
+use Rattle.uimg_fit_reading.specs.{Allowances.node_allowance, ListingParts.configurations_allowance}
 use Rattle.uimg_fit_reading.specs.Listing.{configurations_lines, image_lines, numbered_lines}
-use Rattle.uimg_fit_reading.specs.ListingParts.{configurations_allowance}
-use Rattle.uimg_fit_reading.proofs.TellingLaws.{then_lists, cut_lists}
-use Rattle.uimg_fit_reading.proofs.OpenedLaws.{stays}
+use Rattle.uimg_fit_reading.proofs.{TellingLaws.{then_lists, cut_lists}, OpenedLaws.stays}
 use Rattle.uimg_fit_reading.proofs.PassedLaws.{failed_of, leaves_stops, leaves_then}
 use Rattle.uimg_fit_reading.proofs.listing.put_body.Goals as goal
 

@@ -1,21 +1,15 @@
 use Rattle.std.proofs.Common.{◌+◌, ◌*◌, ℕ, List, Option, true, false, refl, is_err, codes, sym, subst, arith}
 use Rattle.std.specs.List.{sum_by}
 use Rattle.uimg_base.specs.Writing.{Written}
-use Rattle.uimg_blob_reading.specs.LookUps.{NodeOf, listed}
-use Rattle.uimg_blob_reading.specs.Roles.{Level}
-use Rattle.uimg_blob_reading.specs.Spots.{Spot}
-use Rattle.uimg_fit_reading.specs.Allowances.{text_sizes, node_allowance}
-use Rattle.uimg_fit_base.specs.Files.{value_bytes}
-use Rattle.uimg_fit_reading.specs.Heads.{default_line}
-use Rattle.uimg_fit_reading.specs.Listing.{configuration_lines, configurations_lines, numbered_lines}
-use Rattle.uimg_fit_reading.specs.ListingParts.{configurations_allowance}
-use Rattle.uimg_fit_reading.specs.Nodes.{AreFrom}
+use Rattle.uimg_blob_reading.specs.{LookUps.{NodeOf, listed}, Roles.Level, Spots.Spot}
+use Rattle.uimg_fit_reading.specs.{Allowances.{text_sizes, node_allowance}, Heads.default_line}
+use Rattle.uimg_fit_reading.specs.{ListingParts.configurations_allowance, Nodes.AreFrom}
 use Rattle.uimg_fit_reading.specs.Telling.{ListsBetween}
-use Rattle.uimg_fit_reading.proofs.OpenedLaws.{still}
-use Rattle.uimg_fit_reading.proofs.PutLaws.{cut}
-use Rattle.uimg_fit_reading.proofs.SharesLaws.{one_text, children_allowed}
+use Rattle.uimg_fit_base.specs.Files.{value_bytes}
+use Rattle.uimg_fit_reading.specs.Listing.{configuration_lines, configurations_lines, numbered_lines}
+use Rattle.uimg_fit_reading.proofs.{OpenedLaws.still, PutLaws.cut}
+use Rattle.uimg_fit_reading.proofs.{SharesLaws.{one_text, children_allowed}, WithinLaws.value_size}
 use Rattle.uimg_fit_reading.proofs.TellingLaws.{then_lists, more_lists}
-use Rattle.uimg_fit_reading.proofs.WithinLaws.{value_size}
 use Rattle.uimg_fit_reading.proofs.PassedLaws.{failed_of, leaves_stops, leaves_then, puts_leave}
 use Rattle.uimg_fit_reading.proofs.listing.put_configurations.Goals as goal
 

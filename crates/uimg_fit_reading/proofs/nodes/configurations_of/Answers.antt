@@ -1,6 +1,5 @@
 use Rattle.std.proofs.Common.{◌∙◌}
-use Rattle.uimg_fit_reading.proofs.ImageLaws.{tells_configurations}
-use Rattle.uimg_fit_reading.proofs.NodeLaws.{configurations_within}
+use Rattle.uimg_fit_reading.proofs.{ImageLaws.tells_configurations, NodeLaws.configurations_within}
 use Rattle.uimg_fit_reading.proofs.nodes.configurations_of.Goals as goal
 
 pub returns-clause-told : goal.returns-clause-told

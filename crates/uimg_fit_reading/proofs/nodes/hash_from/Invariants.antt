@@ -1,9 +1,5 @@
-use Rattle.std.proofs.Common.{◌-◌, ◌<◌, ℕ, List, length, IfSome}
-use Rattle.std.specs.Option.{option_map_or}
-use Rattle.uimg_blob_reading.specs.Grammar.{Siblings}
-use Rattle.uimg_blob_reading.specs.Indexed.{IsIndexed}
-use Rattle.uimg_blob_reading.specs.LookUps.{NodeOf}
-use Rattle.uimg_blob_reading.specs.Spots.{Spot}
+use Rattle.std.{proofs.Common.{◌-◌, ◌<◌, ℕ, List, length, IfSome}, specs.Option.option_map_or}
+use Rattle.uimg_blob_reading.specs.{Grammar.Siblings, Indexed.IsIndexed, LookUps.NodeOf, Spots.Spot}
 use Rattle.uimg_fit_reading.specs.Nodes.{HashesFrom}
 use Rattle.uimg_fit_reading.proofs.nodes.hash_from.Given as goal
 

@@ -1,8 +1,5 @@
 use Rattle.std.proofs.Common.{rules, List, ap, ◌∙◌}
-use Rattle.uimg_blob_reading.specs.Keys.{name_of}
-use Rattle.uimg_blob_reading.specs.Roles.{top}
-use Rattle.uimg_blob_reading.specs.Plain.{NamedOf}
-use Rattle.uimg_blob_reading.specs.Spots.{Spot}
+use Rattle.uimg_blob_reading.specs.{Keys.name_of, Roles.top, Plain.NamedOf, Spots.Spot}
 use Rattle.uimg_fit_base.specs.Files.{value_bytes}
 use Rattle.uimg_fit_reading.proofs.NodeLaws.{no_root, root_node}
 use Rattle.uimg_fit_reading.proofs.nodes.root_value.Goals as goal

@@ -1,6 +1,5 @@
 use Rattle.std.proofs.Common.{rules, ◌≡◌, ◌≤◌, ◌+◌, ℕ, List, length, Some, ap, sym, ◌∙◌}
-use Rattle.uimg_texts.specs.Slices.{slice}
-use Rattle.uimg_texts.specs.Numbers.{be32}
+use Rattle.uimg_texts.specs.{Slices.slice, Numbers.be32}
 use Rattle.uimg_base.proofs.Slices.{length-slice}
 use Rattle.uimg_fit_base.specs.Files.{number_in}
 use Rattle.uimg_fit_reading.proofs.CellLaws.{number_of_four, no_number}

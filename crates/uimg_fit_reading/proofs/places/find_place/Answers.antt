@@ -1,7 +1,6 @@
 use Rattle.std.proofs.Common.{◌≡◌, ℕ, Result, IfOk, ap, ◌∙◌, subst}
 use Rattle.uimg_base.specs.declared.spans.Span.{Span}
-use Rattle.uimg_fit_base.specs.declared.fault.FitFault.{FitFault}
-use Rattle.uimg_fit_base.specs.Places.{place}
+use Rattle.uimg_fit_base.specs.{declared.fault.FitFault.FitFault, Places.place}
 use Rattle.uimg_fit_reading.specs.PayloadPlaces.{place_said, payload_said, read_payload}
 use Rattle.uimg_fit_reading.proofs.places.find_place.Goals as goal
 

@@ -1,7 +1,6 @@
 use Rattle.std.proofs.Common.{rules, ◌≡◌, Ok, Err, Result, subst, sym, ◌∙◌}
 use Rattle.uimg_base.specs.declared.spans.Span.{Span}
-use Rattle.uimg_fit_base.specs.declared.fault.Fault.{Fault}
-use Rattle.uimg_fit_base.specs.declared.fault.Fault.TheVariants.{Fit}
+use Rattle.uimg_fit_base.specs.declared.fault.Fault.{Fault, TheVariants.Fit}
 use Rattle.uimg_fit_base.specs.Places.{place, TellsPlace}
 use Rattle.uimg_fit_reading.proofs.PlaceLaws.{payload_inside, payload_outside, payload_lacks}
 use Rattle.uimg_fit_reading.proofs.PassedLaws.{passed_on}

@@ -1,9 +1,7 @@
 use Rattle.std.proofs.Common.{rules, ◌≤◌, ◌+◌, IsTrue, ℕ, List, refl, subst, arith}
-use Rattle.uimg_fit_reading.specs.ImageReports.{ReportsImagesBetween}
-use Rattle.uimg_fit_reading.specs.Nodes.{Opened}
+use Rattle.uimg_fit_reading.specs.{ImageReports.ReportsImagesBetween, Nodes.Opened}
 use Rattle.uimg_fit_reading.specs.Work.{verify_work}
-use Rattle.uimg_fit_reading.proofs.OpenedLaws.{still}
-use Rattle.uimg_fit_reading.proofs.ReportLaws.{found_told, work_within}
+use Rattle.uimg_fit_reading.proofs.{OpenedLaws.still, ReportLaws.{found_told, work_within}}
 use Rattle.uimg_fit_reading.proofs.report.verify.Goals as goal
 
 pub returns-clause-delivers : goal.returns-clause-delivers

@@ -1,7 +1,6 @@
 //! Payloads taken out of images whose device returns other bytes the second time, or fails.
 
-ghost use Rattle.std.specs.Prelude.{◌≡◌, false};
-ghost use Rattle.std.proofs.Common.{rules};
+ghost use Rattle.std.{specs.Prelude.false, proofs.Common.rules};
 
 use crate::samples::four_hash_fit;
 use std::alloc::Global;

@@ -1,11 +1,8 @@
 use Rattle.std.proofs.Common.{rules, ◌≡◌, ◌≤◌, ◌<◌, ◌++◌, List, length, map, min, ap, ◌∙◌, subst, arith}
-use Rattle.std.specs.List.{sum_by}
-use Rattle.std.proofs.lemmas.List.Sums.{sum_by_more_le, sum_by-take-le}
-use Rattle.json.specs.Json.{Json}
-use Rattle.json.specs.Tree.{json_tokens, items_tokens}
+use Rattle.std.{specs.List.sum_by, proofs.lemmas.List.Sums.{sum_by_more_le, sum_by-take-le}}
+use Rattle.json.specs.{Json.Json, Tree.{json_tokens, items_tokens}}
 use Rattle.uimg_printing.specs.Members.{items_of, array_of}
-use Rattle.uimg_fit_checking.specs.FullSurvey.{read_properties}
-use Rattle.uimg_fit_checking.specs.Survey.{read_configuration}
+use Rattle.uimg_fit_checking.specs.{FullSurvey.read_properties, Survey.read_configuration}
 use Rattle.uimg_info.specs.Fit.{configurations_json}
 use Rattle.uimg_info.specs.Work.{place_size, configuration_size, list_size}
 use Rattle.uimg_info.proofs.PropertyLaws.{none_behind}

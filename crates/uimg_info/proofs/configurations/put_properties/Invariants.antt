@@ -1,11 +1,9 @@
-use Rattle.std.proofs.Common.{◌≡◌, ◌≤◌, ◌+◌, ◌++◌, take, drop, map, IsTrue}
+use Rattle.std.{proofs.Common.{◌≡◌, ◌≤◌, ◌+◌, ◌++◌, take, drop, map, IsTrue}, specs.List.sum_by}
 use Rattle.json.specs.Tree.{json_tokens, items_tokens}
 use Rattle.uimg_base.specs.Device.{SameDevice}
-use Rattle.std.specs.List.{sum_by}
 use Rattle.uimg_blob_reading.specs.Places.{read_place}
-use Rattle.uimg_info.specs.Fit.{property_json}
+use Rattle.uimg_info.specs.{Fit.property_json, Work.place_size}
 use Rattle.uimg_printing.specs.Members.{items_of, array_of}
-use Rattle.uimg_info.specs.Work.{place_size}
 use Rattle.uimg_info.proofs.configurations.put_properties.Given as goal
 
 -- with those that are left, all are there

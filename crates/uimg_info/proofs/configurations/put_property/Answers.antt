@@ -2,8 +2,7 @@ use Rattle.std.proofs.Common.{codes, sym, ◌∙◌, arith}
 use Rattle.uimg_blob_reading.specs.Places.{read_place}
 use Rattle.uimg_printing.specs.Members.{number_member}
 use Rattle.uimg_printing.proofs.StepLaws.{one, after, appended_as, object_appended, tokens_append}
-use Rattle.uimg_info.specs.Fit.{node_facts, property_members}
-use Rattle.uimg_info.specs.Members.{facts_members}
+use Rattle.uimg_info.specs.{Fit.{node_facts, property_members}, Members.facts_members}
 use Rattle.uimg_info.proofs.WorkLaws.{asks_as}
 use Rattle.uimg_info.proofs.configurations.put_property.Goals as goal
 

@@ -1,10 +1,7 @@
-use Rattle.std.proofs.Common.{◌≡◌, ◌≤◌, ◌+◌, ◌++◌, take, drop, map, IsTrue}
+use Rattle.std.{proofs.Common.{◌≡◌, ◌≤◌, ◌+◌, ◌++◌, take, drop, map, IsTrue}, specs.List.sum_by}
 use Rattle.uimg_base.specs.Device.{SameDevice}
-use Rattle.std.specs.List.{sum_by}
 use Rattle.uimg_printing.specs.Members.{tokens_of}
-use Rattle.uimg_info.specs.Members.{facts_members}
-use Rattle.uimg_info.specs.Steps.{read_row}
-use Rattle.uimg_info.specs.Work.{row_size}
+use Rattle.uimg_info.specs.{Members.facts_members, Steps.read_row, Work.row_size}
 use Rattle.uimg_info.proofs.facts.put_rows.Given as goal
 
 -- with the facts that are left, all are there

@@ -3,14 +3,13 @@ use Rattle.json.specs.Tree.{json_tokens}
 use Rattle.uimg_base.specs.declared.spans.Span.{Span}
 use Rattle.uimg_fit_base.specs.declared.fault.FitFault.{FitFault}
 use Rattle.uimg_fit_checking.specs.Survey.{read_hash, read_image}
-use Rattle.uimg_fit_reading.specs.PayloadPlaces.{read_payload, place_said}
 use Rattle.uimg_fit_checking.specs.declared.surveying.facts.HashFacts.{HashFacts}
+use Rattle.uimg_fit_reading.specs.PayloadPlaces.{read_payload, place_said}
 use Rattle.uimg_info.specs.Fit.{image_facts, image_members, hash_json, place_members}
+use Rattle.uimg_info.specs.{Members.facts_members, Work.{hash_size, image_rows_size, image_size}}
 use Rattle.uimg_printing.specs.Members.{array_of, tokens_of}
-use Rattle.uimg_info.specs.Members.{facts_members}
 use Rattle.uimg_printing.proofs.StepLaws.{one, after, appended_as, object_appended, tokens_one}
 use Rattle.uimg_info.proofs.WorkLaws.{asks_then, asks_as}
-use Rattle.uimg_info.specs.Work.{hash_size, image_rows_size, image_size}
 use Rattle.std.specs.List.{sum_by}
 use Rattle.uimg_info.proofs.fit.put_image.Goals as goal
 

@@ -1,6 +1,5 @@
 use Rattle.std.proofs.Common.{◌≡◌, ◌≤◌, ◌+◌, is_err, slice_index_or, take, true, ap, rules, arith, ◌∙◌}
-use Rattle.std.specs.List.{sum_by}
-use Rattle.std.proofs.lemmas.List.Sums.{sum_by_more_le}
+use Rattle.std.{specs.List.sum_by, proofs.lemmas.List.Sums.sum_by_more_le}
 use Rattle.uimg_info.specs.Work.{image_size}
 use Rattle.uimg_info.proofs.fit.put_images.Goals as goal
 

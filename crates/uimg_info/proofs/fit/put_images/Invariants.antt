@@ -1,11 +1,9 @@
-use Rattle.std.proofs.Common.{◌≡◌, ◌≤◌, ◌+◌, ◌++◌, take, drop, map, IsTrue}
+use Rattle.std.{proofs.Common.{◌≡◌, ◌≤◌, ◌+◌, ◌++◌, take, drop, map, IsTrue}, specs.List.sum_by}
 use Rattle.json.specs.Tree.{json_tokens, items_tokens}
 use Rattle.uimg_base.specs.Device.{SameDevice}
-use Rattle.std.specs.List.{sum_by}
 use Rattle.uimg_fit_checking.specs.Survey.{read_image}
-use Rattle.uimg_info.specs.Fit.{image_json}
+use Rattle.uimg_info.specs.{Fit.image_json, Work.image_size}
 use Rattle.uimg_printing.specs.Members.{items_of, array_of}
-use Rattle.uimg_info.specs.Work.{image_size}
 use Rattle.uimg_info.proofs.fit.put_images.Given as goal
 
 -- with those that are left, all are there

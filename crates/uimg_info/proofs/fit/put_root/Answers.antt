@@ -2,8 +2,7 @@ use Rattle.std.proofs.Common.{List, ℕ, ap, sym, ◌∙◌, subst, IsTrue}
 use Rattle.uimg_fit_checking.specs.Survey.{read_survey}
 use Rattle.uimg_printing.specs.Members.{tokens_of}
 use Rattle.uimg_printing.proofs.StepLaws.{after, appended_as, tokens_append}
-use Rattle.uimg_info.specs.Members.{facts_members}
-use Rattle.uimg_info.specs.Fit.{root_facts}
+use Rattle.uimg_info.specs.{Members.facts_members, Fit.root_facts}
 use Rattle.uimg_info.specs.Reservations.{reservations_of, reservations_members}
 use Rattle.uimg_info.proofs.WorkLaws.{asks_then}
 use Rattle.uimg_info.proofs.fit.put_root.Goals as goal

@@ -1,12 +1,8 @@
-use Rattle.std.proofs.Common.{◌≡◌, ap, ◌∙◌, subst, arith, rules}
-use Rattle.std.specs.Str.{IsUtf8}
-use Rattle.json.specs.Lex.{tokens}
-use Rattle.json.specs.Print.{print}
-use Rattle.json.specs.Tree.{json_tokens}
-use Rattle.uimg_printing.specs.Objects.{is_one_line}
+use Rattle.std.{proofs.Common.{◌≡◌, ap, ◌∙◌, subst, arith, rules}, specs.Str.IsUtf8}
+use Rattle.json.specs.{Lex.tokens, Print.print, Tree.json_tokens}
+use Rattle.uimg_printing.{specs.Objects.is_one_line, proofs.SoundLaws.{one_line, reads_back}}
 use Rattle.uimg_info.specs.Legacy.{legacy_json}
 use Rattle.uimg_info.proofs.LegacyLaws.{legacy_sound}
-use Rattle.uimg_printing.proofs.SoundLaws.{one_line, reads_back}
 use Rattle.uimg_info.proofs.legacy.legacy_text.Goals as goal
 
 pub returns-clause-reads_back : goal.returns-clause-reads_back

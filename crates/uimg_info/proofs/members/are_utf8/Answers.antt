@@ -1,6 +1,5 @@
 use Rattle.std.proofs.Common.{◌≡◌, true, false, sym, ◌∙◌, ap, rules, length, ◌≤◌}
-use Rattle.std.specs.List.{list_all}
-use Rattle.std.specs.Str.{is_utf8}
+use Rattle.std.specs.{List.list_all, Str.is_utf8}
 use Rattle.uimg_info.proofs.PieceLaws.{one_not, one_is, no_pieces}
 use Rattle.uimg_info.proofs.members.are_utf8.Goals as goal
 

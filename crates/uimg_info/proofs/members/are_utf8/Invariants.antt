@@ -1,6 +1,4 @@
-use Rattle.std.proofs.Common.{◌≡◌, length}
-use Rattle.std.specs.List.{list_all}
-use Rattle.std.specs.Str.{is_utf8}
+use Rattle.std.{proofs.Common.{◌≡◌, length}, specs.{List.list_all, Str.is_utf8}}
 use Rattle.uimg_fit_reading.specs.Values.{pieces}
 use Rattle.uimg_info.proofs.members.are_utf8.Given as goal
 

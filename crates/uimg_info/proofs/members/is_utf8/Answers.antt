@@ -1,5 +1,4 @@
-use Rattle.std.proofs.Common.{sym}
-use Rattle.std.proofs.lemmas.Str.{is_utf8-from_IsUtf8}
+use Rattle.std.proofs.{Common.sym, lemmas.Str.is_utf8-from_IsUtf8}
 use Rattle.uimg_printing.proofs.TextLaws.{utf8_not}
 use Rattle.uimg_info.proofs.members.is_utf8.Goals as goal
 

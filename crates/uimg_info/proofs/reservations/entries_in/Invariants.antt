@@ -1,5 +1,4 @@
-use Rattle.std.proofs.Common.{◌≡◌, ◌++◌, length}
-use Rattle.std.specs.Option.{option_map}
+use Rattle.std.{proofs.Common.{◌≡◌, ◌++◌, length}, specs.Option.option_map}
 use Rattle.uimg_info.specs.Reservations.{entries_in}
 use Rattle.uimg_info.proofs.reservations.entries_in.Given as goal
 

@@ -1,8 +1,6 @@
 use Rattle.std.proofs.Common.{ap, codes, ◌∷◌, List, map, sym, append-nil}
-use Rattle.json.specs.Token.{Token}
-use Rattle.json.specs.Tree.{json_tokens}
-use Rattle.uimg_printing.specs.Members.{array_of}
-use Rattle.uimg_printing.proofs.StepLaws.{one, after, appended_as}
+use Rattle.json.specs.{Token.Token, Tree.json_tokens}
+use Rattle.uimg_printing.{specs.Members.array_of, proofs.StepLaws.{one, after, appended_as}}
 use Rattle.uimg_info.specs.Reservations.{reservation_json}
 use Rattle.uimg_info.proofs.reservations.put_list.Goals as goal
 

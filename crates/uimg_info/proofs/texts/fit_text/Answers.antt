@@ -1,19 +1,14 @@
 use Rattle.std.proofs.Common.{◌≡◌, List, ℕ, length, map, arith, rules, ap, sym, ◌∙◌, subst, IsTrue, IfOk, Ok, Result, Vec, Global}
 use Rattle.std.specs.List.{sum_by}
-use Rattle.json.specs.Print.{print}
-use Rattle.json.specs.Tree.{json_tokens}
-use Rattle.uimg_base.specs.declared.spans.Span.{Span}
+use Rattle.json.specs.{Print.print, Tree.json_tokens}
+use Rattle.uimg_base.specs.{declared.spans.Span.Span, Results.◌>>=◌}
 use Rattle.uimg_blob_reading.specs.Plain.{NamedOf}
 use Rattle.uimg_fit_checking.specs.FullSurvey.{read_properties, properties_of}
-use Rattle.uimg_base.specs.Results.{◌>>=◌}
+use Rattle.uimg_fit_checking.specs.Survey.{Said, read_survey, survey_of}
 use Rattle.uimg_fit_base.specs.declared.fault.Fault.{Fault}
-use Rattle.uimg_fit_checking.specs.Survey.{Said, read_survey}
-use Rattle.uimg_info.specs.Reservations.{reservations_of}
-use Rattle.uimg_info.specs.Fit.{fit_json, info_of}
+use Rattle.uimg_info.specs.{Reservations.reservations_of, Fit.{fit_json, info_of}}
 use Rattle.uimg_info.specs.Work.{facts_size, survey_size, names_size, list_size}
-use Rattle.uimg_fit_checking.specs.Survey.{survey_of}
-use Rattle.uimg_info.proofs.InformLaws.{informs}
-use Rattle.uimg_info.proofs.WorkLaws.{survey_sized, names_sized}
+use Rattle.uimg_info.proofs.{InformLaws.informs, WorkLaws.{survey_sized, names_sized}}
 use Rattle.uimg_info.proofs.texts.fit_text.Goals as goal
 
 pub returns-clause-told : goal.returns-clause-told

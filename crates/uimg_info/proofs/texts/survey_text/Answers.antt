@@ -1,15 +1,9 @@
-use Rattle.std.proofs.Common.{◌≡◌, map, ap, ◌∙◌, subst, arith, rules}
-use Rattle.std.specs.Str.{IsUtf8}
-use Rattle.json.specs.Lex.{tokens}
-use Rattle.json.specs.Print.{print}
-use Rattle.json.specs.Tree.{json_tokens}
-use Rattle.uimg_printing.specs.Objects.{is_one_line}
-use Rattle.uimg_fit_checking.specs.FullSurvey.{read_properties}
-use Rattle.uimg_fit_checking.specs.Survey.{read_survey}
-use Rattle.uimg_info.specs.Reservations.{reservations_of}
-use Rattle.uimg_info.specs.Fit.{fit_json}
+use Rattle.std.{proofs.Common.{◌≡◌, map, ap, ◌∙◌, subst, arith, rules}, specs.Str.IsUtf8}
+use Rattle.json.specs.{Lex.tokens, Print.print, Tree.json_tokens}
+use Rattle.uimg_printing.{specs.Objects.is_one_line, proofs.SoundLaws.{one_line, reads_back}}
+use Rattle.uimg_fit_checking.specs.{FullSurvey.read_properties, Survey.read_survey}
+use Rattle.uimg_info.specs.{Reservations.reservations_of, Fit.fit_json}
 use Rattle.uimg_info.proofs.ObjectLaws.{fit_sound}
-use Rattle.uimg_printing.proofs.SoundLaws.{one_line, reads_back}
 use Rattle.uimg_info.proofs.texts.survey_text.Goals as goal
 
 pub returns-clause-reads_back : goal.returns-clause-reads_back

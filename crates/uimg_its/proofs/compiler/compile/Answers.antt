@@ -1,6 +1,5 @@
 use Rattle.uimg_blob_writing.specs.Trees.{node_of}
-use Rattle.uimg_its.specs.Words.{words}
-use Rattle.uimg_its.specs.Answers.{is_outside_text}
+use Rattle.uimg_its.specs.{Words.words, Answers.is_outside_text}
 use Rattle.uimg_its.proofs.SoundLaws.{files_at_data, are_kept}
 use Rattle.uimg_its.proofs.CompileLaws.{only_spelled, accepted, refused_outside}
 use Rattle.uimg_its.proofs.compiler.compile.Goals as goal

@@ -1,5 +1,4 @@
-use Rattle.std.proofs.Common.{rules, arith}
-use Rattle.std.proofs.lemmas.Result.{err_from_is_err_and}
+use Rattle.std.proofs.{Common.{rules, arith}, lemmas.Result.err_from_is_err_and}
 use Rattle.uimg_its.specs.Words.{words}
 use Rattle.uimg_its.proofs.ItemLaws.{label_passed, item_found, item_refused}
 use Rattle.uimg_its.proofs.items.named.Goals as goal

@@ -1,6 +1,5 @@
 use Rattle.std.proofs.Common.{◌≡◌, ◌≤◌, length}
-use Rattle.uimg_its.specs.Words.{words}
-use Rattle.uimg_its.specs.Reader.{unlabelled}
+use Rattle.uimg_its.specs.{Words.words, Reader.unlabelled}
 use Rattle.uimg_its.proofs.items.named.Given as goal
 
 abbrev pub invariant-loop-found : goal.invariant-loop-found

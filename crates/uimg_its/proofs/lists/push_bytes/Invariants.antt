@@ -1,6 +1,5 @@
 use Rattle.std.proofs.Common.{◌≡◌, ◌-◌, ◌≤◌, length, drop}
-use Rattle.uimg_its.specs.Steps.{without_rest}
-use Rattle.uimg_its.specs.Cells.{hex_bytes}
+use Rattle.uimg_its.specs.{Steps.without_rest, Cells.hex_bytes}
 use Rattle.uimg_its.proofs.lists.push_bytes.Given as goal
 
 abbrev pub invariant-loop-i : goal.invariant-loop-i

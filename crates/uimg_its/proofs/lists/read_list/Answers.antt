@@ -1,9 +1,6 @@
-use Rattle.std.proofs.Common.{rules, arith}
-use Rattle.std.proofs.lemmas.Result.{err_from_is_err_and}
-use Rattle.uimg_its.specs.Words.{words}
-use Rattle.uimg_its.specs.Reader.{element_step}
-use Rattle.uimg_its.proofs.StepLaws.{goes_on, is_last, is_refused}
-use Rattle.uimg_its.proofs.Shrinking.{element_shrinks}
+use Rattle.std.proofs.{Common.{rules, arith}, lemmas.Result.err_from_is_err_and}
+use Rattle.uimg_its.specs.{Words.words, Reader.element_step}
+use Rattle.uimg_its.proofs.{StepLaws.{goes_on, is_last, is_refused}, Shrinking.element_shrinks}
 use Rattle.uimg_its.proofs.lists.read_list.Goals as goal
 
 pub returns-in_err-last : goal.returns-in_err-last

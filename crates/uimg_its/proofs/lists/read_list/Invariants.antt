@@ -1,7 +1,5 @@
 use Rattle.std.proofs.Common.{◌≡◌, ◌≤◌, length}
-use Rattle.uimg_its.specs.Words.{words}
-use Rattle.uimg_its.specs.Steps.{with_front}
-use Rattle.uimg_its.specs.Reader.{list_items}
+use Rattle.uimg_its.specs.{Words.words, Steps.with_front, Reader.list_items}
 use Rattle.uimg_its.proofs.lists.read_list.Given as goal
 
 abbrev pub invariant-loop-last : goal.invariant-loop-last

@@ -1,12 +1,10 @@
 use Rattle.std.proofs.Common.{rules, ◌∷◌, [], List, Some, arith, IsTrue, ap, sym, ◌∙◌}
 use Rattle.std.proofs.lemmas.Result.{err_from_is_err_and}
-use Rattle.uimg_its.specs.Words.{Word, words}
+use Rattle.uimg_its.specs.{Words.{Word, words}, Reader.{child_step, node_within, children}}
 use Rattle.uimg_its.specs.Parts.{NodeParts, props_in_full, parts_of, all_parts_of}
-use Rattle.uimg_its.specs.Reader.{child_step, node_within, children}
 use Rattle.uimg_its.proofs.StepLaws.{goes_past, is_end, is_refused_at, refused}
 use Rattle.uimg_its.proofs.NodeLaws.{node_is, node_too_deep, child_shrinks, inside_is}
-use Rattle.uimg_its.proofs.FilesLaws.{files_then}
-use Rattle.uimg_its.proofs.SoundLaws.{node_same, nodes_same}
+use Rattle.uimg_its.proofs.{FilesLaws.files_then, SoundLaws.{node_same, nodes_same}}
 use Rattle.uimg_its.proofs.nodes.+tree.Goals as goal
 
 pub children-returns-in_err-found-clause-opens : goal.children-returns-in_err-found-clause-opens

@@ -1,10 +1,7 @@
 use Rattle.std.proofs.Common.{◌≡◌, ◌≤◌, ◌*◌, ◌+◌, length, IsTrue, false}
 use Rattle.uimg_blob_writing.specs.UsingFiles.{UsesFiles}
-use Rattle.uimg_its.specs.Words.{words}
-use Rattle.uimg_its.specs.Steps.{with_front}
-use Rattle.uimg_its.specs.Parts.{all_parts_of}
+use Rattle.uimg_its.specs.{Words.words, Steps.with_front, Parts.all_parts_of, Reader.children}
 use Rattle.uimg_its.specs.FileValues.{AreSoundNodes}
-use Rattle.uimg_its.specs.Reader.{children}
 use Rattle.uimg_its.proofs.nodes.+tree.Given as goal
 
 abbrev pub decreases-node : goal.decreases-node

@@ -1,9 +1,5 @@
-use Rattle.std.proofs.Common.{arith}
-use Rattle.std.proofs.lemmas.Grind.{common_steps}
-use Rattle.std.proofs.lemmas.Bool.Decides.{nat_tests}
-use Rattle.std.proofs.Common.{◌+◌, ◌*◌, ◌^◌, ◌≤◌, get_or, drop}
-use Rattle.std.proofs.lemmas.List.{at_drop_more}
-use Rattle.std.specs.Char.{digit_value}
+use Rattle.std.proofs.{Common.{arith, ◌+◌, ◌*◌, ◌^◌, ◌≤◌, get_or, drop}, lemmas.Grind.common_steps}
+use Rattle.std.{proofs.lemmas.{Bool.Decides.nat_tests, List.at_drop_more}, specs.Char.digit_value}
 use Rattle.std.specs.Str.Parse.{digits_value, digits_value_after}
 use Rattle.uimg_its.specs.Digits.{number_in_base}
 use Rattle.uimg_its.proofs.DigitLaws.{never_falls}

@@ -1,6 +1,4 @@
-use Rattle.std.proofs.Common.{◌≡◌, ◌^◌, ◌<◌, drop}
-use Rattle.std.specs.List.{list_all}
-use Rattle.std.specs.Char.{is_digit}
+use Rattle.std.{proofs.Common.{◌≡◌, ◌^◌, ◌<◌, drop}, specs.{List.list_all, Char.is_digit}}
 use Rattle.std.specs.Str.Parse.{digits_value, digits_value_after}
 use Rattle.uimg_its.proofs.numbers.number.Given as goal
 

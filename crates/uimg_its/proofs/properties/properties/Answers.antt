@@ -1,13 +1,8 @@
-use Rattle.std.proofs.Common.{rules, map, arith, IsTrue}
-use Rattle.std.proofs.lemmas.Result.{err_from_is_err_and}
+use Rattle.std.proofs.{Common.{rules, map, arith, IsTrue}, lemmas.Result.err_from_is_err_and}
 use Rattle.uimg_blob_writing.specs.Properties.{property}
-use Rattle.uimg_its.specs.Words.{words}
-use Rattle.uimg_its.specs.Parts.{props_in_full}
-use Rattle.uimg_its.specs.Reader.{property_step}
-use Rattle.uimg_its.proofs.StepLaws.{goes_on, is_last, is_refused}
-use Rattle.uimg_its.proofs.NodeLaws.{property_shrinks}
-use Rattle.uimg_its.proofs.FilesLaws.{files_then}
-use Rattle.uimg_its.proofs.SoundLaws.{still_sound}
+use Rattle.uimg_its.specs.{Words.words, Parts.props_in_full, Reader.property_step}
+use Rattle.uimg_its.proofs.{StepLaws.{goes_on, is_last, is_refused}, NodeLaws.property_shrinks}
+use Rattle.uimg_its.proofs.{FilesLaws.files_then, SoundLaws.still_sound}
 use Rattle.uimg_its.proofs.properties.properties.Goals as goal
 
 pub returns-in_err-last-clause-opens : goal.returns-in_err-last-clause-opens

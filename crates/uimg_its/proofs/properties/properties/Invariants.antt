@@ -1,10 +1,6 @@
 use Rattle.std.proofs.Common.{◌≡◌, ◌≤◌, length, map, IsTrue, false}
-use Rattle.uimg_blob_writing.specs.Properties.{property}
-use Rattle.uimg_blob_writing.specs.UsingFiles.{UsesFiles}
-use Rattle.uimg_its.specs.Words.{words}
-use Rattle.uimg_its.specs.Steps.{with_front}
-use Rattle.uimg_its.specs.Parts.{props_in_full}
-use Rattle.uimg_its.specs.FileValues.{AreSound}
+use Rattle.uimg_blob_writing.specs.{Properties.property, UsingFiles.UsesFiles}
+use Rattle.uimg_its.specs.{Words.words, Steps.with_front, Parts.props_in_full, FileValues.AreSound}
 use Rattle.uimg_its.specs.Reader.{properties}
 use Rattle.uimg_its.proofs.properties.properties.Given as goal
 

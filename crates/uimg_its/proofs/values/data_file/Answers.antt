@@ -1,8 +1,6 @@
 use Rattle.std.proofs.Common.{◌≡◌, ℕ, List, ◌++◌, Some, ap, subst, ◌∙◌}
-use Rattle.uimg_blob_writing.specs.Content.{content_bytes}
-use Rattle.uimg_blob_writing.specs.Properties.{content}
-use Rattle.uimg_its.specs.Strings.{string_bytes}
-use Rattle.uimg_its.specs.Words.{words}
+use Rattle.uimg_blob_writing.specs.{Content.content_bytes, Properties.content}
+use Rattle.uimg_its.specs.{Strings.string_bytes, Words.words}
 use Rattle.uimg_its.proofs.LoneFile.{lone_value}
 use Rattle.uimg_its.proofs.values.data_file.Goals as goal
 

@@ -1,9 +1,6 @@
-use Rattle.std.proofs.Common.{rules, arith, IsTrue}
-use Rattle.std.proofs.lemmas.Result.{err_from_is_err_and}
-use Rattle.uimg_its.specs.Words.{words}
-use Rattle.uimg_its.specs.Reader.{value_step}
-use Rattle.uimg_its.proofs.StepLaws.{goes_on, is_last, is_refused}
-use Rattle.uimg_its.proofs.Shrinking.{value_shrinks}
+use Rattle.std.proofs.{Common.{rules, arith, IsTrue}, lemmas.Result.err_from_is_err_and}
+use Rattle.uimg_its.specs.{Words.words, Reader.value_step}
+use Rattle.uimg_its.proofs.{StepLaws.{goes_on, is_last, is_refused}, Shrinking.value_shrinks}
 use Rattle.uimg_its.proofs.FilesLaws.{files_then}
 use Rattle.uimg_its.proofs.values.values.Goals as goal
 

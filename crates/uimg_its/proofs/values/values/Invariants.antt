@@ -1,8 +1,6 @@
 use Rattle.std.proofs.Common.{◌≡◌, ◌≤◌, length, IsTrue, false}
 use Rattle.uimg_blob_writing.specs.UsingFiles.{UsesFiles}
-use Rattle.uimg_its.specs.Words.{words}
-use Rattle.uimg_its.specs.Steps.{with_front}
-use Rattle.uimg_its.specs.Reader.{values}
+use Rattle.uimg_its.specs.{Words.words, Steps.with_front, Reader.values}
 use Rattle.uimg_its.proofs.values.values.Given as goal
 
 -- what is left gives the same value

@@ -1,12 +1,9 @@
 use Rattle.std.proofs.Common.{rules, ◌≡◌, ◌++◌, length, map, Ok, ◌∙◌, ap, sym, refl, arith}
-use Rattle.uimg_legacy.specs.Header.{header, spelled}
-use Rattle.uimg_legacy.specs.Parts.{has_parts}
+use Rattle.uimg_legacy.specs.{Header.{header, spelled}, Parts.has_parts, BuildingSteps.SpellsHeader}
 use Rattle.uimg_legacy.specs.Building.{data_for, header_for, legacy_image}
-use Rattle.uimg_legacy.specs.BuildingSteps.{SpellsHeader}
 use Rattle.uimg_legacy.specs.Devices.{bytes_of, AreHonest}
 use Rattle.uimg_legacy.proofs.DevicesLaws.{honest_then, count_bytes, uses_then, unasked}
-use Rattle.uimg_legacy.proofs.ResultLaws.{OnOk-always}
-use Rattle.uimg_legacy.proofs.ReadsBackLaw.{reads_back}
+use Rattle.uimg_legacy.proofs.{ResultLaws.OnOk-always, ReadsBackLaw.reads_back}
 use Rattle.uimg_legacy.proofs.BuildingLaws.{parts_small, tells_image}
 use Rattle.uimg_legacy.proofs.building.build.Goals as goal
 

@@ -1,10 +1,7 @@
 use Rattle.std.proofs.Common.{rules, ◌≡◌, ◌∙◌, ap, refl, map, Ok}
 use Rattle.uimg_sums.specs.Crc.{crc}
-use Rattle.uimg_legacy.specs.declared.header.Header.{Header}
-use Rattle.uimg_legacy.specs.Header.{spelled}
-use Rattle.uimg_legacy.specs.Parts.{has_parts}
-use Rattle.uimg_legacy.specs.Building.{data_of, header_for}
-use Rattle.uimg_legacy.specs.Devices.{bytes_of}
+use Rattle.uimg_legacy.specs.{declared.header.Header.Header, Header.spelled, Parts.has_parts}
+use Rattle.uimg_legacy.specs.{Building.{data_of, header_for}, Devices.bytes_of}
 use Rattle.uimg_legacy.proofs.building.head_of.Goals as goal
 
 pub returns : goal.returns

@@ -1,8 +1,6 @@
 use Rattle.std.proofs.Common.{◌≡◌, ◌++◌, map, append_assoc}
-use Rattle.uimg_legacy.specs.Building.{size_table, joined, data_of}
-use Rattle.uimg_legacy.specs.Devices.{bytes_of}
-use Rattle.uimg_legacy.proofs.DevicesLaws.{honest_then, uses_then}
-use Rattle.uimg_legacy.proofs.ResultLaws.{OnOk-then}
+use Rattle.uimg_legacy.specs.{Building.{size_table, joined, data_of}, Devices.bytes_of}
+use Rattle.uimg_legacy.proofs.{DevicesLaws.{honest_then, uses_then}, ResultLaws.OnOk-then}
 use Rattle.uimg_legacy.proofs.built_data.feed_data.Goals as goal
 
 pub returns : goal.returns

@@ -1,6 +1,5 @@
 use Rattle.std.proofs.Common.{◌≡◌, ◌<◌, ◌+◌, ◌++◌, ℕ, List, [], length, map, take, get_or, append_assoc, append-nil, ◌∙◌, ap, sym, subst, refl, arith}
-use Rattle.uimg_legacy.specs.Building.{padding, joined}
-use Rattle.uimg_legacy.specs.Devices.{bytes_of}
+use Rattle.uimg_legacy.specs.{Building.{padding, joined}, Devices.bytes_of}
 use Rattle.uimg_legacy.proofs.DevicesLaws.{same_then, honest_then, count_bytes, count_parts}
 use Rattle.uimg_legacy.proofs.JoinedLaws.{joined_none, joined_nil, joined_more, remainder_more}
 use Rattle.uimg_legacy.proofs.built_data.feed_joined.Goals as goal

@@ -1,6 +1,5 @@
 use Rattle.std.proofs.Common.{◌≡◌, ◌<◌, ◌%◌, ◌++◌, ℕ, List, length, map, take}
-use Rattle.uimg_legacy.specs.Building.{joined}
-use Rattle.uimg_legacy.specs.Devices.{bytes_of, AreHonest, SameDevices}
+use Rattle.uimg_legacy.specs.{Building.joined, Devices.{bytes_of, AreHonest, SameDevices}}
 use Rattle.uimg_legacy.proofs.built_data.feed_joined.Given as goal
 
 -- the parts before the index were fed, and the number of their bytes has this remainder by 4

@@ -1,9 +1,7 @@
 use Rattle.std.proofs.Common.{rules, ◌≡◌, ◌++◌, map, take, append_assoc, arith}
 use Rattle.std.specs.Int.{to_be_bytes, w32}
-use Rattle.uimg_legacy.specs.Building.{size_table}
-use Rattle.uimg_legacy.specs.Devices.{bytes_of}
-use Rattle.uimg_legacy.proofs.DevicesLaws.{count_bytes}
-use Rattle.uimg_legacy.proofs.TableLaws.{size_words}
+use Rattle.uimg_legacy.specs.{Building.size_table, Devices.bytes_of}
+use Rattle.uimg_legacy.proofs.{DevicesLaws.count_bytes, TableLaws.size_words}
 use Rattle.uimg_legacy.proofs.JoinedLaws.{words_all, table_whole}
 use Rattle.uimg_legacy.proofs.built_data.feed_table.Goals as goal
 

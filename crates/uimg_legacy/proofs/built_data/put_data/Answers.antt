@@ -1,9 +1,7 @@
 use Rattle.std.proofs.Common.{rules, map}
 use Rattle.uimg_base.proofs.WritingLaws.{written_then}
-use Rattle.uimg_legacy.specs.Building.{size_table, joined}
-use Rattle.uimg_legacy.specs.Devices.{bytes_of}
-use Rattle.uimg_legacy.proofs.DevicesLaws.{honest_then, uses_then}
-use Rattle.uimg_legacy.proofs.PartStepsLaws.{puts_by}
+use Rattle.uimg_legacy.specs.{Building.{size_table, joined}, Devices.bytes_of}
+use Rattle.uimg_legacy.proofs.{DevicesLaws.{honest_then, uses_then}, PartStepsLaws.puts_by}
 use Rattle.uimg_legacy.proofs.built_data.put_data.Goals as goal
 
 pub returns : goal.returns

@@ -1,11 +1,8 @@
 use Rattle.std.proofs.Common.{rules, ◌≡◌, ◌<◌, ℕ, List, [], length, map, take, get_or, ◌∙◌, ap, refl, arith}
 use Rattle.uimg_base.proofs.SinkLaws.{prefix_all, prefix_first, prefix_then, all_then}
-use Rattle.uimg_legacy.specs.Building.{padding, joined}
-use Rattle.uimg_legacy.specs.Devices.{bytes_of}
-use Rattle.uimg_legacy.specs.Faults.{is_read}
-use Rattle.uimg_legacy.proofs.LinesLaws.{all_none}
+use Rattle.uimg_legacy.specs.{Building.{padding, joined}, Devices.bytes_of, Faults.is_read}
+use Rattle.uimg_legacy.proofs.{LinesLaws.all_none, PartStepsLaws.puts_by}
 use Rattle.uimg_legacy.proofs.DevicesLaws.{same_then, honest_then, uses_then, count_bytes, count_parts}
-use Rattle.uimg_legacy.proofs.PartStepsLaws.{puts_by}
 use Rattle.uimg_legacy.proofs.JoinedLaws.{joined_none, joined_nil, joined_more, remainder_more, joined_prefix, joined_all}
 use Rattle.uimg_legacy.proofs.built_data.put_joined.Goals as goal
 

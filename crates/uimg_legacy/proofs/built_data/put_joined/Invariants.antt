@@ -1,7 +1,6 @@
 use Rattle.std.proofs.Common.{◌≡◌, ◌<◌, ◌%◌, length, map, take}
 use Rattle.uimg_base.specs.Sink.{AppendsAll}
-use Rattle.uimg_legacy.specs.Building.{joined}
-use Rattle.uimg_legacy.specs.Devices.{bytes_of, AreHonest, SameDevices}
+use Rattle.uimg_legacy.specs.{Building.joined, Devices.{bytes_of, AreHonest, SameDevices}}
 use Rattle.uimg_legacy.proofs.built_data.put_joined.Given as goal
 
 -- the parts before the index were written, and the number of their bytes has this remainder by 4

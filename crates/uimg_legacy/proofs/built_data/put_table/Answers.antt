@@ -1,12 +1,8 @@
 use Rattle.std.proofs.Common.{rules, ◌≡◌, true, ℕ, List, [], length, map, get_or, ◌∙◌, ap, arith}
 use Rattle.std.specs.Int.{to_be_bytes, w32}
-use Rattle.uimg_base.specs.Sink.{AppendsAll}
-use Rattle.uimg_base.proofs.SinkLaws.{prefix_then, prefix_all, all_then}
-use Rattle.uimg_legacy.specs.Building.{size_table}
-use Rattle.uimg_legacy.specs.Devices.{bytes_of}
-use Rattle.uimg_legacy.specs.Faults.{is_read}
-use Rattle.uimg_legacy.proofs.DevicesLaws.{count_bytes, uses_then, unasked}
-use Rattle.uimg_legacy.proofs.PartStepsLaws.{puts_by}
+use Rattle.uimg_base.{specs.Sink.AppendsAll, proofs.SinkLaws.{prefix_then, prefix_all, all_then}}
+use Rattle.uimg_legacy.specs.{Building.size_table, Devices.bytes_of, Faults.is_read}
+use Rattle.uimg_legacy.proofs.{DevicesLaws.{count_bytes, uses_then, unasked}, PartStepsLaws.puts_by}
 use Rattle.uimg_legacy.proofs.TableLaws.{size_words}
 use Rattle.uimg_legacy.proofs.JoinedLaws.{words_all, table_whole, table_start, table_prefix}
 use Rattle.uimg_legacy.proofs.built_data.put_table.Goals as goal

@@ -1,5 +1,4 @@
-use Rattle.std.proofs.Common.{rules, ◌≡◌, true}
-use Rattle.std.specs.Prelude.{is_err}
+use Rattle.std.{proofs.Common.{rules, ◌≡◌, true}, specs.Prelude.is_err}
 use Rattle.uimg_base.proofs.WritingLaws.{stops, ◌▷◌}
 use Rattle.uimg_legacy.proofs.lines.put_head.Goals as goal
 

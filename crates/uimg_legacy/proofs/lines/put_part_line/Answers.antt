@@ -1,8 +1,7 @@
 use Rattle.std.proofs.Common.{rules, ◌≡◌, ◌++◌, ◌∷◌, [], true, ◌∙◌, ℕ, List, subst, sym, append_assoc}
 use Rattle.std.specs.Prelude.{codes, decimal, is_err}
-use Rattle.uimg_base.specs.Writing.{Writes}
+use Rattle.uimg_base.{specs.Writing.Writes, proofs.WritingLaws.{stops, ◌▷◌}}
 use Rattle.uimg_texts.specs.Sizes.{size_text}
-use Rattle.uimg_base.proofs.WritingLaws.{stops, ◌▷◌}
 use Rattle.uimg_legacy.specs.Listing.{part_line}
 use Rattle.uimg_legacy.proofs.lines.put_part_line.Goals as goal
 

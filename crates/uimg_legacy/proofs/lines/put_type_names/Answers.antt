@@ -1,5 +1,4 @@
-use Rattle.std.proofs.Common.{ℕ, List, subst}
-use Rattle.std.specs.Prelude.{is_err}
+use Rattle.std.{proofs.Common.{ℕ, List, subst}, specs.Prelude.is_err}
 use Rattle.uimg_base.specs.Writing.{Writes}
 use Rattle.uimg_legacy.proofs.LinesLaws.{type_line_of}
 use Rattle.uimg_legacy.proofs.lines.put_type_names.Goals as goal

@@ -1,6 +1,5 @@
 use Rattle.std.proofs.lemmas.Result.{err_from_is_err_and}
-use Rattle.uimg_base.proofs.SinkLaws.{prefix_first}
-use Rattle.uimg_base.proofs.OutcomeLaws.{Tells-after}
+use Rattle.uimg_base.proofs.{SinkLaws.prefix_first, OutcomeLaws.Tells-after}
 use Rattle.uimg_legacy.proofs.SourceLaws.{honest_still}
 use Rattle.uimg_legacy.proofs.listing.list_by.Goals as goal
 

@@ -1,13 +1,9 @@
 use Rattle.std.proofs.Common.{◌≡◌, ◌<◌, ◌≤◌, length, get_or, ◌+◌, ◌-◌, ◌*◌, ◌∙◌, ap, refl, ℕ, List, Some, None, subst, sym, arith}
 use Rattle.std.proofs.lemmas.Result.{err_from_is_err_and}
-use Rattle.uimg_texts.specs.Slices.{slice}
-use Rattle.uimg_base.specs.Outcome.{Tells, done, refused}
-use Rattle.uimg_base.proofs.SinkLaws.{prefix_none, prefix_first}
-use Rattle.uimg_base.proofs.OutcomeLaws.{Tells-after}
-use Rattle.uimg_base.proofs.Slices.{length-slice}
-use Rattle.uimg_legacy.specs.declared.fault.LegacyFault.TheVariants.{PartOutside}
-use Rattle.uimg_texts.specs.Numbers.{be32, up4}
-use Rattle.uimg_legacy.specs.Parts.{sizes}
+use Rattle.uimg_texts.specs.{Slices.slice, Numbers.{be32, up4}}
+use Rattle.uimg_base.{specs.Outcome.{Tells, done, refused}, proofs.OutcomeLaws.Tells-after}
+use Rattle.uimg_base.proofs.{SinkLaws.{prefix_none, prefix_first}, Slices.length-slice}
+use Rattle.uimg_legacy.specs.{declared.fault.LegacyFault.TheVariants.PartOutside, Parts.sizes}
 use Rattle.uimg_legacy.specs.Listing.{part_lines}
 use Rattle.uimg_legacy.proofs.SourceLaws.{honest_still, same_still}
 use Rattle.uimg_legacy.proofs.PartsLaws.{table_words, start_first, start_more, up4_bound}

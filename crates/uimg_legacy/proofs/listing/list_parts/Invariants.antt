@@ -1,10 +1,7 @@
 use Rattle.std.proofs.Common.{◌≡◌, ◌≤◌, ◌+◌, ◌-◌, ◌*◌, ◌^◌, length, IsTrue, Option}
-use Rattle.uimg_base.specs.Device.{SameDevice}
+use Rattle.uimg_base.specs.{Device.SameDevice, Sink.Sink, Outcome.{End, Tells}}
 use Rattle.uimg_texts.specs.Slices.{slice}
-use Rattle.uimg_base.specs.Sink.{Sink}
-use Rattle.uimg_base.specs.Outcome.{End, Tells}
-use Rattle.uimg_legacy.specs.declared.fault.LegacyFault.{LegacyFault}
-use Rattle.uimg_legacy.specs.Parts.{sizes, start}
+use Rattle.uimg_legacy.specs.{declared.fault.LegacyFault.LegacyFault, Parts.{sizes, start}}
 use Rattle.uimg_legacy.specs.Listing.{part_lines}
 use Rattle.uimg_legacy.proofs.listing.list_parts.Given as goal
 

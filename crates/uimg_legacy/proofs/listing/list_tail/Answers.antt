@@ -1,7 +1,5 @@
-use Rattle.std.proofs.Common.{rules, ◌≡◌, ◌∙◌, true, sym}
-use Rattle.std.proofs.lemmas.Result.{err_from_is_err_and}
-use Rattle.uimg_base.proofs.SinkLaws.{prefix_first}
-use Rattle.uimg_base.proofs.OutcomeLaws.{Tells-after}
+use Rattle.std.proofs.{Common.{rules, ◌≡◌, ◌∙◌, true, sym}, lemmas.Result.err_from_is_err_and}
+use Rattle.uimg_base.proofs.{SinkLaws.prefix_first, OutcomeLaws.Tells-after}
 use Rattle.uimg_legacy.specs.Parts.{has_parts}
 use Rattle.uimg_legacy.proofs.SourceLaws.{honest_still, reports_by}
 use Rattle.uimg_legacy.proofs.listing.list_tail.Goals as goal

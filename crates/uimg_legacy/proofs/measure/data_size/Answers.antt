@@ -1,9 +1,7 @@
 use Rattle.std.proofs.Common.{◌≡◌, ◌+◌, ◌*◌, List, length, map, Bool, true, length-append, ◌∙◌, sym, arith}
 use Rattle.uimg_base.specs.Device.{Device}
-use Rattle.uimg_legacy.specs.Building.{joined, size_table, data_of}
-use Rattle.uimg_legacy.specs.Devices.{bytes_of}
-use Rattle.uimg_legacy.proofs.DevicesLaws.{count_bytes}
-use Rattle.uimg_legacy.proofs.TableLaws.{length-table}
+use Rattle.uimg_legacy.specs.{Building.{joined, size_table, data_of}, Devices.bytes_of}
+use Rattle.uimg_legacy.proofs.{DevicesLaws.count_bytes, TableLaws.length-table}
 use Rattle.uimg_legacy.proofs.measure.data_size.Goals as goal
 
 -- the table of sizes and the parts

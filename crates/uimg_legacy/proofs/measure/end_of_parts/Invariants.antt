@@ -1,6 +1,5 @@
 use Rattle.std.proofs.Common.{◌≡◌, ◌≤◌, ◌<◌, ◌+◌, ◌^◌, length, map, take}
-use Rattle.uimg_legacy.specs.Building.{joined}
-use Rattle.uimg_legacy.specs.Devices.{bytes_of, asked_of, SameDevices}
+use Rattle.uimg_legacy.specs.{Building.joined, Devices.{bytes_of, asked_of, SameDevices}}
 use Rattle.uimg_legacy.proofs.measure.end_of_parts.Given as goal
 
 -- the parts before the index end there

@@ -1,6 +1,5 @@
 use Rattle.std.proofs.Common.{◌≡◌, length, map, take, false}
-use Rattle.uimg_legacy.specs.Building.{has_empty}
-use Rattle.uimg_legacy.specs.Devices.{bytes_of, asked_of, SameDevices}
+use Rattle.uimg_legacy.specs.{Building.has_empty, Devices.{bytes_of, asked_of, SameDevices}}
 use Rattle.uimg_legacy.proofs.measure.has_empty.Given as goal
 
 -- no part before the index is empty

@@ -1,7 +1,6 @@
 use Rattle.std.proofs.Common.{rules}
 use Rattle.uimg_base.proofs.RangeLaws.{summed_right}
-use Rattle.uimg_legacy.proofs.SourceLaws.{honest_still}
-use Rattle.uimg_legacy.proofs.DevicesLaws.{bytes_at}
+use Rattle.uimg_legacy.proofs.{SourceLaws.honest_still, DevicesLaws.bytes_at}
 use Rattle.uimg_legacy.proofs.PartStepsLaws.{whole, feeds_after}
 use Rattle.uimg_legacy.proofs.one_part.feed_part.Goals as goal
 

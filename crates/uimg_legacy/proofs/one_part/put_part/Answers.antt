@@ -1,7 +1,5 @@
-use Rattle.std.proofs.Common.{rules, ◌≡◌, true}
-use Rattle.std.specs.Prelude.{is_err}
-use Rattle.uimg_legacy.proofs.SourceLaws.{honest_still}
-use Rattle.uimg_legacy.proofs.DevicesLaws.{bytes_at}
+use Rattle.std.{proofs.Common.{rules, ◌≡◌, true}, specs.Prelude.is_err}
+use Rattle.uimg_legacy.proofs.{SourceLaws.honest_still, DevicesLaws.bytes_at}
 use Rattle.uimg_legacy.proofs.PartStepsLaws.{whole, written_copy, puts_after}
 use Rattle.uimg_legacy.proofs.one_part.put_part.Goals as goal
 

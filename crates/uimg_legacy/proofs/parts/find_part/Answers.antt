@@ -1,8 +1,7 @@
 use Rattle.std.proofs.Common.{rules, ◌≡◌, ◌∙◌, true, sym, arith}
 use Rattle.uimg_legacy.specs.Parts.{has_parts}
-use Rattle.uimg_legacy.proofs.SourceLaws.{honest_still, same_still, reads_by}
+use Rattle.uimg_legacy.proofs.{SourceLaws.{honest_still, same_still, reads_by}, ChunkLaws.part_read}
 use Rattle.uimg_legacy.proofs.PartsLaws.{part_missing, part_outside, part_inside}
-use Rattle.uimg_legacy.proofs.ChunkLaws.{part_read}
 use Rattle.uimg_legacy.proofs.parts.find_part.Goals as goal
 
 pub returns-then-position-count-clause-reads : goal.returns-then-position-count-clause-reads

@@ -1,10 +1,7 @@
 use Rattle.std.proofs.Common.{◌≡◌, ◌<◌, ◌≤◌, length, get_or, ◌+◌, ◌-◌, ◌*◌, ◌∙◌, ap, refl, ℕ, List, [], sym, arith, rules}
-use Rattle.uimg_texts.specs.Slices.{slice}
-use Rattle.uimg_base.proofs.Slices.{length-slice}
-use Rattle.uimg_base.specs.declared.spans.Span.{Span}
-use Rattle.uimg_texts.specs.Numbers.{be32, up4}
-use Rattle.uimg_legacy.specs.Parts.{sizes, start}
-use Rattle.uimg_legacy.specs.Placing.{spans_before, places, span_of_part}
+use Rattle.uimg_texts.specs.{Slices.slice, Numbers.{be32, up4}}
+use Rattle.uimg_base.{proofs.Slices.length-slice, specs.declared.spans.Span.Span}
+use Rattle.uimg_legacy.specs.{Parts.{sizes, start}, Placing.{spans_before, places, span_of_part}}
 use Rattle.uimg_legacy.proofs.SourceLaws.{honest_still, same_still}
 use Rattle.uimg_legacy.proofs.PartsLaws.{table_words, start_first, start_more, up4_bound}
 use Rattle.uimg_legacy.proofs.LinesLaws.{outside_yes, outside_no}

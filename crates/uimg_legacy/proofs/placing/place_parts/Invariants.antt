@@ -1,8 +1,7 @@
 use Rattle.std.proofs.Common.{◌≡◌, ◌≤◌, ◌+◌, ◌-◌, ◌*◌, ◌^◌, length, IsTrue}
 use Rattle.uimg_base.specs.Device.{SameDevice}
 use Rattle.uimg_texts.specs.Slices.{slice}
-use Rattle.uimg_legacy.specs.Parts.{sizes, start}
-use Rattle.uimg_legacy.specs.Placing.{spans_before, places}
+use Rattle.uimg_legacy.specs.{Parts.{sizes, start}, Placing.{spans_before, places}}
 use Rattle.uimg_legacy.proofs.placing.place_parts.Given as goal
 
 -- the places so far and those from i on are all

@@ -1,5 +1,4 @@
-use Rattle.std.proofs.Common.{rules, refl}
-use Rattle.std.proofs.lemmas.Result.{err_from_is_err_and}
+use Rattle.std.proofs.{Common.{rules, refl}, lemmas.Result.err_from_is_err_and}
 use Rattle.uimg_legacy.proofs.report.report_data.Goals as goal
 
 pub returns-in_err-put_all : goal.returns-in_err-put_all

@@ -1,7 +1,5 @@
-use Rattle.std.proofs.Common.{refl, sym}
-use Rattle.std.proofs.lemmas.Result.{err_from_is_err_and}
-use Rattle.uimg_base.proofs.SinkLaws.{prefix_first}
-use Rattle.uimg_base.proofs.OutcomeLaws.{Tells-after}
+use Rattle.std.proofs.{Common.{refl, sym}, lemmas.Result.err_from_is_err_and}
+use Rattle.uimg_base.proofs.{SinkLaws.prefix_first, OutcomeLaws.Tells-after}
 use Rattle.uimg_legacy.proofs.SourceLaws.{honest_still}
 use Rattle.uimg_legacy.proofs.report.verify.Goals as goal
 

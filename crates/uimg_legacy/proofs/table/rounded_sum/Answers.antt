@@ -1,5 +1,4 @@
-use Rattle.std.proofs.Common.{◌≡◌, ◌∙◌, ℕ, length, take, ap, sym, arith}
-use Rattle.std.specs.Prelude.{sum_by}
+use Rattle.std.{proofs.Common.{◌≡◌, ◌∙◌, ℕ, length, take, ap, sym, arith}, specs.Prelude.sum_by}
 use Rattle.std.proofs.Math.Seq.{take-length}
 use Rattle.uimg_texts.specs.Numbers.{up4}
 use Rattle.uimg_legacy.specs.Words.{whole_words}

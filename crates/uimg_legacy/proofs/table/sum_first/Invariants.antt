@@ -1,9 +1,7 @@
-use Rattle.std.proofs.Common.{◌≡◌, ◌≤◌, ◌+◌, ◌-◌, ◌*◌, ◌^◌, IsTrue}
-use Rattle.std.specs.Prelude.{sum_by}
+use Rattle.std.{proofs.Common.{◌≡◌, ◌≤◌, ◌+◌, ◌-◌, ◌*◌, ◌^◌, IsTrue}, specs.Prelude.sum_by}
 use Rattle.uimg_base.specs.Device.{SameDevice}
 use Rattle.uimg_texts.specs.Numbers.{up4}
-use Rattle.uimg_legacy.specs.Words.{whole_words}
-use Rattle.uimg_legacy.specs.Reading.{window}
+use Rattle.uimg_legacy.specs.{Words.whole_words, Reading.window}
 use Rattle.uimg_legacy.proofs.table.sum_first.Given as goal
 
 -- this is the sum of the first words

@@ -1,7 +1,6 @@
 use Rattle.std.proofs.Common.{rules, ◌≡◌, ℕ, List, length, refl, ap, arith}
 use Rattle.std.specs.Prelude.{Ok, Err}
-use Rattle.uimg_legacy.proofs.SourceLaws.{honest_still, same_still}
-use Rattle.uimg_legacy.proofs.ExtractedLaws.{extracts}
+use Rattle.uimg_legacy.proofs.{SourceLaws.{honest_still, same_still}, ExtractedLaws.extracts}
 use Rattle.uimg_legacy.proofs.UnpackLaws.{is_spelled, unpack_truncated, are_right, keeps_right, unpacks, stops, work_known}
 use Rattle.uimg_legacy.proofs.unpacking.unpack.Goals as goal
 

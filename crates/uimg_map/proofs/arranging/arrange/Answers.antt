@@ -1,7 +1,5 @@
-use Rattle.std.proofs.Common.{◌≡◌, None, ◌∙◌, ap}
-use Rattle.std.proofs.lemmas.Result.{IfOk-weaker}
-use Rattle.uimg_map.specs.Arranging.{Arranges}
-use Rattle.uimg_map.specs.Rows.{rows_from}
+use Rattle.std.proofs.{Common.{◌≡◌, None, ◌∙◌, ap}, lemmas.Result.IfOk-weaker}
+use Rattle.uimg_map.specs.{Arranging.Arranges, Rows.rows_from}
 use Rattle.uimg_map.proofs.ArrangeLaws.{arranged}
 use Rattle.uimg_map.proofs.arranging.arrange.Goals as goal
 

@@ -1,4 +1,4 @@
-use Rattle.std.proofs.Common.{◌≡◌, ◌<◌, ◌≤◌, ℕ, min, nat_le, nat_lt, ◌&&◌, ◌+◌, ◌*◌, Bool, ap, ◌∙◌, arith}
+use Rattle.std.proofs.Common.{◌<◌, ℕ, nat_lt, ◌&&◌, ◌+◌, ◌*◌, ap, ◌∙◌, arith}
 use Rattle.uimg_map.specs.Bars.{is_filled}
 use Rattle.uimg_map.proofs.BarLaws.{filled}
 use Rattle.uimg_map.proofs.bar.bar_of.Goals as goal

@@ -1,8 +1,6 @@
 use Rattle.std.proofs.Common.{◌∙◌, List, ℕ, sym}
-use Rattle.uimg_map.specs.Contents.{GrowsBy}
-use Rattle.uimg_map.specs.FitContents.{header_and_blocks}
-use Rattle.uimg_map.proofs.ContentsLaws.{grows_then}
-use Rattle.uimg_map.proofs.FitLaws.{blocks_then}
+use Rattle.uimg_map.specs.{Contents.GrowsBy, FitContents.header_and_blocks}
+use Rattle.uimg_map.proofs.{ContentsLaws.grows_then, FitLaws.blocks_then}
 use Rattle.uimg_map.proofs.fit_contents.add_blocks.Goals as goal
 
 pub returns : goal.returns

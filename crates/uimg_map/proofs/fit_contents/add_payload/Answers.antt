@@ -1,8 +1,7 @@
 use Rattle.std.proofs.Common.{ℕ, [], ◌+◌, ◌∙◌, subst}
 use Rattle.uimg_fit_base.specs.declared.fault.Fault.TheVariants as of
 use Rattle.uimg_fit_base.specs.declared.fault.FitFault.TheVariants.{DataOutside}
-use Rattle.uimg_map.specs.declared.fault.MapFault.TheVariants.{Fit}
-use Rattle.uimg_map.specs.Contents.{GrowsBy}
+use Rattle.uimg_map.specs.{declared.fault.MapFault.TheVariants.Fit, Contents.GrowsBy}
 use Rattle.uimg_map.specs.Found.{What, thing, refused_behind}
 use Rattle.uimg_map.proofs.ContentsLaws.{grows_then}
 use Rattle.uimg_map.proofs.fit_contents.add_payload.Goals as goal

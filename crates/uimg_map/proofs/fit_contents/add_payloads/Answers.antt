@@ -1,7 +1,6 @@
 use Rattle.std.proofs.Common.{rules, ◌≤◌, List, ℕ, length, IsTrue, sym, subst, arith}
 use Rattle.uimg_fit_checking.specs.Survey.{read_image}
-use Rattle.uimg_map.specs.Contents.{GrowsBy}
-use Rattle.uimg_map.specs.FitContents.{image_told}
+use Rattle.uimg_map.specs.{Contents.GrowsBy, FitContents.image_told}
 use Rattle.uimg_map.proofs.FitLaws.{image_then, images_end}
 use Rattle.uimg_map.proofs.fit_contents.add_payloads.Goals as goal
 

@@ -1,8 +1,7 @@
 use Rattle.std.proofs.Common.{◌≡◌, ◌≤◌, ◌+◌, ◌*◌, length, map, drop, IsTrue}
 use Rattle.uimg_base.specs.Device.{SameDevice}
 use Rattle.uimg_fit_checking.specs.Survey.{read_image}
-use Rattle.uimg_map.specs.declared.contents.Contents.{Contents}
-use Rattle.uimg_map.specs.Contents.{GrowsBy}
+use Rattle.uimg_map.specs.{declared.contents.Contents.Contents, Contents.GrowsBy}
 use Rattle.uimg_map.specs.FitContents.{images_told}
 use Rattle.uimg_map.proofs.fit_contents.add_payloads.Given as goal
 

@@ -1,12 +1,9 @@
 use Rattle.std.proofs.Common.{◌≡◌, [], false, Result, Err, ◌∙◌, sym, subst}
 use Rattle.uimg_blob_reading.specs.Faults.{refuses_memory}
-use Rattle.uimg_fit_base.specs.declared.fault.Fault.{Fault}
-use Rattle.uimg_fit_base.specs.declared.fault.Fault.TheVariants.{Blob, Fit}
+use Rattle.uimg_fit_base.specs.declared.fault.Fault.{Fault, TheVariants.{Blob, Fit}}
 use Rattle.uimg_fit_checking.specs.declared.surveying.fault.SurveyFault.TheVariants.{Stopped}
-use Rattle.uimg_fit_checking.specs.Survey.{Said, survey_of}
-use Rattle.uimg_fit_checking.specs.SurveyParts.{Surveys}
-use Rattle.uimg_map.specs.Contents.{GrowsBy}
-use Rattle.uimg_map.specs.FitContents.{survey_told}
+use Rattle.uimg_fit_checking.specs.{Survey.{Said, survey_of}, SurveyParts.Surveys}
+use Rattle.uimg_map.specs.{Contents.GrowsBy, FitContents.survey_told}
 use Rattle.uimg_map.proofs.fit_contents.add_refused.Goals as goal
 
 pub returns-in_ok-refuse_at-in-Blob-clause-grows : goal.returns-in_ok-refuse_at-in-Blob-clause-grows

@@ -1,9 +1,7 @@
 use Rattle.std.proofs.Common.{ℕ, ◌+◌, List, Bool, Ok, ◌∙◌, sym, subst}
 use Rattle.uimg_legacy.specs.Image.{payload}
-use Rattle.uimg_map.specs.Contents.{GrowsBy, Gathers}
-use Rattle.uimg_map.specs.Found.{the_data, thing}
-use Rattle.uimg_map.specs.LegacyContents.{data_told}
-use Rattle.uimg_map.specs.Work.{legacy_table_work}
+use Rattle.uimg_map.specs.{Contents.{GrowsBy, Gathers}, Found.{the_data, thing}}
+use Rattle.uimg_map.specs.{LegacyContents.data_told, Work.legacy_table_work}
 use Rattle.uimg_map.proofs.ContentsLaws.{reads_and_grows, none_asked}
 use Rattle.uimg_map.proofs.legacy_contents.add_data.Goals as goal
 

@@ -1,8 +1,7 @@
 use Rattle.std.proofs.Common.{◌≡◌, ◌<◌, ◌≤◌, ℕ, ◌+◌, true, false, nat_lt, ◌∙◌, subst, arith}
 use Rattle.std.proofs.lemmas.Bool.{lt-ltb, le-ltb}
 use Rattle.uimg_legacy.specs.declared.fault.LegacyFault.TheVariants.{NoTableEnd}
-use Rattle.uimg_map.specs.Contents.{GrowsBy}
-use Rattle.uimg_map.specs.Found.{Told, the_table, thing, refused_at}
+use Rattle.uimg_map.specs.{Contents.GrowsBy, Found.{Told, the_table, thing, refused_at}}
 use Rattle.uimg_map.specs.LegacyContents.{legacy_fault}
 use Rattle.uimg_map.proofs.ContentsLaws.{grows_none, grows_then}
 use Rattle.uimg_map.proofs.legacy_contents.add_endless.Goals as goal

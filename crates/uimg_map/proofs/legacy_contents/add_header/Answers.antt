@@ -1,7 +1,6 @@
 use Rattle.std.proofs.Common.{◌≡◌, [], ◌+◌, ◌∙◌, subst}
 use Rattle.uimg_legacy.specs.declared.fault.LegacyFault.TheVariants.{Truncated}
-use Rattle.uimg_map.specs.Contents.{GrowsBy}
-use Rattle.uimg_map.specs.Found.{Told, refused_behind}
+use Rattle.uimg_map.specs.{Contents.GrowsBy, Found.{Told, refused_behind}}
 use Rattle.uimg_map.specs.LegacyContents.{legacy_fault}
 use Rattle.uimg_map.proofs.ContentsLaws.{grows_then}
 use Rattle.uimg_map.proofs.legacy_contents.add_header.Goals as goal

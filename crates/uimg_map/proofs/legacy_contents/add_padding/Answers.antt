@@ -1,8 +1,7 @@
 use Rattle.std.proofs.Common.{◌≡◌, ◌<◌, ℕ, true, false, nat_lt, Bool, Ok, sym, subst}
 use Rattle.std.proofs.lemmas.Bool.{lt-ltb}
 use Rattle.uimg_texts.specs.Numbers.{up4}
-use Rattle.uimg_map.specs.Contents.{GrowsBy, AddsFound}
-use Rattle.uimg_map.specs.Found.{the_padding, thing}
+use Rattle.uimg_map.specs.{Contents.{GrowsBy, AddsFound}, Found.{the_padding, thing}}
 use Rattle.uimg_map.specs.LegacyContents.{padding_told}
 use Rattle.uimg_map.proofs.legacy_contents.add_padding.Goals as goal
 

@@ -1,9 +1,7 @@
 use Rattle.std.proofs.Common.{◌≡◌, ℕ, ◌+◌, List, Bool, true, false, nat_lt, Ok, ◌∙◌, sym, subst}
 use Rattle.std.proofs.lemmas.Bool.{lt-ltb, le-ltb}
-use Rattle.uimg_map.specs.declared.fault.MapFault.{MapFault}
-use Rattle.uimg_map.specs.Contents.{GrowsBy, AddsFound}
-use Rattle.uimg_map.specs.Found.{refused_at}
-use Rattle.uimg_map.specs.LegacyContents.{part_told}
+use Rattle.uimg_map.specs.{declared.fault.MapFault.MapFault, Contents.{GrowsBy, AddsFound}}
+use Rattle.uimg_map.specs.{Found.refused_at, LegacyContents.part_told}
 use Rattle.uimg_map.proofs.ContentsLaws.{grows_then}
 use Rattle.uimg_map.proofs.legacy_contents.add_part.Goals as goal
 

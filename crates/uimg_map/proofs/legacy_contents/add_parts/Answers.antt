@@ -2,8 +2,7 @@ use Rattle.std.proofs.Common.{rules, ◌≡◌, ◌≤◌, ◌<◌, ℕ, ◌+◌
 use Rattle.std.proofs.lemmas.Bool.{ltb-false}
 use Rattle.uimg_texts.specs.Slices.{slice}
 use Rattle.uimg_legacy.specs.Parts.{sizes}
-use Rattle.uimg_map.specs.Contents.{GrowsBy}
-use Rattle.uimg_map.specs.LegacyContents.{part_told, parts_told}
+use Rattle.uimg_map.specs.{Contents.GrowsBy, LegacyContents.{part_told, parts_told}}
 use Rattle.uimg_map.proofs.TableLaws.{read_word, size_word, is_counted}
 use Rattle.uimg_map.proofs.PartsLaws.{part_then, part_ends, parts_end}
 use Rattle.uimg_map.proofs.legacy_contents.add_parts.Goals as goal

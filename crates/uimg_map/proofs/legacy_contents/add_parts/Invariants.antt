@@ -2,8 +2,7 @@ use Rattle.std.proofs.Common.{◌≡◌, ◌≤◌, ◌<◌, ◌+◌, ◌*◌, �
 use Rattle.uimg_base.specs.Device.{SameDevice}
 use Rattle.uimg_legacy.specs.Parts.{sizes}
 use Rattle.uimg_texts.specs.Slices.{slice}
-use Rattle.uimg_map.specs.declared.contents.Contents.{Contents}
-use Rattle.uimg_map.specs.Contents.{GrowsBy}
+use Rattle.uimg_map.specs.{declared.contents.Contents.Contents, Contents.GrowsBy}
 use Rattle.uimg_map.specs.LegacyContents.{parts_told}
 use Rattle.uimg_map.proofs.legacy_contents.add_parts.Given as goal
 

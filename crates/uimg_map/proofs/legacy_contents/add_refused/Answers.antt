@@ -1,8 +1,6 @@
 use Rattle.std.proofs.Common.{ℕ, List, Bool, true, false, Ok, ◌∙◌, sym, subst}
-use Rattle.uimg_map.specs.declared.fault.MapFault.{MapFault}
-use Rattle.uimg_map.specs.Contents.{GrowsBy, AddsFound}
-use Rattle.uimg_map.specs.Found.{refused_at}
-use Rattle.uimg_map.specs.LegacyContents.{refused_with}
+use Rattle.uimg_map.specs.{declared.fault.MapFault.MapFault, Contents.{GrowsBy, AddsFound}}
+use Rattle.uimg_map.specs.{Found.refused_at, LegacyContents.refused_with}
 use Rattle.uimg_map.proofs.ContentsLaws.{grows_then}
 use Rattle.uimg_map.proofs.legacy_contents.add_refused.Goals as goal
 

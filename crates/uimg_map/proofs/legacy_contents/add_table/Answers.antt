@@ -1,7 +1,5 @@
-use Rattle.std.proofs.Common.{ℕ, List, ◌∙◌, sym, subst}
-use Rattle.std.proofs.lemmas.Result.{err_from_is_err_and}
-use Rattle.uimg_map.specs.Contents.{GrowsBy}
-use Rattle.uimg_map.specs.Found.{the_table, thing}
+use Rattle.std.proofs.{Common.{ℕ, List, ◌∙◌, sym, subst}, lemmas.Result.err_from_is_err_and}
+use Rattle.uimg_map.specs.{Contents.GrowsBy, Found.{the_table, thing}}
 use Rattle.uimg_map.proofs.LegacyLaws.{table_then, table_endless}
 use Rattle.uimg_map.proofs.legacy_contents.add_table.Goals as goal
 

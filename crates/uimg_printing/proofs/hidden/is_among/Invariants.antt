@@ -1,5 +1,4 @@
-use Rattle.std.proofs.Common.{◌≡◌, drop}
-use Rattle.std.specs.List.{list_any}
+use Rattle.std.{proofs.Common.{◌≡◌, drop}, specs.List.list_any}
 use Rattle.uimg_printing.specs.Hidden.{is_in}
 use Rattle.uimg_printing.proofs.hidden.is_among.Given as goal
 

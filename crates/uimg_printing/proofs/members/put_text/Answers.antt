@@ -1,8 +1,5 @@
-use Rattle.std.proofs.Common.{◌≡◌, rules}
-use Rattle.std.specs.String.{string_bytes}
-use Rattle.base64.specs.Engines.{standard}
-use Rattle.base64.specs.GeneralPurpose.{encode_of}
-use Rattle.std.specs.Str.Lossy.{utf8_lossy}
+use Rattle.std.{proofs.Common.{◌≡◌, rules}, specs.{String.string_bytes, Str.Lossy.utf8_lossy}}
+use Rattle.base64.specs.{Engines.standard, GeneralPurpose.encode_of}
 use Rattle.uimg_printing.proofs.TextLaws.{utf8_of_none, utf8_of_some, text_whole, text_beside}
 use Rattle.uimg_printing.proofs.members.put_text.Goals as goal
 

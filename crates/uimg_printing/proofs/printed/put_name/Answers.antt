@@ -1,8 +1,5 @@
-use Rattle.std.proofs.Common.{◌∙◌, List, ℕ, sym, ap, subst}
-use Rattle.std.specs.Prelude.{chars}
-use Rattle.std.specs.Fmt.{HasWritten}
-use Rattle.std.specs.List.{flat_map}
-use Rattle.std.proofs.lemmas.Str.{is_utf8-from_IsUtf8}
+use Rattle.std.{proofs.Common.{◌∙◌, List, ℕ, sym, ap, subst}, specs.{Prelude.chars, Fmt.HasWritten}}
+use Rattle.std.{specs.List.flat_map, proofs.lemmas.Str.is_utf8-from_IsUtf8}
 use Rattle.uimg_printing.specs.Printing.{letter_text}
 use Rattle.uimg_printing.proofs.PrintingLaws.{printed_letters, printed_odd, utf8_not}
 use Rattle.uimg_printing.proofs.printed.put_name.Goals as goal

@@ -1,10 +1,7 @@
 use Rattle.std.proofs.Common.{◌≡◌, [], ◌++◌, ℕ, List, chars, sym, ap, ◌∙◌, subst, append_assoc, append-nil, rules}
-use Rattle.std.proofs.Output.{has_written_append}
-use Rattle.std.proofs.lemmas.List.{nil_from_length}
+use Rattle.std.proofs.{Output.has_written_append, lemmas.List.nil_from_length}
 use Rattle.std.proofs.lemmas.Str.{chars-nil, chars_past_char, IsUtf8-past_char}
-use Rattle.std.specs.Fmt.{HasWritten}
-use Rattle.std.specs.List.{flat_map}
-use Rattle.std.specs.Str.Iter.{chars_rest}
+use Rattle.std.specs.{Fmt.HasWritten, List.flat_map, Str.Iter.chars_rest}
 use Rattle.uimg_printing.specs.Printing.{letter_text}
 use Rattle.uimg_printing.proofs.printed.put_text.Goals as goal
 

@@ -1,7 +1,5 @@
-use Rattle.std.proofs.Common.{◌≡◌, ℕ, List, ◌++◌, chars, IsUtf8}
-use Rattle.std.specs.Fmt.{HasWritten, IsPlainFormatter}
-use Rattle.std.specs.List.{flat_map}
-use Rattle.std.specs.Str.Iter.{chars_rest}
+use Rattle.std.{proofs.Common.{◌≡◌, ℕ, List, ◌++◌, chars, IsUtf8}, specs.List.flat_map}
+use Rattle.std.specs.{Fmt.{HasWritten, IsPlainFormatter}, Str.Iter.chars_rest}
 use Rattle.uimg_printing.specs.Printing.{letter_text}
 use Rattle.uimg_printing.proofs.printed.put_text.Given as goal
 

@@ -1,7 +1,6 @@
 use Rattle.std.proofs.Common.{◌≡◌, ◌∙◌, ◌++◌, ◌-◌, ℕ, List, ap, replicate}
 use Rattle.std.proofs.lemmas.List.{drop-replicate}
-use Rattle.uimg_sums.specs.AnySum.{padded_digest}
-use Rattle.uimg_sums.specs.Digest.{PutsDigest}
+use Rattle.uimg_sums.specs.{AnySum.padded_digest, Digest.PutsDigest}
 use Rattle.uimg_sums.proofs.any_sum.finished.Goals as goal
 
 -- a digest that was put over zeros has zeros behind it

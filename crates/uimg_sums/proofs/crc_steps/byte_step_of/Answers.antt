@@ -1,5 +1,4 @@
-use Rattle.std.proofs.Common.{arith, bit_xor}
-use Rattle.std.proofs.lemmas.Nat.{xor_of_32}
+use Rattle.std.proofs.{Common.{arith, bit_xor}, lemmas.Nat.xor_of_32}
 use Rattle.uimg_sums.proofs.CrcLaw.{bit_steps_fits}
 use Rattle.uimg_sums.proofs.crc_steps.byte_step_of.Goals as goal
 

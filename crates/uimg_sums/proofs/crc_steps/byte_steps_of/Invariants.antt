@@ -1,5 +1,4 @@
-use Rattle.std.proofs.Common.{◌≡◌, take}
-use Rattle.std.specs.List.{fold}
+use Rattle.std.{proofs.Common.{◌≡◌, take}, specs.List.fold}
 use Rattle.uimg_sums.specs.CrcSteps.{byte_step}
 use Rattle.uimg_sums.proofs.crc_steps.byte_steps_of.Given as goal
 

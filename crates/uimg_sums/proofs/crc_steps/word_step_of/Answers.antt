@@ -1,7 +1,6 @@
 use Rattle.std.proofs.Common.{◌∙◌, ◌*◌, ap, bit_xor, rules, ℕ}
 use Rattle.uimg_sums.specs.CrcSteps.{bit_steps}
-use Rattle.uimg_sums.proofs.CrcWord.{word_steps}
-use Rattle.uimg_sums.proofs.CrcSixteen.{both, half_steps}
+use Rattle.uimg_sums.proofs.{CrcWord.word_steps, CrcSixteen.{both, half_steps}}
 use Rattle.uimg_sums.proofs.crc_steps.word_step_of.Goals as goal
 
 pub returns : goal.returns

@@ -1,5 +1,4 @@
-use Rattle.std.proofs.Common.{ℕ, [], ◌∙◌, ap, get_or}
-use Rattle.std.specs.List.{fold}
+use Rattle.std.{proofs.Common.{ℕ, [], ◌∙◌, ap, get_or}, specs.List.fold}
 use Rattle.uimg_sums.specs.CrcSteps.{byte_step}
 use Rattle.uimg_sums.proofs.CrcWord.{fold-more}
 use Rattle.uimg_sums.proofs.crc_steps.word_steps_of.Goals as goal

@@ -1,6 +1,5 @@
 use Rattle.std.proofs.Common.{◌≡◌, map, drop}
-use Rattle.uimg_texts.specs.Names.{code_of}
-use Rattle.uimg_texts.specs.CodeRows.{row_of}
+use Rattle.uimg_texts.specs.{Names.code_of, CodeRows.row_of}
 use Rattle.uimg_texts.proofs.codes.code_in.Given as goal
 
 -- no row before the index has the name

@@ -1,5 +1,4 @@
-use Rattle.std.proofs.Common.{◌≡◌, take}
-use Rattle.std.specs.List.{flat_map}
+use Rattle.std.{proofs.Common.{◌≡◌, take}, specs.List.flat_map}
 use Rattle.uimg_base.specs.Sink.{AppendsAll}
 use Rattle.uimg_base.proofs.output.Out.put_each.Given as goal
 

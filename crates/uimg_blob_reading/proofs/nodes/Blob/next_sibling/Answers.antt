@@ -1,5 +1,4 @@
-use Rattle.std.proofs.Common.{◌∙◌, sym, ap, ℕ, List, length, get_or}
-use Rattle.std.specs.List.{slice_get}
+use Rattle.std.{proofs.Common.{◌∙◌, sym, ap, ℕ, List, length, get_or}, specs.List.slice_get}
 use Rattle.uimg_blob_reading.specs.Kept.{entry_under}
 use Rattle.uimg_blob_reading.proofs.LookLaws.{row_entry, entry_is, ends_later, later_by}
 use Rattle.uimg_blob_reading.proofs.nodes.Blob.next_sibling.Goals as goal

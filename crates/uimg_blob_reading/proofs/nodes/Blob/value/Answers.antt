@@ -1,7 +1,5 @@
 use Rattle.std.proofs.Common.{◌∙◌, ap, sym, List, ℕ, get_or}
-use Rattle.uimg_blob_reading.specs.Keys.{name_of}
-use Rattle.uimg_blob_reading.specs.Roles.{keys_of}
-use Rattle.uimg_blob_reading.specs.declared.roles.Role.{Role}
+use Rattle.uimg_blob_reading.specs.{Keys.name_of, Roles.keys_of, declared.roles.Role.Role}
 use Rattle.uimg_blob_reading.specs.Kept.{slot, property_named}
 use Rattle.uimg_blob_reading.proofs.LookLaws.{row_entry, entry_is, node_of, value_at, named_lies, few_bytes, span_lies, unkept, is_kept}
 use Rattle.uimg_blob_reading.proofs.nodes.Blob.value.Goals as goal

@@ -1,8 +1,5 @@
-use Rattle.std.proofs.Common.{List, [], sym, subst, arith}
-use Rattle.std.proofs.lemmas.List.Elements.{filter_more}
-use Rattle.uimg_sums.specs.declared.algo.Algo.{Algo}
-use Rattle.uimg_sums.specs.Algorithms.{all_algos}
-use Rattle.uimg_sums.specs.Bundle.{Holds}
+use Rattle.std.proofs.{Common.{List, [], sym, subst, arith}, lemmas.List.Elements.filter_more}
+use Rattle.uimg_sums.specs.{declared.algo.Algo.Algo, Algorithms.all_algos, Bundle.Holds}
 use Rattle.uimg_fit_base.specs.AlgoSets.{has}
 use Rattle.uimg_fit_base.proofs.AlgoSetLaws.{first-few}
 use Rattle.uimg_fit_base.proofs.algo_sets.AlgoSet.sums.Goals as goal

@@ -1,7 +1,5 @@
-use Rattle.std.proofs.Common.{[], take}
-use Rattle.std.specs.List.{filter}
-use Rattle.uimg_sums.specs.Algorithms.{all_algos}
-use Rattle.uimg_sums.specs.Bundle.{Holds}
+use Rattle.std.{proofs.Common.{[], take}, specs.List.filter}
+use Rattle.uimg_sums.specs.{Algorithms.all_algos, Bundle.Holds}
 use Rattle.uimg_fit_base.specs.AlgoSets.{has}
 use Rattle.uimg_fit_base.proofs.algo_sets.AlgoSet.sums.Given as goal
 

@@ -1,5 +1,4 @@
-use Rattle.std.proofs.Common.{◌∙◌, ap}
-use Rattle.std.specs.List.{slice_get}
+use Rattle.std.{proofs.Common.{◌∙◌, ap}, specs.List.slice_get}
 use Rattle.uimg_fit_base.specs.AlgoSets.{chosen, set_of}
 use Rattle.uimg_fit_base.proofs.AlgoSetLaws.{at-place, chosen-few}
 use Rattle.uimg_fit_base.proofs.algo_sets.Digests.by.Goals as goal

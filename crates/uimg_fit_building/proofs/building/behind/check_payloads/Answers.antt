@@ -1,7 +1,6 @@
 use Rattle.std.proofs.Common.{List, map, ap, ◌∙◌, min, ◌^◌, ℕ}
 use Rattle.uimg_blob_reading.specs.LookUps.{NodeOf}
-use Rattle.uimg_blob_writing.specs.Content.{Content}
-use Rattle.uimg_blob_writing.specs.Trees.{node_of}
+use Rattle.uimg_blob_writing.specs.{Content.Content, Trees.node_of}
 use Rattle.uimg_fit_base.specs.Placements.{align_of}
 use Rattle.uimg_fit_building.specs.Behind.{entry, images_in, padded_sizes, end_fault}
 use Rattle.uimg_fit_building.proofs.BehindLaws.{end-capped}

@@ -1,9 +1,6 @@
-use Rattle.std.proofs.Common.{List, sym, subst}
-use Rattle.std.specs.List.{flat_map}
+use Rattle.std.{proofs.Common.{List, sym, subst}, specs.List.flat_map}
 use Rattle.uimg_blob_reading.specs.LookUps.{NodeOf}
-use Rattle.uimg_blob_writing.specs.Content.{Content}
-use Rattle.uimg_blob_writing.specs.Pieces.{WritesPieces}
-use Rattle.uimg_blob_writing.specs.Trees.{node_of}
+use Rattle.uimg_blob_writing.specs.{Content.Content, Pieces.WritesPieces, Trees.node_of}
 use Rattle.uimg_blob_writing.proofs.WritesLaws.{◌▶◌, all-put}
 use Rattle.uimg_fit_base.specs.declared.placement.AlignedPlacement.{AlignedPlacement}
 use Rattle.uimg_fit_building.specs.Behind.{payload_pieces, behind_pieces}

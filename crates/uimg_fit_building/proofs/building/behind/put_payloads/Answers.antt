@@ -1,8 +1,5 @@
-use Rattle.std.proofs.Common.{List, sym, subst}
-use Rattle.std.proofs.lemmas.List.Folds.{flat_map-map}
-use Rattle.uimg_blob_writing.specs.declared.tree.Node.{Node}
-use Rattle.uimg_blob_writing.specs.Content.{Content}
-use Rattle.uimg_blob_writing.specs.Pieces.{WritesPieces}
+use Rattle.std.proofs.{Common.{List, sym, subst}, lemmas.List.Folds.flat_map-map}
+use Rattle.uimg_blob_writing.specs.{declared.tree.Node.Node, Content.Content, Pieces.WritesPieces}
 use Rattle.uimg_blob_writing.proofs.WritesLaws.{went_well, failed, refused, each-goes, each-stops, each-all}
 use Rattle.uimg_fit_building.specs.Behind.{entry, payload_pieces}
 use Rattle.uimg_fit_building.proofs.building.behind.put_payloads.Goals as goal

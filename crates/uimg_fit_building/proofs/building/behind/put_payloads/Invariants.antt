@@ -1,7 +1,5 @@
-use Rattle.std.proofs.Common.{take}
-use Rattle.std.specs.List.{flat_map}
-use Rattle.uimg_blob_writing.specs.Pieces.{WritesPieces}
-use Rattle.uimg_blob_writing.proofs.WritesLaws.{went_well}
+use Rattle.std.{proofs.Common.take, specs.List.flat_map}
+use Rattle.uimg_blob_writing.{specs.Pieces.WritesPieces, proofs.WritesLaws.went_well}
 use Rattle.uimg_fit_building.specs.Behind.{entry, payload_pieces}
 use Rattle.uimg_fit_building.proofs.building.behind.put_payloads.Given as goal
 

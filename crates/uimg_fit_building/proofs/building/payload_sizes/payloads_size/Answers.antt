@@ -1,9 +1,7 @@
 use Rattle.std.proofs.Common.{◌≡◌, ◌∷◌, ◌+◌, ◌∙◌, ℕ, List, [], ap, sym, drop, map, refl, arith}
-use Rattle.std.proofs.lemmas.List.{drop_more}
-use Rattle.std.proofs.Math.ListN.{drop_of_length-le}
+use Rattle.std.proofs.{lemmas.List.drop_more, Math.ListN.drop_of_length-le}
 use Rattle.uimg_blob_writing.specs.declared.tree.Node.{Node}
-use Rattle.uimg_fit_building.specs.Behind.{entry, padded_sizes}
-use Rattle.uimg_fit_building.specs.UnreadTrees.{padded_size_of}
+use Rattle.uimg_fit_building.specs.{Behind.{entry, padded_sizes}, UnreadTrees.padded_size_of}
 use Rattle.uimg_fit_building.proofs.building.payload_sizes.payloads_size.Goals as goal
 
 sizes-more : {A : Type 0} (align : ℕ) (n : Node A) (ns : List (Node A)) → padded_sizes align (map entry (n ∷ ns)) ≡ padded_size_of align n.props + padded_sizes align (map entry ns)

@@ -1,8 +1,6 @@
 use Rattle.std.proofs.Common.{◌≡◌, ◌++◌, ◌%◌, ℕ, List, [], ◌∷◌, ap, ◌∙◌, append_assoc, codes}
-use Rattle.uimg_blob_writing.specs.declared.props.Prop.{Prop}
-use Rattle.uimg_blob_writing.specs.declared.props.Value.TheVariants.{Bytes}
-use Rattle.uimg_blob_writing.specs.Content.{size_of}
-use Rattle.uimg_blob_writing.specs.Properties.{content}
+use Rattle.uimg_blob_writing.specs.declared.props.{Prop.Prop, Value.TheVariants.Bytes}
+use Rattle.uimg_blob_writing.specs.{Content.size_of, Properties.content}
 use Rattle.uimg_fit_building.specs.Placing.{cell_property}
 use Rattle.uimg_fit_building.proofs.PlacingLaws.{word-low}
 use Rattle.uimg_fit_building.proofs.building.placing.add_cells.Goals as goal

@@ -1,11 +1,7 @@
 use Rattle.std.proofs.Common.{◌≡◌, ◌∷◌, ◌++◌, ◌+◌, ◌∙◌, List, [], ap, sym, drop, codes}
-use Rattle.std.proofs.lemmas.List.{drop_more}
-use Rattle.std.proofs.Math.ListN.{drop_of_length-le}
-use Rattle.uimg_blob_writing.specs.declared.tree.Node.{Node}
-use Rattle.uimg_blob_writing.specs.Content.{Unread}
-use Rattle.uimg_blob_writing.specs.Trees.{siblings}
-use Rattle.uimg_fit_building.specs.Filling.{in_first}
-use Rattle.uimg_fit_building.specs.Placing.{is_images_node, with_placed}
+use Rattle.std.proofs.{lemmas.List.drop_more, Math.ListN.drop_of_length-le}
+use Rattle.uimg_blob_writing.specs.{declared.tree.Node.Node, Content.Unread, Trees.siblings}
+use Rattle.uimg_fit_building.specs.{Filling.in_first, Placing.{is_images_node, with_placed}}
 use Rattle.uimg_fit_building.specs.UnreadTrees.{unread_from}
 use Rattle.uimg_fit_building.proofs.PlacingLaws.{behind-goes, before-goes, first-goes, no-more, children-placed}
 use Rattle.uimg_fit_building.proofs.building.placing.place_children.Goals as goal

@@ -1,9 +1,6 @@
 use Rattle.std.proofs.Common.{◌≡◌, ◌∷◌, ◌++◌, ◌+◌, ◌%◌, ◌∙◌, List, [], ap, sym, drop, arith}
-use Rattle.std.proofs.lemmas.List.{drop_more}
-use Rattle.std.proofs.Math.ListN.{drop_of_length-le}
-use Rattle.uimg_blob_writing.specs.declared.tree.Node.{Node}
-use Rattle.uimg_blob_writing.specs.Content.{Unread}
-use Rattle.uimg_blob_writing.specs.Trees.{siblings}
+use Rattle.std.proofs.{lemmas.List.drop_more, Math.ListN.drop_of_length-le}
+use Rattle.uimg_blob_writing.specs.{declared.tree.Node.Node, Content.Unread, Trees.siblings}
 use Rattle.uimg_fit_building.specs.Placing.{placed_images}
 use Rattle.uimg_fit_building.specs.UnreadTrees.{padded_size_of, unread_from}
 use Rattle.uimg_fit_building.proofs.PlacingLaws.{image-goes, images-end, images-placed}

@@ -1,12 +1,8 @@
-use Rattle.std.proofs.Common.{◌≡◌, ◌∷◌, ◌+◌, ◌∙◌, List, ap, sym, drop, map}
-use Rattle.std.proofs.lemmas.List.{drop_more}
+use Rattle.std.proofs.{Common.{◌≡◌, ◌∷◌, ◌+◌, ◌∙◌, List, ap, sym, drop, map}, lemmas.List.drop_more}
 use Rattle.std.proofs.Math.ListN.{drop_of_length-le}
 use Rattle.uimg_blob_reading.specs.Plain.{NamedOf}
-use Rattle.uimg_blob_writing.specs.declared.props.Prop.{Prop}
-use Rattle.uimg_blob_writing.specs.Content.{Content}
-use Rattle.uimg_blob_writing.specs.Properties.{property}
-use Rattle.uimg_fit_building.specs.Placing.{is_data, cells}
-use Rattle.uimg_fit_building.specs.UnreadTrees.{unread_own}
+use Rattle.uimg_blob_writing.specs.{declared.props.Prop.Prop, Content.Content, Properties.property}
+use Rattle.uimg_fit_building.specs.{Placing.{is_data, cells}, UnreadTrees.unread_own}
 use Rattle.uimg_fit_building.proofs.PlacingLaws.{behind-goes, before-goes, first-goes, no-more, own-placed}
 use Rattle.uimg_fit_building.proofs.building.placing.place_properties.Goals as goal
 use Rattle.uimg_fit_building.proofs.building.placing.place_properties.Goals.{then-not-moved+then-is_data+in_ok-add_cells, else-not-moved+in_ok-copy+in_ok-push, else-not-moved-via-then-not-moved+else-is_data, else-not-moved-via-else-not-moved}

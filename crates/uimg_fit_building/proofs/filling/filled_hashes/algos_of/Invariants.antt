@@ -1,9 +1,7 @@
-use Rattle.std.proofs.Common.{◌≡◌, map, drop}
-use Rattle.std.specs.List.{filter}
+use Rattle.std.{proofs.Common.{◌≡◌, map, drop}, specs.List.filter}
 use Rattle.uimg_blob_reading.specs.Roles.{is_hash}
-use Rattle.uimg_fit_building.specs.Behind.{entry}
+use Rattle.uimg_fit_building.specs.{Behind.entry, PayloadSums.all_marked}
 use Rattle.uimg_fit_base.specs.AlgoSets.{no_algos}
-use Rattle.uimg_fit_building.specs.PayloadSums.{all_marked}
 use Rattle.uimg_fit_building.proofs.filling.filled_hashes.algos_of.Given as goal
 
 -- the set so far with the algorithms of what is left is the set of all

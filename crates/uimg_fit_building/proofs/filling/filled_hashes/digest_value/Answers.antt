@@ -1,7 +1,6 @@
 use Rattle.std.proofs.Common.{◌∙◌, List, ℕ, ap, sym, length, take, replicate, arith}
 use Rattle.std.proofs.lemmas.List.{length-take-le}
-use Rattle.uimg_sums.specs.Algorithms.{digest_size}
-use Rattle.uimg_sums.proofs.DigestSizes.{length-digest_by}
+use Rattle.uimg_sums.{specs.Algorithms.digest_size, proofs.DigestSizes.length-digest_by}
 use Rattle.uimg_blob_writing.specs.Content.{Content, bytes}
 use Rattle.uimg_fit_building.proofs.FilledHashLaws.{front-digest, digest-fits}
 use Rattle.uimg_fit_building.proofs.filling.filled_hashes.digest_value.Goals as goal

@@ -1,8 +1,7 @@
 use Rattle.std.proofs.Common.{rules, ◌∙◌, ap, sym}
 use Rattle.uimg_blob_reading.specs.Roles.{is_hash}
 use Rattle.uimg_fit_building.specs.Behind.{entry}
-use Rattle.uimg_fit_building.proofs.FilledHashLaws.{on-ok}
-use Rattle.uimg_fit_building.proofs.DigestBytesLaws.{child-zeroed}
+use Rattle.uimg_fit_building.proofs.{FilledHashLaws.on-ok, DigestBytesLaws.child-zeroed}
 use Rattle.uimg_fit_building.proofs.filling.filled_hashes.fill_child.Goals as goal
 
 pub returns-then-is_hash : goal.returns-then-is_hash

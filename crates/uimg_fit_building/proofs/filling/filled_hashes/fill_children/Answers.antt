@@ -2,14 +2,11 @@ use Rattle.std.proofs.Common.{rules, ◌≡◌, ◌<◌, length, get_or, arith, 
 use Rattle.std.proofs.Math.ListN.{length-set}
 use Rattle.uimg_blob_reading.specs.Roles.{is_hash}
 use Rattle.uimg_blob_writing.specs.declared.tree.Node.{Node}
-use Rattle.uimg_fit_building.specs.Behind.{entry}
-use Rattle.uimg_fit_building.specs.ImageFillings.{hashed_in}
-use Rattle.uimg_fit_base.specs.AlgoSets.{set_of}
-use Rattle.uimg_fit_building.specs.PayloadSums.{CoversHash}
+use Rattle.uimg_fit_building.specs.{Behind.entry, ImageFillings.hashed_in, PayloadSums.CoversHash}
 use Rattle.uimg_fit_building.specs.DigestBytes.{zeroed_child}
+use Rattle.uimg_fit_base.specs.AlgoSets.{set_of}
 use Rattle.uimg_fit_building.proofs.EachLaws.{same-at, rest-more, changed-more, changed-all, agree-more, agree-all}
-use Rattle.uimg_fit_building.proofs.FilledHashLaws.{covered-at}
-use Rattle.uimg_fit_building.proofs.DigestBytesLaws.{each-agrees}
+use Rattle.uimg_fit_building.proofs.{FilledHashLaws.covered-at, DigestBytesLaws.each-agrees}
 use Rattle.uimg_fit_building.proofs.ImageFillLaws.{siblings-each}
 use Rattle.uimg_fit_building.proofs.filling.filled_hashes.fill_children.Goals as goal
 

@@ -1,11 +1,9 @@
 use Rattle.std.proofs.Common.{◌≡◌, ℕ, List, length, map, drop}
 use Rattle.std.specs.List.{filter, AllByRecursion}
 use Rattle.uimg_blob_reading.specs.Roles.{is_hash}
-use Rattle.uimg_fit_building.specs.Behind.{entry}
-use Rattle.uimg_fit_building.specs.ImageFillings.{hashed_in}
-use Rattle.uimg_fit_base.specs.AlgoSets.{set_of, AreDigests}
-use Rattle.uimg_fit_building.specs.PayloadSums.{CoversHash}
+use Rattle.uimg_fit_building.specs.{Behind.entry, ImageFillings.hashed_in, PayloadSums.CoversHash}
 use Rattle.uimg_fit_building.specs.DigestBytes.{zeroed_child}
+use Rattle.uimg_fit_base.specs.AlgoSets.{set_of, AreDigests}
 use Rattle.uimg_fit_building.proofs.EachLaws.{ChangedTo, AgreeTo}
 use Rattle.uimg_fit_building.proofs.filling.filled_hashes.fill_children.Given as goal
 

@@ -1,14 +1,9 @@
 use Rattle.std.proofs.Common.{rules, ◌∙◌, List, ap, sym, codes}
-use Rattle.uimg_blob_reading.specs.Plain.{NamedOf}
-use Rattle.uimg_blob_reading.specs.LookUps.{NodeOf}
-use Rattle.uimg_blob_writing.specs.Content.{Content}
-use Rattle.uimg_blob_writing.specs.Properties.{content}
+use Rattle.uimg_blob_reading.specs.{Plain.NamedOf, LookUps.NodeOf}
+use Rattle.uimg_blob_writing.specs.{Content.Content, Properties.content}
 use Rattle.uimg_fit_base.specs.AlgoSets.{set_of}
-use Rattle.uimg_fit_building.specs.Behind.{entry}
-use Rattle.uimg_fit_building.specs.Filling.{with}
-use Rattle.uimg_fit_building.specs.DigestBytes.{zeroed_hash}
-use Rattle.uimg_fit_building.proofs.DigestBytesLaws.{hash-zeroed}
-use Rattle.uimg_fit_building.proofs.FilledHashLaws.{hash-filled}
+use Rattle.uimg_fit_building.specs.{Behind.entry, Filling.with, DigestBytes.zeroed_hash}
+use Rattle.uimg_fit_building.proofs.{DigestBytesLaws.hash-zeroed, FilledHashLaws.hash-filled}
 use Rattle.uimg_fit_building.proofs.filling.filled_hashes.fill_hash.Goals as goal
 
 pub returns : goal.returns

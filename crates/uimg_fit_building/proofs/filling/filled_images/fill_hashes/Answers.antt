@@ -1,18 +1,13 @@
-use Rattle.std.proofs.Common.{◌∙◌, refl, sym, ap, subst, map, Option, Some}
+use Rattle.std.{proofs.Common.{◌∙◌, refl, sym, ap, subst, map, Option, Some}, specs.Bool.⊤}
 use Rattle.std.specs.List.{filter, AllByRecursion}
 use Rattle.uimg_blob_reading.specs.Roles.{is_hash}
-use Rattle.uimg_fit_building.specs.Behind.{entry}
-use Rattle.uimg_fit_building.specs.PayloadSums.{CoversHash}
-use Rattle.std.specs.Bool.{⊤}
-use Rattle.uimg_fit_base.specs.declared.algo_sets.AlgoSet.{AlgoSet}
-use Rattle.uimg_blob_writing.specs.Content.{content_bytes}
-use Rattle.uimg_blob_writing.specs.Properties.{content}
-use Rattle.uimg_blob_writing.specs.Trees.{siblings}
-use Rattle.uimg_fit_building.specs.Filling.{each}
+use Rattle.uimg_fit_building.specs.{Behind.entry, PayloadSums.CoversHash, Filling.each}
 use Rattle.uimg_fit_building.specs.DigestBytes.{zeroed_child}
+use Rattle.uimg_fit_base.specs.declared.algo_sets.AlgoSet.{AlgoSet}
+use Rattle.uimg_fit_base.proofs.AlgoSetLaws.{empty-is, some-are}
+use Rattle.uimg_blob_writing.specs.{Content.content_bytes, Properties.content, Trees.siblings}
 use Rattle.uimg_fit_building.proofs.FillOrderLaws.{always}
 use Rattle.uimg_fit_building.proofs.ImageFillLaws.{not-known, all-known, all-covered, none-found, none-hashed, some-hashed, stops-at, children-filled}
-use Rattle.uimg_fit_base.proofs.AlgoSetLaws.{empty-is, some-are}
 use Rattle.uimg_fit_building.proofs.filling.filled_images.fill_hashes.Goals as goal
 
 pub returns-in_default-clause-filled : goal.returns-in_default-clause-filled

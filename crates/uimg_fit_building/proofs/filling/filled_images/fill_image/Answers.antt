@@ -1,23 +1,15 @@
 use Rattle.std.proofs.Common.{◌≡◌, ◌≢◌, ◌∙◌, sym, subst, ap, List, [], length, OnOk, arith}
-use Rattle.std.specs.List.{filter}
-use Rattle.std.specs.Bool.{⊤}
-use Rattle.uimg_blob_reading.specs.Plain.{NamedOf}
-use Rattle.uimg_blob_reading.specs.LookUps.{listed}
-use Rattle.uimg_blob_reading.specs.Roles.{is_hash}
-use Rattle.uimg_blob_writing.specs.Content.{Content, Unread, IsKept}
-use Rattle.uimg_blob_writing.specs.Properties.{content}
-use Rattle.uimg_blob_writing.specs.Trees.{siblings}
-use Rattle.uimg_blob_writing.specs.declared.tree.Node.{Node}
-use Rattle.uimg_fit_building.specs.Filling.{without_external, each}
-use Rattle.uimg_fit_building.specs.Behind.{entry}
+use Rattle.std.specs.{List.filter, Bool.⊤}
+use Rattle.uimg_blob_reading.specs.{Plain.NamedOf, LookUps.listed, Roles.is_hash}
+use Rattle.uimg_blob_writing.specs.{Content.{Content, Unread, IsKept}, Properties.content}
+use Rattle.uimg_blob_writing.specs.{Trees.siblings, declared.tree.Node.Node}
+use Rattle.uimg_fit_building.specs.{Filling.{without_external, each}, Behind.entry}
 use Rattle.uimg_fit_building.specs.ImageFillings.{hashed_in, filled_over, FillsHashes, FillsImage}
 use Rattle.uimg_fit_building.specs.PayloadSums.{no_files, in_memory}
 use Rattle.uimg_fit_building.specs.DigestBytes.{zeroed_child, zeroed_image}
-use Rattle.uimg_fit_building.proofs.EachLaws.{written-back}
-use Rattle.uimg_fit_building.proofs.FilledHashLaws.{on-ok}
-use Rattle.uimg_fit_building.proofs.FillOrderLaws.{next-is}
+use Rattle.uimg_fit_building.proofs.{EachLaws.written-back, FilledHashLaws.on-ok}
+use Rattle.uimg_fit_building.proofs.{FillOrderLaws.next-is, DigestBytesLaws.image-zeroed}
 use Rattle.uimg_fit_building.proofs.ImageFillLaws.{no-data, image-told, content-none, content-some}
-use Rattle.uimg_fit_building.proofs.DigestBytesLaws.{image-zeroed}
 use Rattle.uimg_fit_building.proofs.filling.filled_images.fill_image.Goals as goal
 
 pub returns-in_default-clause-filled : goal.returns-in_default-clause-filled

@@ -1,13 +1,10 @@
 use Rattle.std.proofs.Common.{rules, ◌≡◌, ◌<◌, ◌∙◌, ℕ, List, Bool, false, Option, Some, None, Err, length, map, set, get_or, arith, ap, refl, subst, sym, IsTrue}
-use Rattle.std.proofs.Math.ListN.{length-set}
-use Rattle.std.specs.Bool.{⊤}
+use Rattle.std.{proofs.Math.ListN.length-set, specs.Bool.⊤}
 use Rattle.uimg_blob_writing.specs.declared.tree.Node.{Node}
-use Rattle.uimg_fit_building.specs.Behind.{entry}
-use Rattle.uimg_fit_building.specs.FillAnswers.{opens_no_file, fails_to_read}
+use Rattle.uimg_fit_building.specs.{Behind.entry, FillAnswers.{opens_no_file, fails_to_read}}
 use Rattle.uimg_fit_building.specs.FillOrder.{IsPassed, IsImageRefused, FillsInOrder}
+use Rattle.uimg_fit_building.specs.{PayloadSums.no_files, DigestBytes.zeroed_image}
 use Rattle.uimg_fit_building.specs.ImageFillings.{filled_over, fault_in_memory, FillsImage, FillsImages, IsKeptImage}
-use Rattle.uimg_fit_building.specs.PayloadSums.{no_files}
-use Rattle.uimg_fit_building.specs.DigestBytes.{zeroed_image}
 use Rattle.uimg_fit_building.proofs.EachLaws.{same-at, rest-more, changed-more, agree-more, agree-all}
 use Rattle.uimg_fit_building.proofs.DigestBytesLaws.{each-agrees}
 use Rattle.uimg_fit_building.proofs.FillOrderLaws.{by-refusal, all-more, all-of, refused-before, order-refused}

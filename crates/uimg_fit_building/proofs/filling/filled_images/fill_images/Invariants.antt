@@ -1,10 +1,8 @@
 use Rattle.std.proofs.Common.{◌≡◌, length, map, take, drop, None, IsTrue}
 use Rattle.std.specs.List.{AllByRecursion}
 use Rattle.uimg_base.specs.Named.{SameFiles}
-use Rattle.uimg_fit_building.specs.Behind.{entry}
-use Rattle.uimg_fit_building.specs.FillOrder.{IsPassed}
+use Rattle.uimg_fit_building.specs.{Behind.entry, FillOrder.IsPassed, PayloadSums.no_files}
 use Rattle.uimg_fit_building.specs.ImageFillings.{filled_over, first_in_memory}
-use Rattle.uimg_fit_building.specs.PayloadSums.{no_files}
 use Rattle.uimg_fit_building.specs.DigestBytes.{zeroed_image}
 use Rattle.uimg_fit_building.proofs.EachLaws.{ChangedTo, AgreeTo}
 use Rattle.uimg_fit_building.proofs.filling.filled_images.fill_images.Given as goal

@@ -1,7 +1,6 @@
 use Rattle.std.proofs.Common.{rules, ◌≡◌, [], List, ℕ, subst}
 use Rattle.uimg_sums.specs.Bundle.{Holds}
-use Rattle.uimg_blob_writing.specs.Content.{content_bytes}
-use Rattle.uimg_blob_writing.specs.Properties.{content}
+use Rattle.uimg_blob_writing.specs.{Content.content_bytes, Properties.content}
 use Rattle.uimg_fit_building.proofs.filling.payload_sums.feed_payload.Goals as goal
 
 pub returns-in-Bytes-clause-fed : goal.returns-in-Bytes-clause-fed

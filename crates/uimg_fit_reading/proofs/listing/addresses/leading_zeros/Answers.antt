@@ -1,6 +1,5 @@
 use Rattle.std.proofs.Common.{◌≡◌, ◌≢◌, ◌==◌, ℕ, true, not, length, ap, sym, arith}
-use Rattle.std.proofs.lemmas.Bool.{eqb-true}
-use Rattle.std.proofs.lemmas.List.Sums.{position_or_len_is}
+use Rattle.std.proofs.lemmas.{Bool.eqb-true, List.Sums.position_or_len_is}
 use Rattle.uimg_blob_reading.proofs.PhaseLaws.{by_bool}
 use Rattle.uimg_fit_reading.proofs.listing.addresses.leading_zeros.Goals as goal
 

@@ -1,9 +1,7 @@
 use Rattle.std.proofs.Common.{rules, ◌≡◌, ◌+◌, ◌≤◌, ℕ, List, length, is_err, ap, sym, subst, ◌∙◌, ◌++◌, codes}
 use Rattle.hex.specs.Hex.{encode_lower}
-use Rattle.uimg_base.specs.Outcome.{line}
-use Rattle.uimg_base.specs.Writing.{Written}
+use Rattle.uimg_base.{specs.{Outcome.line, Writing.Written}, proofs.Slices.length-slice}
 use Rattle.uimg_texts.specs.Slices.{slice}
-use Rattle.uimg_base.proofs.Slices.{length-slice}
 use Rattle.uimg_fit_reading.specs.Values.{address_text, eight_or_more}
 use Rattle.uimg_fit_reading.proofs.ShowLaws.{one_cell, two_cells, no_address}
 use Rattle.uimg_fit_reading.proofs.listing.addresses.put_address.Goals as goal

@@ -1,7 +1,6 @@
 use Rattle.std.proofs.Common.{◌≡◌, true, is_err, sym, subst}
 use Rattle.uimg_fit_reading.specs.declared.listing.rows.Row.{Row}
-use Rattle.uimg_fit_reading.specs.Rows.{keeps_row, row_cost, row_lines}
-use Rattle.uimg_fit_reading.specs.Telling.{ListsBetween}
+use Rattle.uimg_fit_reading.specs.{Rows.{keeps_row, row_cost, row_lines}, Telling.ListsBetween}
 use Rattle.uimg_fit_reading.proofs.RowLaws.{property_told}
 use Rattle.uimg_fit_reading.proofs.listing.fields.put_row.Goals as goal
 

@@ -1,11 +1,8 @@
 use Rattle.std.proofs.Common.{◌≡◌, ◌<◌, List, length, false, refl, take, subst, arith, Err}
-use Rattle.std.specs.List.{sum_by}
-use Rattle.std.proofs.lemmas.List.{take_all}
-use Rattle.uimg_fit_reading.specs.declared.listing.rows.Row.{Row}
+use Rattle.std.{specs.List.sum_by, proofs.lemmas.List.take_all}
+use Rattle.uimg_fit_reading.specs.{declared.listing.rows.Row.Row, Telling.ListsBetween}
 use Rattle.uimg_fit_reading.specs.Rows.{keeps_row, row_cost, row_lines, rows_lines}
-use Rattle.uimg_fit_reading.specs.Telling.{ListsBetween}
-use Rattle.uimg_fit_reading.proofs.RowLaws.{passes_at, rows_more, rows_fail}
-use Rattle.uimg_fit_reading.proofs.TellingLaws.{no_lists}
+use Rattle.uimg_fit_reading.proofs.{RowLaws.{passes_at, rows_more, rows_fail}, TellingLaws.no_lists}
 use Rattle.uimg_fit_reading.proofs.OpenedLaws.{kept, stays}
 use Rattle.uimg_fit_reading.proofs.PassedLaws.{failed_of, leaves_stops, leaves_then}
 use Rattle.uimg_fit_reading.proofs.listing.fields.put_rows.Goals as goal

@@ -1,10 +1,6 @@
-use Rattle.std.proofs.Common.{◌≡◌, Ok, take, true, false}
-use Rattle.std.specs.List.{list_all, sum_by}
-use Rattle.uimg_fit_reading.specs.Nodes.{OfAnyNode}
-use Rattle.uimg_fit_reading.specs.OpenFits.{InFit}
-use Rattle.uimg_fit_reading.specs.Puts.{LeavesBetween}
-use Rattle.uimg_fit_reading.specs.Rows.{keeps_row, row_cost, rows_lines}
-use Rattle.uimg_fit_reading.specs.Telling.{ListsBetween}
+use Rattle.std.{proofs.Common.{◌≡◌, Ok, take, true, false}, specs.List.{list_all, sum_by}}
+use Rattle.uimg_fit_reading.specs.{Nodes.OfAnyNode, OpenFits.InFit, Puts.LeavesBetween}
+use Rattle.uimg_fit_reading.specs.{Rows.{keeps_row, row_cost, rows_lines}, Telling.ListsBetween}
 use Rattle.uimg_fit_reading.proofs.listing.fields.put_rows.Given as goal
 
 -- the lines of the rows so far were written

@@ -1,11 +1,9 @@
 use Rattle.std.proofs.Common.{rules, ℕ, Option, sym, subst, List, [], ◌∷◌, append_assoc}
 use Rattle.std.specs.Prelude.{is_err}
 use Rattle.uimg_base.specs.Writing.{Written}
-use Rattle.uimg_fit_reading.specs.Shows.{size_line}
-use Rattle.uimg_fit_reading.proofs.PutLaws.{line_then}
-use Rattle.uimg_fit_reading.proofs.PassedLaws.{own_stops}
+use Rattle.uimg_fit_reading.specs.{Shows.size_line, Puts.PutsOwn}
+use Rattle.uimg_fit_reading.proofs.{PutLaws.line_then, PassedLaws.own_stops}
 use Rattle.uimg_texts.specs.Sizes.{size_text}
-use Rattle.uimg_fit_reading.specs.Puts.{PutsOwn}
 use Rattle.uimg_fit_reading.proofs.listing.fields.put_size_line.Goals as goal
 
 pub returns : goal.returns

@@ -1,7 +1,6 @@
 use Rattle.std.proofs.Common.{ℕ, List, Option, ◌++◌, codes, sym, subst}
 use Rattle.uimg_base.specs.Outcome.{line}
-use Rattle.uimg_fit_reading.specs.Heads.{created_line}
-use Rattle.uimg_fit_reading.specs.Puts.{PutsOwn}
+use Rattle.uimg_fit_reading.specs.{Heads.created_line, Puts.PutsOwn}
 use Rattle.uimg_fit_reading.proofs.listing.heads.put_created.Goals as goal
 
 pub returns-in-Some : goal.returns-in-Some

@@ -1,8 +1,7 @@
 use Rattle.std.proofs.Common.{Option, Ok, sym, subst}
 use Rattle.uimg_base.specs.declared.spans.Span.{Span}
 use Rattle.uimg_fit_base.specs.Files.{bytes_in}
-use Rattle.uimg_fit_reading.specs.Heads.{span_size, default_line}
-use Rattle.uimg_fit_reading.specs.Puts.{PutsBetween}
+use Rattle.uimg_fit_reading.specs.{Heads.{span_size, default_line}, Puts.PutsBetween}
 use Rattle.uimg_fit_reading.proofs.PutLaws.{puts_none}
 use Rattle.uimg_fit_reading.proofs.listing.heads.put_default.Goals as goal
 

@@ -1,10 +1,7 @@
 use Rattle.std.proofs.Common.{rules, ◌++◌, ◌∷◌, [], ℕ, List, true, is_err, codes, sym, subst}
-use Rattle.uimg_texts.specs.Nul.{text}
-use Rattle.uimg_texts.specs.Slices.{slice}
-use Rattle.uimg_base.specs.Writing.{Written}
-use Rattle.uimg_base.proofs.WritingLaws.{written_then}
-use Rattle.uimg_fit_reading.proofs.PutLaws.{cut, quoted_parts}
-use Rattle.uimg_fit_reading.proofs.PassedLaws.{failed_of}
+use Rattle.uimg_texts.specs.{Nul.text, Slices.slice}
+use Rattle.uimg_base.{specs.Writing.Written, proofs.WritingLaws.written_then}
+use Rattle.uimg_fit_reading.proofs.{PutLaws.{cut, quoted_parts}, PassedLaws.failed_of}
 use Rattle.uimg_fit_reading.proofs.listing.heads.put_default_line.Goals as goal
 
 pub returns-in_err-put : goal.returns-in_err-put

@@ -1,6 +1,5 @@
 use Rattle.std.proofs.Common.{rules, Option, is_err, sym, subst}
-use Rattle.uimg_base.specs.Writing.{Written}
-use Rattle.uimg_base.specs.declared.spans.Span.{Span}
+use Rattle.uimg_base.specs.{Writing.Written, declared.spans.Span.Span}
 use Rattle.uimg_fit_base.specs.Files.{bytes_in}
 use Rattle.uimg_fit_reading.specs.Heads.{description_line}
 use Rattle.uimg_fit_reading.proofs.listing.heads.put_description.Goals as goal

@@ -1,13 +1,10 @@
 use Rattle.std.proofs.Common.{rules, ◌≡◌, ◌+◌, ◌++◌, ◌∙◌, IsTrue, subst, sym, ap, refl, ℕ, List, Bool, true, false, arith}
 use Rattle.hex.specs.Hex.{encode_lower, encode_with}
 use Rattle.uimg_texts.specs.Slices.{slice}
-use Rattle.uimg_base.specs.Sink.{AppendsAll}
-use Rattle.uimg_base.specs.Writing.{Written}
+use Rattle.uimg_base.{specs.{Sink.AppendsAll, Writing.Written}, proofs.Slices.slice-add}
 use Rattle.uimg_base.proofs.SinkLaws.{Appends-none, all_then}
-use Rattle.uimg_base.proofs.Slices.{slice-add}
 use Rattle.uimg_blob_reading.proofs.TextLaws.{written_all}
-use Rattle.uimg_fit_reading.proofs.PutLaws.{three_parts, stopped}
-use Rattle.uimg_fit_reading.proofs.ShowLaws.{encode_append}
+use Rattle.uimg_fit_reading.proofs.{PutLaws.{three_parts, stopped}, ShowLaws.encode_append}
 use Rattle.uimg_fit_reading.proofs.PassedLaws.{failed_of}
 use Rattle.uimg_fit_reading.proofs.listing.hexadecimal.put_hexadecimal.Goals as goal
 

@@ -1,8 +1,7 @@
 use Rattle.std.proofs.Common.{◌≡◌, ◌≤◌, ◌+◌, ◌-◌, IsTrue}
 use Rattle.hex.specs.Hex.{encode_lower}
-use Rattle.uimg_base.specs.Device.{SameDevice}
+use Rattle.uimg_base.specs.{Device.SameDevice, Sink.AppendsAll}
 use Rattle.uimg_texts.specs.Slices.{slice}
-use Rattle.uimg_base.specs.Sink.{AppendsAll}
 use Rattle.uimg_fit_reading.proofs.listing.hexadecimal.put_hexadecimal.Given as goal
 
 -- the first `done` bytes were asked for and written

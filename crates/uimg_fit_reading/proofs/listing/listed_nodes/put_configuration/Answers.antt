@@ -1,8 +1,6 @@
-use Rattle.std.proofs.Common.{refl, is_err, arith}
-use Rattle.std.specs.Prelude.{codes}
+use Rattle.std.{proofs.Common.{refl, is_err, arith}, specs.Prelude.codes}
 use Rattle.uimg_blob_reading.specs.Roles.{in_configurations}
-use Rattle.uimg_fit_reading.proofs.SharesLaws.{two_texts, one_text}
-use Rattle.uimg_fit_reading.proofs.TellingLaws.{more_lists}
+use Rattle.uimg_fit_reading.proofs.{SharesLaws.{two_texts, one_text}, TellingLaws.more_lists}
 use Rattle.uimg_fit_reading.proofs.listing.listed_nodes.put_configuration.Goals as goal
 
 pub returns-clause-told : goal.returns-clause-told

@@ -1,8 +1,6 @@
-use Rattle.std.proofs.Common.{refl, is_err, arith}
-use Rattle.std.specs.Prelude.{codes}
+use Rattle.std.{proofs.Common.{refl, is_err, arith}, specs.Prelude.codes}
 use Rattle.uimg_blob_reading.specs.Roles.{in_image}
-use Rattle.uimg_fit_reading.proofs.RowLaws.{keeps_hash}
-use Rattle.uimg_fit_reading.proofs.SharesLaws.{two_texts}
+use Rattle.uimg_fit_reading.proofs.{RowLaws.keeps_hash, SharesLaws.two_texts}
 use Rattle.uimg_fit_reading.proofs.TellingLaws.{more_lists}
 use Rattle.uimg_fit_reading.proofs.listing.listed_nodes.put_hash.Goals as goal
 

@@ -1,9 +1,6 @@
-use Rattle.std.proofs.Common.{rules, ℕ, List, Option, refl, subst, Err}
-use Rattle.std.specs.List.{flat_map}
-use Rattle.uimg_blob_reading.specs.LookUps.{NodeOf}
-use Rattle.uimg_blob_reading.specs.Spots.{Spot}
-use Rattle.uimg_fit_reading.specs.Listing.{hash_node_lines}
-use Rattle.uimg_fit_reading.specs.Nodes.{HashesAt, FirstHash}
+use Rattle.std.{proofs.Common.{rules, ℕ, List, Option, refl, subst, Err}, specs.List.flat_map}
+use Rattle.uimg_blob_reading.specs.{LookUps.NodeOf, Spots.Spot}
+use Rattle.uimg_fit_reading.specs.{Listing.hash_node_lines, Nodes.{HashesAt, FirstHash}}
 use Rattle.uimg_fit_reading.proofs.TellingLaws.{left_more, left_fails, left_ends}
 use Rattle.uimg_fit_reading.proofs.OpenedLaws.{stays}
 use Rattle.uimg_fit_reading.proofs.PassedLaws.{failed_of, leaves_stops, leaves_then}

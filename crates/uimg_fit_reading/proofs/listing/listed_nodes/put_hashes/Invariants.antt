@@ -1,13 +1,8 @@
-use Rattle.std.proofs.Common.{◌-◌, ◌<◌, List, length, IfSome, Ok}
-use Rattle.std.specs.List.{flat_map}
+use Rattle.std.{proofs.Common.{◌-◌, ◌<◌, List, length, IfSome, Ok}, specs.List.flat_map}
 use Rattle.std.specs.Option.{option_map_or}
-use Rattle.uimg_blob_reading.specs.Grammar.{Siblings}
-use Rattle.uimg_blob_reading.specs.LookUps.{NodeOf}
-use Rattle.uimg_blob_reading.specs.Spots.{Spot}
-use Rattle.uimg_fit_reading.specs.Listing.{hash_node_lines}
-use Rattle.uimg_fit_reading.specs.Nodes.{HashesAt, Opened}
-use Rattle.uimg_fit_reading.specs.OpenFits.{InFit}
-use Rattle.uimg_fit_reading.specs.Puts.{LeavesBetween}
+use Rattle.uimg_blob_reading.specs.{Grammar.Siblings, LookUps.NodeOf, Spots.Spot}
+use Rattle.uimg_fit_reading.specs.{Listing.hash_node_lines, Nodes.{HashesAt, Opened}}
+use Rattle.uimg_fit_reading.specs.{OpenFits.InFit, Puts.LeavesBetween}
 use Rattle.uimg_fit_reading.proofs.TellingLaws.{Left}
 use Rattle.uimg_fit_reading.proofs.listing.listed_nodes.put_hashes.Given as goal
 

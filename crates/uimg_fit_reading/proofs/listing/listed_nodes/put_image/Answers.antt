@@ -1,12 +1,10 @@
 use Rattle.std.proofs.Common.{◌++◌, ℕ, Option, refl, is_err, ap, subst, ◌∙◌, arith, codes}
 use Rattle.std.specs.List.{flat_map}
 use Rattle.uimg_base.specs.Writing.{Written}
-use Rattle.uimg_fit_reading.specs.Listing.{size_in}
-use Rattle.uimg_blob_reading.specs.LookUps.{hashes}
-use Rattle.uimg_fit_reading.specs.Listing.{hash_node_lines}
+use Rattle.uimg_fit_reading.specs.Listing.{size_in, hash_node_lines}
 use Rattle.uimg_fit_reading.specs.Rows.{image_rows, rows_lines, title}
-use Rattle.uimg_fit_reading.proofs.OpenedLaws.{still}
-use Rattle.uimg_fit_reading.proofs.SharesLaws.{hashes_allowed}
+use Rattle.uimg_blob_reading.specs.LookUps.{hashes}
+use Rattle.uimg_fit_reading.proofs.{OpenedLaws.still, SharesLaws.hashes_allowed}
 use Rattle.uimg_fit_reading.proofs.listing.listed_nodes.put_image.Goals as goal
 
 pub returns-in-Ok-clause-told : goal.returns-in-Ok-clause-told

@@ -1,17 +1,13 @@
 use Rattle.std.proofs.Common.{◌≤◌, ◌+◌, ◌*◌, ℕ, List, true, false, refl, ap, is_err, subst, arith, append_assoc, codes}
 use Rattle.std.specs.List.{flat_map, list_all, sum_by}
-use Rattle.uimg_blob_reading.specs.Roles.{in_images}
-use Rattle.uimg_blob_reading.specs.LookUps.{NodeOf, hashes}
-use Rattle.uimg_blob_reading.specs.Spots.{Spot}
+use Rattle.uimg_blob_reading.specs.{Roles.in_images, LookUps.{NodeOf, hashes}, Spots.Spot}
 use Rattle.uimg_names.specs.declared.field.Field.TheVariants.{Architecture, System, Kind, Compression}
 use Rattle.uimg_names.specs.declared.naming.Naming.{Naming}
 use Rattle.uimg_fit_base.specs.Files.{value_bytes}
-use Rattle.uimg_fit_reading.specs.Allowances.{text_sizes, node_allowance}
-use Rattle.uimg_fit_reading.specs.Listing.{hash_node_lines}
+use Rattle.uimg_fit_reading.specs.{Allowances.{text_sizes, node_allowance}, Listing.hash_node_lines}
 use Rattle.uimg_fit_reading.specs.Rows.{image_rows, keeps_row, row_cost, rows_lines, title}
 use Rattle.uimg_fit_reading.specs.Telling.{ListsBetween}
-use Rattle.uimg_fit_reading.proofs.RowLaws.{name_cost, address_cost}
-use Rattle.uimg_fit_reading.proofs.SharesLaws.{one_text}
+use Rattle.uimg_fit_reading.proofs.{RowLaws.{name_cost, address_cost}, SharesLaws.one_text}
 use Rattle.uimg_fit_reading.proofs.TellingLaws.{then_lists, cut_lists, more_lists}
 use Rattle.uimg_fit_reading.proofs.OpenedLaws.{stays}
 use Rattle.uimg_fit_reading.proofs.PassedLaws.{failed_of, leaves_stops, leaves_then}

@@ -1,8 +1,6 @@
 use Rattle.std.proofs.Common.{is_err, sym, subst}
-use Rattle.uimg_fit_reading.specs.declared.listing.listed_nodes.Listed.{Listed}
-use Rattle.uimg_fit_reading.specs.Allowances.{node_allowance}
-use Rattle.uimg_fit_reading.specs.Nodes.{IsNode}
-use Rattle.uimg_fit_reading.specs.NodeLines.{level_of, node_lines}
+use Rattle.uimg_fit_reading.specs.{declared.listing.listed_nodes.Listed.Listed, Nodes.IsNode}
+use Rattle.uimg_fit_reading.specs.{Allowances.node_allowance, NodeLines.{level_of, node_lines}}
 use Rattle.uimg_fit_reading.specs.Telling.{ListsBetween}
 use Rattle.uimg_fit_reading.proofs.listing.listed_nodes.put_listed.Goals as goal
 

@@ -1,17 +1,11 @@
 use Rattle.std.proofs.Common.{◌≤◌, ◌<◌, ◌+◌, ℕ, List, length, Option, Some, IfSome, true, ap, subst, false, arith, Err}
 use Rattle.uimg_base.specs.Held.{Held}
-use Rattle.uimg_blob_reading.specs.LookUps.{NodeOf}
-use Rattle.uimg_blob_reading.specs.Roles.{Level}
-use Rattle.uimg_blob_reading.specs.Spots.{Spot}
-use Rattle.uimg_fit_reading.specs.Allowances.{node_allowance}
-use Rattle.uimg_fit_reading.specs.Listing.{numbered_lines}
-use Rattle.uimg_fit_reading.specs.NodeLines.{level_of, node_lines}
-use Rattle.uimg_fit_reading.specs.Nodes.{AreFrom}
-use Rattle.uimg_fit_reading.specs.Telling.{ListsBetween}
-use Rattle.uimg_fit_reading.proofs.ImageLaws.{front, none_left}
-use Rattle.uimg_fit_reading.proofs.TellingLaws.{left_more, left_fails, left_ends, numbered_more, numbered_none, within_next, none_after, same_level}
-use Rattle.uimg_fit_reading.proofs.OpenedLaws.{stays}
+use Rattle.uimg_blob_reading.specs.{LookUps.NodeOf, Roles.Level, Spots.Spot}
+use Rattle.uimg_fit_reading.specs.{Allowances.node_allowance, Listing.numbered_lines, Nodes.AreFrom}
+use Rattle.uimg_fit_reading.specs.{NodeLines.{level_of, node_lines}, Telling.ListsBetween}
+use Rattle.uimg_fit_reading.proofs.{ImageLaws.{front, none_left}, OpenedLaws.stays}
 use Rattle.uimg_fit_reading.proofs.PassedLaws.{failed_of, leaves_stops, leaves_then}
+use Rattle.uimg_fit_reading.proofs.TellingLaws.{left_more, left_fails, left_ends, numbered_more, numbered_none, within_next, none_after, same_level}
 use Rattle.uimg_fit_reading.proofs.listing.listed_nodes.put_listed_nodes.Goals as goal
 
 pub returns-in_default-clause-told : goal.returns-in_default-clause-told

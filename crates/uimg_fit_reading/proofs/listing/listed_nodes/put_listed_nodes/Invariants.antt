@@ -1,12 +1,7 @@
 use Rattle.std.proofs.Common.{◌≤◌, ◌<◌, List, length, IfSome, Ok}
-use Rattle.uimg_blob_reading.specs.Grammar.{Siblings}
-use Rattle.uimg_blob_reading.specs.LookUps.{NodeOf}
-use Rattle.uimg_blob_reading.specs.Spots.{Spot}
-use Rattle.uimg_fit_reading.specs.Listing.{numbered_lines}
-use Rattle.uimg_fit_reading.specs.NodeLines.{level_of, node_lines}
-use Rattle.uimg_fit_reading.specs.Nodes.{AreFrom, Opened}
-use Rattle.uimg_fit_reading.specs.OpenFits.{InFit}
-use Rattle.uimg_fit_reading.specs.Puts.{LeavesBetween}
+use Rattle.uimg_blob_reading.specs.{Grammar.Siblings, LookUps.NodeOf, Spots.Spot}
+use Rattle.uimg_fit_reading.specs.{Listing.numbered_lines, NodeLines.{level_of, node_lines}}
+use Rattle.uimg_fit_reading.specs.{Nodes.{AreFrom, Opened}, OpenFits.InFit, Puts.LeavesBetween}
 use Rattle.uimg_fit_reading.proofs.TellingLaws.{Left}
 use Rattle.uimg_fit_reading.proofs.listing.listed_nodes.put_listed_nodes.Given as goal
 

@@ -4,9 +4,7 @@ use Rattle.uimg_base.specs.Writing.{Written}
 use Rattle.uimg_fit_reading.specs.declared.listing.lists.Line.{Line}
 use Rattle.uimg_fit_reading.specs.declared.listing.lists.Line.TheVariants.{First, Next, Open}
 use Rattle.uimg_fit_reading.specs.Lists.{emitted, line_after, end_of_line}
-use Rattle.uimg_fit_reading.proofs.PutLaws.{◌▶◌, cut}
-use Rattle.uimg_fit_reading.proofs.ListLaws.{list_is}
-use Rattle.uimg_fit_reading.proofs.PassedLaws.{failed_of}
+use Rattle.uimg_fit_reading.proofs.{PutLaws.{◌▶◌, cut}, ListLaws.list_is, PassedLaws.failed_of}
 use Rattle.uimg_fit_reading.proofs.listing.lists.put_list_lines.Goals as goal
 
 pub returns-in_err-put_value : goal.returns-in_err-put_value

@@ -1,10 +1,8 @@
 use Rattle.std.proofs.Common.{rules, ◌≡◌, ◌≢◌, ◌++◌, ◌∙◌, subst, sym, ap, refl, ℕ, List, length, true, false}
 use Rattle.uimg_texts.specs.Nul.{text}
-use Rattle.uimg_base.specs.Outcome.{line}
-use Rattle.uimg_base.specs.Writing.{Written}
+use Rattle.uimg_base.specs.{Outcome.line, Writing.Written}
 use Rattle.uimg_fit_reading.specs.Lists.{start_of}
-use Rattle.uimg_fit_reading.proofs.ListLaws.{piece_open, piece_ended}
-use Rattle.uimg_fit_reading.proofs.PassedLaws.{failed_of}
+use Rattle.uimg_fit_reading.proofs.{ListLaws.{piece_open, piece_ended}, PassedLaws.failed_of}
 use Rattle.uimg_fit_reading.proofs.listing.lists.put_piece.Goals as goal
 
 pub returns-in_err-put_pair-clause-puts : goal.returns-in_err-put_pair-clause-puts

@@ -1,11 +1,8 @@
 use Rattle.std.proofs.Common.{rules, ◌≡◌, ◌+◌, ◌++◌, ◌∙◌, subst, sym, ap, refl, ℕ, List, length, take, drop, take-append-drop, length-drop, arith}
 use Rattle.std.proofs.Math.Seq.{take-add}
-use Rattle.uimg_base.specs.Sink.{AppendsAll}
-use Rattle.uimg_base.proofs.SinkLaws.{Appends-none, all_then}
-use Rattle.uimg_fit_reading.specs.declared.listing.lists.Line.{Line}
-use Rattle.uimg_fit_reading.specs.Lists.{emitted, line_after}
-use Rattle.uimg_fit_reading.proofs.PutLaws.{stopped}
-use Rattle.uimg_fit_reading.proofs.ListLaws.{emitted_append, after_append}
+use Rattle.uimg_base.{specs.Sink.AppendsAll, proofs.SinkLaws.{Appends-none, all_then}}
+use Rattle.uimg_fit_reading.specs.{declared.listing.lists.Line.Line, Lists.{emitted, line_after}}
+use Rattle.uimg_fit_reading.proofs.{PutLaws.stopped, ListLaws.{emitted_append, after_append}}
 use Rattle.uimg_fit_reading.proofs.PassedLaws.{failed_of}
 use Rattle.uimg_fit_reading.proofs.listing.lists.put_texts.Goals as goal
 

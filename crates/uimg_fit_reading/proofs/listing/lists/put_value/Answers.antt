@@ -1,16 +1,12 @@
 use Rattle.std.proofs.Common.{rules, ◌≡◌, ◌+◌, ◌-◌, ◌++◌, ◌∙◌, IsTrue, subst, sym, ap, refl, ℕ, List, Bool, true, false, arith}
 use Rattle.uimg_texts.specs.Slices.{slice}
-use Rattle.uimg_base.specs.Sink.{AppendsAll}
-use Rattle.uimg_base.specs.Writing.{Written}
+use Rattle.uimg_base.{specs.{Sink.AppendsAll, Writing.Written}, proofs.Slices.slice-add}
 use Rattle.uimg_base.proofs.SinkLaws.{Appends-none, all_then}
-use Rattle.uimg_base.proofs.Slices.{slice-add}
 use Rattle.uimg_blob_reading.proofs.TextLaws.{written_all}
-use Rattle.uimg_fit_reading.specs.declared.listing.lists.Line.{Line}
-use Rattle.uimg_fit_reading.specs.declared.listing.lists.Line.TheVariants.{First}
+use Rattle.uimg_fit_reading.specs.declared.listing.lists.Line.{Line, TheVariants.First}
 use Rattle.uimg_fit_reading.specs.Lists.{emitted, line_after}
 use Rattle.uimg_fit_reading.proofs.PutLaws.{three_parts, stopped}
-use Rattle.uimg_fit_reading.proofs.ListLaws.{emitted_append, after_append}
-use Rattle.uimg_fit_reading.proofs.PassedLaws.{failed_of}
+use Rattle.uimg_fit_reading.proofs.{ListLaws.{emitted_append, after_append}, PassedLaws.failed_of}
 use Rattle.uimg_fit_reading.proofs.listing.lists.put_value.Goals as goal
 
 pub loop-done-init : goal.loop-done-init

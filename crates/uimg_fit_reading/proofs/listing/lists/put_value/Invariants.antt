@@ -1,7 +1,6 @@
 use Rattle.std.proofs.Common.{◌≡◌, ◌≤◌, ◌+◌, ◌-◌, IsTrue}
-use Rattle.uimg_base.specs.Device.{SameDevice}
+use Rattle.uimg_base.specs.{Device.SameDevice, Sink.AppendsAll}
 use Rattle.uimg_texts.specs.Slices.{slice}
-use Rattle.uimg_base.specs.Sink.{AppendsAll}
 use Rattle.uimg_fit_reading.specs.declared.listing.lists.Line.TheVariants.{First}
 use Rattle.uimg_fit_reading.specs.Lists.{emitted, line_after}
 use Rattle.uimg_fit_reading.proofs.listing.lists.put_value.Given as goal

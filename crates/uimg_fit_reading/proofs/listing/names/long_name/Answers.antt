@@ -1,6 +1,5 @@
 use Rattle.std.proofs.Common.{ℕ, Option, sym, ◌∙◌, subst}
-use Rattle.uimg_texts.specs.Nul.{text}
-use Rattle.uimg_texts.specs.Slices.{slice}
+use Rattle.uimg_texts.specs.{Nul.text, Slices.slice}
 use Rattle.uimg_blob_reading.specs.Texts.{GivesShort}
 use Rattle.uimg_names.proofs.LengthLaws.{longer_unknown}
 use Rattle.uimg_fit_reading.proofs.listing.names.long_name.Goals as goal

@@ -1,10 +1,7 @@
-use Rattle.std.proofs.Common.{refl, List, ℕ, true, false, is_err, subst, arith}
-use Rattle.std.specs.List.{sum_by}
+use Rattle.std.{proofs.Common.{refl, List, ℕ, true, false, is_err, subst, arith}, specs.List.sum_by}
 use Rattle.uimg_base.specs.Writing.{Written}
-use Rattle.uimg_fit_reading.specs.Rows.{row_cost, rows_lines, title}
-use Rattle.uimg_fit_reading.specs.Telling.{ListsBetween}
-use Rattle.uimg_fit_reading.proofs.OpenedLaws.{still}
-use Rattle.uimg_fit_reading.proofs.TellingLaws.{then_lists, cut_lists}
+use Rattle.uimg_fit_reading.specs.{Rows.{row_cost, rows_lines, title}, Telling.ListsBetween}
+use Rattle.uimg_fit_reading.proofs.{OpenedLaws.still, TellingLaws.{then_lists, cut_lists}}
 use Rattle.uimg_fit_reading.proofs.PassedLaws.{failed_of, leaves_stops, leaves_then, puts_leave}
 use Rattle.uimg_fit_reading.proofs.listing.titles.put_node.Goals as goal
 

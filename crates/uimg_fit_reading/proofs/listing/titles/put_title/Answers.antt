@@ -1,8 +1,7 @@
 use Rattle.std.proofs.Common.{rules, ℕ, List, true, is_err, decimal, sym, subst}
 use Rattle.uimg_texts.specs.Slices.{slice}
 use Rattle.uimg_base.specs.Writing.{Written}
-use Rattle.uimg_fit_reading.proofs.PutLaws.{◌▶◌, cut, title_parts}
-use Rattle.uimg_fit_reading.proofs.PassedLaws.{failed_of}
+use Rattle.uimg_fit_reading.proofs.{PutLaws.{◌▶◌, cut, title_parts}, PassedLaws.failed_of}
 use Rattle.uimg_fit_reading.proofs.listing.titles.put_title.Goals as goal
 
 pub returns-in_err-put_number : goal.returns-in_err-put_number

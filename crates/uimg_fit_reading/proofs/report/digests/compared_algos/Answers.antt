@@ -1,9 +1,7 @@
 use Rattle.std.proofs.Common.{rules, ◌∙◌, ℕ, Option, refl, subst, ap}
-use Rattle.uimg_fit_reading.specs.Nodes.{HashesAt}
-use Rattle.uimg_fit_reading.specs.Plans.{with_plan}
-use Rattle.uimg_fit_reading.proofs.OpenedLaws.{still}
+use Rattle.uimg_fit_reading.specs.{Nodes.HashesAt, Plans.with_plan}
+use Rattle.uimg_fit_reading.proofs.{OpenedLaws.still, PassedLaws.failed_of}
 use Rattle.uimg_fit_reading.proofs.HashReportLaws.{algos_first, algos_more, algos_cut, algos_all}
-use Rattle.uimg_fit_reading.proofs.PassedLaws.{failed_of}
 use Rattle.uimg_fit_reading.proofs.report.digests.compared_algos.Goals as goal
 
 pub loop-next-init : goal.loop-next-init

@@ -1,9 +1,6 @@
-use Rattle.std.proofs.Common.{◌≡◌, ◌-◌, ◌<◌, List, length, IfSome}
-use Rattle.std.specs.Option.{option_map_or}
+use Rattle.std.{proofs.Common.{◌≡◌, ◌-◌, ◌<◌, List, length, IfSome}, specs.Option.option_map_or}
 use Rattle.uimg_base.specs.Device.{SameDevice}
-use Rattle.uimg_blob_reading.specs.Grammar.{Siblings}
-use Rattle.uimg_blob_reading.specs.LookUps.{NodeOf}
-use Rattle.uimg_blob_reading.specs.Spots.{Spot}
+use Rattle.uimg_blob_reading.specs.{Grammar.Siblings, LookUps.NodeOf, Spots.Spot}
 use Rattle.uimg_fit_reading.specs.Nodes.{Opened, HashesAt}
 use Rattle.uimg_fit_reading.proofs.HashReportLaws.{AlgosLeft}
 use Rattle.uimg_fit_reading.proofs.report.digests.compared_algos.Given as goal

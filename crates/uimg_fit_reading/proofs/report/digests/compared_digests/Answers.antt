@@ -3,8 +3,7 @@ use Rattle.uimg_texts.specs.Slices.{slice}
 use Rattle.uimg_fit_base.specs.declared.algo_sets.AlgoSet.{AlgoSet}
 use Rattle.uimg_fit_base.specs.AlgoSets.{is_empty, no_algos, AreDigests}
 use Rattle.uimg_fit_reading.specs.HashReports.{AllCovered}
-use Rattle.uimg_fit_reading.proofs.OpenedLaws.{still}
-use Rattle.uimg_fit_reading.proofs.PlanLaws.{of_answer, if_err}
+use Rattle.uimg_fit_reading.proofs.{OpenedLaws.still, PlanLaws.{of_answer, if_err}}
 use Rattle.uimg_fit_reading.proofs.CompareLaws.{all_covered, read_where_compared}
 use Rattle.uimg_fit_reading.proofs.PassedLaws.{failed_of}
 use Rattle.uimg_fit_reading.proofs.report.digests.compared_digests.Goals as goal

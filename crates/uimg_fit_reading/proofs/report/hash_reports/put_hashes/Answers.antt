@@ -1,12 +1,11 @@
 use Rattle.std.proofs.Common.{rules, refl, ◌∙◌, ◌&&◌, ℕ, List, Option, Bool, true, false, subst, sym, Err}
 use Rattle.uimg_texts.specs.Slices.{slice}
 use Rattle.uimg_base.specs.Writing.{Written}
-use Rattle.uimg_fit_base.specs.AlgoSets.{set_of}
-use Rattle.uimg_fit_base.specs.Report.{hash_line}
+use Rattle.uimg_fit_base.specs.{AlgoSets.set_of, Report.hash_line}
 use Rattle.uimg_fit_reading.specs.Nodes.{HashesAt}
 use Rattle.uimg_fit_reading.proofs.OpenedLaws.{kept, kept_then, stays}
-use Rattle.uimg_fit_reading.proofs.HashReportLaws.{LinesLeft, lines_first, lines_more, lines_cut, lines_all, covered_first}
 use Rattle.uimg_fit_reading.proofs.PassedLaws.{failed_of, leaves_stops, leaves_then}
+use Rattle.uimg_fit_reading.proofs.HashReportLaws.{LinesLeft, lines_first, lines_more, lines_cut, lines_all, covered_first}
 use Rattle.uimg_fit_reading.proofs.report.hash_reports.put_hashes.Goals as goal
 
 pub loop-next-init : goal.loop-next-init

@@ -1,12 +1,9 @@
 use Rattle.std.proofs.Common.{◌≡◌, ◌-◌, ◌<◌, ℕ, List, length, IfSome, false}
 use Rattle.std.specs.Option.{option_map_or}
 use Rattle.uimg_texts.specs.Slices.{slice}
-use Rattle.uimg_blob_reading.specs.Grammar.{Siblings}
-use Rattle.uimg_blob_reading.specs.LookUps.{NodeOf}
-use Rattle.uimg_blob_reading.specs.Spots.{Spot}
+use Rattle.uimg_blob_reading.specs.{Grammar.Siblings, LookUps.NodeOf, Spots.Spot}
 use Rattle.uimg_fit_base.specs.AlgoSets.{set_of, AreDigests}
-use Rattle.uimg_fit_reading.specs.HashReports.{AllCovered}
-use Rattle.uimg_fit_reading.specs.Nodes.{HashesAt, Opened}
+use Rattle.uimg_fit_reading.specs.{HashReports.AllCovered, Nodes.{HashesAt, Opened}}
 use Rattle.uimg_fit_reading.specs.OpenFits.{file_of, InFit, KeepsBetween}
 use Rattle.uimg_fit_reading.proofs.HashReportLaws.{LinesLeft}
 use Rattle.uimg_fit_reading.proofs.report.hash_reports.put_hashes.Given as goal

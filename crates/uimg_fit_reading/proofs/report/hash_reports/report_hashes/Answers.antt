@@ -2,8 +2,7 @@ use Rattle.std.proofs.Common.{ℕ, List, subst, arith}
 use Rattle.uimg_texts.specs.Slices.{slice}
 use Rattle.uimg_base.proofs.SinkLaws.{prefix_none}
 use Rattle.uimg_fit_reading.specs.HashReports.{PutsHashesBetween}
-use Rattle.uimg_fit_reading.proofs.OpenedLaws.{stays}
-use Rattle.uimg_fit_reading.proofs.HashReportLaws.{costs}
+use Rattle.uimg_fit_reading.proofs.{OpenedLaws.stays, HashReportLaws.costs}
 use Rattle.uimg_fit_reading.proofs.report.hash_reports.report_hashes.Goals as goal
 
 pub returns-in_default-clause-told : goal.returns-in_default-clause-told

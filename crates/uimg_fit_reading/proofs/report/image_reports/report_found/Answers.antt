@@ -2,8 +2,7 @@ use Rattle.std.proofs.Common.{◌∙◌, true, false, not, refl, ap, arith}
 use Rattle.uimg_texts.specs.Slices.{slice}
 use Rattle.uimg_blob_reading.specs.Roles.{in_images}
 use Rattle.uimg_fit_reading.proofs.ImageReportLaws.{none_found, some_found, no_hashes}
-use Rattle.uimg_fit_reading.proofs.PlanLaws.{if_err}
-use Rattle.uimg_fit_reading.proofs.PassedLaws.{failed_of}
+use Rattle.uimg_fit_reading.proofs.{PlanLaws.if_err, PassedLaws.failed_of}
 use Rattle.uimg_fit_reading.proofs.report.image_reports.report_found.Goals as goal
 
 pub returns-in_err-put_unhashed-clause-told : goal.returns-in_err-put_unhashed-clause-told

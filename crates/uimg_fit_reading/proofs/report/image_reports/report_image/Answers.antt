@@ -2,12 +2,10 @@ use Rattle.std.proofs.Common.{◌≡◌, ℕ, List, Bool, refl, subst, sym}
 use Rattle.std.specs.Prelude.{Result, Ok, Err}
 use Rattle.uimg_texts.specs.Slices.{slice}
 use Rattle.uimg_base.proofs.Slices.{length-slice}
-use Rattle.uimg_fit_base.specs.declared.fault.Fault.{Fault}
-use Rattle.uimg_fit_base.specs.Faults.{of_move}
+use Rattle.uimg_fit_base.specs.{declared.fault.Fault.Fault, Faults.of_move}
 use Rattle.uimg_fit_reading.specs.ImageReports.{ReportsFoundBetween, ReportsImageBetween}
-use Rattle.uimg_fit_reading.proofs.OpenedLaws.{still}
+use Rattle.uimg_fit_reading.proofs.{OpenedLaws.still, PassedLaws.passed_on}
 use Rattle.uimg_fit_reading.proofs.ImageReportLaws.{image_done, image_failed, image_cut}
-use Rattle.uimg_fit_reading.proofs.PassedLaws.{passed_on}
 use Rattle.uimg_fit_reading.proofs.report.image_reports.report_image.Goals as goal
 
 pub returns-in_err-span-clause-told : goal.returns-in_err-span-clause-told

@@ -1,16 +1,13 @@
 use Rattle.std.proofs.Common.{rules, refl, ◌∙◌, ◌≡◌, ℕ, List, Option, Some, subst, sym}
 use Rattle.std.specs.Prelude.{Result, Err}
 use Rattle.uimg_base.specs.declared.status.Status.{Status}
-use Rattle.uimg_blob_reading.specs.LookUps.{NodeOf}
-use Rattle.uimg_blob_reading.specs.Roles.{in_images}
-use Rattle.uimg_blob_reading.specs.Spots.{Spot}
+use Rattle.uimg_blob_reading.specs.{LookUps.NodeOf, Roles.in_images, Spots.Spot}
 use Rattle.uimg_fit_base.specs.declared.fault.Fault.{Fault}
 use Rattle.uimg_fit_reading.specs.ImageReports.{ImageDone, ImageCut, ReportsImagesBetween}
 use Rattle.uimg_fit_reading.specs.Nodes.{AreFrom}
-use Rattle.uimg_fit_reading.proofs.OpenedLaws.{kept, kept_then, stays}
-use Rattle.uimg_fit_reading.proofs.ImageLaws.{front}
-use Rattle.uimg_fit_reading.proofs.ImageReportLaws.{all_images, images_more, images_cut, images_done}
+use Rattle.uimg_fit_reading.proofs.{OpenedLaws.{kept, kept_then, stays}, ImageLaws.front}
 use Rattle.uimg_fit_reading.proofs.PassedLaws.{passed_on}
+use Rattle.uimg_fit_reading.proofs.ImageReportLaws.{all_images, images_more, images_cut, images_done}
 use Rattle.uimg_fit_reading.proofs.report.image_reports.report_images.Goals as goal
 
 pub loop-next-init : goal.loop-next-init

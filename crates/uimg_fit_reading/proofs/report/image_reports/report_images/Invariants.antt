@@ -1,11 +1,7 @@
 use Rattle.std.proofs.Common.{◌≡◌, ◌-◌, ◌<◌, List, length, IfSome, false}
 use Rattle.std.specs.Option.{option_map_or}
-use Rattle.uimg_blob_reading.specs.Grammar.{Siblings}
-use Rattle.uimg_blob_reading.specs.LookUps.{NodeOf}
-use Rattle.uimg_blob_reading.specs.Roles.{in_images}
-use Rattle.uimg_blob_reading.specs.Spots.{Spot}
-use Rattle.uimg_fit_reading.specs.Nodes.{AreFrom, Opened}
-use Rattle.uimg_fit_reading.specs.OpenFits.{file_of, InFit, KeepsBetween}
+use Rattle.uimg_blob_reading.specs.{Grammar.Siblings, LookUps.NodeOf, Roles.in_images, Spots.Spot}
+use Rattle.uimg_fit_reading.specs.{Nodes.{AreFrom, Opened}, OpenFits.{file_of, InFit, KeepsBetween}}
 use Rattle.uimg_fit_reading.proofs.ImageReportLaws.{ImagesLeft}
 use Rattle.uimg_fit_reading.proofs.report.image_reports.report_images.Given as goal
 

@@ -1,10 +1,7 @@
 use Rattle.std.proofs.Common.{ℕ, List, refl, subst, sym, ap, ◌∙◌, ◌≡◌}
-use Rattle.uimg_fit_base.specs.AlgoSets.{set_of}
-use Rattle.uimg_fit_base.specs.Report.{word_of}
-use Rattle.uimg_fit_reading.specs.declared.report.plans.Plan.{Plan}
-use Rattle.uimg_fit_reading.specs.Plans.{IsCovered, word_by}
-use Rattle.uimg_fit_reading.proofs.OpenedLaws.{still}
-use Rattle.uimg_fit_reading.proofs.PlanLaws.{of_answer}
+use Rattle.uimg_fit_base.specs.{AlgoSets.set_of, Report.word_of}
+use Rattle.uimg_fit_reading.specs.{declared.report.plans.Plan.Plan, Plans.{IsCovered, word_by}}
+use Rattle.uimg_fit_reading.proofs.{OpenedLaws.still, PlanLaws.of_answer}
 use Rattle.uimg_fit_reading.proofs.report.judging.judge.Goals as goal
 
 pub returns-clause-word : goal.returns-clause-word

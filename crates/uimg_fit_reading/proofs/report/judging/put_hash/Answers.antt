@@ -1,12 +1,8 @@
-use Rattle.std.proofs.Common.{ℕ, List, true, false, refl, subst, arith}
-use Rattle.std.specs.Prelude.{Ok}
+use Rattle.std.{proofs.Common.{ℕ, List, true, false, refl, subst, arith}, specs.Prelude.Ok}
 use Rattle.uimg_texts.specs.Slices.{slice}
-use Rattle.uimg_base.specs.Writing.{Written}
-use Rattle.uimg_base.proofs.SinkLaws.{prefix_none}
+use Rattle.uimg_base.{specs.Writing.Written, proofs.SinkLaws.prefix_none}
 use Rattle.uimg_fit_reading.specs.HashReports.{verdict_line}
-use Rattle.uimg_fit_reading.proofs.OpenedLaws.{still}
-use Rattle.uimg_fit_reading.proofs.PlanLaws.{if_err}
-use Rattle.uimg_fit_reading.proofs.LineLaws.{puts_line}
+use Rattle.uimg_fit_reading.proofs.{OpenedLaws.still, PlanLaws.if_err, LineLaws.puts_line}
 use Rattle.uimg_fit_reading.proofs.PassedLaws.{failed_of}
 use Rattle.uimg_fit_reading.proofs.report.judging.put_hash.Goals as goal
 

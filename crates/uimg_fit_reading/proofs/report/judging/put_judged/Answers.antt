@@ -1,9 +1,7 @@
-use Rattle.std.proofs.Common.{ℕ, List, subst, length, arith}
-use Rattle.std.specs.Prelude.{is_err}
+use Rattle.std.{proofs.Common.{ℕ, List, subst, length, arith}, specs.Prelude.is_err}
 use Rattle.uimg_base.specs.Writing.{Written}
 use Rattle.uimg_blob_reading.specs.Roles.{in_image}
-use Rattle.uimg_fit_reading.proofs.CompareLaws.{keeps_algo}
-use Rattle.uimg_fit_reading.proofs.LineLaws.{line_is, algo_long}
+use Rattle.uimg_fit_reading.proofs.{CompareLaws.keeps_algo, LineLaws.{line_is, algo_long}}
 use Rattle.uimg_fit_reading.proofs.report.judging.put_judged.Goals as goal
 
 pub returns-clause-told : goal.returns-clause-told

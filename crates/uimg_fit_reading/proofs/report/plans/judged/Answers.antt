@@ -1,9 +1,7 @@
-use Rattle.std.proofs.Common.{sym, ◌∙◌, ap, length, rules}
-use Rattle.std.specs.Prelude.{Bool, if◌then◌else◌}
+use Rattle.std.{proofs.Common.{sym, ◌∙◌, ap, length, rules}, specs.Prelude.{Bool, if◌then◌else◌}}
 use Rattle.uimg_fit_base.specs.declared.verdicts.Verdict.TheVariants.{Right, Wrong}
 use Rattle.uimg_fit_base.specs.AlgoSets.{set_of}
-use Rattle.uimg_fit_reading.proofs.PlanLaws.{compared_word, covered_algo}
-use Rattle.uimg_fit_reading.proofs.PassedLaws.{passed_on}
+use Rattle.uimg_fit_reading.proofs.{PlanLaws.{compared_word, covered_algo}, PassedLaws.passed_on}
 use Rattle.uimg_fit_reading.proofs.report.plans.judged.Goals as goal
 
 pub returns-then-branch-clause-word : goal.returns-then-branch-clause-word

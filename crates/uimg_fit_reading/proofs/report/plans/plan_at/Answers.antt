@@ -1,13 +1,11 @@
 use Rattle.std.proofs.Common.{subst, sym, ap, ◌∙◌}
-use Rattle.std.specs.Prelude.{◌≡◌, List, ℕ, Option, IfOk, length}
-use Rattle.std.specs.Option.{option_map}
+use Rattle.std.specs.{Prelude.{◌≡◌, List, ℕ, Option, IfOk, length}, Option.option_map}
 use Rattle.uimg_texts.specs.Nul.{text}
 use Rattle.uimg_base.specs.declared.spans.Span.{Span}
 use Rattle.uimg_blob_reading.specs.Roles.{in_image}
 use Rattle.uimg_fit_reading.specs.declared.report.plans.Plan.{Plan}
-use Rattle.uimg_fit_base.specs.Files.{bytes_in}
 use Rattle.uimg_fit_reading.specs.Plans.{plan_by_name, hash_plan, text_in, word_by}
-use Rattle.uimg_fit_base.specs.Report.{algo_name_of, by_name, word_of}
+use Rattle.uimg_fit_base.specs.{Files.bytes_in, Report.{algo_name_of, by_name, word_of}}
 use Rattle.uimg_fit_reading.proofs.PlanLaws.{planned_word, of_answer}
 use Rattle.uimg_fit_reading.proofs.CompareLaws.{keeps_algo, keeps_value}
 use Rattle.uimg_fit_reading.proofs.report.plans.plan_at.Goals as goal

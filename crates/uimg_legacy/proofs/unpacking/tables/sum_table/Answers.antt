@@ -1,10 +1,8 @@
 use Rattle.std.proofs.Common.{rules, ◌∙◌, ◌*◌, ℕ, subst, refl, arith}
 use Rattle.uimg_legacy.specs.UnpackingSteps.{SumsPieceBetween}
-use Rattle.uimg_sums.specs.Adding.{Adds, adds_nothing, adds_more}
-use Rattle.uimg_sums.specs.CrcSums.{Holds}
-use Rattle.uimg_base.proofs.RangeLaws.{nothing_summed, more_summed}
+use Rattle.uimg_sums.specs.{Adding.{Adds, adds_nothing, adds_more}, CrcSums.Holds}
+use Rattle.uimg_base.proofs.{RangeLaws.{nothing_summed, more_summed}, Slices.length-slice}
 use Rattle.uimg_texts.specs.Slices.{slice}
-use Rattle.uimg_base.proofs.Slices.{length-slice}
 use Rattle.uimg_legacy.proofs.SourceLaws.{honest_still, same_still, reads_by}
 use Rattle.uimg_legacy.proofs.PartsLaws.{length-words, parts_some, parts_none}
 use Rattle.uimg_legacy.proofs.ChunkLaws.{sizes_window}

@@ -1,8 +1,7 @@
 use Rattle.std.proofs.Common.{◌≡◌, ◌≤◌, ◌+◌, ◌-◌, ◌*◌, length, IsTrue}
 use Rattle.uimg_base.specs.Device.{SameDevice}
 use Rattle.uimg_texts.specs.Slices.{slice}
-use Rattle.uimg_legacy.specs.Parts.{sizes}
-use Rattle.uimg_legacy.specs.UnpackingSteps.{SumsPieceBetween}
+use Rattle.uimg_legacy.specs.{Parts.sizes, UnpackingSteps.SumsPieceBetween}
 use Rattle.uimg_legacy.proofs.unpacking.tables.sum_table.Given as goal
 
 -- the first words, as many as were asked for and summed, are not zero

@@ -1,8 +1,6 @@
-use Rattle.std.proofs.Common.{rules, ◌≡◌, ◌∙◌, true, sym, refl}
-use Rattle.std.specs.Prelude.{Err}
+use Rattle.std.{proofs.Common.{rules, ◌≡◌, ◌∙◌, true, sym, refl}, specs.Prelude.Err}
 use Rattle.uimg_legacy.specs.Unpacking.{is_there}
-use Rattle.uimg_legacy.proofs.SourceLaws.{same_still}
-use Rattle.uimg_legacy.proofs.DataLaws.{listed_data, listed_fault}
+use Rattle.uimg_legacy.proofs.{SourceLaws.same_still, DataLaws.{listed_data, listed_fault}}
 use Rattle.uimg_legacy.proofs.unpacking.taken_data.take_listed.Goals as goal
 
 pub returns-in_err-take_parts-clause-taken : goal.returns-in_err-take_parts-clause-taken

@@ -1,6 +1,5 @@
 use Rattle.std.proofs.Common.{rules, ◌∙◌, ◌+◌, ◌*◌, sym, arith}
-use Rattle.uimg_legacy.proofs.SourceLaws.{same_still}
-use Rattle.uimg_legacy.proofs.TakingLaws.{word_at, padded}
+use Rattle.uimg_legacy.proofs.{SourceLaws.same_still, TakingLaws.{word_at, padded}}
 use Rattle.uimg_legacy.proofs.unpacking.takes.take_next.Goals as goal
 
 pub returns-then-len-eq0-clause-refused : goal.returns-then-len-eq0-clause-refused

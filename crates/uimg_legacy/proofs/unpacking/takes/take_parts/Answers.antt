@@ -1,5 +1,4 @@
-use Rattle.std.proofs.Common.{rules, ◌≡◌, ◌∙◌, refl, arith}
-use Rattle.std.specs.Prelude.{Err}
+use Rattle.std.{proofs.Common.{rules, ◌≡◌, ◌∙◌, refl, arith}, specs.Prelude.Err}
 use Rattle.uimg_legacy.proofs.SourceLaws.{same_still}
 use Rattle.uimg_legacy.proofs.WalkLaws.{walked_none, walked_more, refused_next}
 use Rattle.uimg_legacy.proofs.unpacking.takes.take_parts.Goals as goal

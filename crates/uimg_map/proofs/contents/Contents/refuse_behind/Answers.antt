@@ -1,5 +1,4 @@
-use Rattle.std.proofs.Common.{◌≡◌, true, nat_lt}
-use Rattle.std.proofs.lemmas.Bool.{lt-ltb}
+use Rattle.std.proofs.{Common.{◌≡◌, true, nat_lt}, lemmas.Bool.lt-ltb}
 use Rattle.uimg_map.specs.Found.{refused_behind}
 use Rattle.uimg_map.proofs.contents.Contents.refuse_behind.Goals as goal
 

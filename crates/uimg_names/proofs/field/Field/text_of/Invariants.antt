@@ -1,6 +1,5 @@
 use Rattle.std.proofs.Common.{◌≡◌, map, drop}
-use Rattle.uimg_texts.specs.Names.{name_printed}
-use Rattle.uimg_texts.specs.CodeRows.{row_of}
+use Rattle.uimg_texts.specs.{Names.name_printed, CodeRows.row_of}
 use Rattle.uimg_names.specs.Naming.{all_rows, unknown}
 use Rattle.uimg_names.proofs.field.Field.text_of.Given as goal
 

@@ -1,6 +1,4 @@
-use Rattle.std.proofs.Common.{◌≡◌, drop}
-use Rattle.std.specs.Prelude.{find}
-use Rattle.std.specs.Str.{bytes_eq}
+use Rattle.std.{proofs.Common.{◌≡◌, drop}, specs.{Prelude.find, Str.bytes_eq}}
 use Rattle.uimg_sums.specs.Algorithms.{all_algos, algo_name, algo_named}
 use Rattle.uimg_sums.proofs.algo.Algo.named.Given as goal
 

@@ -1,10 +1,7 @@
 use Rattle.std.proofs.Common.{◌<◌, ◌≢◌, ◌∙◌, ◌++◌, length, None, arith, get_or-set_other}
-use Rattle.std.proofs.Math.ListN.{length-set}
-use Rattle.std.proofs.Math.Seq.{map-set_same}
+use Rattle.std.{proofs.Math.{ListN.length-set, Seq.map-set_same}, specs.Option.option_map}
 use Rattle.std.proofs.lemmas.List.Elements.{AllWithin-more_set}
-use Rattle.std.specs.Option.{option_map}
-use Rattle.uimg_sums.specs.AnySum.{algo_of}
-use Rattle.uimg_sums.specs.Bundle.{SlotHolds}
+use Rattle.uimg_sums.specs.{AnySum.algo_of, Bundle.SlotHolds}
 use Rattle.uimg_sums.proofs.bundle.Bundle.feed.Goals as goal
 
 pub loop-slot-preserved : goal.loop-slot-preserved

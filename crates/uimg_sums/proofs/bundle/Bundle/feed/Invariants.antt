@@ -1,8 +1,6 @@
-use Rattle.std.proofs.Common.{◌≡◌, ℕ, List, ◌++◌, map, length}
-use Rattle.std.specs.List.{All, AllWithin}
+use Rattle.std.{proofs.Common.{◌≡◌, ℕ, List, ◌++◌, map, length}, specs.List.{All, AllWithin}}
 use Rattle.std.specs.Option.{option_map}
-use Rattle.uimg_sums.specs.AnySum.{algo_of}
-use Rattle.uimg_sums.specs.Bundle.{SlotHolds}
+use Rattle.uimg_sums.specs.{AnySum.algo_of, Bundle.SlotHolds}
 use Rattle.uimg_sums.proofs.bundle.Bundle.feed.Given as goal
 
 -- the sums below the index were fed, and those from it on were not

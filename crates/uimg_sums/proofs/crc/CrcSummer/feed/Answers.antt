@@ -1,7 +1,5 @@
 use Rattle.std.proofs.Common.{◌≡◌, ap, sym, arith, ℕ, ◌∙◌, ◌*◌, ◌/◌, ◌++◌, List, take, length}
-use Rattle.std.specs.List.{concat, fold}
-use Rattle.std.proofs.lemmas.List.{take-append-drop}
-use Rattle.std.proofs.lemmas.List.Sums.{fold-append}
+use Rattle.std.{specs.List.{concat, fold}, proofs.lemmas.List.{take-append-drop, Sums.fold-append}}
 use Rattle.uimg_sums.specs.CrcSteps.{byte_step}
 use Rattle.uimg_sums.proofs.CrcLaw.{register_of-append, bytes-append, bytes_of}
 use Rattle.uimg_sums.proofs.CrcWord.{concat-first_chunks}

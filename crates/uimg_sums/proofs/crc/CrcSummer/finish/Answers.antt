@@ -1,5 +1,4 @@
-use Rattle.std.proofs.Common.{◌++◌, ap, refl, ℕ, List, ◌∙◌, drop}
-use Rattle.std.specs.Int.{to_be_bytes, w32}
+use Rattle.std.{proofs.Common.{◌++◌, ap, refl, ℕ, List, ◌∙◌, drop}, specs.Int.{to_be_bytes, w32}}
 use Rattle.uimg_sums.proofs.crc.CrcSummer.finish.Goals as goal
 
 pub returns-clause-digest : goal.returns-clause-digest

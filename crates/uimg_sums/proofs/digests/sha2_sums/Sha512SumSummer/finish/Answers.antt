@@ -1,7 +1,6 @@
 use Rattle.std.proofs.Common.{◌≡◌, ◌∙◌, ◌++◌, List, [], ap, arith, drop, sym, ℕ, append-nil}
 use Rattle.std.proofs.Math.ListN.{drop_of_length-le}
-use Rattle.sha2.specs.Sha512.{sha512}
-use Rattle.sha2.proofs.Facts512.{length-sha512}
+use Rattle.sha2.{specs.Sha512.sha512, proofs.Facts512.length-sha512}
 use Rattle.uimg_sums.proofs.digests.sha2_sums.Sha512SumSummer.finish.Goals as goal
 
 pub returns-clause-digest : goal.returns-clause-digest
