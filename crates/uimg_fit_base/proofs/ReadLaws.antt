@@ -21,7 +21,7 @@ refused : (b : Bool) (f g : BlobFault) (P : List ℕ → Type 0) → IfOk (if b 
 refused true f g P = tt
 refused false f g P = tt
 
-on-bind : {A B : Type 0} (P : A → Type 0) (Q : B → Type 0) (r : Result A Fault) (f : A → Result B Fault) → IfOk r P → ((x : A) → P x → IfOk (f x) Q) → IfOk (r >>= f) Q
+pub on-bind : {A B : Type 0} (P : A → Type 0) (Q : B → Type 0) (r : Result A Fault) (f : A → Result B Fault) → IfOk r P → ((x : A) → P x → IfOk (f x) Q) → IfOk (r >>= f) Q
 on-bind P Q (Ok x) f h g = g x h
 on-bind P Q (Err e) f h g = tt
 

@@ -9,6 +9,7 @@ use Rattle.uimg_fit_building.specs.{Building.{moved_from_by, moved_own_by}, Behi
 use Rattle.uimg_fit_building.specs.Filling.{in_first}
 use Rattle.uimg_fit_building.specs.UnreadTrees.{padded_size_of, unread_own, unread_from}
 use Rattle.uimg_fit_building.specs.Placing.{at_first, after_first, cells, is_data, placed_properties, placed_image, placed_images, is_images_node, with_placed, placed_children}
+use Rattle.uimg_fit_building.proofs.ImageFillLaws.{listed-siblings}
 
 module _ {X : Type 0} (test : X → Bool) (f : X → List X) (done rest whole : List X) (d : X) where
   first-step : (b : Bool) (more : List X) → test d ≡ b → at_first test f (d ∷ rest) ≡ (if b then f d ++ rest else d ∷ at_first test f rest)
@@ -138,11 +139,6 @@ unfolding placed_images
 images-end {A = A} align key at done whole ns e h = sym (append-nil done) ∙ ap (λ (l : List (Node A)). done ++ placed_images align key at l) (sym e) ∙ h
 
 -- the images of a tree, by its root's children
-
-listed-siblings : {A : Type 0} (ns : List (Node A)) → listed (siblings ns) ≡ map entry ns
-unfolding listed
-listed-siblings [] = refl
-listed-siblings (n ∷ ns) = ap (λ (l : List (NodeOf Content)). entry n ∷ l) (listed-siblings ns)
 
 abbrev sought : NodeOf Content → Bool
 sought c = bytes_eq (codes "images") c.name

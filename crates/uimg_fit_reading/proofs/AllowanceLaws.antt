@@ -7,6 +7,7 @@ use Rattle.uimg_blob_reading.specs.{Blob.{blocks, tree, met_in, met_from}, Spots
 use Rattle.uimg_blob_reading.specs.Tokens.{Property, Token, Blocks, begin_node, end_node, prop, nop, last, stray, tokens}
 use Rattle.uimg_blob_reading.specs.Grammar.{Siblings, none, node, properties, end, inside, children, ended, root, without_nops}
 use Rattle.uimg_blob_reading.specs.Counts.{is_begin, text_length, begun_by, sound_in, nodes_met, texts_met}
+use Rattle.uimg_fit_base.proofs.ReadLaws.{on-bind}
 use Rattle.uimg_fit_reading.specs.Allowances.{text_size, text_sizes, allowance}
 
 -- what a token leaves
@@ -47,10 +48,6 @@ without (end_node at ∷ ts) = omega (arith, without ts, step (end_node at) ts, 
 without (prop at p ∷ ts) = omega (arith, without ts, step (prop at p) ts, step (prop at p) (without_nops ts))
 without (last at ∷ ts) = omega (arith, without ts, step (last at) ts, step (last at) (without_nops ts))
 without (stray at fault ∷ ts) = omega (arith, without ts, step (stray at fault) ts, step (stray at fault) (without_nops ts))
-
-on-bind : {A B : Type 0} (P : A → Type 0) (Q : B → Type 0) (r : Result A Fault) (f : A → Result B Fault) → IfOk r P → ((x : A) → P x → IfOk (f x) Q) → IfOk (r >>= f) Q
-on-bind P Q (Ok x) f h g = g x h
-on-bind P Q (Err e) f h g = tt
 
 abbrev OwnPaid : ℕ → List Property × List Token → Type 0
 OwnPaid most r = 4 * text_sizes (map spot_of r.0) + worths r.1 ≤ most

@@ -9,10 +9,10 @@ use Rattle.uimg_fit_reading.specs.declared.listing.lists.Line.TheVariants.{First
 use Rattle.uimg_fit_reading.specs.Shows.{lines_of}
 use Rattle.uimg_fit_reading.specs.Lists.{start_of, emitted, line_after, end_of_line, IsPiece}
 
-abbrev behind : ℕ → Option (List ℕ) → Option (List ℕ)
+abbrev pub behind : ℕ → Option (List ℕ) → Option (List ℕ)
 behind n o = elim o as (λ _. Option (List ℕ)) [ None ↦ None | Some name ↦ Some (suc n ∷ name) ]
 
-by_nul : {P : Type 0} (o : Option (List ℕ)) → (o ≡ None → P) → ((t : List ℕ) → o ≡ Some t → P) → P
+pub by_nul : {P : Type 0} (o : Option (List ℕ)) → (o ≡ None → P) → ((t : List ℕ) → o ≡ Some t → P) → P
 by_nul None without within = without refl
 by_nul (Some t) without within = within t refl
 
@@ -57,7 +57,7 @@ bare_piece label (suc n ∷ p) l bare some =
     let rest = open_rest label p without in
     (ap (λ (w : List ℕ). start_of label l ++ suc n ∷ w) rest.0, rest.1)
 
-empty : (q : List ℕ) → length q ≤ 0 → q ≡ []
+pub empty : (q : List ℕ) → length q ≤ 0 → q ≡ []
 empty [] h = refl
 empty (x ∷ q) h = absurd (omega (arith, h))
 

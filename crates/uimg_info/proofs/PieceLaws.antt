@@ -1,20 +1,13 @@
 -- Texts, cut at their first NUL.
-use Rattle.std.proofs.Common.{◌≡◌, ◌<◌, ◌≤◌, ◌+◌, ℕ, zero, suc, List, [], ◌∷◌, length, take, drop, length-drop, ◌-◌, Option, Some, None, Bool, true, false, ◌&&◌, refl, ap, sym, ◌∙◌, arith}
+use Rattle.std.proofs.Common.{◌≡◌, ◌<◌, ◌≤◌, ◌+◌, ℕ, zero, suc, List, [], ◌∷◌, length, take, drop, length-drop, ◌-◌, Some, None, Bool, true, false, ◌&&◌, refl, ap, sym, ◌∙◌, arith}
 use Rattle.std.{proofs.lemmas.List.take_all, specs.{List.list_all, Str.is_utf8}}
 use Rattle.uimg_texts.specs.Nul.{before_nul}
 use Rattle.uimg_blob_reading.proofs.PhaseLaws.{some_none, some_some}
-use Rattle.uimg_fit_reading.specs.Values.{pieces, onto}
-
-abbrev behind : ℕ → Option (List ℕ) → Option (List ℕ)
-behind n o = elim o as (λ _. Option (List ℕ)) [ None ↦ None | Some name ↦ Some (suc n ∷ name) ]
+use Rattle.uimg_fit_reading.{specs.Values.{pieces, onto}, proofs.ListLaws.{behind, by_nul, empty}}
 
 abbrev tail : List ℕ → List ℕ
 tail [] = []
 tail (x ∷ xs) = xs
-
-by_nul : {P : Type 0} (o : Option (List ℕ)) → (o ≡ None → P) → ((t : List ℕ) → o ≡ Some t → P) → P
-by_nul None without within = without refl
-by_nul (Some t) without within = within t refl
 
 absurd_nil : {A : Type 0} (x : ℕ) (xs : List ℕ) → x ∷ xs ≡ [] → A
 absurd_nil x xs e = absurd (omega (arith, ap (λ (l : List ℕ). length l) e))
@@ -55,10 +48,6 @@ pub cut_none_at : (bs : List ℕ) → 0 < length bs → before_nul bs ≡ None �
 cut_none_at bs some is =
     let no : 0 ≡ length bs - length bs = omega arith in
     cut_none bs some is ∙ ap (λ (l : List (List ℕ)). bs ∷ l) (sym none_left) ∙ ap (λ (k : ℕ). bs ∷ pieces (take k (drop (length bs) bs))) no
-
-empty : (bs : List ℕ) → length bs ≤ 0 → bs ≡ []
-empty [] h = refl
-empty (x ∷ bs) h = absurd (omega (arith, h))
 
 pub no_pieces : (bs : List ℕ) → length bs ≤ 0 → pieces bs ≡ []
 no_pieces bs h = ap pieces (empty bs h) ∙ none_left

@@ -1,18 +1,12 @@
-use Rattle.std.proofs.Common.{◌≡◌, ◌≤◌, ◌<◌, ◌+◌, ◌^◌, min, length, ◌∙◌, ap, sym, subst, List, ℕ, Bor, arith}
+use Rattle.std.proofs.Common.{◌≡◌, ◌<◌, ◌+◌, ◌^◌, min, length, ◌∙◌, ap, sym, List, ℕ, Bor, arith}
 use Rattle.uimg_blob_reading.specs.declared.fault.BlobFault.TheVariants.{OutOfMemory}
 use Rattle.uimg_blob_writing.specs.{Alignment.aligned, Encoding.{strings, names_of, with_names_in}}
-use Rattle.uimg_blob_writing.specs.{Layouts.{Plan, plan_of, nodes_size, totalsize}, Trees.node_of}
-use Rattle.uimg_blob_writing.specs.{Measured.measured, Names.name_texts}
+use Rattle.uimg_blob_writing.specs.{Layouts.{Plan, nodes_size, totalsize}, Trees.node_of}
+use Rattle.uimg_blob_writing.specs.Names.{name_texts}
 use Rattle.uimg_blob_writing.proofs.MeasuredLaws.{are_named, not-memory, same-fault}
 use Rattle.uimg_blob_writing.proofs.{AlignmentLaws.large-by, TotalLaws.encode-size}
-use Rattle.uimg_blob_writing.proofs.PlanLaws.{on-ok, measured-ok, measured-large, measured-bad, Measures-bad}
+use Rattle.uimg_blob_writing.proofs.PlanLaws.{on-ok, measured-large}
 use Rattle.uimg_blob_writing.proofs.measuring.measure_by.Goals as goal
-
-pub returns-in_err-check_names-clause-measured : goal.returns-in_err-check_names-clause-measured
-returns-in_err-check_names-clause-measured g c =
-    let t = node_of c.args.tree.now.root in
-    let f = c.in_err-check_names.field-0.0 in
-    Measures-bad c.from_residual.result f (measured c.args.align t) c.from_residual.ensures.1 (measured-bad c.args.align t f c.in_err-check_names.ensures)
 
 pub returns-in_err-check_names-clause-memory : goal.returns-in_err-check_names-clause-memory
 returns-in_err-check_names-clause-memory g c = λ memory none.
@@ -36,24 +30,6 @@ returns-then-aligned-gt-LARGEST-clause-measured g c =
     let end = 56 + (nodes_size t + 4) + length (strings (names_of t)) in
     let large : 4294967295 < aligned c.args.align counted = omega (arith, c.aligned.ensures.place, c.if-aligned-gt-LARGEST.true) in
     measured-large c.args.align t c.in_ok-check_names.ensures (large-by c.args.align counted end (λ small. omega (arith, small, size, length_is)) large)
-
-pub returns-clause-measured : goal.returns-clause-measured
-returns-clause-measured g c =
-    let t = node_of c.args.tree.now.root in
-    let names = name_texts c.add_all_names.new.names.items in
-    let added = on-ok c.add_all_names.result (sym c.is_err.ensures.value ∙ c.if-is_err.false) c.add_all_names.ensures.added in
-    let is_names : names ≡ names_of t = added ∙ ap (λ (l : List (Bor (List ℕ))). with_names_in (name_texts l) t) c.new-names.ensures.items in
-    let size = c.node_size-structure.ensures in
-    let length_is : c.strings_size-strings.result ≡ min (length (strings (names_of t))) (2 ^ 36) =
-    c.strings_size-strings.ensures ∙ ap (λ (l : List (Bor (List ℕ))). min (length (strings (name_texts l))) (2 ^ 36)) c.as_slice.ensures.value
-    ∙ ap (λ (l : List (List ℕ)). min (length (strings l)) (2 ^ 36)) is_names in
-    let counted = 56 + (c.node_size-structure.result + 4) + c.strings_size-strings.result in
-    let whole : counted ≡ 56 + (nodes_size t + 4) + length (strings (names_of t)) = omega (arith, size, length_is, c.aligned.ensures.least, c.if-aligned-gt-LARGEST.false) in
-    let fits : aligned c.args.align counted ≤ 4294967295 = omega (arith, c.aligned.ensures.place, c.if-aligned-gt-LARGEST.false) in
-    let small : totalsize (plan_of c.args.align t) ≤ 4294967295 = subst (λ (n : ℕ). aligned c.args.align n ≤ 4294967295) whole fits in
-    let structure : nodes_size t + 4 ≡ c.node_size-structure.result + 4 = omega (arith, size, c.aligned.ensures.least, c.if-aligned-gt-LARGEST.false) in
-    measured-ok c.args.align t _ c.in_ok-check_names.ensures small
-    (ap (λ (l : List (List ℕ)). plan c.args.align l (nodes_size t + 4)) (sym is_names) ∙ ap (λ (n : ℕ). plan c.args.align names n) structure)
 
 pub returns-clause-named : goal.returns-clause-named
 returns-clause-named g c = are_named (node_of c.args.tree.now.root) (sym c.in_ok-check_names.ensures)

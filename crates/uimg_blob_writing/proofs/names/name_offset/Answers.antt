@@ -18,22 +18,12 @@ offset-other first name names other = rw (sym other) (omega (arith, length-appen
 strings-first : (first : List ℕ) (names : List (List ℕ)) → length (strings (first ∷ names)) ≡ length first + 1 + length (strings names)
 strings-first first names = omega (arith, length-append (with_nul first) (strings names), length-append first (0 ∷ []))
 
-pub loop-other-init : goal.loop-other-init
-loop-other-init c = record { place = omega arith; rest = omega arith }
-
 pub returns-then-eq : goal.returns-then-eq
 returns-then-eq c =
     let d : Bor (List ℕ) = record { ref_ptr = (0, 0); now = [] } in
     let more = left_more c.args.names.now c.loop-other.other-index d c.loop-other-test.true in
     let here = ap (λ (l : List (List ℕ)). name_offset l c.args.name.now) more ∙ offset-first _ _ _ (sym c.if-eq.true ∙ c.eq.ensures) in
     omega (arith, c.loop-other.invariant.place, here)
-
-pub overflow_add-at-in-loop-other : goal.overflow_add-at-in-loop-other
-overflow_add-at-in-loop-other c =
-    let d : Bor (List ℕ) = record { ref_ptr = (0, 0); now = [] } in
-    let more = left_more c.args.names.now c.loop-other.other-index d c.loop-other-test.true in
-    let rest = ap (λ (l : List (List ℕ)). length (strings l)) more ∙ strings-first _ _ in
-    omega (arith, c.loop-other.invariant.rest, rest, c.requires)
 
 pub loop-other-preserved : goal.loop-other-preserved
 loop-other-preserved c =

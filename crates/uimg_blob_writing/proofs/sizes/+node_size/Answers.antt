@@ -29,14 +29,6 @@ node_size-requires g t c κs within =
     let below : suc (count d.children) < t = omega (arith, less, whole, c.decreases) in
     (below, within)
 
-pub loop-node-init : goal.loop-node-init
-loop-node-init g t c =
-    let name : length c.items.result.now ≡ length c.args.this.node.now.name = ap (λ (w : List ℕ). length w) c.items.ensures in
-    record {
-      small = omega (arith, c.min-size.ensures);
-      whole = omega (arith, name, c.min-name.ensures, c.up4.ensures, c.min-size.ensures, c.properties_size.ensures);
-    }
-
 pub loop-node-preserved : goal.loop-node-preserved
 loop-node-preserved g t c =
     let items = c.items-node-items.result.now in
