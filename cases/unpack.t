@@ -60,27 +60,41 @@ A single one, and one that does not exist:
   uimg: F4 no such image
   [1]
 
-A payload whose hash is not right is not written, and the next one is; with --force an existing file is removed:
+If the hash of one payload is not right, nothing is written, with --force too. --keep-good writes the others, and with
+--force it removes an existing file of that name:
 
   $ rm -r out && mkdir out && fit 'a { data = [61 62 63]; hash-1 { algo = "crc32"; }; hash-2 { algo = "sha1"; }; }; b { data = [78 79 7a]; hash { algo = "md5"; }; };'
   $ cp k.itb changed.itb && patch changed.itb abc abd && uimg unpack -C out changed.itb
+  a: bad hash-1
+  [1]
+  $ ls -A out && cp k.itb last.itb && patch last.itb xyz xyy && uimg unpack -C out last.itb
+  b: bad hash
+  [1]
+  $ ls -A out && echo old > out/a && echo older > out/b && uimg unpack --force -C out last.itb
+  b: bad hash
+  [1]
+  $ ls -A out && cat out/a out/b && rm out/*
+  a
+  b
+  old
+  older
+  $ uimg unpack --keep-good -C out changed.itb
   a: bad hash-1
   b: 3 bytes, md5 d16fb36f0911f878998c136191af705e
   [1]
   $ ls -A out && cat out/b && echo
   b
   xyz
-  $ echo old > out/a && uimg unpack --force -C out changed.itb > /dev/null
+  $ echo old > out/a && uimg unpack --keep-good --force -C out changed.itb > /dev/null
   [1]
   $ ls -A out
   b
 
 A hash node with something missing is reported as by verify:
 
-  $ rm -r out && mkdir out && cp "$files/sha3-node.itb" . && uimg unpack -C out sha3-node.itb > lines
-  [1]
-  $ grep -v bytes lines
+  $ rm -r out && mkdir out && cp "$files/sha3-node.itb" . && uimg unpack -C out sha3-node.itb
   b: unsupported hash-1
+  [1]
   $ fit 'a { data = [61 62 63]; hash-1 { algo = "crc32"; }; };' && cp k.itb m.itb && patch m.itb crc32 sha16 && uimg verify m.itb
   a hash-1 sha16 unsupported
   [1]
@@ -92,7 +106,11 @@ A hash node with something missing is reported as by verify:
 A needed strength:
 
   $ rm -r out && mkdir out && fit 'a { data = [61 62 63]; hash-1 { algo = "sha1"; }; }; b { data = [61 62 63]; hash-1 { algo = "sha512"; }; }; c { data = [61 62 63]; };'
-  $ uimg unpack --need-hash sha256 -C out k.itb > lines
+  $ uimg unpack --need-hash sha256 -C out k.itb
+  a: weak
+  c: weak
+  [1]
+  $ ls -A out && uimg unpack --keep-good --need-hash sha256 -C out k.itb > lines
   [1]
   $ cut -c1-27 lines
   a: weak
@@ -136,7 +154,7 @@ Names that are no file names, and repeated names, also in another case:
   .ab: 1 byte as image-0, unhashed
   $ cp k.itb hostile.itb && patch hostile.itb a,b -ab && rm -r out && mkdir out && uimg unpack -C out hostile.itb > lines && head -n 1 lines
   -ab: 1 byte as image-0, unhashed
-  $ fit 'a { data = [61 62 63]; hash-1 { algo = "crc32"; }; }; A { data = [64]; };' && patch k.itb abc abd && rm -r out && mkdir out && uimg unpack -C out k.itb
+  $ fit 'a { data = [61 62 63]; hash-1 { algo = "crc32"; }; }; A { data = [64]; };' && patch k.itb abc abd && rm -r out && mkdir out && uimg unpack --keep-good -C out k.itb
   a: bad hash-1
   A: 1 byte as image-1, unhashed
   [1]
@@ -316,8 +334,8 @@ Nor is the image overwritten:
   $ cmp three-part-multi.img out/image-1 && ls -A out
   image-1
 
-Changed data are not written, and with --force existing files are removed; so for each byte of them: of the table,
-of a part and of the padding between parts:
+Changed data are not written, and with --force nothing is replaced; so for each byte of them: of the table, of a part and of
+the padding between parts:
 
   $ rm out/* && cp three-part-multi.img changed.img && patch changed.img defg defh && uimg unpack -C out changed.img
   uimg: L5 bad data CRC
@@ -325,13 +343,14 @@ of a part and of the padding between parts:
   $ ls -A out && echo old > out/image-1 && echo old > out/image-3 && uimg unpack --force -C out changed.img
   uimg: L5 bad data CRC
   [1]
-  $ ls -A out && rm out/*
-  image-3
-  $ echo old > out/image-1 && uimg unpack --only image-0 --force -C out changed.img
+  $ uimg unpack --keep-good --force -C out changed.img
   uimg: L5 bad data CRC
   [1]
-  $ ls -A out && rm out/*
+  $ ls -A out && cat out/* && rm out/*
   image-1
+  image-3
+  old
+  old
   $ for place in $(seq 64 92); do cp three-part-multi.img changed.img; printf x | dd of=changed.img bs=1 seek=$place conv=notrunc status=none; uimg unpack -C out changed.img; done 2>&1 | sort | uniq -c | tr -s ' '
    13 uimg: L5 bad data CRC
    4 uimg: L6 no table end
@@ -444,7 +463,7 @@ At most 4096 files, or as many as are allowed, and as many bytes as are allowed;
   $ uimg unpack -C out 4097.img
   uimg: more than 4096 files; --max-files allows more
   [1]
-  $ ls -A out && uimg unpack -C out 4096.img | tail -n 1 | cut -c 1-18
+  $ ls -A out && uimg unpack --no-sync -C out 4096.img | tail -n 1 | cut -c 1-18
   image-4095: 1 byte
 
 An image whose name cannot be a file's, where all the numbers for it are names of others:
@@ -481,7 +500,7 @@ More sizes than fit into the window, read again a window at a time:
   > head = head[:4] + struct.pack(">I", zlib.crc32(head)) + head[8:]
   > open("many.img", "wb").write(head + data)
   > END
-  $ uimg unpack -C out many.img | tail -n 1 | cut -c1-29 && ls -A out | wc -l && cat out/image-2999 && echo
+  $ uimg unpack --no-sync -C out many.img | tail -n 1 | cut -c1-29 && ls -A out | wc -l && cat out/image-2999 && echo
   image-2999: 3 bytes, data crc
   3000
   JJJ

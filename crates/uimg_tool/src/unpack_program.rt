@@ -44,6 +44,7 @@ fn folder_of<'a>(request: &UnpackRequest<'a>, image: Option<FileId>) -> Folder<'
         path: request.folder,
         image,
         is_forced: request.is_forced,
+        is_synced: request.is_synced,
     }
 }
 
@@ -69,6 +70,7 @@ fn unpack_at<R: Files + AllocGlobal, W: Write + Drop, V: Write>(
             files: request.most_files,
             bytes: request.most_bytes,
         },
+        keeps_good: request.keeps_good,
     };
     match is_fit(Form::Guess, &mut source) {
         Ok(true) => tell_ended(unpack(rt, &asked, &mut source, &mut *out), err),

@@ -7,7 +7,7 @@ use std::io::{ErrorKind, Write};
 use std::os::unix::fs::MetadataExt;
 use std::rt::Files;
 
-/// How many names are tried for a new file. Commands that were stopped left those that exist.
+/// How many names are tried for a temporary folder. Commands that were stopped left those that exist.
 const TRIED: u32 = 10_000;
 
 /// The file at a path; different paths may lead to the same file.
@@ -39,6 +39,9 @@ pub struct Folder<'a> {
 
     /// Whether existing files are replaced.
     pub is_forced: bool,
+
+    /// Whether files are written to the disk before they get their names, and the names then.
+    pub is_synced: bool,
 }
 
 impl<'a> Folder<'a> {
@@ -64,25 +67,8 @@ impl<'a> Folder<'a> {
         }
     }
 
-    /// Creates a file in it, and returns it with its path: the first free one of `.uimg-new1` to
-    /// `.uimg-new10000`, none if no file can be created. Fails if memory for the path is refused.
-    pub(crate) fn new_file<R: Files + AllocGlobal>(
-        &self,
-        rt: &R,
-    ) -> Result<Option<(R::File, String)>, AllocError> {
-        for number in 1..=TRIED {
-            let path = self.unnamed(rt, number)?;
-            match fs::File::create_new(rt, path.as_str()) {
-                Ok(file) => return Ok(Some((file, path))),
-                Err(error) if error.kind() == ErrorKind::AlreadyExists => {}
-                Err(_) => return Ok(None),
-            }
-        }
-        Ok(None)
-    }
-
-    /// Creates a folder in it, and returns its path: the first free one of the same names, none if
-    /// no folder can be created. Fails if memory for the path is refused.
+    /// Creates a folder in it, and returns its path: the first free one of `.uimg-new1` to
+    /// `.uimg-new10000`, none if no folder can be created. Fails if memory for the path is refused.
     pub(crate) fn new_folder<R: Files + AllocGlobal>(
         &self,
         rt: &R,

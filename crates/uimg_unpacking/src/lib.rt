@@ -11,6 +11,7 @@ mod names;
 mod new_file;
 mod part_folder;
 mod part_unpacking;
+mod staging;
 mod trouble;
 mod unpacking;
 

@@ -6,6 +6,7 @@ ghost use Rattle.std.specs.Io.Buffered.{writer_buffer, writer_contents};
 ghost use Rattle.std.specs.Io.KnownBytes.{Keeps, WriteAppends};
 
 use std::alloc::Global;
+use std::fs::OpenFile;
 use std::io::{BufWriter, ErrorKind, Write};
 use std::rt::Files;
 use std::{fs, io};
@@ -23,10 +24,14 @@ impl<R: Files + AllocGlobal> NewFile<R> {
         NewFile { file, size: 0 }
     }
 
-    /// Writes what is buffered, and closes the file. Returns its length in bytes.
-    pub(crate) fn close(self) -> io::Result<u64> {
+    /// Writes what is buffered, to the disk too if `is_synced`, and closes the file. Returns its
+    /// length in bytes.
+    pub(crate) fn close(self, is_synced: bool) -> io::Result<u64> {
         let NewFile { mut file, size } = self;
         file.flush()?;
+        if is_synced {
+            file.get_ref().sync_all()?;
+        }
         drop(file);
         Ok(size)
     }

@@ -32,8 +32,7 @@ pub enum PartsEnded {
 /// The files are `image-0`, `image-1` and so on, by the parts' numbers; one of them can be
 /// requested alone. Nothing is written if something exists at one of these paths, unless files are
 /// replaced, if one leads to the image, or if there are more files or bytes than the limits allow.
-/// Files that did not get their names are removed; if the checksum is wrong, so are the files that
-/// they were to replace.
+/// Files get their names once all are written; unless all get them, the folder is unchanged.
 pub fn unpack_parts<R: Files + AllocGlobal, S: Source, W: Write + Drop>(
     rt: &R,
     asked: &Unpacking<'_>,
@@ -55,7 +54,7 @@ pub fn unpack_parts<R: Files + AllocGlobal, S: Source, W: Write + Drop>(
             Err(_) => return PartsEnded::Troubled(Trouble::OutOfMemory),
         }
     }
-    let mut taker = PartFolder::new(rt, asked.folder, asked.limits, out);
+    let mut taker = PartFolder::new(rt, asked, out);
     let unpacked = uimg_legacy::unpack(only, source, &mut room, &mut taker);
     let trouble = taker.end();
     match unpacked {

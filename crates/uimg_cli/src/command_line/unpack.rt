@@ -21,6 +21,12 @@ pub struct UnpackRequest<'a> {
     /// Whether existing files are replaced.
     pub is_forced: bool,
 
+    /// Whether good payloads are kept if another one is refused.
+    pub keeps_good: bool,
+
+    /// Whether files are written to the disk before they get their names.
+    pub is_synced: bool,
+
     /// Whether the temporary files of commands that were stopped are removed from the folder.
     pub cleans: bool,
 
@@ -56,12 +62,17 @@ pub(super) fn command<'a>(alloc: Global) -> Result<clap::Command<'a>, AllocError
                 .value_name("algo")
                 .help("Require a hash by this algorithm or a stronger one"),
         )?
-        .arg(
-            Arg::new(alloc, "force")
-                .long("force")
-                .action(ArgAction::SetTrue)
-                .help("Replace files that exist"),
-        )?
+        .arg(flag(alloc, "force", "Replace files that exist"))?
+        .arg(flag(
+            alloc,
+            "keep-good",
+            "Keep the good payloads if another one is refused",
+        ))?
+        .arg(flag(
+            alloc,
+            "no-sync",
+            "Do not wait until the files are on the disk",
+        ))?
         .arg(number(
             alloc,
             "max-files",
@@ -72,13 +83,20 @@ pub(super) fn command<'a>(alloc: Global) -> Result<clap::Command<'a>, AllocError
             "max-bytes",
             "Unpack nothing if the files have more bytes together",
         ))?
-        .arg(
-            Arg::new(alloc, "clean")
-                .long("clean")
-                .action(ArgAction::SetTrue)
-                .help("Remove the temporary files that stopped commands left in the folder"),
-        )?
+        .arg(flag(
+            alloc,
+            "clean",
+            "Remove the temporary files that stopped commands left in the folder",
+        ))?
         .arg(Arg::new(alloc, "image").help("The image"))
+}
+
+// Returns an option without a value.
+fn flag<'a>(alloc: Global, id: &'a str, help: &'a str) -> Arg<'a> {
+    Arg::new(alloc, id)
+        .long(id)
+        .action(ArgAction::SetTrue)
+        .help(help)
 }
 
 // Returns an option whose value is a number.
@@ -122,6 +140,8 @@ pub(super) fn request<'a>(matches: &ArgMatches<'a>) -> Result<UnpackRequest<'a>,
         only: matches.get_str("only"),
         need,
         is_forced: matches.get_flag("force"),
+        keeps_good: matches.get_flag("keep-good"),
+        is_synced: !matches.get_flag("no-sync"),
         cleans,
         most_files: number_of(matches.get_str("max-files"))?.unwrap_or(MOST_FILES),
         most_bytes: number_of(matches.get_str("max-bytes"))?,
