@@ -106,11 +106,11 @@ A hash node with something missing is reported as by verify:
 A needed strength:
 
   $ rm -r out && mkdir out && fit 'a { data = [61 62 63]; hash-1 { algo = "sha1"; }; }; b { data = [61 62 63]; hash-1 { algo = "sha512"; }; }; c { data = [61 62 63]; };'
-  $ uimg unpack --need-hash sha256 -C out k.itb
+  $ uimg unpack --need sha256 -C out k.itb
   a: weak
   c: weak
   [1]
-  $ ls -A out && uimg unpack --keep-good --need-hash sha256 -C out k.itb > lines
+  $ ls -A out && uimg unpack --keep-good --need sha256 -C out k.itb > lines
   [1]
   $ cut -c1-27 lines
   a: weak
@@ -183,7 +183,7 @@ Refusals come before anything is written:
   [1]
   $ ls -A out
   $ fit 'abcde { data = [61]; };' && uimg unpack -C none k.itb
-  uimg: cannot write none/abcde
+  uimg: cannot create none/abcde: No such file or directory (os error 2)
   [3]
   $ uimg unpack -C '' k.itb
   uimg: no folder
@@ -301,7 +301,7 @@ A single one, and one that does not exist:
 
 A needed strength:
 
-  $ rm out/* && uimg unpack --need-hash sha256 -C out three-part-multi.img
+  $ rm out/* && uimg unpack --need sha256 -C out three-part-multi.img
   three-part-multi.img: weak crc32
   [1]
   $ ls -A out && uimg unpack --need-hash crc32 -C out abc-kernel.img
@@ -374,7 +374,7 @@ Refusals of the header and of the table, and a cut image, leave no file either:
   [1]
   $ ls -A out
   $ uimg unpack -C none three-part-multi.img
-  uimg: cannot write none/image-0
+  uimg: cannot create none/image-0: No such file or directory (os error 2)
   [3]
 
 Bytes after the data belong to no part:

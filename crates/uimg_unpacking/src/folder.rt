@@ -2,10 +2,10 @@
 
 use crate::trouble::Trouble;
 use std::alloc::AllocError;
-use std::fs;
 use std::io::{ErrorKind, Write};
 use std::os::unix::fs::MetadataExt;
 use std::rt::Files;
+use std::{fs, io};
 
 /// How many names are tried for a temporary folder. Commands that were stopped left those that exist.
 const TRIED: u32 = 10_000;
@@ -68,20 +68,20 @@ impl<'a> Folder<'a> {
     }
 
     /// Creates a folder in it, and returns its path: the first free one of `.uimg-new1` to
-    /// `.uimg-new10000`, none if no folder can be created. Fails if memory for the path is refused.
+    /// `.uimg-new10000`. Returns why none can be created; fails if memory for the path is refused.
     pub(crate) fn new_folder<R: Files + AllocGlobal>(
         &self,
         rt: &R,
-    ) -> Result<Option<String>, AllocError> {
+    ) -> Result<io::Result<String>, AllocError> {
         for number in 1..=TRIED {
             let path = self.unnamed(rt, number)?;
             match fs::create_dir(rt, path.as_str()) {
-                Ok(()) => return Ok(Some(path)),
+                Ok(()) => return Ok(Ok(path)),
                 Err(error) if error.kind() == ErrorKind::AlreadyExists => {}
-                Err(_) => return Ok(None),
+                Err(error) => return Ok(Err(error)),
             }
         }
-        Ok(None)
+        Ok(Err(io::Error::from(ErrorKind::AlreadyExists)))
     }
 
     // Returns a path in it for what has no name yet. Fails if memory for it is refused.

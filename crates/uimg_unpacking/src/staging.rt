@@ -37,18 +37,18 @@ impl<'a, R: Files + AllocGlobal> Staging<'a, R> {
     pub(crate) fn begin(&mut self, name: String) -> Result<NewFile<R>, Trouble> {
         let whole = self.folder.path_of(self.rt, name.as_str())?;
         if self.made.is_none() {
-            let Some(made) = self.folder.new_folder(self.rt)? else {
-                return Err(Trouble::CannotWrite(whole));
-            };
-            self.made = Some(made);
+            match self.folder.new_folder(self.rt)? {
+                Ok(made) => self.made = Some(made),
+                Err(reason) => return Err(Trouble::CannotCreate(whole, reason)),
+            }
         }
         let path = self.path_of("new", self.names.len())?;
         self.names.push(name)?;
         self.is_writing = true;
-        let Ok(file) = fs::File::create_new(self.rt, path.as_str()) else {
-            return Err(Trouble::CannotWrite(whole));
-        };
-        Ok(NewFile::new(BufWriter::new(self.rt.alloc(), file)?))
+        match fs::File::create_new(self.rt, path.as_str()) {
+            Ok(file) => Ok(NewFile::new(BufWriter::new(self.rt.alloc(), file)?)),
+            Err(reason) => Err(Trouble::CannotCreate(whole, reason)),
+        }
     }
 
     /// Completes the file that was begun last. Returns its length in bytes.
@@ -133,12 +133,13 @@ impl<'a, R: Files + AllocGlobal> Staging<'a, R> {
         let (new, old) = (self.path_of("new", number)?, self.path_of("old", number)?);
         let whole = self.folder.allows(self.rt, self.whole(number)?)?;
         let replaces = self.folder.is_forced && is_there(self.rt, whole.as_str());
-        if replaces && keep_as(self.rt, whole.as_str(), old.as_str()).is_err()
-            || give_name(self.rt, new.as_str(), whole.as_str(), replaces).is_err()
-        {
-            return Err(Trouble::CannotWrite(whole));
+        if replaces && let Err(reason) = keep_as(self.rt, whole.as_str(), old.as_str()) {
+            return Err(Trouble::CannotCreate(whole, reason));
         }
-        Ok(())
+        match give_name(self.rt, new.as_str(), whole.as_str(), replaces) {
+            Ok(()) => Ok(()),
+            Err(reason) => Err(Trouble::CannotCreate(whole, reason)),
+        }
     }
 
     // Takes the names of the files before a number away, and puts back what they, and the file of

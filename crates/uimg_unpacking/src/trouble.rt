@@ -32,7 +32,11 @@ pub enum Trouble {
     #[error("cannot remove {0}")]
     CannotRemove(String),
 
-    /// A file cannot be created, written or given its name.
+    /// A file cannot be created or given its name, for this reason.
+    #[error("cannot create {0}: {1}")]
+    CannotCreate(String, io::Error),
+
+    /// A file cannot be written.
     #[error("cannot write {0}")]
     CannotWrite(String),
 

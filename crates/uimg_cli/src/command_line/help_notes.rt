@@ -112,7 +112,7 @@ pub(super) const UNPACK_NOTES: &str = "Algorithms, from the weakest to the stron
 Each payload is read once, and hashed while it is written to a temporary folder,
 .uimg-new1 in the folder. The files get their names together, once all are on the
 disk (--no-sync does not wait for that), and only if each hash of their images is
-right and, with --need-hash, one of them is strong enough. If one is refused,
+right and, with --need, one of them is strong enough. If one is refused,
 nothing in the folder changes, and only refused ones have a line; --keep-good
 keeps the others. The lines:
   kernel: 3 bytes, sha256 ba7816..  Kept; its strongest hash, which is right
@@ -135,10 +135,10 @@ commands left, .uimg-new1 to .uimg-new10000; no other command may be at work the
 All parts of a legacy image, or its data if it has no parts, are kept if the
 checksum of the data is right:
   image-0: 3 bytes, data crc32 352441c2  Kept; the checksum of the data is right
-  kernel.img: weak crc32                 None is kept; --need-hash is stronger
+  kernel.img: weak crc32                 None is kept; --need is stronger
 
 Examples:
-  uimg unpack -C /srv/tftp --need-hash sha256 kernel.itb
+  uimg unpack -C /srv/tftp --need sha256 kernel.itb
   uimg unpack --only ramdisk kernel.itb
   uimg unpack --only image-1 uImage
   uimg unpack --clean -C /srv/tftp

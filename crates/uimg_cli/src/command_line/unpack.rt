@@ -56,8 +56,9 @@ pub(super) fn command<'a>(alloc: Global) -> Result<clap::Command<'a>, AllocError
                 .help("Unpack only the payload of the image of this name, or one part: image-0"),
         )?
         .arg(
-            Arg::new(alloc, "need-hash")
-                .long("need-hash")
+            Arg::new(alloc, "need")
+                .long("need")
+                .alias("need-hash")?
                 .action(ArgAction::Set)
                 .value_name("algo")
                 .help("Require a hash by this algorithm or a stronger one"),
@@ -123,7 +124,7 @@ fn number_of(text: Option<&str>) -> Result<Option<u64>, WordsFault> {
 }
 
 pub(super) fn request<'a>(matches: &ArgMatches<'a>) -> Result<UnpackRequest<'a>, WordsFault> {
-    let need = match matches.get_str("need-hash") {
+    let need = match matches.get_str("need") {
         Some(name) => Some(Algo::named(name.as_bytes()).ok_or(WordsFault::UnknownName)?),
         None => None,
     };
