@@ -232,12 +232,13 @@ A picture in place of the lines, one text and one bar for each row, as XML:
   $ cat > look.py << 'END'
   > import sys, xml.dom.minidom
   > picture = xml.dom.minidom.parse(sys.argv[1]).documentElement
-  > texts = [text.firstChild.data for text in picture.getElementsByTagName("text")]
-  > print(picture.tagName, len(texts), len(picture.getElementsByTagName("rect")))
-  > sys.stdout.writelines(text + "\n" for text in texts)
+  > rows = [row for row in picture.getElementsByTagName("g") if row.getAttribute("class") == "row"]
+  > texts, bars = ([row.getElementsByTagName(it)[0] for row in rows] for it in ("text", "rect"))
+  > print(picture.tagName, len(texts), len(bars), picture.getElementsByTagName("title")[0].firstChild.data)
+  > sys.stdout.writelines(text.firstChild.data + "\n" for text in texts)
   > END
   $ uimg map --svg name.svg name.itb && python3 look.py name.svg
-  svg 7 7
+  svg 7 7 name.itb, 800 bytes
   00000000-00000028        40 header
   00000028-00000038        16 reservation block
   00000038-000002a0       616 structure
@@ -250,10 +251,16 @@ A picture in place of the lines, one text and one bar for each row, as XML:
   uimg: F3 data outside
   [1]
   $ python3 look.py cut.svg | head -n 1
-  svg 6 6
-  $ ls *uimg-new*; grep -c '<text' name.svg
+  svg 6 6 cut.itb, 790 bytes
+  $ ls *uimg-new*
   ls: cannot access '*uimg-new*': No such file or directory
-  7
+  [2]
+
+Bars have the colour of what they are: an item is blue, unused bytes are grey, what ends outside the file is purple, and the
+offset of a fault has a red mark:
+
+  $ colours() { grep -A 9 '<g' "$1" | grep -o 'fill="#[0-9a-f]*"' | cut -c 7-13 | sort | uniq -c | tr -s ' '; }
+  $ colours name.svg && colours cut.svg
 
 An existing file is replaced with --force alone, when the picture is complete, also through a link:
 

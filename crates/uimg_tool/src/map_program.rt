@@ -10,6 +10,7 @@ use uimg_base::{FileSource, Source};
 use uimg_cli::MapRequest;
 use uimg_engine::{Fault, is_same_file};
 use uimg_map::{Map, MapFault, MapStop, map_of, put_lines, put_picture};
+use uimg_printing::Printed;
 use uimg_unpacking::give_name;
 
 /// Writes the map of the requested image: lines on `out`, or a picture as a file that gets its name
@@ -38,7 +39,7 @@ pub(crate) fn map_image<R: Files + AllocGlobal, W: Write, V: Write>(
         Some(path) if !request.is_forced && is_taken(rt, path) => {
             return tell(err, &RequestFault::Exists(path), FAILED);
         }
-        Some(path) => draw(rt, path, request.is_forced, &mut source, &map),
+        Some(path) => draw(rt, request, path, &mut source, &map),
         None => print(rt, &mut source, &map, out),
     };
     tell_ended(ended, map.fault, err)
@@ -99,18 +100,18 @@ fn print<'a, R: Files + AllocGlobal, S: Source, W: Write>(
 // Writes a map as the picture at a path, first to a new file beside it, if that is possible.
 fn draw<'a, R: Files + AllocGlobal, S: Source>(
     rt: &R,
+    request: &MapRequest<'_>,
     path: &'a str,
-    is_forced: bool,
     source: &mut S,
     map: &Map,
 ) -> Result<(), Stop<'a>> {
     match writing_of(rt, path) {
         Ok(Writing::Beside(file, safe)) => {
-            let drawn = draw_into(rt, path, file, source, map);
-            name_picture(rt, path, &safe, is_forced, drawn)
+            let drawn = draw_into(rt, request, path, file, source, map);
+            name_picture(rt, path, &safe, request.is_forced, drawn)
         }
         Ok(Writing::InPlace | Writing::Pipe) => match fs::create(rt, path) {
-            Ok(file) => draw_into(rt, path, file, source, map),
+            Ok(file) => draw_into(rt, request, path, file, source, map),
             Err(_) => Err(Stop::CannotWrite(path)),
         },
         Ok(Writing::Nowhere(_)) => Err(Stop::CannotWrite(path)),
@@ -140,15 +141,19 @@ fn name_picture<'a, R: Files>(
 // Writes a picture to a file.
 fn draw_into<'a, R: Files + AllocGlobal, S: Source>(
     rt: &R,
+    request: &MapRequest<'_>,
     path: &'a str,
     file: R::File,
     source: &mut S,
     map: &Map,
 ) -> Result<(), Stop<'a>> {
+    let Ok(name) = format!(in rt.alloc(); "{}", Printed(request.image.as_bytes())) else {
+        return Err(Stop::Stopped(MapStop::Stopped(MapFault::OutOfMemory)));
+    };
     let Ok(mut gathered) = BufWriter::new(rt.alloc(), file) else {
         return Err(Stop::Stopped(MapStop::Stopped(MapFault::OutOfMemory)));
     };
-    let put = match put_picture(rt.alloc(), source, map, &mut gathered) {
+    let put = match put_picture(rt.alloc(), source, map, name.as_str(), &mut gathered) {
         Ok(()) => gathered.flush().map_err(MapStop::from),
         Err(stop) => Err(stop),
     };
