@@ -31,7 +31,7 @@ const ROWS: usize = 1000;
 // The most characters of a row's text beside its offsets, and of the title.
 const LETTERS: usize = 86;
 
-const TITLE_LETTERS: usize = 100;
+const TITLE_LETTERS: usize = 72;
 
 /// What a bar is the bar of, with its colour.
 #[derive(Clone, Copy, Debug, PartialEq, Eq)]
