@@ -174,7 +174,30 @@ Paths from a file, a line each, after those of the command line; empty lines are
   k\xe4: failed cannot read
   kernel.img: ok 2 checksums
   [3]
+
+A list without a path is wrong, as one whose maker failed, unless it is allowed:
+
   $ uimg check --files-from /dev/null
+  uimg: no image
+  [2]
+  $ printf '\n\n' | uimg check --files-from -
+  uimg: no image
+  [2]
+  $ uimg check --allow-empty --files-from /dev/null
+  $ uimg check --files-from /dev/null kernel.img
+  kernel.img: ok 2 checksums
+
+--quiet prints what is not ok:
+
+  $ uimg check --quiet kernel.img data.img 'last one.img'
+  data.img: bad checksum
+  [1]
+  $ uimg check --quiet --json kernel.img && uimg check --quiet --files-from names
+  data.img: bad checksum
+  [1]
+
+A file of paths that cannot be read:
+
   $ uimg check kernel.img --files-from none
   kernel.img: ok 2 checksums
   uimg: cannot read none

@@ -232,12 +232,13 @@ A picture in place of the lines, one text and one bar for each row, as XML:
   $ cat > look.py << 'END'
   > import sys, xml.dom.minidom
   > picture = xml.dom.minidom.parse(sys.argv[1]).documentElement
-  > texts = [text.firstChild.data for text in picture.getElementsByTagName("text")]
-  > print(picture.tagName, len(texts), len(picture.getElementsByTagName("rect")))
-  > sys.stdout.writelines(text + "\n" for text in texts)
+  > rows = [row for row in picture.getElementsByTagName("g") if row.getAttribute("class") == "row"]
+  > texts, bars = ([row.getElementsByTagName(it)[0] for row in rows] for it in ("text", "rect"))
+  > print(picture.tagName, len(texts), len(bars), picture.getElementsByTagName("title")[0].firstChild.data)
+  > sys.stdout.writelines(text.firstChild.data + "\n" for text in texts)
   > END
   $ uimg map --svg name.svg name.itb && python3 look.py name.svg
-  svg 7 7
+  svg 7 7 name.itb, 800 bytes
   00000000-00000028        40 header
   00000028-00000038        16 reservation block
   00000038-000002a0       616 structure
@@ -250,28 +251,76 @@ A picture in place of the lines, one text and one bar for each row, as XML:
   uimg: F3 data outside
   [1]
   $ python3 look.py cut.svg | head -n 1
-  svg 6 6
-  $ ls *uimg-new*; grep -c '<text' name.svg
+  svg 6 6 cut.itb, 797 bytes
+  $ ls *uimg-new*
   ls: cannot access '*uimg-new*': No such file or directory
-  7
+  [2]
 
-It replaces an existing file when it is complete, also through a link, and is never the image:
+Bars have the colour of what they are: an item is blue, unused bytes are grey, what ends outside the file is purple, and the
+offset of a fault has a red mark:
 
-  $ cp name.itb image.itb && ln -s image.itb link && echo old > old.svg && ln -s old.svg link.svg
-  $ uimg map --svg image.itb image.itb
+  $ colours() { grep -A 9 '<g' "$1" | grep -o 'fill="#[0-9a-f]*"' | cut -c 7-13 | sort | uniq -c | tr -s ' '; }
+  $ colours name.svg && colours cut.svg
+   5 #3465a4
+   2 #d3d7cf
+   4 #3465a4
+   1 #75507b
+   1 #d3d7cf
+  $ uimg map --svg bad.svg bad.img
+  uimg: L3 bad header CRC
+  [1]
+  $ colours bad.svg
+   1 #3465a4
+   1 #cc0000
+   1 #d3d7cf
+
+An existing file is replaced with --force alone, when the picture is complete, also through a link:
+
+  $ cp name.itb image.itb && ln -s image.itb link && echo old > old.svg && ln -s old.svg link.svg && ln -s none.svg nothing.svg && uimg map --svg image.svg image.itb
+  $ for name in old link nothing; do uimg map --svg $name.svg image.itb; done
+  uimg: old.svg exists; use --force to replace it
+  uimg: link.svg exists; use --force to replace it
+  uimg: nothing.svg exists; use --force to replace it
+  [3]
+  $ cat old.svg && test ! -e none.svg && uimg map --force --svg nothing.svg image.itb && cmp none.svg image.svg
+  old
+  $ uimg map --force --svg link.svg image.itb && test -L link.svg && cmp image.svg old.svg
+
+It never replaces the image:
+
+  $ uimg map --force --svg image.itb image.itb
   uimg: image.itb would be written while it is read
   [2]
-  $ uimg map --svg link image.itb
+  $ uimg map --force --svg link image.itb
   uimg: link would be written while it is read
   [2]
-  $ cmp name.itb image.itb && uimg map --svg link.svg image.itb && test -L link.svg && cmp name.svg old.svg
+  $ cmp name.itb image.itb
   $ uimg map --svg nowhere/a.svg image.itb
   uimg: cannot write nowhere/a.svg
   [3]
   $ uimg map --svg /dev/full image.itb
   uimg: cannot write /dev/full
   [3]
-  $ uimg map --svg /dev/stdout image.itb | cmp - name.svg
+  $ uimg map --svg /dev/stdout image.itb | cmp - image.svg
+
+Texts that are too long are cut, with the whole text as a title; of many rows 1000 are drawn:
+
+  $ long=$(printf 'n%.0s' $(seq 100)) && echo "/dts-v1/; / { images { $long { data = [61 62 63]; }; }; };" > k.its && uimg mkimage -f k.its $long.itb > listing && uimg map --svg long.svg $long.itb
+  $ grep -c '…' long.svg && grep -o 'payload of n*…' long.svg | tr -d '\n' | wc -m && grep -c "<title>.*payload of $long</title>" long.svg
+  2
+  84
+  1
+  $ python3 - <<'END'
+  > import struct, zlib
+  > data = struct.pack(">I", 4) * 1200 + bytes(4) + bytes(4) * 1200
+  > fields, rest = [0x27051956, 0, 0, len(data), 0, 0, zlib.crc32(data)], bytes([5, 2, 4, 0]) + bytes(32)
+  > fields[1] = zlib.crc32(struct.pack(">7I", *fields) + rest)
+  > open("many.img", "wb").write(struct.pack(">7I", *fields) + rest + data)
+  > END
+  $ uimg map --svg many.svg many.img && python3 look.py many.svg | grep svg && tail -n 2 many.svg
+  svg 1000 1000 many.img, 9668 bytes
+  <text x="10" y="40084">and 202 more rows</text>
+  </svg>
 
 A file that cannot be read, a full device, and lines that nobody reads:
 

@@ -60,27 +60,41 @@ A single one, and one that does not exist:
   uimg: F4 no such image
   [1]
 
-A payload whose hash is not right is not written, and the next one is; with --force an existing file is removed:
+If the hash of one payload is not right, nothing is written, with --force too. --keep-good writes the others, and with
+--force it removes an existing file of that name:
 
   $ rm -r out && mkdir out && fit 'a { data = [61 62 63]; hash-1 { algo = "crc32"; }; hash-2 { algo = "sha1"; }; }; b { data = [78 79 7a]; hash { algo = "md5"; }; };'
   $ cp k.itb changed.itb && patch changed.itb abc abd && uimg unpack -C out changed.itb
+  a: bad hash-1
+  [1]
+  $ ls -A out && cp k.itb last.itb && patch last.itb xyz xyy && uimg unpack -C out last.itb
+  b: bad hash
+  [1]
+  $ ls -A out && echo old > out/a && echo older > out/b && uimg unpack --force -C out last.itb
+  b: bad hash
+  [1]
+  $ ls -A out && cat out/a out/b && rm out/*
+  a
+  b
+  old
+  older
+  $ uimg unpack --keep-good -C out changed.itb
   a: bad hash-1
   b: 3 bytes, md5 d16fb36f0911f878998c136191af705e
   [1]
   $ ls -A out && cat out/b && echo
   b
   xyz
-  $ echo old > out/a && uimg unpack --force -C out changed.itb > /dev/null
+  $ echo old > out/a && uimg unpack --keep-good --force -C out changed.itb > /dev/null
   [1]
   $ ls -A out
   b
 
 A hash node with something missing is reported as by verify:
 
-  $ rm -r out && mkdir out && cp "$files/sha3-node.itb" . && uimg unpack -C out sha3-node.itb > lines
-  [1]
-  $ grep -v bytes lines
+  $ rm -r out && mkdir out && cp "$files/sha3-node.itb" . && uimg unpack -C out sha3-node.itb
   b: unsupported hash-1
+  [1]
   $ fit 'a { data = [61 62 63]; hash-1 { algo = "crc32"; }; };' && cp k.itb m.itb && patch m.itb crc32 sha16 && uimg verify m.itb
   a hash-1 sha16 unsupported
   [1]
@@ -92,7 +106,11 @@ A hash node with something missing is reported as by verify:
 A needed strength:
 
   $ rm -r out && mkdir out && fit 'a { data = [61 62 63]; hash-1 { algo = "sha1"; }; }; b { data = [61 62 63]; hash-1 { algo = "sha512"; }; }; c { data = [61 62 63]; };'
-  $ uimg unpack --need-hash sha256 -C out k.itb > lines
+  $ uimg unpack --need sha256 -C out k.itb
+  a: weak
+  c: weak
+  [1]
+  $ ls -A out && uimg unpack --keep-good --need sha256 -C out k.itb > lines
   [1]
   $ cut -c1-27 lines
   a: weak
@@ -136,7 +154,7 @@ Names that are no file names, and repeated names, also in another case:
   .ab: 1 byte as image-0, unhashed
   $ cp k.itb hostile.itb && patch hostile.itb a,b -ab && rm -r out && mkdir out && uimg unpack -C out hostile.itb > lines && head -n 1 lines
   -ab: 1 byte as image-0, unhashed
-  $ fit 'a { data = [61 62 63]; hash-1 { algo = "crc32"; }; }; A { data = [64]; };' && patch k.itb abc abd && rm -r out && mkdir out && uimg unpack -C out k.itb
+  $ fit 'a { data = [61 62 63]; hash-1 { algo = "crc32"; }; }; A { data = [64]; };' && patch k.itb abc abd && rm -r out && mkdir out && uimg unpack --keep-good -C out k.itb
   a: bad hash-1
   A: 1 byte as image-1, unhashed
   [1]
@@ -165,7 +183,7 @@ Refusals come before anything is written:
   [1]
   $ ls -A out
   $ fit 'abcde { data = [61]; };' && uimg unpack -C none k.itb
-  uimg: cannot write none/abcde
+  uimg: cannot create none/abcde: No such file or directory (os error 2)
   [3]
   $ uimg unpack -C '' k.itb
   uimg: no folder
@@ -179,8 +197,9 @@ Refusals come before anything is written:
   $ uimg unpack none.itb
   uimg: cannot read none.itb
   [3]
-  $ uimg unpack 2>&1 | head -n 1
-  error: the following required arguments were not provided:
+  $ uimg unpack
+  uimg: no image
+  [2]
 
 Payloads that have more bytes together than the file overlap, and none is written. Two images with the same 4000 bytes after
 the tree (4000 is the size of the first, the offset of the second, which becomes that of the first, and its size):
@@ -282,7 +301,7 @@ A single one, and one that does not exist:
 
 A needed strength:
 
-  $ rm out/* && uimg unpack --need-hash sha256 -C out three-part-multi.img
+  $ rm out/* && uimg unpack --need sha256 -C out three-part-multi.img
   three-part-multi.img: weak crc32
   [1]
   $ ls -A out && uimg unpack --need-hash crc32 -C out abc-kernel.img
@@ -315,8 +334,8 @@ Nor is the image overwritten:
   $ cmp three-part-multi.img out/image-1 && ls -A out
   image-1
 
-Changed data are not written, and with --force existing files are removed; so for each byte of them: of the table,
-of a part and of the padding between parts:
+Changed data are not written, and with --force nothing is replaced; so for each byte of them: of the table, of a part and of
+the padding between parts:
 
   $ rm out/* && cp three-part-multi.img changed.img && patch changed.img defg defh && uimg unpack -C out changed.img
   uimg: L5 bad data CRC
@@ -324,13 +343,14 @@ of a part and of the padding between parts:
   $ ls -A out && echo old > out/image-1 && echo old > out/image-3 && uimg unpack --force -C out changed.img
   uimg: L5 bad data CRC
   [1]
-  $ ls -A out && rm out/*
-  image-3
-  $ echo old > out/image-1 && uimg unpack --only image-0 --force -C out changed.img
+  $ uimg unpack --keep-good --force -C out changed.img
   uimg: L5 bad data CRC
   [1]
-  $ ls -A out && rm out/*
+  $ ls -A out && cat out/* && rm out/*
   image-1
+  image-3
+  old
+  old
   $ for place in $(seq 64 92); do cp three-part-multi.img changed.img; printf x | dd of=changed.img bs=1 seek=$place conv=notrunc status=none; uimg unpack -C out changed.img; done 2>&1 | sort | uniq -c | tr -s ' '
    13 uimg: L5 bad data CRC
    4 uimg: L6 no table end
@@ -354,7 +374,7 @@ Refusals of the header and of the table, and a cut image, leave no file either:
   [1]
   $ ls -A out
   $ uimg unpack -C none three-part-multi.img
-  uimg: cannot write none/image-0
+  uimg: cannot create none/image-0: No such file or directory (os error 2)
   [3]
 
 Bytes after the data belong to no part:
@@ -363,7 +383,7 @@ Bytes after the data belong to no part:
   image-2: 5 bytes, data crc32 9350b6ea
   hijkl
 
-Existing files with the temporary names are left alone; at most a hundred names are tried:
+Existing files with the temporary names are left alone, and a hundred of them stop nobody:
 
   $ rm out/* && mkdir out/.uimg-new1 && echo old > out/.uimg-new2 && uimg unpack -C out abc-kernel.img && ls -A out | LC_ALL=C sort
   image-0: 3 bytes, data crc32 352441c2
@@ -371,8 +391,88 @@ Existing files with the temporary names are left alone; at most a hundred names 
   .uimg-new2
   image-0
   $ rm -r out && mkdir out && for number in $(seq 100); do echo > out/.uimg-new$number; done && uimg unpack -C out abc-kernel.img
-  uimg: cannot write out/image-0
-  [3]
+  image-0: 3 bytes, data crc32 352441c2
+  $ fit 'a { data = [61 62 63]; };' && uimg unpack -C out k.itb && ls -A out | wc -l
+  a: 3 bytes, unhashed
+  102
+
+--clean removes them, folders too and links themselves, and no other file:
+
+  $ rm -r out && mkdir out && mkdir out/.uimg-new1 && echo old | tee out/.uimg-new1/0 out/.uimg-new2 out/.uimg-newer out/kept > out/.uimg-new100
+  $ ln -s kept out/.uimg-new3 && ln -s none out/.uimg-new5 && ln -s . out/.uimg-new6
+  $ uimg unpack --clean -C out
+  .uimg-new1: removed
+  .uimg-new2: removed
+  .uimg-new3: removed
+  .uimg-new5: removed
+  .uimg-new6: removed
+  .uimg-new100: removed
+  $ ls -A out && uimg unpack --clean -C out && touch out/.uimg-new7 && uimg unpack --clean -C out abc-kernel.img && cat out/kept
+  .uimg-newer
+  kept
+  .uimg-new7: removed
+  image-0: 3 bytes, data crc32 352441c2
+  old
+
+At most 4096 files, or as many as are allowed, and as many bytes as are allowed; of an image with more nothing is unpacked:
+
+  $ fit 'a { data = [61 62 63]; }; b { data = [64 65]; }; c { data = []; };' && rm -r out && mkdir out
+  $ uimg unpack --max-files 2 -C out k.itb
+  uimg: more than 2 files; --max-files allows more
+  [1]
+  $ uimg unpack --max-bytes 4 -C out k.itb
+  uimg: more than 4 bytes; --max-bytes allows more
+  [1]
+  $ ls -A out && uimg unpack --max-files 1 --max-bytes 2 --only b -C out k.itb
+  b: 2 bytes, unhashed
+  $ rm out/* && uimg unpack --max-files 3 --max-bytes 5 -C out k.itb
+  a: 3 bytes, unhashed
+  b: 2 bytes, unhashed
+  c: 0 bytes, unhashed
+  $ rm out/* && uimg unpack --max-files 2 -C out three-part-multi.img
+  uimg: more than 2 files; --max-files allows more
+  [1]
+  $ uimg unpack --max-bytes 11 -C out three-part-multi.img
+  uimg: more than 11 bytes; --max-bytes allows more
+  [1]
+  $ uimg unpack --max-bytes 2 -C out abc-kernel.img
+  uimg: more than 2 bytes; --max-bytes allows more
+  [1]
+  $ ls -A out && uimg unpack --max-files 3 --max-bytes 12 -C out three-part-multi.img > lines && uimg unpack --force --max-bytes 4 --only image-1 -C out three-part-multi.img
+  image-1: 4 bytes, data crc32 9350b6ea
+  $ uimg unpack --max-bytes 18446744073709551615 --max-files 0 -C out k.itb
+  uimg: more than 0 files; --max-files allows more
+  [1]
+  $ for number in 18446744073709551616 +1 -1 0x1 '' ' 1'; do uimg unpack --max-bytes="$number" -C out k.itb; done
+  uimg: bad number
+  uimg: bad number
+  uimg: bad number
+  uimg: bad number
+  uimg: bad number
+  uimg: bad number
+  [2]
+  $ rm out/* && python3 - <<'END'
+  > import struct, zlib
+  > for count in 4096, 4097:
+  >     data = struct.pack(">I", 1) * count + bytes(4) + bytes(4) * count
+  >     fields = [0x27051956, 0, 0, len(data), 0, 0, zlib.crc32(data)]
+  >     rest = bytes([5, 2, 4, 0]) + bytes(32)
+  >     fields[1] = zlib.crc32(struct.pack(">7I", *fields) + rest)
+  >     open("%d.img" % count, "wb").write(struct.pack(">7I", *fields) + rest + data)
+  > END
+  $ uimg unpack -C out 4097.img
+  uimg: more than 4096 files; --max-files allows more
+  [1]
+  $ ls -A out && uimg unpack --no-sync -C out 4096.img | tail -n 1 | cut -c 1-18
+  image-4095: 1 byte
+
+An image whose name cannot be a file's, where all the numbers for it are names of others:
+
+  $ rm -r out && mkdir out && fit "$(for number in $(seq 100 199); do echo "image-$number { data = [61]; };"; done) a,b { data = [62]; };"
+  $ uimg unpack -C out k.itb
+  uimg: no name for a file
+  [1]
+  $ ls -A out
 
 A failed write leaves no file, and a line that nobody reads leaves no folder:
 
@@ -400,7 +500,7 @@ More sizes than fit into the window, read again a window at a time:
   > head = head[:4] + struct.pack(">I", zlib.crc32(head)) + head[8:]
   > open("many.img", "wb").write(head + data)
   > END
-  $ uimg unpack -C out many.img | tail -n 1 | cut -c1-29 && ls -A out | wc -l && cat out/image-2999 && echo
+  $ uimg unpack --no-sync -C out many.img | tail -n 1 | cut -c1-29 && ls -A out | wc -l && cat out/image-2999 && echo
   image-2999: 3 bytes, data crc
   3000
   JJJ

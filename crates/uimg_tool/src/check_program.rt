@@ -1,7 +1,7 @@
 //! Checks many images, with a line for each.
 
 use crate::check_answers::{CHANGED, Names, UNREAD, answer_of, answer_of_fault, answer_of_missing};
-use crate::main_program::{DONE, FAILED, RequestFault, tell};
+use crate::main_program::{DONE, FAILED, RequestFault, WRONG_LINE, tell};
 use std::alloc::{AllocError, Global};
 use std::io::{BufRead, BufReader, BufWriter, ErrorKind, Write};
 use std::os::unix::fs::FileTypeExt;
@@ -9,7 +9,7 @@ use std::rt::Files;
 use std::{fs, io};
 use uimg_base::{FileSource, Room, Source};
 use uimg_checks::{Answer, Checked, Missing, check, find_missing, line_text, object_text};
-use uimg_cli::CheckRequest;
+use uimg_cli::{CheckRequest, WordsFault};
 use uimg_engine::Fault;
 use uimg_fit_checking::{ConfigurationFacts, Finding, SurveyFault, survey};
 
@@ -17,7 +17,8 @@ use uimg_fit_checking::{ConfigurationFacts, Finding, SurveyFault, survey};
 const STANDARD_INPUT: &str = "/dev/stdin";
 
 /// Checks the requested images, those of the command line first, with a line for each on `out`,
-/// even after one that is not right. Returns the greatest status. A file of names that cannot be
+/// even after one that is not right. Returns the greatest status, or that of a wrong command line if
+/// there is no image. A file of names that cannot be
 /// read, a line that cannot be written and refused memory end it with a line on `err`; a closed
 /// `out` ends it without one, as failed, because not all images were checked.
 pub(crate) fn check_images<R: Files + AllocGlobal, W: Write, V: Write>(
@@ -33,16 +34,21 @@ pub(crate) fn check_images<R: Files + AllocGlobal, W: Write, V: Write>(
         room: Room::new(rt.alloc()),
         out: gathered,
         greatest: DONE,
+        has_checked: false,
     };
     let ended = checks.check_all(rt, request);
     let Checks {
         room: _room,
         out,
         greatest,
+        has_checked,
     } = checks;
     // A failed write leaves text in the buffer, which its drop would try to write again.
     let (_, _) = out.into_parts();
     match ended {
+        Ok(()) if !has_checked && !request.allows_none => {
+            tell(err, &WordsFault::NoImages, WRONG_LINE)
+        }
         Ok(()) => greatest,
         Err(Stop::Closed) => FAILED,
         Err(Stop::NoNames(path)) => tell(err, &RequestFault::CannotRead(path), FAILED),
@@ -82,11 +88,12 @@ impl<'a> From<AllocError> for Stop<'a> {
     }
 }
 
-// The checks so far: their shared room, their lines, and the greatest status.
+// The checks so far: their shared room, their lines, the greatest status, and whether there was one.
 struct Checks<'a, W: Write> {
     room: Room<Global>,
     out: BufWriter<&'a mut W>,
     greatest: u8,
+    has_checked: bool,
 }
 
 impl<'a, W: Write> Checks<'a, W> {
@@ -155,6 +162,10 @@ impl<'a, W: Write> Checks<'a, W> {
             Err(_) => UNREAD,
         };
         self.greatest = u8::max(self.greatest, answer.status());
+        self.has_checked = true;
+        if request.is_quiet && answer.word() == "ok" {
+            return Ok(());
+        }
         self.put_answer(rt.alloc(), request.as_json, path, &answer)
     }
 

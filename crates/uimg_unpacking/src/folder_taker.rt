@@ -3,80 +3,96 @@
 ghost use Rattle.std.specs.Prelude.{[]};
 
 use crate::folder::{Folder, is_there};
+use crate::limits::Claimed;
 use crate::lines::Line;
 use crate::names::Names;
-use crate::new_file::{NewFile, give_name};
+use crate::new_file::NewFile;
+use crate::staging::Staging;
 use crate::trouble::Trouble;
+use crate::unpacking::Unpacking;
 use std::fs;
-use std::io::{BufWriter, Write};
+use std::io::Write;
 use std::rt::Files;
 use uimg_base::PutFault;
 use uimg_fit_checking::{NodeName, Refusal, Taker, Vouched};
 
-/// The file of a payload that is being written.
-#[derive(Drop)]
-struct Begun {
-    // Its name in the folder.
-    name: String,
-
-    // Its path while it is written.
-    path: String,
-
-    // Its path when it is complete.
-    whole: String,
-}
-
-/// A taker that writes payloads to a folder.
+/// A taker that writes payloads to a folder. Their files get their names at the end: all of them,
+/// or, if one is refused, none or only the good ones.
 #[derive(Drop)]
 pub(crate) struct FolderTaker<'a, R: Files + AllocGlobal, W: Write + Drop> {
     rt: &'a R,
     folder: Folder<'a>,
+    keeps_good: bool,
     out: W,
-    begun: Option<Begun>,
+    staging: Staging<'a, R>,
+    // The lines to print once the files have their names, or if none gets one.
+    lines: String,
+    has_refused: bool,
     // The names of the files that were checked, then of those that were begun: the same ones.
     looked: Names,
     taken: Names,
+    claimed: Claimed,
     trouble: Option<Trouble>,
 }
 
 impl<'a, R: Files + AllocGlobal, W: Write + Drop> FolderTaker<'a, R, W> {
     /// Returns a taker for a folder, which writes its lines to `out`.
-    pub(crate) fn new(rt: &'a R, folder: Folder<'a>, out: W) -> FolderTaker<'a, R, W> {
+    pub(crate) fn new(rt: &'a R, asked: &Unpacking<'a>, out: W) -> FolderTaker<'a, R, W> {
         FolderTaker {
             rt,
-            folder,
+            folder: asked.folder,
+            keeps_good: asked.keeps_good,
             out,
-            begun: None,
+            staging: Staging::new(rt, asked.folder),
+            lines: String::new(rt.alloc()),
+            has_refused: false,
             looked: Names::new(rt.alloc()),
             taken: Names::new(rt.alloc()),
+            claimed: Claimed::new(asked.limits),
             trouble: None,
         }
     }
 
-    /// Removes a file that did not get its name. Returns the lines' writer, the number of payloads
-    /// that were begun, and the trouble, if it is known.
-    pub(crate) fn end(self) -> (W, usize, Option<Trouble>) {
+    /// Gives the files their names, if `is_whole` and none was refused, or if good ones are kept.
+    /// Removes the others, and prints the lines. Returns their writer, the number of payloads that
+    /// were begun, and the trouble, if it is known.
+    pub(crate) fn end(mut self, is_whole: bool) -> (W, usize, Option<Trouble>) {
+        let unwritten = self.staging.unwritten();
+        let trouble = self.trouble.take().or(unwritten);
+        let trouble = trouble.or(self.name(is_whole).err());
         let FolderTaker {
-            rt,
+            rt: _rt,
             folder: _folder,
+            keeps_good: _keeps_good,
             out,
-            begun,
+            staging,
+            lines: _lines,
+            has_refused: _has_refused,
             looked: _looked,
             taken,
-            trouble,
+            claimed: _claimed,
+            trouble: _trouble,
         } = self;
-        match begun {
-            Some(Begun { path, whole, .. }) => {
-                let _ = fs::remove_file(rt, path.as_str());
-                let trouble = trouble.or(Some(Trouble::CannotWrite(whole)));
-                (out, taken.count(), trouble)
-            }
-            None => (out, taken.count(), trouble),
+        staging.end();
+        (out, taken.count(), trouble)
+    }
+
+    // Gives the files their names, and prints the lines of those that have one and of refused ones.
+    fn name(&mut self, is_whole: bool) -> Result<(), Trouble> {
+        let names = self.keeps_good || is_whole && !self.has_refused;
+        if names {
+            self.staging.name_all()?;
         }
+        if names || self.has_refused {
+            self.out.write_all(self.lines.as_bytes())?;
+            self.out.flush()?;
+        }
+        Ok(())
     }
 
     // Checks, before any payload is written, whether the file of this one may be.
-    fn look(&mut self, name: &NodeName) -> Result<(), Trouble> {
+    fn look(&mut self, name: &NodeName, length: u64) -> Result<(), Trouble> {
+        self.claimed.claim(length)?;
         match self.looked.next(name)? {
             Some(name) => {
                 let whole = self.folder.path_of(self.rt, name.as_str())?;
@@ -89,73 +105,56 @@ impl<'a, R: Files + AllocGlobal, W: Write + Drop> FolderTaker<'a, R, W> {
 
     // Creates the file of a payload, which gets its name later.
     fn begin(&mut self, name: &NodeName) -> Result<NewFile<R>, Trouble> {
-        let Some(name) = self.taken.next(name)? else {
-            return Err(Trouble::NoName);
-        };
-        let whole = self.folder.path_of(self.rt, name.as_str())?;
-        let whole = self.folder.allows(self.rt, whole)?;
-        let Some((file, path)) = self.folder.new_file(self.rt)? else {
-            return Err(Trouble::CannotWrite(whole));
-        };
-        self.begun = Some(Begun { name, path, whole });
-        Ok(NewFile::new(BufWriter::new(self.rt.alloc(), file)?))
+        match self.taken.next(name)? {
+            Some(name) => self.staging.begin(name),
+            None => Err(Trouble::NoName),
+        }
     }
 
-    // Gives the begun file its name, and prints its line.
+    // Completes the begun file.
     fn finish(
         &mut self,
         name: &NodeName,
         file: NewFile<R>,
         vouched: Option<Vouched>,
     ) -> Result<(), Trouble> {
-        let Some(begun) = &self.begun else {
-            return Err(Trouble::NoName);
-        };
-        let (path, whole) = (begun.path.as_str(), begun.whole.as_str());
-        let Ok(size) = file.close() else {
-            return self.cannot_write();
-        };
-        if give_name(self.rt, path, whole, self.folder.is_forced).is_err() {
-            return self.cannot_write();
+        let size = self.staging.complete(file)?;
+        if self.has_refused && !self.keeps_good {
+            return Ok(());
         }
         let line = Line::Kept {
             name,
-            file: begun.name.as_str(),
+            file: self.staging.last_name(),
             size,
             vouched,
         };
-        writeln!(self.out, "{line}")?;
-        self.begun = None;
-        self.out.flush()?;
+        let line = format!(in self.rt.alloc(); "{line}\n")?;
+        self.lines.push_str(line.as_str())?;
         Ok(())
     }
 
-    // Removes a refused payload and the file that it was to replace, and prints its line.
+    // Removes a refused payload, and if good ones are kept, the file that it was to replace.
     fn throw_away(&mut self, name: &NodeName, refusal: Refusal) -> Result<(), Trouble> {
-        if let Some(begun) = &self.begun {
-            let (path, whole) = (begun.path.as_str(), begun.whole.as_str());
-            let is_old = self.folder.is_forced && is_there(self.rt, whole);
-            if fs::remove_file(self.rt, path).is_err()
-                || is_old && fs::remove_file(self.rt, whole).is_err()
-            {
-                return self.cannot_write();
-            }
+        let file = self.staging.drop_last()?;
+        if self.keeps_good {
+            self.remove_old(file.as_str())?;
+        } else if !self.has_refused {
+            self.lines.clear();
         }
-        self.begun = None;
-        writeln!(self.out, "{}", Line::Refused(name, refusal))?;
-        self.out.flush()?;
+        self.has_refused = true;
+        let line = format!(in self.rt.alloc(); "{}\n", Line::Refused(name, refusal))?;
+        self.lines.push_str(line.as_str())?;
         Ok(())
     }
 
-    // Returns that the begun file cannot be written or removed.
-    fn cannot_write(&self) -> Result<(), Trouble> {
-        match &self.begun {
-            Some(begun) => {
-                let whole = String::from_str(self.rt.alloc(), begun.whole.as_str())?;
-                Err(Trouble::CannotWrite(whole))
-            }
-            None => Err(Trouble::NoName),
+    // Removes a file that was to be replaced.
+    fn remove_old(&self, name: &str) -> Result<(), Trouble> {
+        let whole = self.folder.path_of(self.rt, name)?;
+        let is_old = self.folder.is_forced && is_there(self.rt, whole.as_str());
+        if is_old && fs::remove_file(self.rt, whole.as_str()).is_err() {
+            return Err(Trouble::CannotRemove(whole));
         }
+        Ok(())
     }
 
     // Keeps a trouble, and returns it as a fault.
@@ -175,8 +174,8 @@ impl<'a, R: Files + AllocGlobal, W: Write + Drop> Taker for FolderTaker<'a, R, W
 
     ghost takes = { λ _. [] };
 
-    fn claim(&mut self, name: &NodeName) -> Result<(), PutFault> {
-        let looked = self.look(name);
+    fn claim(&mut self, name: &NodeName, length: u64) -> Result<(), PutFault> {
+        let looked = self.look(name, length);
         self.kept(looked)
     }
 

@@ -6,6 +6,7 @@ ghost use Rattle.std.specs.Io.Buffered.{writer_buffer, writer_contents};
 ghost use Rattle.std.specs.Io.KnownBytes.{Keeps, WriteAppends};
 
 use std::alloc::Global;
+use std::fs::OpenFile;
 use std::io::{BufWriter, ErrorKind, Write};
 use std::rt::Files;
 use std::{fs, io};
@@ -23,10 +24,14 @@ impl<R: Files + AllocGlobal> NewFile<R> {
         NewFile { file, size: 0 }
     }
 
-    /// Writes what is buffered, and closes the file. Returns its length in bytes.
-    pub(crate) fn close(self) -> io::Result<u64> {
+    /// Writes what is buffered, to the disk too if `is_synced`, and closes the file. Returns its
+    /// length in bytes.
+    pub(crate) fn close(self, is_synced: bool) -> io::Result<u64> {
         let NewFile { mut file, size } = self;
         file.flush()?;
+        if is_synced {
+            file.get_ref().sync_all()?;
+        }
         drop(file);
         Ok(size)
     }
@@ -56,12 +61,7 @@ impl<R: Files + AllocGlobal> Write for NewFile<R> {
 
 /// Moves a file to another path. Unless it replaces an existing file, it makes a hard link first,
 /// which fails if something exists there; on a file system without links it checks that itself.
-pub(crate) fn give_name<R: Files>(
-    rt: &R,
-    path: &str,
-    whole: &str,
-    replaces: bool,
-) -> io::Result<()> {
+pub fn give_name<R: Files>(rt: &R, path: &str, whole: &str, replaces: bool) -> io::Result<()> {
     if replaces {
         return fs::rename(rt, path, whole);
     }

@@ -2,6 +2,7 @@
 
 use crate::folder::Folder;
 use crate::folder_taker::FolderTaker;
+use crate::limits::Limits;
 use crate::lines::Line;
 use crate::trouble::Trouble;
 use std::io::Write;
@@ -21,6 +22,12 @@ pub struct Unpacking<'a> {
 
     /// The weakest algorithm that is enough, if one is needed.
     pub need: Option<Algo>,
+
+    /// How many files and bytes are enough.
+    pub limits: Limits,
+
+    /// Whether good payloads are kept if another one is refused.
+    pub keeps_good: bool,
 }
 
 /// How the unpacking of a FIT image ended.
@@ -48,8 +55,12 @@ pub enum Ended {
 /// A file has the name of its image if that is a file name (`is_file_name`) and no earlier file has
 /// the same name in lower case. Otherwise it is `image-` with its number among the taken payloads,
 /// counted from 0, or with the first free number after it. Nothing is written if something exists
-/// at one of these paths, unless files are replaced, or if one leads to the image. A file that did
-/// not get its name is removed.
+/// at one of these paths, unless files are replaced, if one leads to the image, or if there are more
+/// files or bytes than the limits allow.
+///
+/// Files get their names once all are written and right. If a payload is refused, only the lines of
+/// refused ones are printed. Unless all files get their names, the folder is unchanged, except that
+/// `keeps_good` keeps the good ones, and removes what refused ones were to replace.
 pub fn unpack<R: Files + AllocGlobal, S: Source, W: Write + Drop>(
     rt: &R,
     asked: &Unpacking<'_>,
@@ -60,14 +71,16 @@ pub fn unpack<R: Files + AllocGlobal, S: Source, W: Write + Drop>(
         return Ended::Stopped(Fault::Fit(FitFault::NoSuchImage));
     };
     let mut room = Room::new(rt.alloc());
-    let mut taker = FolderTaker::new(rt, asked.folder, out);
+    let mut taker = FolderTaker::new(rt, asked, out);
     let unpacked = uimg_fit_checking::unpack(only, asked.need, source, &mut room, &mut taker);
-    let (out, count, trouble) = taker.end();
-    match unpacked {
-        Ok(Unpacked::Taken(all)) => taken(asked, all, count),
-        Ok(Unpacked::Overlapping(name)) => overlapping(out, &name),
-        Err(Fault::Put) => Ended::Troubled(trouble.unwrap_or(Trouble::Put)),
-        Err(fault) => Ended::Stopped(fault),
+    let is_whole = matches!(unpacked, Ok(Unpacked::Taken(true)));
+    let (out, count, trouble) = taker.end(is_whole);
+    match (unpacked, trouble) {
+        (Ok(Unpacked::Taken(_)), Some(trouble)) => Ended::Troubled(trouble),
+        (Ok(Unpacked::Taken(all)), None) => taken(asked, all, count),
+        (Ok(Unpacked::Overlapping(name)), _) => overlapping(out, &name),
+        (Err(Fault::Put), trouble) => Ended::Troubled(trouble.unwrap_or(Trouble::Put)),
+        (Err(fault), _) => Ended::Stopped(fault),
     }
 }
 

@@ -26,6 +26,12 @@ pub struct CheckRequest<'a> {
 
     /// Whether to write a JSON object for each image instead of a line of text.
     pub as_json: bool,
+
+    /// Whether images that are ok have no line.
+    pub is_quiet: bool,
+
+    /// Whether a list without a path is right.
+    pub allows_none: bool,
 }
 
 pub(super) fn command<'a>(alloc: Global) -> Result<clap::Command<'a>, AllocError> {
@@ -65,6 +71,18 @@ pub(super) fn command<'a>(alloc: Global) -> Result<clap::Command<'a>, AllocError
                 .help("Print a JSON object for each image"),
         )?
         .arg(
+            Arg::new(alloc, "quiet")
+                .long("quiet")
+                .action(ArgAction::SetTrue)
+                .help("Print no line for images that are ok"),
+        )?
+        .arg(
+            Arg::new(alloc, "allow-empty")
+                .long("allow-empty")
+                .action(ArgAction::SetTrue)
+                .help("Accept a file of paths that has none"),
+        )?
+        .arg(
             Arg::new(alloc, "image")
                 .action(ArgAction::Append)
                 .num_args(0..)
@@ -94,5 +112,7 @@ pub(super) fn request<'a>(
         files_from,
         has_nuls: matches.get_flag("nuls"),
         as_json: matches.get_flag("json"),
+        is_quiet: matches.get_flag("quiet"),
+        allows_none: matches.get_flag("allow-empty"),
     })
 }

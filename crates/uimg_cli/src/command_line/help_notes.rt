@@ -90,7 +90,7 @@ A line has the path of the image and the first finding:
   refused      The image is refused, with this fault
   failed       The file cannot be opened, a read failed, or memory ran out
 In names, control characters and \\ are printed as \\xNN. --files-from - reads
-standard input. --json prints path, status and verdict (the word), and depending on it
+standard input; a file without a path is refused (--allow-empty). --json prints path, status and verdict (the word), and depending on it
 format, images, hashes, unchecked, checksums, algo, image, hash, configuration,
 property, name, fault, message and offset.
 Signatures and the hashes of configurations are not checked.
@@ -109,9 +109,12 @@ Exit status, the greatest of all lines:
 pub(super) const UNPACK_NOTES: &str = "Algorithms, from the weakest to the strongest:
   <algo>  crc32 md5 sha1 sha256 sha384 sha512
 
-Each payload is read once, and hashed while it is written to .uimg-new1 in the
-folder. The file gets its name only if each hash of the image is right and, with
---need-hash, one of them is strong enough. A line for each payload:
+Each payload is read once, and hashed while it is written to a temporary folder,
+.uimg-new1 in the folder. The files get their names together, once all are on the
+disk (--no-sync does not wait for that), and only if each hash of their images is
+right and, with --need, one of them is strong enough. If one is refused,
+nothing in the folder changes, and only refused ones have a line; --keep-good
+keeps the others. The lines:
   kernel: 3 bytes, sha256 ba7816..  Kept; its strongest hash, which is right
   kernel: 3 bytes, unhashed         Kept; its image has no hash
   kernel: bad hash-1                Not kept; this hash is wrong (or malformed, or
@@ -123,23 +126,27 @@ A file has the name of its image if that has only letters, digits and . _ - + @,
 does not begin with . or -, and differs from all earlier ones (a and A count as
 the same). Otherwise it is image-N, with N counted from 0 (kernel: 3 bytes as
 image-1, ..). If one of the files exists, nothing is written; with --force it is
-replaced, or removed if its new payload is refused. In names, control characters,
-\\, spaces, colons and commas are printed as \\xNN.
-Signatures and the hashes of configurations are not checked.
+replaced, or with --keep-good removed if its new payload is refused. In names,
+control characters, \\, spaces, colons and commas are printed as \\xNN.
+Signatures and the hashes of configurations are not checked. Of an image with
+more files or bytes than allowed nothing is written. --clean removes what stopped
+commands left, .uimg-new1 to .uimg-new10000; no other command may be at work there.
 
 All parts of a legacy image, or its data if it has no parts, are kept if the
-checksum of the data is right. Until then they are in a folder .uimg-new1:
+checksum of the data is right:
   image-0: 3 bytes, data crc32 352441c2  Kept; the checksum of the data is right
-  kernel.img: weak crc32                 None is kept; --need-hash is stronger
+  kernel.img: weak crc32                 None is kept; --need is stronger
 
 Examples:
-  uimg unpack -C /srv/tftp --need-hash sha256 kernel.itb
+  uimg unpack -C /srv/tftp --need sha256 kernel.itb
   uimg unpack --only ramdisk kernel.itb
   uimg unpack --only image-1 uImage
+  uimg unpack --clean -C /srv/tftp
 
 Exit status:
   0  All requested payloads or parts are kept
   1  A payload is refused, the image or part does not exist, or the image is refused
+     or becomes too many files or bytes
   2  The command line is wrong, or a file would replace the image
   3  The image cannot be opened, a file exists or cannot be written, or memory
      ran out";
@@ -167,7 +174,8 @@ Exit status:
   0  The map was written
   1  It was written, but the image is refused, or an item ends outside the file
   2  The command line is wrong, or the picture would replace the image
-  3  A file cannot be opened or written, a read failed, or memory ran out";
+  3  A file cannot be opened or written, or the picture exists, a read failed, or
+     memory ran out";
 
 /// The notes of info.
 pub(super) const INFO_NOTES: &str =

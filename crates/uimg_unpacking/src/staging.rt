@@ -1,0 +1,198 @@
+//! Files that are written in a folder of their own, and get their names together.
+
+use crate::folder::{Folder, is_there};
+use crate::new_file::{NewFile, give_name};
+use crate::trouble::Trouble;
+use std::io::BufWriter;
+use std::rt::Files;
+use std::{fs, io};
+
+/// New files for a folder. Until they get their names, they are in a temporary folder within it.
+#[derive(Drop)]
+pub(crate) struct Staging<'a, R: Files + AllocGlobal> {
+    rt: &'a R,
+    folder: Folder<'a>,
+    // The path of the temporary folder, once it is created.
+    made: Option<String>,
+    // The names that the files get. Meanwhile file number N is `new-N` in the temporary folder, and
+    // what it replaces is `old-N`.
+    names: Vec<String>,
+    // Whether the last file is not complete.
+    is_writing: bool,
+}
+
+impl<'a, R: Files + AllocGlobal> Staging<'a, R> {
+    /// Returns that nothing was written for a folder.
+    pub(crate) fn new(rt: &'a R, folder: Folder<'a>) -> Staging<'a, R> {
+        Staging {
+            rt,
+            folder,
+            made: None,
+            names: Vec::new(rt.alloc()),
+            is_writing: false,
+        }
+    }
+
+    /// Creates the file that gets a name later.
+    pub(crate) fn begin(&mut self, name: String) -> Result<NewFile<R>, Trouble> {
+        let whole = self.folder.path_of(self.rt, name.as_str())?;
+        if self.made.is_none() {
+            match self.folder.new_folder(self.rt)? {
+                Ok(made) => self.made = Some(made),
+                Err(reason) => return Err(Trouble::CannotCreate(whole, reason)),
+            }
+        }
+        let path = self.path_of("new", self.names.len())?;
+        self.names.push(name)?;
+        self.is_writing = true;
+        match fs::File::create_new(self.rt, path.as_str()) {
+            Ok(file) => Ok(NewFile::new(BufWriter::new(self.rt.alloc(), file)?)),
+            Err(reason) => Err(Trouble::CannotCreate(whole, reason)),
+        }
+    }
+
+    /// Completes the file that was begun last. Returns its length in bytes.
+    pub(crate) fn complete(&mut self, file: NewFile<R>) -> Result<u64, Trouble> {
+        match file.close(self.folder.is_synced) {
+            Ok(size) => {
+                self.is_writing = false;
+                Ok(size)
+            }
+            Err(_) => Err(self.unwritten().unwrap_or(Trouble::NoName)),
+        }
+    }
+
+    /// Removes the file that was begun last. Returns the name that it does not get.
+    pub(crate) fn drop_last(&mut self) -> Result<String, Trouble> {
+        let Some(name) = self.names.pop() else {
+            return Err(Trouble::NoName);
+        };
+        self.is_writing = false;
+        let path = self.path_of("new", self.names.len())?;
+        match fs::remove_file(self.rt, path.as_str()) {
+            Ok(()) => Ok(name),
+            Err(_) => Err(Trouble::CannotRemove(path)),
+        }
+    }
+
+    /// Returns the name that the file that was begun last gets.
+    pub(crate) fn last_name(&self) -> &str {
+        match self.names.last() {
+            Some(name) => name.as_str(),
+            None => "",
+        }
+    }
+
+    /// Returns the trouble that a file cannot be written, if one is not complete.
+    pub(crate) fn unwritten(&self) -> Option<Trouble> {
+        let name = self.names.last()?;
+        if !self.is_writing {
+            return None;
+        }
+        match self.folder.path_of(self.rt, name.as_str()) {
+            Ok(whole) => Some(Trouble::CannotWrite(whole)),
+            Err(error) => Some(Trouble::from(error)),
+        }
+    }
+
+    /// Gives all files their names. If one cannot get its name, none does, and what they were to
+    /// replace is there again.
+    pub(crate) fn name_all(&mut self) -> Result<(), Trouble> {
+        if self.is_writing {
+            self.drop_last()?;
+        }
+        for number in 0..self.names.len() {
+            if let Err(trouble) = self.name(number) {
+                self.take_back(number);
+                return Err(trouble);
+            }
+        }
+        for number in 0..self.names.len() {
+            self.remove("old", number);
+        }
+        if self.folder.is_synced
+            && let Ok(folder) = fs::open(self.rt, self.folder.path)
+        {
+            let _ = fs::OpenFile::sync_all(&folder);
+        }
+        Ok(())
+    }
+
+    /// Removes the files that have no name, and their folder.
+    pub(crate) fn end(self) {
+        for number in 0..self.names.len() {
+            self.remove("new", number);
+        }
+        if let Some(made) = &self.made {
+            let _ = fs::remove_dir(self.rt, made.as_str());
+        }
+    }
+
+    // Gives a file its name. What it replaces is kept under another.
+    fn name(&self, number: usize) -> Result<(), Trouble> {
+        let (new, old) = (self.path_of("new", number)?, self.path_of("old", number)?);
+        let whole = self.folder.allows(self.rt, self.whole(number)?)?;
+        let replaces = self.folder.is_forced && is_there(self.rt, whole.as_str());
+        if replaces && let Err(reason) = keep_as(self.rt, whole.as_str(), old.as_str()) {
+            return Err(Trouble::CannotCreate(whole, reason));
+        }
+        match give_name(self.rt, new.as_str(), whole.as_str(), replaces) {
+            Ok(()) => Ok(()),
+            Err(reason) => Err(Trouble::CannotCreate(whole, reason)),
+        }
+    }
+
+    // Takes the names of the files before a number away, and puts back what they, and the file of
+    // this number, were to replace.
+    fn take_back(&self, number: usize) {
+        for before in 0..=number {
+            if let (Ok(whole), Ok(old)) = (self.whole(before), self.path_of("old", before)) {
+                let has_name = before < number;
+                put_back(self.rt, whole.as_str(), old.as_str(), has_name);
+            }
+        }
+    }
+
+    // Returns the path that a file gets.
+    fn whole(&self, number: usize) -> Result<String, Trouble> {
+        match self.names.get(number) {
+            Some(name) => Ok(self.folder.path_of(self.rt, name.as_str())?),
+            None => Err(Trouble::NoName),
+        }
+    }
+
+    // Returns a path in the temporary folder.
+    fn path_of(&self, kind: &str, number: usize) -> Result<String, Trouble> {
+        match &self.made {
+            Some(made) => Ok(format!(in self.rt.alloc(); "{made}/{kind}-{number}")?),
+            None => Err(Trouble::NoName),
+        }
+    }
+
+    // Removes a file of the temporary folder, if it exists.
+    fn remove(&self, kind: &str, number: usize) {
+        if let Ok(path) = self.path_of(kind, number) {
+            let _ = fs::remove_file(self.rt, path.as_str());
+        }
+    }
+}
+
+// Gives a file another name too; on a file system without links it loses the first one.
+fn keep_as<R: Files>(rt: &R, whole: &str, old: &str) -> io::Result<()> {
+    match fs::hard_link(rt, whole, old) {
+        Ok(()) => Ok(()),
+        Err(_) => fs::rename(rt, whole, old),
+    }
+}
+
+// Puts back what was kept under another name; if there is nothing, removes what got the name.
+fn put_back<R: Files>(rt: &R, whole: &str, old: &str, has_name: bool) {
+    if is_there(rt, old) {
+        // Two links to one file are left by a rename.
+        if fs::rename(rt, old, whole).is_ok() {
+            let _ = fs::remove_file(rt, old);
+        }
+    } else if has_name {
+        let _ = fs::remove_file(rt, whole);
+    }
+}
