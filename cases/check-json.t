@@ -34,6 +34,13 @@ Legacy images:
   {"path":"kernel.img","status":1,"verdict":"weak","format":"legacy","algo":"crc32"}
   [1]
 
+All control characters of a path are escaped, DEL and U+0085 too, and no other character, such as U+00A0 and U+00E9:
+
+  $ name=$(printf 'd\177e\302\205\302\240\303\251\033.img') && cp kernel.img "$name" && uimg check --json "$name"
+  {"path":"d\u007fe\u0085 é\u001b.img","status":0,"verdict":"ok","format":"legacy","checksums":2}
+  $ uimg info "$name" | cut -c 1-47
+  {"path":"d\u007fe\u0085 é\u001b.img","status":0
+
 FIT images:
 
   $ for name in four-hash-fit one-bad-hash sha3-node no-data no-images; do cp "$files/$name.itb" .; done

@@ -1,6 +1,7 @@
 //! Checks many images, with a line for each.
 
 use crate::check_answers::{CHANGED, Names, UNREAD, answer_of, answer_of_fault, answer_of_missing};
+use crate::json_lines::put_json;
 use crate::main_program::{DONE, FAILED, RequestFault, WRONG_LINE, tell};
 use std::alloc::{AllocError, Global};
 use std::io::{BufRead, BufReader, BufWriter, ErrorKind, Write};
@@ -169,7 +170,7 @@ impl<'a, W: Write> Checks<'a, W> {
         self.put_answer(rt.alloc(), request.as_json, path, &answer)
     }
 
-    // Writes the line of a result.
+    // Writes the line of a result, and flushes it.
     fn put_answer<'b>(
         &mut self,
         alloc: Global,
@@ -179,19 +180,14 @@ impl<'a, W: Write> Checks<'a, W> {
     ) -> Result<(), Stop<'b>> {
         if as_json {
             let text = object_text(alloc, path, answer)?;
-            self.put_line(text.as_slice())?;
+            put_json(text.as_slice(), &mut self.out)?;
         } else {
             let text = line_text(alloc, path, answer)?;
-            self.put_line(text.as_bytes())?;
+            self.out.write_all(text.as_bytes())?;
+            self.out.write_all(b"\n")?;
         }
+        self.out.flush()?;
         Ok(())
-    }
-
-    // Writes a line, and flushes it.
-    fn put_line(&mut self, text: &[u8]) -> io::Result<()> {
-        self.out.write_all(text)?;
-        self.out.write_all(b"\n")?;
-        self.out.flush()
     }
 
     // Checks the file at a path.

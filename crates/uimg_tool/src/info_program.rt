@@ -2,9 +2,10 @@
 
 use crate::check_answers::{CHANGED, Names, UNREAD, answer_of_fault};
 use crate::check_program::is_pipe;
+use crate::json_lines::put_json;
 use crate::main_program::{DONE, FAILED, RequestFault, tell};
 use std::alloc::{AllocError, Global};
-use std::io::{ErrorKind, Write};
+use std::io::{BufWriter, ErrorKind, Write};
 use std::rt::Files;
 use uimg_base::{FileSource, Room, Source};
 use uimg_checks::object_text;
@@ -22,15 +23,21 @@ pub(crate) fn tell_facts<R: Files + AllocGlobal, W: Write, V: Write>(
     out: &mut W,
     err: &mut V,
 ) -> u8 {
-    match line_of(rt, request.image) {
-        Ok((line, status)) => put_line(line.as_slice(), status, out, err),
+    let Ok(mut gathered) = BufWriter::new(rt.alloc(), out) else {
+        return tell(err, &RequestFault::OutOfMemory, FAILED);
+    };
+    let status = match object_of(rt, request.image) {
+        Ok((text, status)) => put_object(text.as_slice(), status, &mut gathered, err),
         Err(_) => tell(err, &RequestFault::OutOfMemory, FAILED),
-    }
+    };
+    // A failed write leaves text in the buffer, which its drop would try to write again.
+    let (_, _) = gathered.into_parts();
+    status
 }
 
-// Writes a line. Returns the status, or that of a failure.
-fn put_line<W: Write, V: Write>(line: &[u8], status: u8, out: &mut W, err: &mut V) -> u8 {
-    match out.write_all(line) {
+// Writes an object as a line. Returns the status, or that of a failure.
+fn put_object<W: Write, V: Write>(text: &[u8], status: u8, out: &mut W, err: &mut V) -> u8 {
+    match put_json(text, out).and_then(|()| out.flush()) {
         Ok(()) => status,
         Err(error) if error.kind() == ErrorKind::BrokenPipe => FAILED,
         Err(_) => tell(err, &RequestFault::Stopped(Fault::Put), FAILED),
@@ -83,21 +90,17 @@ impl From<PartsFault> for Stop {
     }
 }
 
-// Returns the line of an image, and its status.
-fn line_of<R: Files + AllocGlobal>(rt: &R, path: &str) -> Result<(Vec<u8>, u8), AllocError> {
+// Returns the object of an image, and its status.
+fn object_of<R: Files + AllocGlobal>(rt: &R, path: &str) -> Result<(Vec<u8>, u8), AllocError> {
     let mut names = Names::new(rt.alloc());
     let answer = match facts_of(rt, path) {
-        Ok(mut text) => {
-            text.push(b'\n')?;
-            return Ok((text, DONE));
-        }
+        Ok(text) => return Ok((text, DONE)),
         Err(Stop::NoMemory) => return Err(AllocError),
         Err(Stop::Unread) => UNREAD,
         Err(Stop::Changed) => CHANGED,
         Err(Stop::Refused(fault)) => answer_of_fault(fault, &mut names),
     };
-    let mut text = object_text(rt.alloc(), path.as_bytes(), &answer)?;
-    text.push(b'\n')?;
+    let text = object_text(rt.alloc(), path.as_bytes(), &answer)?;
     Ok((text, answer.status()))
 }
 

@@ -6,6 +6,7 @@ mod body_source;
 mod check_answers;
 mod check_program;
 mod info_program;
+mod json_lines;
 mod main_program;
 mod making;
 mod map_program;
