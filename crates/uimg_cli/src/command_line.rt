@@ -163,7 +163,6 @@ fn commands<'a>(alloc: Global) -> Result<clap::Command<'a>, AllocError> {
         .version(VERSION)
         .subcommand_required(true)
         .arg_required_else_help(true)
-        .disable_help_subcommand(true)
         .disable_version_flag(true)
         .arg(
             Arg::new(alloc, "version")
