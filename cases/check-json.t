@@ -37,9 +37,9 @@ Legacy images:
 All control characters of a path are escaped, DEL and U+0085 too, and no other character, such as U+00A0 and U+00E9:
 
   $ name=$(printf 'd\177e\302\205\302\240\303\251\033.img') && cp kernel.img "$name" && uimg check --json "$name"
-  {"path":"d\u007fe\u0085 é\u001b.img","status":0,"verdict":"ok","format":"legacy","checksums":2}
-  $ uimg info "$name" | cut -c 1-47
-  {"path":"d\u007fe\u0085 é\u001b.img","status":0
+  {"path":"d\\u007fe\\u0085\xc2\xa0\xc3\xa9\\u001b.img","status":0,"verdict":"ok","format":"legacy","checksums":2} (esc)
+  $ uimg info "$name" | cut -c 1-46
+  {"path":"d\\u007fe\\u0085\xc2\xa0\xc3\xa9\\u001b.img","status" (esc)
 
 FIT images:
 
@@ -135,7 +135,7 @@ Names: quotes, backslashes and control characters are escaped by RFC 8259, and a
   > open("both.itb", "wb").write(image)
   > END
   $ uimg check --json name.itb
-  {"path":"name.itb","status":1,"verdict":"bad","format":"fit","image":"\\"\\n\\\\\x7f\\u001b/","hash":"hash-2"} (esc)
+  {"path":"name.itb","status":1,"verdict":"bad","format":"fit","image":"\"\n\\\u007f\u001b/","hash":"hash-2"}
   [1]
   $ uimg check --json text.itb
   {"path":"text.itb","status":1,"verdict":"bad","format":"fit","image":"k\xc3\xa4\xe2\x80\xa8","hash":"hash-2"} (esc)

@@ -14,6 +14,7 @@ Helps
     unpack     Write the payloads of an image to a folder, if their hashes are right
     info       Print the facts of an image as JSON, for scripts
     map        Show the layout of an image's file, even of a broken one
+    help       Print this message or the help of the given subcommand(s)
   
   Options:
         --version  Print the name and the version
@@ -146,6 +147,8 @@ Helps
         --files-from <file>  Also check the images whose paths are in this file, one a line
     -0                       Paths in that file end with NUL, not with a newline
         --json               Print a JSON object for each image
+        --quiet              Print no line for images that are ok
+        --allow-empty        Accept a file of paths that has none
     -h, --help               Print help
   
   Algorithms, from the weakest to the strongest:
@@ -170,9 +173,10 @@ Helps
     refused      The image is refused, with this fault
     failed       The file cannot be opened, a read failed, or memory ran out
   In names, control characters and \ are printed as \xNN. --files-from - reads
-  standard input. --json prints path, status and verdict (the word), and depending on it
-  format, images, hashes, unchecked, checksums, algo, image, hash, configuration,
-  property, name, fault, message and offset.
+  standard input; a file without a path is refused (--allow-empty). --json prints
+  path, status and verdict (the word), and depending on it format, images, hashes,
+  unchecked, checksums, algo, image, hash, configuration, property, name, fault,
+  message and offset.
   Signatures and the hashes of configurations are not checked.
   
   Examples:
@@ -203,6 +207,7 @@ Without words the command line is wrong: the help goes to standard error.
     unpack     Write the payloads of an image to a folder, if their hashes are right
     info       Print the facts of an image as JSON, for scripts
     map        Show the layout of an image's file, even of a broken one
+    help       Print this message or the help of the given subcommand(s)
   
   Options:
         --version  Print the name and the version
@@ -214,3 +219,7 @@ Without words the command line is wrong: the help goes to standard error.
   [2]
   $ wc -c < out
   0
+
+The help of a command, by another form:
+
+  $ for command in mkimage dumpimage verify check unpack info map; do uimg $command --help > one; uimg help $command | cmp - one; done

@@ -72,7 +72,7 @@ Texts: up to the first NUL, escaped by RFC 8259. A text that is not UTF-8 has U+
   $ fit 'images { k { data = "a"; description = /incbin/("text"); type = [00]; arch = [61 e4 ff]; os; }; };
   > configurations { c { fdt = [61 00 62 ff 00 00]; loadables = [61 00 00 62]; kernel = [c3]; ramdisk = [e2 80 a8]; }; };'
   $ uimg info k.itb
-  {"path":"k.itb","status":0,"format":"fit","size":404,"totalsize":404,"description":"d","timestamp":1700000000,"reservations":[],"images":[{"name":"k","description":"say \\"no\\" \\\\ \\n\\t\\u001b/\x7f","type":"","arch":"a\xef\xbf\xbd\xef\xbf\xbd","arch_base64":"YeT/","os":"","offset":128,"data-size":2,"hashes":[]}],"configurations":[{"name":"c","kernel":"\xef\xbf\xbd","kernel_base64":"ww==","ramdisk":"\xe2\x80\xa8","fdt":["a","b\xef\xbf\xbd",""],"fdt_base64":["YQ==","Yv8=",""],"loadables":["a","","b"],"nodes":[],"properties":[{"name":"fdt","size":6},{"name":"loadables","size":4},{"name":"kernel","size":1},{"name":"ramdisk","size":3}]}]} (esc)
+  {"path":"k.itb","status":0,"format":"fit","size":404,"totalsize":404,"description":"d","timestamp":1700000000,"reservations":[],"images":[{"name":"k","description":"say \\"no\\" \\\\ \\n\\t\\u001b/\\u007f","type":"","arch":"a\xef\xbf\xbd\xef\xbf\xbd","arch_base64":"YeT/","os":"","offset":128,"data-size":2,"hashes":[]}],"configurations":[{"name":"c","kernel":"\xef\xbf\xbd","kernel_base64":"ww==","ramdisk":"\xe2\x80\xa8","fdt":["a","b\xef\xbf\xbd",""],"fdt_base64":["YQ==","Yv8=",""],"loadables":["a","","b"],"nodes":[],"properties":[{"name":"fdt","size":6},{"name":"loadables","size":4},{"name":"kernel","size":1},{"name":"ramdisk","size":3}]}]} (esc)
 
 A name that is not UTF-8, or has control characters:
 
@@ -83,7 +83,7 @@ A name that is not UTF-8, or has control characters:
   > open("bytes.itb", "wb").write(image.replace(b"kernel\0", b"k\xe4\xff\xfen\t\0", 1))
   > END
   $ uimg info name.itb
-  {"path":"name.itb","status":0,"format":"fit","size":180,"totalsize":180,"description":"d","timestamp":1700000000,"reservations":[],"images":[{"name":"\\"\\n\\\\\x7f\\u001b/","offset":132,"data-size":2,"hashes":[]}],"configurations":[]} (esc)
+  {"path":"name.itb","status":0,"format":"fit","size":180,"totalsize":180,"description":"d","timestamp":1700000000,"reservations":[],"images":[{"name":"\"\n\\\u007f\u001b/","offset":132,"data-size":2,"hashes":[]}],"configurations":[]}
   $ uimg info bytes.itb
   {"path":"bytes.itb","status":0,"format":"fit","size":180,"totalsize":180,"description":"d","timestamp":1700000000,"reservations":[],"images":[{"name":"k\xef\xbf\xbd\xef\xbf\xbd\xef\xbf\xbdn\\t","name_base64":"a+T//m4J","offset":132,"data-size":2,"hashes":[]}],"configurations":[]} (esc)
 

@@ -161,8 +161,8 @@ The messages of the library for command lines:
   2 0 error: the following required arguments were not provided:
   $ first verify a b
   2 0 error: unexpected argument 'b' found
-  $ first help
-  2 0 error: unrecognized subcommand 'help'
+  $ first help frob
+  2 0 error: unrecognized subcommand 'frob'
   $ first -V
   2 0 error: unexpected argument '-V' found
   $ first verify -V a

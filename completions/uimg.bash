@@ -35,17 +35,17 @@ _uimg() {
             case "$previous" in
                 --need) COMPREPLY=($(compgen -W 'crc32 md5 sha1 sha256 sha384 sha512' -- "$current")); return ;;
             esac
-            test "${current#-}" = "$current" || { COMPREPLY=($(compgen -W '--need --strict --files-from -0 --json -h' -- "$current")); return; }
+            test "${current#-}" = "$current" || { COMPREPLY=($(compgen -W '--need --strict --files-from -0 --json --quiet --allow-empty -h' -- "$current")); return; }
             ;;
         unpack)
             case "$previous" in
                 -C) return ;;
                 --only) return ;;
-                --need-hash) COMPREPLY=($(compgen -W 'crc32 md5 sha1 sha256 sha384 sha512' -- "$current")); return ;;
+                --need) COMPREPLY=($(compgen -W 'crc32 md5 sha1 sha256 sha384 sha512' -- "$current")); return ;;
                 --max-files) return ;;
                 --max-bytes) return ;;
             esac
-            test "${current#-}" = "$current" || { COMPREPLY=($(compgen -W '-C --only --need-hash --force --max-files --max-bytes --clean -h' -- "$current")); return; }
+            test "${current#-}" = "$current" || { COMPREPLY=($(compgen -W '-C --only --need --force --keep-good --no-sync --max-files --max-bytes --clean -h' -- "$current")); return; }
             ;;
         info)
             case "$previous" in

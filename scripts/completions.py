@@ -32,7 +32,7 @@ def short_names(text):
 
 
 def read(program):
-    commands = re.findall(r"^  (\w+) {2,}(.*)$", help_of(program), re.M)
+    commands = re.findall(r"^  (?!help)(\w+) {2,}(.*)$", help_of(program), re.M)
     return [(name, meaning, options(text), short_names(text)) for name, meaning in commands for text in [help_of(program, name)]]
 
 
