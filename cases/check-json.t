@@ -38,7 +38,7 @@ All control characters of a path are escaped, DEL and U+0085 too, and no other c
 
   $ name=$(printf 'd\177e\302\205\302\240\303\251\033.img') && cp kernel.img "$name" && uimg check --json "$name"
   {"path":"d\\u007fe\\u0085\xc2\xa0\xc3\xa9\\u001b.img","status":0,"verdict":"ok","format":"legacy","checksums":2} (esc)
-  $ uimg info "$name" | cut -c 1-46
+  $ uimg info "$name" | cut -c 1-47
   {"path":"d\\u007fe\\u0085\xc2\xa0\xc3\xa9\\u001b.img","status" (esc)
 
 FIT images:
