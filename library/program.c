@@ -1,5 +1,5 @@
 /* program.c: the C calls of a statically linked uimg: its arguments, its environment, errno, and
-   memory over malloc. Rattle's standard library declares them, in rattle/os/src/c.rt of the kit. */
+   memory over malloc. The kit declares them in rattle/os/src/c.rt and rattle/libc/src/heap.rt. */
 #include "malloc.c"
 
 #include <errno.h>
