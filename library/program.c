@@ -34,11 +34,6 @@ static ptrdiff_t copy_text(const char *text, uint8_t *to, size_t room)
     return (ptrdiff_t)length;
 }
 
-size_t rattle_arg_count(void)
-{
-    return count;
-}
-
 /* Copies an argument. */
 ptrdiff_t rattle_arg(size_t i, uint8_t *to, size_t room)
 {
