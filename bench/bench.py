@@ -273,7 +273,7 @@ def print_sizes():
     """Prints the sizes of what was released."""
     rows = list(released.sizes())
     if rows:
-        print("\n| File of a release                  |   bytes |\n|-------------------------------------|---------|")
+        print(f"\n| {'File of a release':35} |   bytes |\n|{'-' * 37}|{'-' * 9}|")
     for name, size in rows:
         print(f"| {name:35} | {size:7} |")
 

@@ -24,7 +24,15 @@ def program(machine, folder):
         with open(path, "wb") as file:
             file.write(tar.extractfile(name).read())
     os.chmod(path, 0o755)
-    return path if subprocess.run([path, "--version"], capture_output=True).returncode == 0 else None
+    return path if is_run(path) else None
+
+
+def is_run(program):
+    """Whether this machine can run a program."""
+    try:
+        return subprocess.run([program, "--version"], capture_output=True).returncode == 0
+    except OSError:
+        return False
 
 
 def sizes():

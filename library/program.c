@@ -1,5 +1,5 @@
 /* program.c: the C calls of a statically linked uimg: its arguments, its environment, errno, and
-   memory over malloc. Rattle's standard library declares them, in rattle/os/src/c.rt of the kit. */
+   memory over malloc. The kit declares them in rattle/os/src/c.rt and rattle/libc/src/heap.rt. */
 #include "malloc.c"
 
 #include <errno.h>
@@ -32,11 +32,6 @@ static ptrdiff_t copy_text(const char *text, uint8_t *to, size_t room)
     }
     memcpy(to, text, length);
     return (ptrdiff_t)length;
-}
-
-size_t rattle_arg_count(void)
-{
-    return count;
 }
 
 /* Copies an argument. */

@@ -15,7 +15,6 @@ struct memory {
     void *start;
 };
 
-size_t rattle_arg_count(void);
 ptrdiff_t rattle_arg(size_t i, uint8_t *to, size_t room);
 ptrdiff_t rattle_env(const uint8_t *name, uint8_t *to, size_t room);
 ptrdiff_t rattle_env_at(size_t i, uint8_t *to, size_t room);
@@ -116,7 +115,6 @@ int main(int argc, char **argv)
         execve("/proc/self/exe", none, environ);
         return 1;
     }
-    require(rattle_arg_count() == (size_t)argc, "count of arguments", (size_t)argc);
     for (size_t i = 0; i < (size_t)argc; i++)
         require_text(rattle_arg, i, argv[i]);
     require(rattle_arg((size_t)argc, buffer, sizeof buffer) == -1, "argument after the last", (size_t)argc);
