@@ -40,6 +40,48 @@ A pipe has no known size:
   uimg: cannot read pipe
   [3]
 
+Nobody writes to this one, and nobody waits for it; nor is a socket an image:
+
+  $ mkfifo silent && python3 -c 'import socket; socket.socket(socket.AF_UNIX).bind("socket")'
+  $ refused() { timeout 20 uimg "$@"; echo "$1: status $?"; }
+  $ for command in verify 'dumpimage -l' 'dumpimage -o new' 'mkimage -l' map unpack; do refused $command silent; done
+  uimg: cannot read silent
+  verify: status 3
+  uimg: cannot read silent
+  dumpimage: status 3
+  uimg: cannot read silent
+  dumpimage: status 3
+  uimg: cannot read silent
+  mkimage: status 3
+  uimg: cannot read silent
+  map: status 3
+  uimg: cannot read silent
+  unpack: status 3
+  $ for command in verify 'dumpimage -l' 'dumpimage -o new' 'mkimage -l' map unpack; do refused $command socket; done
+  uimg: cannot read socket
+  verify: status 3
+  uimg: cannot read socket
+  dumpimage: status 3
+  uimg: cannot read socket
+  dumpimage: status 3
+  uimg: cannot read socket
+  mkimage: status 3
+  uimg: cannot read socket
+  map: status 3
+  uimg: cannot read socket
+  unpack: status 3
+  $ for image in silent socket; do refused check $image; refused info $image; done | cut -c 1-27
+  silent: failed cannot read
+  check: status 3
+  {"path":"silent","status":3
+  info: status 3
+  socket: failed cannot read
+  check: status 3
+  {"path":"socket","status":3
+  info: status 3
+  $ test -e new
+  [1]
+
 mkimage -l refuses an empty image like any other command:
 
   $ : > empty

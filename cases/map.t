@@ -255,16 +255,27 @@ A picture in place of the lines, one text and one bar for each row, as XML:
   ls: cannot access '*uimg-new*': No such file or directory
   7
 
-It replaces an existing file when it is complete, also through a link, and is never the image:
+An existing file is replaced with --force alone, when the picture is complete, also through a link:
 
-  $ cp name.itb image.itb && ln -s image.itb link && echo old > old.svg && ln -s old.svg link.svg
-  $ uimg map --svg image.itb image.itb
+  $ cp name.itb image.itb && ln -s image.itb link && echo old > old.svg && ln -s old.svg link.svg && ln -s none.svg nothing.svg
+  $ for name in old link nothing; do uimg map --svg $name.svg image.itb; done
+  uimg: old.svg exists; use --force to replace it
+  uimg: link.svg exists; use --force to replace it
+  uimg: nothing.svg exists; use --force to replace it
+  [3]
+  $ cat old.svg && test ! -e none.svg && uimg map --force --svg nothing.svg image.itb && cmp none.svg name.svg
+  old
+  $ uimg map --force --svg link.svg image.itb && test -L link.svg && cmp name.svg old.svg
+
+It never replaces the image:
+
+  $ uimg map --force --svg image.itb image.itb
   uimg: image.itb would be written while it is read
   [2]
-  $ uimg map --svg link image.itb
+  $ uimg map --force --svg link image.itb
   uimg: link would be written while it is read
   [2]
-  $ cmp name.itb image.itb && uimg map --svg link.svg image.itb && test -L link.svg && cmp name.svg old.svg
+  $ cmp name.itb image.itb
   $ uimg map --svg nowhere/a.svg image.itb
   uimg: cannot write nowhere/a.svg
   [3]

@@ -259,7 +259,7 @@ The source that mkimage makes itself, as a file and as the image made from it:
   mkimage: made/out would be written while it is read
   [2]
   $ auto -q -d d none/out
-  mkimage: cannot write none/out
+  mkimage: cannot write none/out: No such file or directory (os error 2)
   [3]
   $ cmp made/out by-hand; ls made
   out
@@ -412,7 +412,7 @@ The outfile gets its name when it is complete, also through a link, and an exist
   mkimage: cannot write pipe: it is a pipe
   [3]
   $ mkimage -q -A arm -d d folder/none/out
-  mkimage: folder/none/out: write failed
+  mkimage: cannot write folder/none/out: No such file or directory (os error 2)
   [3]
   $ (ulimit -f 1; trap '' XFSZ; mkimage -q -A arm -d "$(command -v uimg)" out 2>&1); cat out; ls out*
   mkimage: out: write failed

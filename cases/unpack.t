@@ -179,8 +179,9 @@ Refusals come before anything is written:
   $ uimg unpack none.itb
   uimg: cannot read none.itb
   [3]
-  $ uimg unpack 2>&1 | head -n 1
-  error: the following required arguments were not provided:
+  $ uimg unpack
+  uimg: no image
+  [2]
 
 Payloads that have more bytes together than the file overlap, and none is written. Two images with the same 4000 bytes after
 the tree (4000 is the size of the first, the offset of the second, which becomes that of the first, and its size):
@@ -363,7 +364,7 @@ Bytes after the data belong to no part:
   image-2: 5 bytes, data crc32 9350b6ea
   hijkl
 
-Existing files with the temporary names are left alone; at most a hundred names are tried:
+Existing files with the temporary names are left alone, and a hundred of them stop nobody:
 
   $ rm out/* && mkdir out/.uimg-new1 && echo old > out/.uimg-new2 && uimg unpack -C out abc-kernel.img && ls -A out | LC_ALL=C sort
   image-0: 3 bytes, data crc32 352441c2
@@ -371,8 +372,88 @@ Existing files with the temporary names are left alone; at most a hundred names 
   .uimg-new2
   image-0
   $ rm -r out && mkdir out && for number in $(seq 100); do echo > out/.uimg-new$number; done && uimg unpack -C out abc-kernel.img
-  uimg: cannot write out/image-0
-  [3]
+  image-0: 3 bytes, data crc32 352441c2
+  $ fit 'a { data = [61 62 63]; };' && uimg unpack -C out k.itb && ls -A out | wc -l
+  a: 3 bytes, unhashed
+  102
+
+--clean removes them, folders too and links themselves, and no other file:
+
+  $ rm -r out && mkdir out && mkdir out/.uimg-new1 && echo old | tee out/.uimg-new1/0 out/.uimg-new2 out/.uimg-newer out/kept > out/.uimg-new100
+  $ ln -s kept out/.uimg-new3 && ln -s none out/.uimg-new5 && ln -s . out/.uimg-new6
+  $ uimg unpack --clean -C out
+  .uimg-new1: removed
+  .uimg-new2: removed
+  .uimg-new3: removed
+  .uimg-new5: removed
+  .uimg-new6: removed
+  .uimg-new100: removed
+  $ ls -A out && uimg unpack --clean -C out && touch out/.uimg-new7 && uimg unpack --clean -C out abc-kernel.img && cat out/kept
+  .uimg-newer
+  kept
+  .uimg-new7: removed
+  image-0: 3 bytes, data crc32 352441c2
+  old
+
+At most 4096 files, or as many as are allowed, and as many bytes as are allowed; of an image with more nothing is unpacked:
+
+  $ fit 'a { data = [61 62 63]; }; b { data = [64 65]; }; c { data = []; };' && rm -r out && mkdir out
+  $ uimg unpack --max-files 2 -C out k.itb
+  uimg: more than 2 files; --max-files allows more
+  [1]
+  $ uimg unpack --max-bytes 4 -C out k.itb
+  uimg: more than 4 bytes; --max-bytes allows more
+  [1]
+  $ ls -A out && uimg unpack --max-files 1 --max-bytes 2 --only b -C out k.itb
+  b: 2 bytes, unhashed
+  $ rm out/* && uimg unpack --max-files 3 --max-bytes 5 -C out k.itb
+  a: 3 bytes, unhashed
+  b: 2 bytes, unhashed
+  c: 0 bytes, unhashed
+  $ rm out/* && uimg unpack --max-files 2 -C out three-part-multi.img
+  uimg: more than 2 files; --max-files allows more
+  [1]
+  $ uimg unpack --max-bytes 11 -C out three-part-multi.img
+  uimg: more than 11 bytes; --max-bytes allows more
+  [1]
+  $ uimg unpack --max-bytes 2 -C out abc-kernel.img
+  uimg: more than 2 bytes; --max-bytes allows more
+  [1]
+  $ ls -A out && uimg unpack --max-files 3 --max-bytes 12 -C out three-part-multi.img > lines && uimg unpack --force --max-bytes 4 --only image-1 -C out three-part-multi.img
+  image-1: 4 bytes, data crc32 9350b6ea
+  $ uimg unpack --max-bytes 18446744073709551615 --max-files 0 -C out k.itb
+  uimg: more than 0 files; --max-files allows more
+  [1]
+  $ for number in 18446744073709551616 +1 -1 0x1 '' ' 1'; do uimg unpack --max-bytes="$number" -C out k.itb; done
+  uimg: bad number
+  uimg: bad number
+  uimg: bad number
+  uimg: bad number
+  uimg: bad number
+  uimg: bad number
+  [2]
+  $ rm out/* && python3 - <<'END'
+  > import struct, zlib
+  > for count in 4096, 4097:
+  >     data = struct.pack(">I", 1) * count + bytes(4) + bytes(4) * count
+  >     fields = [0x27051956, 0, 0, len(data), 0, 0, zlib.crc32(data)]
+  >     rest = bytes([5, 2, 4, 0]) + bytes(32)
+  >     fields[1] = zlib.crc32(struct.pack(">7I", *fields) + rest)
+  >     open("%d.img" % count, "wb").write(struct.pack(">7I", *fields) + rest + data)
+  > END
+  $ uimg unpack -C out 4097.img
+  uimg: more than 4096 files; --max-files allows more
+  [1]
+  $ ls -A out && uimg unpack -C out 4096.img | tail -n 1 | cut -c 1-18
+  image-4095: 1 byte
+
+An image whose name cannot be a file's, where all the numbers for it are names of others:
+
+  $ rm -r out && mkdir out && fit "$(for number in $(seq 100 199); do echo "image-$number { data = [61]; };"; done) a,b { data = [62]; };"
+  $ uimg unpack -C out k.itb
+  uimg: no name for a file
+  [1]
+  $ ls -A out
 
 A failed write leaves no file, and a line that nobody reads leaves no folder:
 

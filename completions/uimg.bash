@@ -42,8 +42,10 @@ _uimg() {
                 -C) return ;;
                 --only) return ;;
                 --need-hash) COMPREPLY=($(compgen -W 'crc32 md5 sha1 sha256 sha384 sha512' -- "$current")); return ;;
+                --max-files) return ;;
+                --max-bytes) return ;;
             esac
-            test "${current#-}" = "$current" || { COMPREPLY=($(compgen -W '-C --only --need-hash --force -h' -- "$current")); return; }
+            test "${current#-}" = "$current" || { COMPREPLY=($(compgen -W '-C --only --need-hash --force --max-files --max-bytes --clean -h' -- "$current")); return; }
             ;;
         info)
             case "$previous" in
@@ -53,7 +55,7 @@ _uimg() {
         map)
             case "$previous" in
             esac
-            test "${current#-}" = "$current" || { COMPREPLY=($(compgen -W '--svg -h' -- "$current")); return; }
+            test "${current#-}" = "$current" || { COMPREPLY=($(compgen -W '--svg --force -h' -- "$current")); return; }
             ;;
     esac
     compopt -o default

@@ -73,7 +73,7 @@ pub enum WordsFault {
     #[error("no -d or -f")]
     NoDataOrSource,
 
-    /// No image to check is named.
+    /// No image to check or to unpack is named.
     #[error("no image")]
     NoImages,
 
@@ -93,7 +93,8 @@ pub enum WordsFault {
     #[error("flat_dt needs -f")]
     FlatDtNeedsSource,
 
-    /// A position is not a decimal number of 32 bits, or an address not a hexadecimal one.
+    /// A position is not a decimal number of 32 bits, a limit not one of 64 bits, or an address not a
+    /// hexadecimal one.
     #[error("bad number")]
     BadNumber,
 

@@ -64,10 +64,6 @@ pub enum OldFault<'a> {
     #[error("-l is given with -f")]
     ListWithSource,
 
-    /// Files exist at all names under which the image could be written.
-    #[error("cannot write {0}: all of {0}.uimg-new1 to {0}.uimg-new100 exist")]
-    NamesTaken(&'a str),
-
     /// An image would be written to a pipe, from which it could not be read back.
     #[error("cannot write {0}: it is a pipe")]
     MadeAsPipe(&'a str),

@@ -1,9 +1,9 @@
 //! Makes a FIT image from the source that mkimage makes itself.
 
 use crate::main_program::{FAILED, RequestFault};
-use crate::old_program::{make_image, tell, tell_unread};
+use crate::old_program::{make_image, tell, tell_unread, tell_unwritten};
 use crate::old_tools::{Called, Tool};
-use crate::safe_path::unused_beside;
+use crate::safe_path::{NewBeside, new_beside};
 use std::fs;
 use std::io::{BufWriter, Write};
 use std::rt::Files;
@@ -22,18 +22,23 @@ pub(crate) fn make_auto<R: Files + AllocGlobal, W: Write, V: Write>(
     if let Some(path) = unread_file(rt, &request.source) {
         return tell_unread(rt, tool, path, err);
     }
-    match unused_beside(rt, request.outfile) {
-        Ok(Some(path)) => {
-            let status = make_of_text(rt, tool, request, path.as_str(), out, err);
+    match new_beside(rt, request.outfile) {
+        Ok(Ok(NewBeside { file, path })) => {
+            let status = if has_written(rt, file, &request.source) {
+                make_of_text(rt, tool, request, path.as_str(), out, err)
+            } else {
+                let fault = RequestFault::CannotWrite(request.outfile);
+                tell(tool, err, &fault, FAILED)
+            };
             let _ = fs::remove_file(rt, path.as_str());
             status
         }
-        Ok(None) => tell(tool, err, &OldFault::NamesTaken(request.outfile), FAILED),
+        Ok(Err(reason)) => tell_unwritten(tool, request.outfile, &reason, err),
         Err(_) => tell(tool, err, &OldFault::OutOfMemory, FAILED),
     }
 }
 
-// Makes the image of a source whose text is written to a path.
+// Makes the image of a source whose text is at a path.
 fn make_of_text<R: Files + AllocGlobal, W: Write, V: Write>(
     rt: &R,
     tool: Tool,
@@ -42,14 +47,6 @@ fn make_of_text<R: Files + AllocGlobal, W: Write, V: Write>(
     out: &mut W,
     err: &mut V,
 ) -> u8 {
-    if !has_written(rt, path, &request.source) {
-        return tell(
-            tool,
-            err,
-            &RequestFault::CannotWrite(request.outfile),
-            FAILED,
-        );
-    }
     let made = MakeRequest::of_source_here(
         rt.alloc(),
         path,
@@ -85,11 +82,8 @@ fn unread_file<'a, R: Files + AllocGlobal>(rt: &R, source: &AutoSource<'a>) -> O
     }
 }
 
-// Writes the text of a source to a new file at a path. Returns whether it is complete.
-fn has_written<R: Files + AllocGlobal>(rt: &R, path: &str, source: &AutoSource<'_>) -> bool {
-    let Ok(mut file) = fs::File::create_new(rt, path) else {
-        return false;
-    };
+// Writes the text of a source to a new file. Returns whether it is complete.
+fn has_written<R: Files + AllocGlobal>(rt: &R, mut file: R::File, source: &AutoSource<'_>) -> bool {
     let Ok(mut gathered) = BufWriter::new(rt.alloc(), &mut file) else {
         return false;
     };

@@ -10,6 +10,7 @@ mod main_program;
 mod making;
 mod map_program;
 mod moments;
+mod new_shelf;
 mod old_program;
 mod old_tools;
 mod safe_path;

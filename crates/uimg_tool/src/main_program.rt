@@ -1,9 +1,10 @@
 //! The function `program`, the whole program: opens the files that a command line names, carries
 //! out its request, and turns the end into a line and an exit status.
-use crate::check_program::check_images;
+use crate::check_program::{check_images, is_pipe};
 use crate::info_program::tell_facts;
 use crate::making::make_image;
 use crate::map_program::map_image;
+use crate::new_shelf::NewShelf;
 use crate::old_program::{carry_out_old, read_old_words};
 use crate::old_tools::Tool;
 use crate::unpack_program::unpack_image;
@@ -12,13 +13,13 @@ use std::fs;
 use std::io::{BufWriter, Write};
 use std::rt::Files;
 use thiserror::Error;
-use uimg_base::{FileSource, Out, Room, Status};
+use uimg_base::{FileShelf, FileSource, Out, Room, Status};
 use uimg_blob_reading::BlobFault;
 use uimg_cli::{Asked, Request, WordsFault, read_words};
 use uimg_engine::{Fault, is_same_file, run_by};
 use uimg_fit_base::FitFault;
 use uimg_its::FaultKind;
-use uimg_requests::RunRequest;
+use uimg_requests::{MakeRequest, RunRequest};
 
 /// All is done.
 pub(crate) const DONE: u8 = 0;
@@ -40,6 +41,9 @@ pub(crate) enum RequestFault<'a> {
 
     #[error("cannot write {0}")]
     CannotWrite(&'a str),
+
+    #[error("{0} exists; use --force to replace it")]
+    Exists(&'a str),
 
     #[error("{0} would be written while it is read")]
     WritesWhatIsRead(&'a str),
@@ -94,7 +98,7 @@ fn carry_out_asked<R: Files + AllocGlobal, W: Write, V: Write>(
     err: &mut V,
 ) -> u8 {
     match asked {
-        Asked::One(request) => tell_end(&carry_out(rt, request, out), err),
+        Asked::One(request) => tell_end(&carry_out(rt, request, None, out), err),
         Asked::Check(request) => check_images(rt, request, out, err),
         Asked::Unpack(request) => unpack_image(rt, request, out, err),
         Asked::Map(request) => map_image(rt, request, out, err),
@@ -154,32 +158,35 @@ fn status_of_source(kind: FaultKind) -> u8 {
     }
 }
 
-/// Carries out a request, and buffers what it prints. If the flush at the end fails, returns `Put`
-/// instead of the end, because the text comes before what ended the request.
+/// Carries out a request, and buffers what it prints. What it writes goes to the file that is given,
+/// if one is. If the flush at the end fails, returns `Put` instead of the end, because the text comes
+/// before what ended the request.
 pub(crate) fn carry_out<'a, R: Files + AllocGlobal, W: Write>(
     rt: &'a R,
     request: &'a Request<'a>,
+    file: Option<R::File>,
     out: &mut W,
 ) -> Result<Status, RequestFault<'a>> {
-    match carry_out_apart(rt, request, out) {
+    match carry_out_apart(rt, request, file, out) {
         (end, true) => end,
         (_, false) => Err(RequestFault::Stopped(Fault::Put)),
     }
 }
 
-/// Carries out a request. Returns how it ended, and whether the buffer with what it printed was
-/// flushed.
+/// Carries out a request, as `carry_out` does. Returns how it ended, and whether the buffer with what
+/// it printed was flushed.
 pub(crate) fn carry_out_apart<'a, R: Files + AllocGlobal, W: Write>(
     rt: &'a R,
     request: &'a Request<'a>,
+    file: Option<R::File>,
     out: &mut W,
 ) -> (Result<Status, RequestFault<'a>>, bool) {
     let Ok(mut gathered) = BufWriter::new(rt.alloc(), out) else {
         return (Err(RequestFault::OutOfMemory), true);
     };
     let end = match request {
-        Request::Run(request) => run_command(rt, request, &mut gathered),
-        Request::Make(request) => make_image(rt, request, &mut gathered),
+        Request::Run(request) => run_command(rt, request, file, &mut gathered),
+        Request::Make(request) => make_command(rt, request, file, &mut gathered),
         Request::Show(text) => show(text, &mut gathered),
     };
     let written = gathered.flush();
@@ -200,8 +207,12 @@ fn show<'a, W: Write, D: Display>(text: &D, out: &mut W) -> Result<Status, Reque
 fn run_command<'a, R: Files + AllocGlobal, W: Write>(
     rt: &R,
     request: &RunRequest<'a>,
+    file: Option<R::File>,
     out: &mut W,
 ) -> Result<Status, RequestFault<'a>> {
+    if is_pipe(rt, request.image) {
+        return Err(RequestFault::CannotRead(request.image));
+    }
     let Ok(mut source) = FileSource::open(rt, request.image) else {
         return Err(RequestFault::CannotRead(request.image));
     };
@@ -218,9 +229,7 @@ fn run_command<'a, R: Files + AllocGlobal, W: Write>(
             if is_same_file(rt, path, request.image) {
                 return Err(RequestFault::WritesWhatIsRead(path));
             }
-            let Ok(outfile) = fs::create(rt, request.written.unwrap_or(path)) else {
-                return Err(RequestFault::CannotWrite(path));
-            };
+            let outfile = outfile_at(rt, path, file)?;
             run_by(
                 request.naming,
                 &request.command,
@@ -231,4 +240,37 @@ fn run_command<'a, R: Files + AllocGlobal, W: Write>(
         }
     };
     Ok(status)
+}
+
+// Returns the file for an extraction: the one that is given, or else the one at a path, which is
+// created or emptied.
+fn outfile_at<'a, R: Files>(
+    rt: &R,
+    path: &'a str,
+    file: Option<R::File>,
+) -> Result<R::File, RequestFault<'a>> {
+    match file {
+        Some(file) => Ok(file),
+        None => match fs::create(rt, path) {
+            Ok(file) => Ok(file),
+            Err(_) => Err(RequestFault::CannotWrite(path)),
+        },
+    }
+}
+
+// Makes the requested image in the file that is given, or else in the one at its path.
+fn make_command<'a, R: Files + AllocGlobal, W: Write>(
+    rt: &'a R,
+    request: &'a MakeRequest<'a>,
+    file: Option<R::File>,
+    out: &mut W,
+) -> Result<Status, RequestFault<'a>> {
+    let path = request.written;
+    match file {
+        Some(file) => match NewShelf::new(rt, path, file) {
+            Ok(shelf) => make_image(rt, request, shelf, out),
+            Err(_) => Err(RequestFault::OutOfMemory),
+        },
+        None => make_image(rt, request, FileShelf::new(rt, path), out),
+    }
 }

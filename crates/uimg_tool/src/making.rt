@@ -4,33 +4,35 @@ use crate::main_program::RequestFault;
 use crate::xip_files::XipFiles;
 use std::io::Write;
 use std::rt;
-use uimg_base::{FileShelf, Files, Out, Room, Status};
+use uimg_base::{Files, Out, Room, Shelf, Status};
 use uimg_engine::{DiskFiles, Fault, make_by};
 use uimg_requests::{MakeCommand, MakeRequest};
 
-/// Makes the requested image.
-pub(crate) fn make_image<'a, R: rt::Files + AllocGlobal, W: Write>(
+/// Makes the requested image on a shelf.
+pub(crate) fn make_image<'a, R: rt::Files + AllocGlobal, H: Shelf, W: Write>(
     rt: &'a R,
     request: &'a MakeRequest<'a>,
+    shelf: H,
     out: &mut W,
 ) -> Result<Status, RequestFault<'a>> {
     let mut files = DiskFiles::without(rt, request.folder, request.outfile);
     if request.is_xip {
-        return make_xip(rt, request, files, out);
+        return make_xip(rt, request, files, shelf, out);
     }
-    let made = make_over(rt, request, &mut files, out);
+    let made = make_over(rt, request, &mut files, shelf, out);
     end_of(request, made, files.has_met_left_out())
 }
 
 // Makes an image whose header replaces the beginning of its file.
-fn make_xip<'a, R: rt::Files + AllocGlobal, W: Write>(
+fn make_xip<'a, R: rt::Files + AllocGlobal, H: Shelf, W: Write>(
     rt: &'a R,
     request: &'a MakeRequest<'a>,
     files: DiskFiles<'a, R>,
+    shelf: H,
     out: &mut W,
 ) -> Result<Status, RequestFault<'a>> {
     let mut files = XipFiles::new(files);
-    match make_over(rt, request, &mut files, out) {
+    match make_over(rt, request, &mut files, shelf, out) {
         Err(Fault::NoFile(number)) if files.has_met_no_room() => {
             Err(RequestFault::NoRoom(file_path(request, number)))
         }
@@ -39,10 +41,11 @@ fn make_xip<'a, R: rt::Files + AllocGlobal, W: Write>(
 }
 
 // Makes an image over files.
-fn make_over<R: rt::Files + AllocGlobal, F: Files, W: Write>(
+fn make_over<R: rt::Files + AllocGlobal, F: Files, H: Shelf, W: Write>(
     rt: &R,
     request: &MakeRequest<'_>,
     files: &mut F,
+    shelf: H,
     out: &mut W,
 ) -> Result<(), Fault> {
     let made = make_by(
@@ -50,7 +53,7 @@ fn make_over<R: rt::Files + AllocGlobal, F: Files, W: Write>(
         &request.command,
         request.manner,
         files,
-        FileShelf::new(rt, request.written),
+        shelf,
         &mut Room::new(rt.alloc()),
         &mut Out::new(&mut *out),
     );

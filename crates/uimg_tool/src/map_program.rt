@@ -10,6 +10,7 @@ use uimg_base::{FileSource, Source};
 use uimg_cli::MapRequest;
 use uimg_engine::{Fault, is_same_file};
 use uimg_map::{Map, MapFault, MapStop, map_of, put_lines, put_picture};
+use uimg_unpacking::give_name;
 
 /// Writes the map of the requested image: lines on `out`, or a picture as a file that gets its name
 /// when it is complete. Returns the status. A fault is reported by a line on `err`; a refused image
@@ -34,10 +35,22 @@ pub(crate) fn map_image<R: Files + AllocGlobal, W: Write, V: Write>(
         Some(path) if is_same_file(rt, path, request.image) => {
             return tell(err, &RequestFault::WritesWhatIsRead(path), WRONG_LINE);
         }
-        Some(path) => draw(rt, path, &mut source, &map),
+        Some(path) if !request.is_forced && is_taken(rt, path) => {
+            return tell(err, &RequestFault::Exists(path), FAILED);
+        }
+        Some(path) => draw(rt, path, request.is_forced, &mut source, &map),
         None => print(rt, &mut source, &map, out),
     };
     tell_ended(ended, map.fault, err)
+}
+
+// Returns whether a picture at a path would replace a file or a symbolic link. Devices and pipes are
+// written to.
+fn is_taken<R: Files>(rt: &R, path: &str) -> bool {
+    match fs::metadata(rt, path) {
+        Ok(found) => found.is_file(),
+        Err(_) => fs::symlink_metadata(rt, path).is_ok(),
+    }
 }
 
 // Why a map was not written.
@@ -87,40 +100,41 @@ fn print<'a, R: Files + AllocGlobal, S: Source, W: Write>(
 fn draw<'a, R: Files + AllocGlobal, S: Source>(
     rt: &R,
     path: &'a str,
+    is_forced: bool,
     source: &mut S,
     map: &Map,
 ) -> Result<(), Stop<'a>> {
     match writing_of(rt, path) {
-        Ok(Writing::Beside(safe)) => draw_beside(rt, path, &safe, source, map),
+        Ok(Writing::Beside(file, safe)) => {
+            let drawn = draw_into(rt, path, file, source, map);
+            name_picture(rt, path, &safe, is_forced, drawn)
+        }
         Ok(Writing::InPlace | Writing::Pipe) => match fs::create(rt, path) {
             Ok(file) => draw_into(rt, path, file, source, map),
             Err(_) => Err(Stop::CannotWrite(path)),
         },
-        Ok(Writing::Nowhere) => Err(Stop::CannotWrite(path)),
+        Ok(Writing::Nowhere(_)) => Err(Stop::CannotWrite(path)),
         Err(_) => Err(Stop::Stopped(MapStop::Stopped(MapFault::OutOfMemory))),
     }
 }
 
-// Writes a picture to a new file, and moves it to its path. Removes an incomplete picture.
-fn draw_beside<'a, R: Files + AllocGlobal, S: Source>(
+// Moves a picture that was written beside its path to it. Removes one that is incomplete, or whose
+// path is taken meanwhile.
+fn name_picture<'a, R: Files>(
     rt: &R,
     path: &'a str,
     safe: &SafePath,
-    source: &mut S,
-    map: &Map,
+    is_forced: bool,
+    drawn: Result<(), Stop<'a>>,
 ) -> Result<(), Stop<'a>> {
-    let Ok(file) = fs::File::create_new(rt, safe.new.as_str()) else {
-        return Err(Stop::CannotWrite(path));
-    };
-    let drawn = draw_into(rt, path, file, source, map);
-    if drawn.is_ok() && fs::rename(rt, safe.new.as_str(), safe.whole.as_str()).is_ok() {
-        return Ok(());
-    }
-    let _ = fs::remove_file(rt, safe.new.as_str());
-    match drawn {
+    let (new, whole) = (safe.new.as_str(), safe.whole.as_str());
+    let named = match drawn {
+        Ok(()) if give_name(rt, new, whole, is_forced).is_ok() => return Ok(()),
         Ok(()) => Err(Stop::CannotWrite(path)),
         Err(stop) => Err(stop),
-    }
+    };
+    let _ = fs::remove_file(rt, new);
+    named
 }
 
 // Writes a picture to a file.

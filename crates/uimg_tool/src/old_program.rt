@@ -75,8 +75,10 @@ fn run_command<R: Files + AllocGlobal, W: Write, V: Write>(
     };
     match writing_of(rt, outfile) {
         Ok(Writing::InPlace | Writing::Pipe) => run_in_place(rt, called, request, out, err),
-        Ok(Writing::Beside(path)) => run_beside(rt, tool, request, &path, out, err),
-        Ok(Writing::Nowhere) => tell(tool, err, &OldFault::NamesTaken(outfile), FAILED),
+        Ok(Writing::Beside(file, path)) => {
+            run_beside(rt, tool, request, Begun { file, path: &path }, out, err)
+        }
+        Ok(Writing::Nowhere(reason)) => tell_unwritten(tool, outfile, &reason, err),
         Err(_) => tell(tool, err, &OldFault::OutOfMemory, FAILED),
     }
 }
@@ -94,18 +96,24 @@ fn run_in_place<R: Files + AllocGlobal, W: Write, V: Write>(
     tell_end(rt, called.tool, &end, image, err)
 }
 
+// A file that is written beside its name, and its paths.
+struct Begun<'a, R: Files> {
+    file: R::File,
+    path: &'a SafePath,
+}
+
 fn run_beside<'a, R: Files + AllocGlobal, W: Write, V: Write>(
     rt: &'a R,
     tool: Tool,
-    mut request: RunRequest<'a>,
-    path: &'a SafePath,
+    request: RunRequest<'a>,
+    begun: Begun<'a, R>,
     out: &mut W,
     err: &mut V,
 ) -> u8 {
     let image = request.image;
-    request.written = Some(path.new.as_str());
     let request = Request::Run(request);
-    let end = carry_out(rt, &request, out);
+    let Begun { file, path } = begun;
+    let end = carry_out(rt, &request, Some(file), out);
     tell_written(rt, tool, path, &end, image, err)
 }
 
@@ -125,9 +133,11 @@ pub(crate) fn make_image<R: Files + AllocGlobal, W: Write, V: Write>(
             let end = carry_out_by(rt, &request, called.is_quiet, out);
             tell_end(rt, tool, &end, outfile, err)
         }
-        Ok(Writing::Beside(path)) => make_beside(rt, called, request, &path, out, err),
+        Ok(Writing::Beside(file, path)) => {
+            make_beside(rt, called, request, Begun { file, path: &path }, out, err)
+        }
         Ok(Writing::Pipe) => tell(tool, err, &OldFault::MadeAsPipe(request.outfile), FAILED),
-        Ok(Writing::Nowhere) => tell(tool, err, &OldFault::NamesTaken(request.outfile), FAILED),
+        Ok(Writing::Nowhere(reason)) => tell_unwritten(tool, request.outfile, &reason, err),
         Err(_) => tell(tool, err, &OldFault::OutOfMemory, FAILED),
     }
 }
@@ -137,17 +147,18 @@ fn make_beside<'a, R: Files + AllocGlobal, W: Write, V: Write>(
     rt: &'a R,
     called: Called,
     mut request: MakeRequest<'a>,
-    path: &'a SafePath,
+    begun: Begun<'a, R>,
     out: &mut W,
     err: &mut V,
 ) -> u8 {
     let (source, outfile) = (request.source, request.outfile);
+    let Begun { file, path } = begun;
     request.written = path.new.as_str();
     let request = Request::Make(request);
     let (end, is_printed) = if called.is_quiet {
-        carry_out_apart(rt, &request, &mut io::sink())
+        carry_out_apart(rt, &request, Some(file), &mut io::sink())
     } else {
-        carry_out_apart(rt, &request, out)
+        carry_out_apart(rt, &request, Some(file), out)
     };
     let about = match &end {
         Err(RequestFault::Stopped(Fault::Its(_))) => source,
@@ -188,9 +199,9 @@ fn carry_out_by<'a, R: Files + AllocGlobal, W: Write>(
     out: &mut W,
 ) -> Result<Status, RequestFault<'a>> {
     if is_quiet {
-        carry_out(rt, request, &mut io::sink())
+        carry_out(rt, request, None, &mut io::sink())
     } else {
-        carry_out(rt, request, out)
+        carry_out(rt, request, None, out)
     }
 }
 
@@ -229,6 +240,17 @@ pub(crate) fn tell_unread<R: Files, V: Write>(rt: &R, tool: Tool, path: &str, er
         }
         None => tell(tool, err, &RequestFault::CannotRead(path), FAILED),
     }
+}
+
+/// Reports a file that cannot be created, with the operating system's reason.
+pub(crate) fn tell_unwritten<V: Write>(
+    tool: Tool,
+    path: &str,
+    reason: &io::Error,
+    err: &mut V,
+) -> u8 {
+    let _ = writeln!(err, "{}: cannot write {path}: {reason}", tool.name());
+    FAILED
 }
 
 /// Writes the line of a fault, and returns the status. Failed writes are ignored.

@@ -1,16 +1,17 @@
 //! Where a file is written before it gets its name.
 
 use std::alloc::AllocError;
-use std::fs;
+use std::io::ErrorKind;
 use std::os::unix::fs::FileTypeExt;
 use std::rt::Files;
+use std::{fs, io};
 
-/// How many names are tried beside a path.
-const TRIED: u32 = 100;
+/// How many names are tried beside a path. Commands that were stopped left those that exist.
+const TRIED: u32 = 10_000;
 
 /// Where the file for a path is written.
 #[derive(Drop)]
-pub(crate) enum Writing {
+pub(crate) enum Writing<R: Files> {
     /// At the path, where something exists that is not a regular file, as a device, or a symbolic
     /// link without a target.
     InPlace,
@@ -18,28 +19,36 @@ pub(crate) enum Writing {
     /// At the path, where a pipe is.
     Pipe,
 
-    /// Beside the file that the path leads to, through symbolic links too.
-    Beside(SafePath),
+    /// To a new file beside the one that the path leads to, through symbolic links too.
+    Beside(R::File, SafePath),
 
-    /// Nowhere: all names beside it exist.
-    Nowhere,
+    /// Nowhere: a file cannot be created beside it, for this reason.
+    Nowhere(io::Error),
 }
 
 /// The paths of a file that is written beside its name.
 #[derive(Drop)]
 pub(crate) struct SafePath {
-    /// The path that is written. Nothing existed there when it was chosen.
+    /// The path of the new file.
     pub(crate) new: String,
 
     /// The path that it gets when it is complete.
     pub(crate) whole: String,
 }
 
-/// Returns where the file for a path is written. Fails if memory for the paths is refused.
+/// A new file beside a path, with its own path.
+#[derive(Drop)]
+pub(crate) struct NewBeside<R: Files> {
+    pub(crate) file: R::File,
+    pub(crate) path: String,
+}
+
+/// Returns where the file for a path is written, which is created if it is a new one. Fails if
+/// memory for the paths is refused.
 pub(crate) fn writing_of<R: Files + AllocGlobal>(
     rt: &R,
     path: &str,
-) -> Result<Writing, AllocError> {
+) -> Result<Writing<R>, AllocError> {
     let whole = match fs::metadata(rt, path) {
         Ok(found) if found.file_type().is_fifo() => return Ok(Writing::Pipe),
         Ok(found) if !found.is_file() => return Ok(Writing::InPlace),
@@ -50,22 +59,25 @@ pub(crate) fn writing_of<R: Files + AllocGlobal>(
         Err(_) if fs::symlink_metadata(rt, path).is_ok() => return Ok(Writing::InPlace),
         Err(_) => String::from_str(rt.alloc(), path)?,
     };
-    match unused_beside(rt, whole.as_str())? {
-        Some(new) => Ok(Writing::Beside(SafePath { new, whole })),
-        None => Ok(Writing::Nowhere),
+    match new_beside(rt, whole.as_str())? {
+        Ok(NewBeside { file, path: new }) => Ok(Writing::Beside(file, SafePath { new, whole })),
+        Err(error) => Ok(Writing::Nowhere(error)),
     }
 }
 
-/// Returns a free path beside another. Fails if memory for it is refused.
-pub(crate) fn unused_beside<R: Files + AllocGlobal>(
+/// Creates a file beside a path, under the first free name. Returns why it cannot be created; fails
+/// if memory for its path is refused.
+pub(crate) fn new_beside<R: Files + AllocGlobal>(
     rt: &R,
     path: &str,
-) -> Result<Option<String>, AllocError> {
+) -> Result<io::Result<NewBeside<R>>, AllocError> {
     for number in 1..=TRIED {
-        let beside = format!(in rt.alloc(); "{path}.uimg-new{number}")?;
-        if fs::symlink_metadata(rt, beside.as_str()).is_err() {
-            return Ok(Some(beside));
+        let path = format!(in rt.alloc(); "{path}.uimg-new{number}")?;
+        match fs::File::create_new(rt, path.as_str()) {
+            Ok(file) => return Ok(Ok(NewBeside { file, path })),
+            Err(error) if error.kind() == ErrorKind::AlreadyExists => {}
+            Err(error) => return Ok(Err(error)),
         }
     }
-    Ok(None)
+    Ok(Err(io::Error::from(ErrorKind::AlreadyExists)))
 }

@@ -8,42 +8,73 @@ use uimg_base::{FileSource, Source};
 use uimg_cli::UnpackRequest;
 use uimg_engine::{Fault, Form, is_fit};
 use uimg_printing::Printed;
-use uimg_unpacking::{Ended, FileId, Folder, PartsEnded, Trouble, Unpacking, unpack, unpack_parts};
+use uimg_unpacking::{
+    Ended, FileId, Folder, Limits, PartsEnded, Trouble, Unpacking, unpack, unpack_parts,
+};
 
-/// Unpacks the requested image, with a line for each payload or part on `out`. The first four bytes
-/// decide its format. Returns the status. A fault is reported by a line on `err`.
+/// Cleans the folder and unpacks the image, as requested, with a line for each removed file, payload
+/// or part on `out`. Returns the status. A fault is reported by a line on `err`.
 pub(crate) fn unpack_image<R: Files + AllocGlobal, W: Write, V: Write>(
     rt: &R,
     request: &UnpackRequest<'_>,
     out: &mut W,
     err: &mut V,
 ) -> u8 {
-    if is_pipe(rt, request.image) {
-        return tell(err, &RequestFault::CannotRead(request.image), FAILED);
-    }
-    let Ok(mut source) = FileSource::open(rt, request.image) else {
-        return tell(err, &RequestFault::CannotRead(request.image), FAILED);
-    };
     let Ok(mut gathered) = BufWriter::new(rt.alloc(), out) else {
         return tell(err, &RequestFault::OutOfMemory, FAILED);
     };
-    let asked = Unpacking {
-        folder: Folder {
-            path: request.folder,
-            image: FileId::of(rt, request.image),
-            is_forced: request.is_forced,
-        },
-        only: request.only,
-        need: request.need,
+    let cleaned = if request.cleans {
+        folder_of(request, None).clean(rt, &mut gathered)
+    } else {
+        Ok(())
     };
-    let status = match is_fit(Form::Guess, &mut source) {
-        Ok(true) => tell_ended(unpack(rt, &asked, &mut source, &mut gathered), err),
-        Ok(false) => unpack_legacy(rt, request.image, &asked, &mut source, &mut gathered, err),
-        Err(fault) => tell(err, &RequestFault::Stopped(Fault::from(fault)), FAILED),
+    let status = match (cleaned, request.image) {
+        (Err(trouble), _) => tell_trouble(trouble, err),
+        (Ok(()), Some(image)) => unpack_at(rt, image, request, &mut gathered, err),
+        (Ok(()), None) => DONE,
     };
     // A failed write leaves text in the buffer, which its drop would try to write again.
     let (_, _) = gathered.into_parts();
     status
+}
+
+// Returns the folder of a request, for an image that is this file.
+fn folder_of<'a>(request: &UnpackRequest<'a>, image: Option<FileId>) -> Folder<'a> {
+    Folder {
+        path: request.folder,
+        image,
+        is_forced: request.is_forced,
+    }
+}
+
+// Unpacks the image at a path. The first four bytes decide its format.
+fn unpack_at<R: Files + AllocGlobal, W: Write + Drop, V: Write>(
+    rt: &R,
+    path: &str,
+    request: &UnpackRequest<'_>,
+    out: &mut W,
+    err: &mut V,
+) -> u8 {
+    if is_pipe(rt, path) {
+        return tell(err, &RequestFault::CannotRead(path), FAILED);
+    }
+    let Ok(mut source) = FileSource::open(rt, path) else {
+        return tell(err, &RequestFault::CannotRead(path), FAILED);
+    };
+    let asked = Unpacking {
+        folder: folder_of(request, FileId::of(rt, path)),
+        only: request.only,
+        need: request.need,
+        limits: Limits {
+            files: request.most_files,
+            bytes: request.most_bytes,
+        },
+    };
+    match is_fit(Form::Guess, &mut source) {
+        Ok(true) => tell_ended(unpack(rt, &asked, &mut source, &mut *out), err),
+        Ok(false) => unpack_legacy(rt, path, &asked, &mut source, out, err),
+        Err(fault) => tell(err, &RequestFault::Stopped(Fault::from(fault)), FAILED),
+    }
 }
 
 // Unpacks a legacy image.
@@ -91,6 +122,9 @@ fn tell_trouble<V: Write>(trouble: Trouble, err: &mut V) -> u8 {
     match trouble {
         Trouble::Closed => FAILED,
         Trouble::IsImage(_) => tell(err, &trouble, WRONG_LINE),
+        Trouble::NoName | Trouble::TooManyFiles(_) | Trouble::TooManyBytes(_) => {
+            tell(err, &trouble, REFUSED)
+        }
         _ => tell(err, &trouble, FAILED),
     }
 }

@@ -3,11 +3,12 @@
 use crate::trouble::Trouble;
 use std::alloc::AllocError;
 use std::fs;
+use std::io::{ErrorKind, Write};
 use std::os::unix::fs::MetadataExt;
 use std::rt::Files;
 
-/// How many names are tried for a new file.
-const TRIED: u32 = 100;
+/// How many names are tried for a new file. Commands that were stopped left those that exist.
+const TRIED: u32 = 10_000;
 
 /// The file at a path; different paths may lead to the same file.
 #[derive(Clone, Copy, Debug, PartialEq, Eq)]
@@ -64,15 +65,17 @@ impl<'a> Folder<'a> {
     }
 
     /// Creates a file in it, and returns it with its path: the first free one of `.uimg-new1` to
-    /// `.uimg-new100`, none if no file can be created. Fails if memory for the path is refused.
+    /// `.uimg-new10000`, none if no file can be created. Fails if memory for the path is refused.
     pub(crate) fn new_file<R: Files + AllocGlobal>(
         &self,
         rt: &R,
     ) -> Result<Option<(R::File, String)>, AllocError> {
         for number in 1..=TRIED {
-            let path = format!(in rt.alloc(); "{}/.uimg-new{number}", self.path)?;
-            if let Ok(file) = fs::File::create_new(rt, path.as_str()) {
-                return Ok(Some((file, path)));
+            let path = self.unnamed(rt, number)?;
+            match fs::File::create_new(rt, path.as_str()) {
+                Ok(file) => return Ok(Some((file, path))),
+                Err(error) if error.kind() == ErrorKind::AlreadyExists => {}
+                Err(_) => return Ok(None),
             }
         }
         Ok(None)
@@ -85,12 +88,42 @@ impl<'a> Folder<'a> {
         rt: &R,
     ) -> Result<Option<String>, AllocError> {
         for number in 1..=TRIED {
-            let path = format!(in rt.alloc(); "{}/.uimg-new{number}", self.path)?;
-            if fs::create_dir(rt, path.as_str()).is_ok() {
-                return Ok(Some(path));
+            let path = self.unnamed(rt, number)?;
+            match fs::create_dir(rt, path.as_str()) {
+                Ok(()) => return Ok(Some(path)),
+                Err(error) if error.kind() == ErrorKind::AlreadyExists => {}
+                Err(_) => return Ok(None),
             }
         }
         Ok(None)
+    }
+
+    // Returns a path in it for what has no name yet. Fails if memory for it is refused.
+    fn unnamed<R: Files + AllocGlobal>(&self, rt: &R, number: u32) -> Result<String, AllocError> {
+        format!(in rt.alloc(); "{}/.uimg-new{number}", self.path)
+    }
+
+    /// Removes the files and folders without a name in it, which commands that were stopped have
+    /// left, with a line for each on `out`.
+    pub fn clean<R: Files + AllocGlobal, W: Write>(
+        &self,
+        rt: &R,
+        out: &mut W,
+    ) -> Result<(), Trouble> {
+        for number in 1..=TRIED {
+            let path = self.unnamed(rt, number)?;
+            let removed = match fs::symlink_metadata(rt, path.as_str()) {
+                Ok(found) if found.is_dir() => fs::remove_dir_all(rt, path.as_str()),
+                Ok(_) => fs::remove_file(rt, path.as_str()),
+                Err(_) => continue,
+            };
+            if removed.is_err() {
+                return Err(Trouble::CannotRemove(path));
+            }
+            writeln!(out, ".uimg-new{number}: removed")?;
+        }
+        out.flush()?;
+        Ok(())
     }
 }
 

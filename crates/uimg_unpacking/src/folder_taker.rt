@@ -3,6 +3,7 @@
 ghost use Rattle.std.specs.Prelude.{[]};
 
 use crate::folder::{Folder, is_there};
+use crate::limits::{Claimed, Limits};
 use crate::lines::Line;
 use crate::names::Names;
 use crate::new_file::{NewFile, give_name};
@@ -36,12 +37,18 @@ pub(crate) struct FolderTaker<'a, R: Files + AllocGlobal, W: Write + Drop> {
     // The names of the files that were checked, then of those that were begun: the same ones.
     looked: Names,
     taken: Names,
+    claimed: Claimed,
     trouble: Option<Trouble>,
 }
 
 impl<'a, R: Files + AllocGlobal, W: Write + Drop> FolderTaker<'a, R, W> {
     /// Returns a taker for a folder, which writes its lines to `out`.
-    pub(crate) fn new(rt: &'a R, folder: Folder<'a>, out: W) -> FolderTaker<'a, R, W> {
+    pub(crate) fn new(
+        rt: &'a R,
+        folder: Folder<'a>,
+        limits: Limits,
+        out: W,
+    ) -> FolderTaker<'a, R, W> {
         FolderTaker {
             rt,
             folder,
@@ -49,6 +56,7 @@ impl<'a, R: Files + AllocGlobal, W: Write + Drop> FolderTaker<'a, R, W> {
             begun: None,
             looked: Names::new(rt.alloc()),
             taken: Names::new(rt.alloc()),
+            claimed: Claimed::new(limits),
             trouble: None,
         }
     }
@@ -62,6 +70,7 @@ impl<'a, R: Files + AllocGlobal, W: Write + Drop> FolderTaker<'a, R, W> {
             out,
             begun,
             looked: _looked,
+            claimed: _claimed,
             taken,
             trouble,
         } = self;
@@ -76,7 +85,8 @@ impl<'a, R: Files + AllocGlobal, W: Write + Drop> FolderTaker<'a, R, W> {
     }
 
     // Checks, before any payload is written, whether the file of this one may be.
-    fn look(&mut self, name: &NodeName) -> Result<(), Trouble> {
+    fn look(&mut self, name: &NodeName, length: u64) -> Result<(), Trouble> {
+        self.claimed.claim(length)?;
         match self.looked.next(name)? {
             Some(name) => {
                 let whole = self.folder.path_of(self.rt, name.as_str())?;
@@ -175,8 +185,8 @@ impl<'a, R: Files + AllocGlobal, W: Write + Drop> Taker for FolderTaker<'a, R, W
 
     ghost takes = { λ _. [] };
 
-    fn claim(&mut self, name: &NodeName) -> Result<(), PutFault> {
-        let looked = self.look(name);
+    fn claim(&mut self, name: &NodeName, length: u64) -> Result<(), PutFault> {
+        let looked = self.look(name, length);
         self.kept(looked)
     }
 

@@ -5,6 +5,7 @@
 mod file_names;
 mod folder;
 mod folder_taker;
+mod limits;
 mod lines;
 mod names;
 mod new_file;
@@ -15,6 +16,8 @@ mod unpacking;
 
 pub use file_names::is_file_name;
 pub use folder::{FileId, Folder};
+pub use limits::Limits;
+pub use new_file::give_name;
 pub use part_unpacking::{PartsEnded, unpack_parts};
 pub use trouble::Trouble;
 pub use unpacking::{Ended, Unpacking, unpack};

@@ -56,12 +56,7 @@ impl<R: Files + AllocGlobal> Write for NewFile<R> {
 
 /// Moves a file to another path. Unless it replaces an existing file, it makes a hard link first,
 /// which fails if something exists there; on a file system without links it checks that itself.
-pub(crate) fn give_name<R: Files>(
-    rt: &R,
-    path: &str,
-    whole: &str,
-    replaces: bool,
-) -> io::Result<()> {
+pub fn give_name<R: Files>(rt: &R, path: &str, whole: &str, replaces: bool) -> io::Result<()> {
     if replaces {
         return fs::rename(rt, path, whole);
     }

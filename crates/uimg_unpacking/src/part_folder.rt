@@ -3,6 +3,7 @@
 ghost use Rattle.std.specs.Prelude.{[]};
 
 use crate::folder::{Folder, is_there};
+use crate::limits::{Claimed, Limits};
 use crate::lines::Line;
 use crate::new_file::{NewFile, give_name};
 use crate::trouble::Trouble;
@@ -26,12 +27,18 @@ pub(crate) struct PartFolder<'a, R: Files + AllocGlobal, W: Write + Drop> {
     behind: u32,
     // The number of the part that is written.
     writing: Option<u32>,
+    claimed: Claimed,
     trouble: Option<Trouble>,
 }
 
 impl<'a, R: Files + AllocGlobal, W: Write + Drop> PartFolder<'a, R, W> {
     /// Returns a taker for a folder, which writes its lines to `out`.
-    pub(crate) fn new(rt: &'a R, folder: Folder<'a>, out: W) -> PartFolder<'a, R, W> {
+    pub(crate) fn new(
+        rt: &'a R,
+        folder: Folder<'a>,
+        limits: Limits,
+        out: W,
+    ) -> PartFolder<'a, R, W> {
         PartFolder {
             rt,
             folder,
@@ -40,6 +47,7 @@ impl<'a, R: Files + AllocGlobal, W: Write + Drop> PartFolder<'a, R, W> {
             first: 0,
             behind: 0,
             writing: None,
+            claimed: Claimed::new(limits),
             trouble: None,
         }
     }
@@ -59,6 +67,7 @@ impl<'a, R: Files + AllocGlobal, W: Write + Drop> PartFolder<'a, R, W> {
             first: _first,
             behind: _behind,
             writing: _writing,
+            claimed: _claimed,
             trouble,
         } = self;
         trouble.or(unwritten)
@@ -80,7 +89,8 @@ impl<'a, R: Files + AllocGlobal, W: Write + Drop> PartFolder<'a, R, W> {
     }
 
     // Checks, before any part is written, whether the file of this one may be.
-    fn look(&self, number: u32) -> Result<(), Trouble> {
+    fn look(&mut self, number: u32) -> Result<(), Trouble> {
+        self.claimed.claim(0)?;
         let whole = self.whole(number)?;
         self.folder.allows(self.rt, whole)?;
         Ok(())

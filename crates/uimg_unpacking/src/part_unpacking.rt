@@ -3,10 +3,11 @@
 use crate::part_folder::PartFolder;
 use crate::trouble::Trouble;
 use crate::unpacking::Unpacking;
+use std::alloc::{AllocError, Global};
 use std::io::Write;
 use std::rt::Files;
-use uimg_base::{Algo, Room, Source};
-use uimg_legacy::{Fault, LegacyFault, read_header};
+use uimg_base::{Algo, Room, Source, Span};
+use uimg_legacy::{Fault, LegacyFault, PartsFault, locate_parts, read_header};
 
 /// How the unpacking of a legacy image ended.
 #[derive(Debug, Drop)]
@@ -30,8 +31,9 @@ pub enum PartsEnded {
 ///
 /// The files are `image-0`, `image-1` and so on, by the parts' numbers; one of them can be
 /// requested alone. Nothing is written if something exists at one of these paths, unless files are
-/// replaced, or if one leads to the image. Files that did not get their names are removed; if the
-/// checksum is wrong, so are the files that they were to replace.
+/// replaced, if one leads to the image, or if there are more files or bytes than the limits allow.
+/// Files that did not get their names are removed; if the checksum is wrong, so are the files that
+/// they were to replace.
 pub fn unpack_parts<R: Files + AllocGlobal, S: Source, W: Write + Drop>(
     rt: &R,
     asked: &Unpacking<'_>,
@@ -45,8 +47,15 @@ pub fn unpack_parts<R: Files + AllocGlobal, S: Source, W: Write + Drop>(
         };
     }
     let mut room = Room::new(rt.alloc());
-    let mut taker = PartFolder::new(rt, asked.folder, out);
     let only = asked.only.map(number_of);
+    if let Some(most) = asked.limits.bytes {
+        match bytes_of(rt.alloc(), only, source, &mut room) {
+            Ok(bytes) if bytes > most => return PartsEnded::Troubled(Trouble::TooManyBytes(most)),
+            Ok(_) => {}
+            Err(_) => return PartsEnded::Troubled(Trouble::OutOfMemory),
+        }
+    }
+    let mut taker = PartFolder::new(rt, asked.folder, asked.limits, out);
     let unpacked = uimg_legacy::unpack(only, source, &mut room, &mut taker);
     let trouble = taker.end();
     match unpacked {
@@ -54,6 +63,39 @@ pub fn unpack_parts<R: Files + AllocGlobal, S: Source, W: Write + Drop>(
         Ok(false) => PartsEnded::Stopped(Fault::Legacy(LegacyFault::BadDataCrc)),
         Err(Fault::Put) => PartsEnded::Troubled(trouble.unwrap_or(Trouble::Put)),
         Err(fault) => PartsEnded::Stopped(fault),
+    }
+}
+
+// Returns how many bytes the requested parts have together; 0 for an image that is refused, which
+// unpacking it reports. Fails if memory is refused.
+fn bytes_of<S: Source>(
+    alloc: Global,
+    only: Option<u32>,
+    source: &mut S,
+    room: &mut Room<Global>,
+) -> Result<u64, AllocError> {
+    let Ok(header) = read_header(source) else {
+        return Ok(0);
+    };
+    match locate_parts(alloc, source, room, &header) {
+        Ok(parts) => Ok(sum_of(parts.as_slice(), only)),
+        Err(PartsFault::OutOfMemory) => Err(AllocError),
+        Err(PartsFault::Stopped(_)) => Ok(0),
+    }
+}
+
+// Returns the sum of the lengths of all parts, or the length of the one of a number.
+fn sum_of(parts: &[Span], only: Option<u32>) -> u64 {
+    let Some(number) = only else {
+        let mut sum: u64 = 0;
+        for part in parts {
+            sum = sum.saturating_add(part.length);
+        }
+        return sum;
+    };
+    match parts.get(number as usize) {
+        Some(part) => part.length,
+        None => 0,
     }
 }
 

@@ -20,6 +20,18 @@ pub enum Trouble {
     #[error("{0} would be written while it is read")]
     IsImage(String),
 
+    /// The image has more files than this.
+    #[error("more than {0} files; --max-files allows more")]
+    TooManyFiles(u64),
+
+    /// The files have more bytes together than this.
+    #[error("more than {0} bytes; --max-bytes allows more")]
+    TooManyBytes(u64),
+
+    /// A file without a name cannot be removed.
+    #[error("cannot remove {0}")]
+    CannotRemove(String),
+
     /// A file cannot be created, written or given its name.
     #[error("cannot write {0}")]
     CannotWrite(String),

@@ -2,6 +2,7 @@
 
 use crate::folder::Folder;
 use crate::folder_taker::FolderTaker;
+use crate::limits::Limits;
 use crate::lines::Line;
 use crate::trouble::Trouble;
 use std::io::Write;
@@ -21,6 +22,9 @@ pub struct Unpacking<'a> {
 
     /// The weakest algorithm that is enough, if one is needed.
     pub need: Option<Algo>,
+
+    /// How many files and bytes are enough.
+    pub limits: Limits,
 }
 
 /// How the unpacking of a FIT image ended.
@@ -48,8 +52,8 @@ pub enum Ended {
 /// A file has the name of its image if that is a file name (`is_file_name`) and no earlier file has
 /// the same name in lower case. Otherwise it is `image-` with its number among the taken payloads,
 /// counted from 0, or with the first free number after it. Nothing is written if something exists
-/// at one of these paths, unless files are replaced, or if one leads to the image. A file that did
-/// not get its name is removed.
+/// at one of these paths, unless files are replaced, if one leads to the image, or if there are more
+/// files or bytes than the limits allow. A file that did not get its name is removed.
 pub fn unpack<R: Files + AllocGlobal, S: Source, W: Write + Drop>(
     rt: &R,
     asked: &Unpacking<'_>,
@@ -60,7 +64,7 @@ pub fn unpack<R: Files + AllocGlobal, S: Source, W: Write + Drop>(
         return Ended::Stopped(Fault::Fit(FitFault::NoSuchImage));
     };
     let mut room = Room::new(rt.alloc());
-    let mut taker = FolderTaker::new(rt, asked.folder, out);
+    let mut taker = FolderTaker::new(rt, asked.folder, asked.limits, out);
     let unpacked = uimg_fit_checking::unpack(only, asked.need, source, &mut room, &mut taker);
     let (out, count, trouble) = taker.end();
     match unpacked {

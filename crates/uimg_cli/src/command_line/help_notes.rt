@@ -125,7 +125,9 @@ the same). Otherwise it is image-N, with N counted from 0 (kernel: 3 bytes as
 image-1, ..). If one of the files exists, nothing is written; with --force it is
 replaced, or removed if its new payload is refused. In names, control characters,
 \\, spaces, colons and commas are printed as \\xNN.
-Signatures and the hashes of configurations are not checked.
+Signatures and the hashes of configurations are not checked. Of an image with
+more files or bytes than allowed nothing is written. --clean removes what stopped
+commands left, .uimg-new1 to .uimg-new10000; no other command may be at work there.
 
 All parts of a legacy image, or its data if it has no parts, are kept if the
 checksum of the data is right. Until then they are in a folder .uimg-new1:
@@ -136,10 +138,12 @@ Examples:
   uimg unpack -C /srv/tftp --need-hash sha256 kernel.itb
   uimg unpack --only ramdisk kernel.itb
   uimg unpack --only image-1 uImage
+  uimg unpack --clean -C /srv/tftp
 
 Exit status:
   0  All requested payloads or parts are kept
   1  A payload is refused, the image or part does not exist, or the image is refused
+     or becomes too many files or bytes
   2  The command line is wrong, or a file would replace the image
   3  The image cannot be opened, a file exists or cannot be written, or memory
      ran out";
@@ -167,7 +171,8 @@ Exit status:
   0  The map was written
   1  It was written, but the image is refused, or an item ends outside the file
   2  The command line is wrong, or the picture would replace the image
-  3  A file cannot be opened or written, a read failed, or memory ran out";
+  3  A file cannot be opened or written, or the picture exists, a read failed, or
+     memory ran out";
 
 /// The notes of info.
 pub(super) const INFO_NOTES: &str =

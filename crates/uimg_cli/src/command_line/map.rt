@@ -11,6 +11,9 @@ pub struct MapRequest<'a> {
     /// The path of a file for the map as a picture, if it is not printed as lines.
     pub picture: Option<&'a str>,
 
+    /// Whether an existing file is replaced by the picture.
+    pub is_forced: bool,
+
     /// The path of the image.
     pub image: &'a str,
 }
@@ -26,12 +29,19 @@ pub(super) fn command<'a>(alloc: Global) -> Result<clap::Command<'a>, AllocError
                 .value_name("file")
                 .help("Write a picture to this file instead of printing lines"),
         )?
+        .arg(
+            Arg::new(alloc, "force")
+                .long("force")
+                .action(ArgAction::SetTrue)
+                .help("Replace a file that exists by the picture"),
+        )?
         .arg(image(alloc, "The image"))
 }
 
 pub(super) fn request<'a>(matches: &ArgMatches<'a>) -> MapRequest<'a> {
     MapRequest {
         picture: matches.get_str("svg"),
+        is_forced: matches.get_flag("force"),
         image: matches.get_str("image").unwrap_or(""),
     }
 }

@@ -1,7 +1,7 @@
 //! The words of `unpack`.
 
 use super::help_notes::UNPACK_NOTES;
-use super::{WordsFault, image, value};
+use super::{WordsFault, value};
 use clap::{Arg, ArgAction, ArgMatches};
 use std::alloc::{AllocError, Global};
 use uimg_base::Algo;
@@ -21,9 +21,21 @@ pub struct UnpackRequest<'a> {
     /// Whether existing files are replaced.
     pub is_forced: bool,
 
-    /// The path of the image.
-    pub image: &'a str,
+    /// Whether the temporary files of commands that were stopped are removed from the folder.
+    pub cleans: bool,
+
+    /// The greatest number of files.
+    pub most_files: u64,
+
+    /// The greatest number of bytes, if there is one.
+    pub most_bytes: Option<u64>,
+
+    /// The path of the image, if it is unpacked.
+    pub image: Option<&'a str>,
 }
+
+/// The greatest number of files, without an option.
+const MOST_FILES: u64 = 4096;
 
 pub(super) fn command<'a>(alloc: Global) -> Result<clap::Command<'a>, AllocError> {
     clap::Command::new(alloc, "unpack")
@@ -50,7 +62,46 @@ pub(super) fn command<'a>(alloc: Global) -> Result<clap::Command<'a>, AllocError
                 .action(ArgAction::SetTrue)
                 .help("Replace files that exist"),
         )?
-        .arg(image(alloc, "The image"))
+        .arg(number(
+            alloc,
+            "max-files",
+            "Unpack nothing if there are more files (4096)",
+        ))?
+        .arg(number(
+            alloc,
+            "max-bytes",
+            "Unpack nothing if the files have more bytes together",
+        ))?
+        .arg(
+            Arg::new(alloc, "clean")
+                .long("clean")
+                .action(ArgAction::SetTrue)
+                .help("Remove the temporary files that stopped commands left in the folder"),
+        )?
+        .arg(Arg::new(alloc, "image").help("The image"))
+}
+
+// Returns an option whose value is a number.
+fn number<'a>(alloc: Global, id: &'a str, help: &'a str) -> Arg<'a> {
+    Arg::new(alloc, id)
+        .long(id)
+        .action(ArgAction::Set)
+        .value_name("number")
+        .help(help)
+}
+
+// Returns the number of an option, if it was given: decimal digits, below 2^64.
+fn number_of(text: Option<&str>) -> Result<Option<u64>, WordsFault> {
+    let Some(text) = text else {
+        return Ok(None);
+    };
+    if !text.bytes().all(|digit| digit.is_ascii_digit()) {
+        return Err(WordsFault::BadNumber);
+    }
+    match text.parse() {
+        Ok(number) => Ok(Some(number)),
+        Err(_) => Err(WordsFault::BadNumber),
+    }
 }
 
 pub(super) fn request<'a>(matches: &ArgMatches<'a>) -> Result<UnpackRequest<'a>, WordsFault> {
@@ -62,11 +113,18 @@ pub(super) fn request<'a>(matches: &ArgMatches<'a>) -> Result<UnpackRequest<'a>,
     if folder.is_empty() {
         return Err(WordsFault::NoFolder);
     }
+    let (image, cleans) = (matches.get_str("image"), matches.get_flag("clean"));
+    if image.is_none() & !cleans {
+        return Err(WordsFault::NoImages);
+    }
     Ok(UnpackRequest {
         folder,
         only: matches.get_str("only"),
         need,
         is_forced: matches.get_flag("force"),
-        image: matches.get_str("image").unwrap_or(""),
+        cleans,
+        most_files: number_of(matches.get_str("max-files"))?.unwrap_or(MOST_FILES),
+        most_bytes: number_of(matches.get_str("max-bytes"))?,
+        image,
     })
 }

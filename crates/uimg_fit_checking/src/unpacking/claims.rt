@@ -41,7 +41,7 @@ fn claim_requested<T: Taker>(
     if payload.span.length > left {
         return Ok(Claim::Overlaps(payload.name));
     }
-    taker.claim(&payload.name)?;
+    taker.claim(&payload.name, payload.span.length)?;
     Ok(Claim::Fits(left - payload.span.length))
 }
 

@@ -62,7 +62,7 @@ impl<A: Allocator + Copy> Taker for MemTaker<A> {
 
     ghost takes = { λ t. map take_at t.takes.items };
 
-    fn claim(&mut self, _name: &NodeName) -> Result<(), PutFault> {
+    fn claim(&mut self, _name: &NodeName, _length: u64) -> Result<(), PutFault> {
         Ok(())
     }
 

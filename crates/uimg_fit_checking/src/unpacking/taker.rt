@@ -45,8 +45,9 @@ pub trait Taker {
     /// What was given so far.
     ghost takes: { Self → List Take };
 
-    /// Announces a payload, before any is unpacked. Nothing is unpacked if it refuses.
-    fn claim(&mut self, name: &NodeName) -> Result<(), PutFault>
+    /// Announces a payload and its length in bytes, before any is unpacked. Nothing is unpacked if
+    /// it refuses.
+    fn claim(&mut self, name: &NodeName, length: u64) -> Result<(), PutFault>
         ensures { IsTrue honest → takes self.new ≡ takes self.old };
 
     /// Returns an empty shelf to write the payload of an image to.
