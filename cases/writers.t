@@ -39,7 +39,7 @@ Links that another plants under the temporary names all the time are never writt
   >                 os.remove(name + ".uimg-new1")
   >             except OSError:
   >                 pass
-  > planter = threading.Thread(target=plant)
+  > planter = threading.Thread(target=plant, daemon=True)
   > planter.start()
   > for count in range(40):
   >     subprocess.run(["mkimage", "-q", "-A", "arm", "-d", "a", "planted.img"], check=True)
