@@ -1,14 +1,13 @@
 -- What a pass costs, by the tokens that are met.
-use Rattle.std.proofs.Common.{◌≡◌, ◌<◌, ◌≤◌, ◌+◌, ◌-◌, ◌*◌, ℕ, zero, suc, List, [], ◌∷◌, ◌++◌, Option, Some, None, Result, Ok, Err, Bool, true, false, cond, if◌then◌else◌, nat_lt, refl, ap, sym, ◌∙◌, subst, length, arith}
-use Rattle.std.{specs.{Prelude.◌==◌, List.{sum_by, count_by}}, proofs.lemmas.List.Sums.sum_by-cons}
+use Rattle.std.proofs.Common.{◌≡◌, ◌<◌, ◌≤◌, ◌+◌, ◌-◌, ◌*◌, ℕ, zero, suc, List, [], ◌∷◌, ◌++◌, Option, Some, None, Result, Ok, Err, Bool, cond, if◌then◌else◌, refl, ap, sym, ◌∙◌, subst, length, arith}
+use Rattle.std.{specs.List.{sum_by, count_by}, proofs.lemmas.List.Sums.sum_by-cons}
 use Rattle.std.proofs.lemmas.Bool.{le-ltb, ltb-false}
-use Rattle.uimg_blob_reading.specs.declared.fault.BlobFault.{BlobFault, TheVariants.Truncated}
-use Rattle.uimg_blob_reading.specs.{Reading.Fault, Grammar.{Siblings, none, node}, ReadTokens.cost}
-use Rattle.uimg_blob_reading.specs.{Blob.{met_in, up_to}, Walk.{opened, close}, Kept.kept_of}
+use Rattle.uimg_blob_reading.specs.{declared.fault.BlobFault.BlobFault, Reading.Fault, Kept.kept_of}
+use Rattle.uimg_blob_reading.specs.{Grammar.{Siblings, none, node}, ReadTokens.cost}
+use Rattle.uimg_blob_reading.specs.{Blob.{met_in, up_to}, Walk.{opened, close}, SoFar.next_number}
 use Rattle.uimg_blob_reading.specs.{Counts.{is_begin, is_prop, is_nop, weight, begun_by}, Roles.top}
-use Rattle.uimg_blob_reading.specs.SoFar.{next_number}
-use Rattle.uimg_texts.specs.Numbers.{be32, up4}
-use Rattle.uimg_blob_reading.specs.Tokens.{Property, Token, Blocks, begin_node, end_node, prop, nop, last, stray, offset, next, token_at, by_word, property_at, tokens_from}
+use Rattle.uimg_texts.specs.Numbers.{up4}
+use Rattle.uimg_blob_reading.specs.Tokens.{Property, Token, Blocks, begin_node, end_node, prop, nop, last, stray, offset, next, token_at, by_word, tokens_from}
 use Rattle.uimg_blob_reading.specs.Passes.{Phase, inside, after, left_after, PassStep, on, stop, step, then_left, stack, entries_at}
 use Rattle.uimg_blob_reading.proofs.{SoFarLaws.{size_join, length_kept}, EntryLaws.length_entries}
 use Rattle.uimg_blob_reading.proofs.PhaseLaws.{left_is, count_is, some_none, some_some, by_bool}
@@ -30,22 +29,7 @@ err_at f at e h = sym (ap (λ (x : Fault). x.1) (stop_err (f, at) e h))
 
 -- a fault stands at its token
 stop_at : (p : Phase) (t : Token) (e : Fault) → step p t ≡ stop (Err e) → e.1 ≡ offset t
-stop_at (inside ls) (begin_node at (Ok name)) e h = absurd (on_stop h)
-stop_at (inside ls) (begin_node at (Err f)) e h = err_at _ at e h
-stop_at (after o) (begin_node at name) e h = err_at _ at e h
-stop_at (inside []) (end_node at) e h = err_at _ at e h
-stop_at (inside (o ∷ [])) (end_node at) e h = absurd (on_stop h)
-stop_at (inside (o ∷ parent ∷ ls)) (end_node at) e h = absurd (on_stop h)
-stop_at (after o) (end_node at) e h = err_at _ at e h
-stop_at (inside []) (prop at x) e h = err_at _ at e h
-stop_at (inside (opened place name own none ∷ ls)) (prop at (Ok x)) e h = absurd (on_stop h)
-stop_at (inside (opened place name own none ∷ ls)) (prop at (Err f)) e h = err_at _ at e h
-stop_at (inside (opened place name own (node a b c d k) ∷ ls)) (prop at x) e h = err_at _ at e h
-stop_at (after o) (prop at x) e h = err_at _ at e h
-stop_at p (nop at) e h = absurd (on_stop h)
-stop_at (inside ls) (last at) e h = err_at _ at e h
-stop_at (after o) (last at) e h = absurd (stop_ok h)
-stop_at p (stray at f) e h = err_at _ at e h
+stop_at p t e h = grind (arith, err_at, on_stop, stop_ok)
 
 -- What a token does that goes on: another stands after it, its cost is paid, and it begins a node or none.
 pub record Moves (p : Phase) (t : Token) (q : Phase) : Type 0 where
@@ -102,44 +86,29 @@ moves (after o) (last at) q h = absurd (on_stop (sym h))
 moves p (stray at f) q h = absurd (on_stop (sym h))
 
 pick : {X : Type 0} (P : X → Type 0) (c : Bool) (x y : X) → P x → P y → P (if c then x else y)
-pick P true x y left right = left
-pick P false x y left right = right
+pick P c x y left right = grind arith
 
 -- a token stands where it is read
 pub offset_at : (b : Blocks) (at : ℕ) → offset (token_at b at) ≡ at
 unfolding token_at
-offset_at b at = pick (λ (t : Token). offset t ≡ at) (nat_lt b.structure_end (at + 4)) _ _ refl
-    (pick (λ (t : Token). offset t ≡ at) (be32 b.bytes at == 1) _ _ refl
-    (pick (λ (t : Token). offset t ≡ at) (be32 b.bytes at == 2) _ _ refl
-    (pick (λ (t : Token). offset t ≡ at) (be32 b.bytes at == 3) _ _ refl
-    (pick (λ (t : Token). offset t ≡ at) (be32 b.bytes at == 4) _ _ refl
-    (pick (λ (t : Token). offset t ≡ at) (be32 b.bytes at == 9) _ _ refl refl)))))
+offset_at b at = grind (arith, pick)
 
 abbrev Ahead : ℕ → Token → Type 0
 Ahead at t = (place : ℕ) → next t ≡ Some place → at + 4 ≤ place
 
 ahead_begin : (at : ℕ) (r : Result (List ℕ) BlobFault) → Ahead at (begin_node at r)
-ahead_begin at (Ok name) = λ place h. omega (arith, some_some _ _ h)
-ahead_begin at (Err f) = λ place h. absurd (some_none (sym h))
+ahead_begin at r = grind (arith, some_none, some_some)
 
 ahead_prop : (at : ℕ) (r : Result Property BlobFault) → Ahead at (prop at r)
-ahead_prop at (Ok x) = λ place h. omega (arith, some_some _ _ h)
-ahead_prop at (Err f) = λ place h. absurd (some_none (sym h))
+ahead_prop at r = grind (arith, some_none, some_some)
 
 ahead_word : (b : Blocks) (at word : ℕ) → Ahead at (by_word b at word)
-ahead_word b at word =
-    pick (Ahead at) (word == 1) _ _ (ahead_begin at _)
-    (pick (Ahead at) (word == 2) _ _ (λ place h. omega (arith, some_some _ _ h))
-    (pick (Ahead at) (word == 3) _ _ (ahead_prop at (property_at b at))
-    (pick (Ahead at) (word == 4) _ _ (λ place h. omega (arith, some_some _ _ h))
-    (pick (Ahead at) (word == 9) _ _ (λ place h. absurd (some_none (sym h))) (λ place h. absurd (some_none (sym h)))))))
+ahead_word b at word = grind (arith, ahead_begin, ahead_prop, pick, some_none, some_some)
 
 -- the next token stands after a whole word of the block
 pub ahead_at : (b : Blocks) (at place : ℕ) → next (token_at b at) ≡ Some place → (at + 4 ≤ place) × (at + 4 ≤ b.structure_end)
 unfolding token_at
-ahead_at b at place h = by_bool (nat_lt b.structure_end (at + 4))
-    (λ cut. absurd (some_none (sym h ∙ ap (λ (c : Bool). next (if c then stray at Truncated else by_word b at (be32 b.bytes at))) cut)))
-    (λ whole. (ahead_word b at (be32 b.bytes at) place (sym (ap (λ (c : Bool). next (if c then stray at Truncated else by_word b at (be32 b.bytes at))) whole) ∙ h), ltb-false b.structure_end (at + 4) whole))
+ahead_at b at place h = grind (arith, ahead_word, by_bool, ltb-false, some_none)
 
 by_step : {P : Type 0} (x : PassStep) → ((q : Phase) → x ≡ on q → P) → ((r : Result Siblings Fault) → x ≡ stop r → P) → P
 by_step (on q) goes ends = goes q refl
@@ -166,8 +135,7 @@ fault_past (suc n) b p at e enough h =
 -- a token before the first fault is met
 met_more : (whole : Result Siblings Fault) (t : Token) (ts : List Token) → ((e : Fault) → whole ≡ Err e → offset t ≤ e.1) → met_in whole (t ∷ ts) ≡ t ∷ met_in whole ts
 unfolding up_to
-met_more (Ok x) t ts h = refl
-met_more (Err e) t ts h = ap (λ (c : Bool). if c then [] else t ∷ up_to e.1 ts) (le-ltb e.1 (offset t) (h e refl))
+met_more whole t ts h = grind (arith, le-ltb)
 
 pub sum_more : (f : Token → ℕ) (whole : Result Siblings Fault) (t : Token) (ts : List Token) → ((e : Fault) → whole ≡ Err e → offset t ≤ e.1)
     → sum_by f (met_in whole (t ∷ ts)) ≡ f t + sum_by f (met_in whole ts)
@@ -175,20 +143,10 @@ sum_more f whole t ts h = ap (sum_by f) (met_more whole t ts h) ∙ sum_by-cons 
 
 -- a token's cost, and what it is counted for
 pub cost_weight : (t : Token) → cost t ≤ weight t + 4
-cost_weight (begin_node at name) = omega arith
-cost_weight (end_node at) = omega arith
-cost_weight (prop at x) = omega arith
-cost_weight (nop at) = omega arith
-cost_weight (last at) = omega arith
-cost_weight (stray at f) = omega arith
+cost_weight t = grind arith
 
 counted : (t : Token) → weight t ≡ 264 * cond (is_begin t) 1 0 + 268 * cond (is_prop t) 1 0 + 4 * cond (is_nop t) 1 0
-counted (begin_node at name) = omega arith
-counted (end_node at) = omega arith
-counted (prop at x) = omega arith
-counted (nop at) = omega arith
-counted (last at) = omega arith
-counted (stray at f) = omega arith
+counted t = grind arith
 
 pub weight_counts : (ts : List Token) → sum_by weight ts ≡ 264 * count_by is_begin ts + 268 * count_by is_prop ts + 4 * count_by is_nop ts
 weight_counts [] = omega arith

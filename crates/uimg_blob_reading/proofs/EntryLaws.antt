@@ -1,24 +1,16 @@
 -- A change of a row is a store of its entry.
-use Rattle.std.proofs.Common.{◌≡◌, ◌+◌, ℕ, suc, List, [], ◌∷◌, ◌++◌, length, map, Option, Some, refl, ap, sym, ◌∙◌, set, get_or}
+use Rattle.std.proofs.Common.{◌≡◌, ◌+◌, ℕ, suc, List, [], ◌∷◌, ◌++◌, length, map, Option, Some, refl, ap, sym, ◌∙◌, set, get_or, arith}
 use Rattle.std.{specs.List.slice_get, proofs.lemmas.{List.map-append, Option.get_or_from_slice_get}}
 use Rattle.std.proofs.Math.Seq.{set-append_seam, get_or-append_seam}
-use Rattle.uimg_blob_reading.specs.{declared.roles.Role.Role, Grammar.none}
+use Rattle.uimg_blob_reading.specs.{declared.roles.Role.Role, Entering.{begun_entry, ended_entries}}
+use Rattle.uimg_blob_reading.specs.{Grammar.none, Kept.{Kept, entry_of, entries, value_words}}
 use Rattle.uimg_blob_reading.specs.{Roles.{role_at, keys_of}, Walk.{Open, opened, close, as_node}}
-use Rattle.uimg_blob_reading.specs.Entering.{begun_entry, ended_entries}
-use Rattle.uimg_blob_reading.specs.declared.roles.Role.TheVariants.{Root, Images, Image, Hash, Configurations, Configuration, Other}
-use Rattle.uimg_blob_reading.specs.Kept.{Kept, entry_of, entries, value_words, span_word, number_word, role_word}
-use Rattle.uimg_blob_reading.specs.SoFar.{next_number, innermost, next_level, open_row, so_far, entries_so_far}
+use Rattle.uimg_blob_reading.specs.SoFar.{next_number, innermost, next_level, so_far, entries_so_far}
 use Rattle.uimg_blob_reading.proofs.SoFarLaws.{Seam, begin_row, end_row, root_row, length_so_far}
 
 -- a node without properties has no values
 no_values : (role : Role) → value_words (keys_of role) [] ≡ 0 ∷ 0 ∷ 0 ∷ 0 ∷ 0 ∷ 0 ∷ 0 ∷ 0 ∷ 0 ∷ 0 ∷ 0 ∷ []
-no_values Root = refl
-no_values Images = refl
-no_values Image = refl
-no_values Hash = refl
-no_values Configurations = refl
-no_values Configuration = refl
-no_values Other = refl
+no_values role = grind arith
 
 pub length_entries : (l : List Kept) → length (map entry_of l) ≡ length l
 length_entries [] = refl
@@ -50,13 +42,7 @@ pub entered : (ls : List Open) (at : ℕ) (name : List ℕ) (parent : Option ℕ
     → es ≡ entries_so_far ls → parent ≡ innermost ls → role ≡ role_at (next_level ls) name
     → more ≡ es ++ begun_entry at (length name) parent role ∷ [] → more ≡ entries_so_far (opened at name [] none ∷ ls)
 entered ls at name parent role es more old outer is added =
-    let row : entry_of (open_row ls at name []) ≡ begun_entry at (length name) (innermost ls) (role_at (next_level ls) name) =
-    ap (λ (l : List ℕ). span_word (at + 4) (length name) ∷ number_word (innermost ls) ∷ 0 ∷ role_word (role_at (next_level ls) name) ∷ 0 ∷ l) (no_values (role_at (next_level ls) name)) in
-    added ∙ ap (λ (l : List (List ℕ)). l ++ begun_entry at (length name) parent role ∷ []) old
-    ∙ ap (λ (x : List ℕ). entries_so_far ls ++ x ∷ []) (ap (λ (o : Option ℕ). begun_entry at (length name) o role) outer
-    ∙ ap (λ (r : Role). begun_entry at (length name) (innermost ls) r) is
-    ∙ sym row)
-    ∙ sym (mapped (so_far ls) (open_row ls at name []) []) ∙ ap (map entry_of) (sym (begin_row ls at name))
+    grind (arith, begin_row, mapped, no_values)
 
 -- the entry of a node that ends inside its parent
 pub left_inner : (o parent : Open) (ls : List Open) (number : ℕ) (es : List (List ℕ)) (e : List ℕ)

@@ -1,50 +1,43 @@
 -- One step of a pass, and its end.
-use Rattle.std.proofs.Common.{append_assoc, append-nil, map, ◌++◌, ◌∷◌, ◌≡◌, ◌<◌, ◌≤◌, ◌+◌, ◌-◌, ℕ, zero, suc, List, [], Option, Some, None, Result, Ok, Err, Bool, false, IsTrue, IfErr, refl, ap, sym, ◌∙◌, subst, length, arith}
+use Rattle.std.proofs.Common.{append_assoc, append-nil, map, ◌++◌, ◌∷◌, ◌≡◌, ◌<◌, ◌≤◌, ◌+◌, ◌-◌, ℕ, suc, List, [], Option, Some, None, Result, Ok, Err, Bool, false, IsTrue, IfErr, refl, ap, sym, ◌∙◌, subst, length, arith}
 use Rattle.uimg_blob_reading.specs.declared.fault.IndexFault.{IndexFault, TheVariants.{Blob, Read}}
 use Rattle.uimg_blob_reading.specs.declared.{states.State.State, extent.Extent.Extent}
 use Rattle.uimg_blob_reading.specs.{Extents.{blocks_of, GivesBlocks, IsInside}, SoFar.so_far}
-use Rattle.uimg_blob_reading.specs.Blob.{tree, blocks, met_in, met_from, met}
-use Rattle.uimg_blob_reading.specs.{Reading.Fault, Counts.{weight, begun_by, index_cost, nodes_met}}
+use Rattle.uimg_blob_reading.specs.{Blob.{tree, blocks}, Reading.Fault, Walk.{as_node, begun, Open}}
+use Rattle.uimg_blob_reading.specs.{Counts.{weight, begun_by, index_cost, nodes_met}, Indexed.Finds}
 use Rattle.uimg_blob_reading.specs.Tokens.{Token, Blocks, token_at, tokens_from, tokens, next}
-use Rattle.uimg_blob_reading.specs.{Tokens.offset, Kept.{entry_of, kept_of, LiesIn, number_of_role}}
+use Rattle.uimg_blob_reading.specs.Kept.{entry_of, kept_of, LiesIn, number_of_role}
 use Rattle.uimg_blob_reading.specs.{Grammar.{Siblings, root, without_nops}, Faults.is_out_of_memory}
-use Rattle.uimg_blob_reading.specs.Walk.{as_node, begun, Open}
 use Rattle.uimg_blob_reading.specs.{ReadTokens.cost, Roles.{is_images_role, is_configurations_role}}
-use Rattle.uimg_blob_reading.specs.{Passes.{sum_from, Within, entries_at, Passed}, Indexed.Finds}
+use Rattle.uimg_blob_reading.specs.Passes.{sum_from, Within, entries_at, Passed, tokens_in}
+use Rattle.uimg_blob_reading.specs.Passes.{nodes_at, begin_place, begin_places, IsPrefix}
 use Rattle.uimg_base.specs.{Device.{Device, SameDevice}, Results.◌>>=◌}
 use Rattle.uimg_blob_reading.proofs.{WalkLaws.begun_is, PhaseLaws.{left_is, true_false}}
 use Rattle.uimg_blob_reading.proofs.LieLaws.{lies_more, last_nodes, lies_within}
 use Rattle.uimg_blob_reading.proofs.NumberedLaws.{images_number, configurations_number}
 use Rattle.uimg_blob_reading.proofs.PlaceLaws.{places_more}
 use Rattle.uimg_blob_reading.specs.Passes.{Phase, inside, left_after, PassStep, on, stop, step, then_left, then_step, in_turn, PassesToken, Indexes, Pass, IsRefused, StopsAt, IsSoFar}
-use Rattle.std.specs.List.{sum_by, AllByRecursion}
-use Rattle.uimg_blob_reading.specs.Passes.{after, tokens_in, nodes_at, begin_place, begin_places, IsPrefix}
+use Rattle.std.specs.List.{AllByRecursion}
 use Rattle.uimg_blob_reading.proofs.CostLaws.{Moves, moves, sum_more, fault_past, offset_at, cost_weight, weight_counts}
 
 by_fuel : (b : Blocks) (whole : Result Siblings Fault) (p : Phase) (at : ℕ) (t : Token) → t ≡ token_at b at → (fuel : ℕ) → b.structure_end - at < fuel
     → whole ≡ left_after p (tokens_from fuel b (Some at))
     → (n : ℕ) × (b.structure_end - at < suc n) × (whole ≡ then_left (step p t) (tokens_from n b (next t))) × (tokens_from fuel b (Some at) ≡ t ∷ tokens_from n b (next t))
 unfolding tokens_from
-by_fuel b whole p at t is zero enough all = absurd (omega (arith, enough))
-by_fuel b whole p at t is (suc n) enough all =
-    let more : whole ≡ then_left (step p (token_at b at)) (tokens_from n b (next (token_at b at))) = all ∙ left_is p (token_at b at) (tokens_from n b (next (token_at b at))) in
-    (n, enough, more ∙ ap (λ (k : Token). then_left (step p k) (tokens_from n b (next k))) (sym is), ap (λ (k : Token). k ∷ tokens_from n b (next k)) (sym is))
+by_fuel b whole p at t is fuel enough all = grind (arith, left_is)
 
 -- the sum over the tokens from a place on
 sum_at : (f : Token → ℕ) (b : Blocks) (whole : Result Siblings Fault) (p : Phase) (at fuel n : ℕ) (t : Token) → t ≡ token_at b at → b.structure_end - at < fuel
     → whole ≡ left_after p (tokens_from fuel b (Some at)) → tokens_from fuel b (Some at) ≡ t ∷ tokens_from n b (next t)
     → sum_from f whole (tokens_from fuel b (Some at)) ≡ f t + sum_from f whole (tokens_from n b (next t))
-sum_at f b whole p at fuel n t is enough all split =
-    ap (λ (ts : List Token). sum_by f (met_in whole ts)) split
-    ∙ sum_more f whole t (tokens_from n b (next t)) (λ e h. omega (arith, fault_past fuel b p at e enough (sym all ∙ h), ap offset is ∙ offset_at b at))
+sum_at f b whole p at fuel n t is enough all split = grind (arith, fault_past, offset_at, sum_more)
 
 -- the places of a token's node and of those after it
 before_more : (xs : List ℕ) (t : Token) (ts : List Token) → xs ++ begin_places (t ∷ ts) ≡ (xs ++ begin_places (t ∷ [])) ++ begin_places ts
 before_more xs t ts = ap (λ (ys : List ℕ). xs ++ (ys ++ begin_places ts)) (sym (append-nil (begin_place t))) ∙ sym (append_assoc xs (begin_places (t ∷ [])) (begin_places ts))
 
 entries_nodes : (p : Phase) → entries_at p ≡ map entry_of (nodes_at p)
-entries_nodes (inside ls) = refl
-entries_nodes (after o) = refl
+entries_nodes p = grind arith
 
 -- memory was refused at the next node
 pub prefix_err : {X : Type 0} (honest : Bool) (b : Blocks) (whole : Result Siblings Fault) (s : State) (es new : List (List ℕ)) (e : IndexFault) (k : Result X IndexFault) (base asked : ℕ) (pass : Pass honest b whole s es base asked)
@@ -140,12 +133,10 @@ last_paid honest b whole s es new base asked now pass paid same sure =
 
 -- a fault leaves the entries
 pub stay_err : (honest : Bool) (b : Blocks) (p : Phase) (at : ℕ) (e : IndexFault) (old new : List (List ℕ)) → PassesToken honest b p at (Err e) old new → new ≡ old
-stay_err honest b p at (Blob fault place) old new steps = steps.acts.0
-stay_err honest b p at Read old new steps = steps.acts
+stay_err honest b p at e old new steps = grind arith
 
 refused_err : (honest : Bool) (b : Blocks) (p : Phase) (at : ℕ) (e : IndexFault) (old new : List (List ℕ)) (steps : PassesToken honest b p at (Err e) old new) → IsRefused p steps.token e
-refused_err honest b p at (Blob fault place) old new steps = (steps.acts.1, steps.refuses)
-refused_err honest b p at Read old new steps = tt
+refused_err honest b p at e old new steps = grind arith
 
 -- a fault leaves the entries so far
 pub stops_at : (honest : Bool) (b : Blocks) (whole : Result Siblings Fault) (s : State) (es new : List (List ℕ)) (e : IndexFault) (base asked : ℕ) (pass : Pass honest b whole s es base asked)
@@ -216,9 +207,7 @@ begins honest b at base es empty start = record {
 -- a step over a source that is what it was
 pub steps_same : (d e : Device) (x : Extent) (p : Phase) (at : ℕ) (r : Result (Option State) IndexFault) (old new : List (List ℕ)) → SameDevice d e
     → PassesToken e.honest (blocks_of e.bytes x) p at r old new → PassesToken d.honest (blocks_of d.bytes x) p at r old new
-steps_same d e x p at r old new same steps =
-    subst (λ (h : Bool). PassesToken h (blocks_of d.bytes x) p at r old new) same.honest
-    (subst (λ (bytes : List ℕ). PassesToken e.honest (blocks_of bytes x) p at r old new) same.bytes steps)
+steps_same d e x p at r old new same steps = grind arith
 
 pub paid_same : (d e : Device) (x : Extent) (at now : ℕ) → SameDevice d e → (IsTrue e.honest → now ≤ e.asked + cost (token_at (blocks_of e.bytes x) at))
     → IsTrue d.honest → now ≤ e.asked + cost (token_at (blocks_of d.bytes x) at)
@@ -236,9 +225,7 @@ header_err {X = X} file Read r es is gives = subst (λ (k : Result X IndexFault)
 -- what the tokens give is the tree
 pub tree_is : (file bytes : List ℕ) (x : Extent) → blocks file ≡ Ok (blocks_of file x) → bytes ≡ file → begun (tokens (blocks_of bytes x)) ≡ tree file
 unfolding tree
-tree_is file bytes x header same =
-    ap (λ (f : List ℕ). begun (tokens (blocks_of f x))) same ∙ begun_is (tokens (blocks_of file x))
-    ∙ sym (ap (λ (b : Result Blocks Fault). b >>= (λ found. root (without_nops (tokens found)))) header)
+tree_is file bytes x header same = grind (arith, begun_is)
 
 err_same : {X Y : Type 0} (whole : Result Siblings Fault) (e : IndexFault) (k : Result Y IndexFault) (r : Result X IndexFault) (es : List (List ℕ)) → k ≡ Err e → r ≡ Err e
     → Indexes whole k es → Indexes whole r es
@@ -256,30 +243,13 @@ indexed_err {X = X} d e x f k r es same header was is given sure =
 pub within_cost : (d e : Device) (x : Extent) (asked : ℕ) (es : List (List ℕ)) → SameDevice d e → (IsTrue d.honest → GivesBlocks d.bytes (Ok x))
     → (IsTrue e.honest → Within (blocks_of e.bytes x) (begun (tokens (blocks_of e.bytes x))) e.asked asked es)
     → IsTrue d.honest → (asked + 40 ≤ e.asked + index_cost d.bytes) × (length es ≤ nodes_met d.bytes)
-within_cost d e x asked es same header within sure =
-    let b : Blocks = blocks_of d.bytes x in
-    let given = within (subst (λ (b : Bool). IsTrue b) (sym same.honest) sure) in
-    let w : Within b (begun (tokens b)) e.asked asked es = subst (λ (f : List ℕ). Within (blocks_of f x) (begun (tokens (blocks_of f x))) e.asked asked es) same.bytes given in
-    let all : met_in (begun (tokens b)) (tokens b) ≡ met d.bytes =
-    ap (λ (r : Result Siblings Fault). met_in r (tokens b)) (begun_is (tokens b)) ∙ sym (ap met_from (header sure).0) in
-    (omega (arith, w.costs, ap (sum_by weight) all, weight_counts (met d.bytes)), omega (arith, w.nodes, ap (sum_by begun_by) all))
+within_cost d e x asked es same header within sure = grind (arith, begun_is, weight_counts)
 
 -- what a pass found is what the file has
 pub finds : (d e : Device) (x : Extent) (s : State) (es : List (List ℕ)) (size : ℕ) → SameDevice d e → (IsTrue d.honest → GivesBlocks d.bytes (Ok x)) → IsInside x (length d.bytes)
     → size ≡ x.totalsize → Passed e.honest (blocks_of e.bytes x) s es
     → Finds d (record { totalsize = size; images = s.images; configurations = s.configurations }) es
-finds d e x s es size same header inside_it sized passed = record {
-  nodes = passed.nodes;
-  is = λ sure. sym (tree_is d.bytes e.bytes x (header sure).0 same.bytes) ∙ passed.is (subst (λ (b : Bool). IsTrue b) (sym same.honest) sure);
-  indexed = record {
-    kept = passed.kept;
-    images = passed.images;
-    configurations = passed.configurations;
-    lies = lies_within x.structure_end size (kept_of passed.nodes) (omega (arith, inside_it.structure_within, sized)) passed.lies;
-    small = omega (arith, inside_it.fits, sized);
-  };
-  within = omega (arith, inside_it.within, sized);
-}
+finds d e x s es size same header inside_it sized passed = grind (arith, lies_within, tree_is)
 
 prefix_same : {X Y : Type 0} (ts : List Token) (e : IndexFault) (k : Result Y IndexFault) (r : Result X IndexFault) (es : List (List ℕ)) → k ≡ Err e → r ≡ Err e → IsPrefix ts k es → IsPrefix ts r es
 prefix_same {X = X} {Y = Y} ts (Blob fault at) k r es was is h =

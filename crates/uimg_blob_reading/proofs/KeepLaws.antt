@@ -7,7 +7,6 @@ use Rattle.uimg_blob_reading.specs.{declared.{roles.Role.Role, keys.Key.Key}, To
 use Rattle.uimg_blob_reading.specs.{Grammar.none, Keys.name_of, Roles.{role_at, keys_of}}
 use Rattle.uimg_blob_reading.specs.Walk.{Open, opened}
 use Rattle.uimg_blob_reading.specs.SoFar.{next_number, next_level, open_row, so_far, entries_so_far}
-use Rattle.uimg_blob_reading.specs.declared.roles.Role.TheVariants.{Root, Images, Image, Hash, Configurations, Configuration, Other}
 use Rattle.uimg_blob_reading.specs.Kept.{property_named, Kept, kept, entry_of, slot, value_word, span_word, number_word, role_word}
 use Rattle.uimg_blob_reading.proofs.SoFarLaws.{Seam, length_so_far}
 use Rattle.uimg_blob_reading.proofs.EntryLaws.{seam_put, length_entries}
@@ -22,13 +21,7 @@ length_words [] own = refl
 length_words (key ∷ keys) own = ap suc (length_words keys own)
 
 apart : (role : Role) → are_apart (keys_of role) ≡ true
-apart Root = refl
-apart Images = refl
-apart Image = refl
-apart Hash = refl
-apart Configurations = refl
-apart Configuration = refl
-apart Other = refl
+apart role = grind arith
 
 -- the zeros behind the values of a role
 abbrev pub padded : Role → List ℕ → List ℕ
@@ -45,19 +38,11 @@ append_row ls row = map-append entry_of (so_far ls) (row ∷ [])
 pub unchanged : (ls : List Open) (at : ℕ) (name : List ℕ) (own : List Property) (p : Property)
     → words_of (keys_of (role_at (next_level ls) name)) (own ++ p ∷ []) ≡ words_of (keys_of (role_at (next_level ls) name)) own
     → entries_so_far (opened at name own none ∷ ls) ≡ entries_so_far (opened at name (own ++ p ∷ []) none ∷ ls)
-unchanged ls at name own p same =
-    let role : Role = role_at (next_level ls) name in
-    let row : Kept = open_row ls at name own in
-    ap (map entry_of) (last_row ls at name own)
-    ∙ append_row ls row
-    ∙ ap (λ (ws : List ℕ). entries_so_far ls ++ entry_words row (padded role ws) ∷ []) (sym same)
-    ∙ sym (append_row ls (open_row ls at name (own ++ p ∷ [])))
-    ∙ ap (map entry_of) (sym (last_row ls at name (own ++ p ∷ [])))
+unchanged ls at name own p same = grind (arith, append_row, last_row)
 
 -- a value that is not there has the word 0, and no other has
 zero_word : (o : Option Property) → IfSome o (λ q. 0 < q.place) → value_word o ≡ 0 → o ≡ None
-zero_word None placed h = refl
-zero_word (Some q) placed h = absurd (omega (arith, placed, h))
+zero_word o placed h = grind arith
 
 first_placed : (own : List Property) (name : List ℕ) → AllByRecursion (λ q. 0 < q.place) own → IfSome (property_named own name) (λ q. 0 < q.place)
 first_placed [] name placed = tt

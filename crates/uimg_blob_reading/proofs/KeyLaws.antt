@@ -1,13 +1,12 @@
 -- The keys of names, and the tokens that were read.
-use Rattle.std.proofs.Common.{◌≡◌, ◌+◌, ℕ, suc, List, [], ◌∷◌, ◌++◌, find, Option, Some, None, Result, Ok, Err, Bool, true, false, IsTrue, refl, ap, sym, ◌∙◌, subst, cond, if◌then◌else◌, OnOk, is_ok, replicate}
+use Rattle.std.proofs.Common.{◌≡◌, ◌+◌, ℕ, suc, List, [], ◌∷◌, ◌++◌, find, Option, Some, None, Result, Ok, Err, Bool, true, false, IsTrue, refl, ap, sym, ◌∙◌, subst, cond, if◌then◌else◌, OnOk, is_ok, replicate, arith}
 use Rattle.std.{specs.{Prelude.IsErrAnd, Str.bytes_eq}, proofs.lemmas.Result.err_from_is_err_and}
 use Rattle.std.{specs.Option.{option_map, is_some}, proofs.lemmas.List.length-replicate}
 use Rattle.std.proofs.lemmas.Slice.Eq.{bytes_eq-Decides}
 use Rattle.uimg_blob_reading.specs.{declared.{fault.IndexFault.IndexFault, keys.Key.Key}, Rows.size}
 use Rattle.uimg_blob_reading.specs.{declared.tokens.ReadToken.ReadToken, Grammar.none}
 use Rattle.uimg_blob_reading.specs.{ReadTokens.{IsReadAs, IsSound}, Walk.{Open, opened}, Kept.slot}
-use Rattle.uimg_blob_reading.specs.{Keys.{name_of, key_named, all_keys}, Roles.{role_at, keys_of}}
-use Rattle.uimg_blob_reading.specs.SoFar.{next_level, entries_so_far}
+use Rattle.uimg_blob_reading.specs.{Keys.{name_of, key_named, all_keys}, SoFar.entries_so_far}
 use Rattle.uimg_blob_reading.specs.declared.keys.Key.TheVariants as key
 use Rattle.uimg_blob_reading.specs.declared.tokens.ReadToken.TheVariants as read
 use Rattle.uimg_blob_reading.specs.Tokens.{Property, Token, Blocks, token_at, begin_node, end_node, prop, nop, last, stray}
@@ -24,35 +23,10 @@ pub named_some : (k : Key) (name : List ℕ) → Some k ≡ key_named name → n
 named_some k name h = sym ((bytes_eq-Decides name (name_of k)).0 (find_some (λ (i : Key). bytes_eq name (name_of i)) all_keys k (sym h)))
 
 keyed : (k : Key) → Some k ≡ key_named (name_of k)
-keyed key.Description = refl
-keyed key.Timestamp = refl
-keyed key.Data = refl
-keyed key.Kind = refl
-keyed key.Arch = refl
-keyed key.Os = refl
-keyed key.Compression = refl
-keyed key.Load = refl
-keyed key.Entry = refl
-keyed key.DataSize = refl
-keyed key.DataOffset = refl
-keyed key.DataPosition = refl
-keyed key.Algo = refl
-keyed key.Value = refl
-keyed key.Default = refl
-keyed key.Kernel = refl
-keyed key.Ramdisk = refl
-keyed key.Fdt = refl
-keyed key.Loadables = refl
-keyed key.Firmware = refl
-keyed key.Fpga = refl
-keyed key.Setup = refl
-keyed key.Standalone = refl
-keyed key.Script = refl
+keyed k = grind arith
 
 no_key : (name : List ℕ) → None ≡ key_named name → (k : Key) → bytes_eq name (name_of k) ≡ false
-no_key name h k = by_bool (bytes_eq name (name_of k))
-    (λ is. absurd (some_none (keyed k ∙ ap key_named (sym ((bytes_eq-Decides name (name_of k)).0 is)) ∙ sym h)))
-    (λ is. is)
+no_key name h k = grind (arith, by_bool, bytes_eq-Decides, keyed, some_none)
 
 slot_none : (name : List ℕ) (keys : List Key) → ((k : Key) → bytes_eq name (name_of k) ≡ false) → slot name keys ≡ None
 slot_none name [] h = refl
@@ -63,17 +37,13 @@ slot_none name (k ∷ keys) h = by_bool (bytes_eq (name_of k) name)
 -- nothing is kept of a property that no key names
 pub named_none : (ls : List Open) (at : ℕ) (name : List ℕ) (own : List Property) (x : Property) → None ≡ key_named x.name
     → entries_so_far (opened at name own none ∷ ls) ≡ entries_so_far (opened at name (own ++ x ∷ []) none ∷ ls)
-named_none ls at name own x h = unchanged ls at name own x
-    (absent (keys_of (role_at (next_level ls) name)) own x
-    (slot_none x.name (keys_of (role_at (next_level ls) name)) (no_key x.name h)))
+named_none ls at name own x h = grind (arith, absent, no_key, slot_none, unchanged)
 
 pub none_from : (o : Option ℕ) → is_some o ≡ false → o ≡ None
-none_from None h = refl
-none_from (Some n) h = absurd (true_false h)
+none_from o h = grind (arith, true_false)
 
 pub from_ok : {X E : Type 0} {P : Type 0} (r : Result X E) → OnOk r P → is_ok r ≡ true → P
-from_ok (Ok x) h is = h
-from_ok (Err e) h is = absurd (true_false (sym is))
+from_ok r h is = grind (arith, true_false)
 
 -- what a `?` returns
 pub passed_on : {X : Type 0} (r : Result X IndexFault) (e : IndexFault) → IsErrAnd r (λ f. f ≡ e) → r ≡ Err e
@@ -87,8 +57,7 @@ name_for None = []
 name_for (Some k) = name_of k
 
 keyed_by : (k : Option Key) → k ≡ key_named (name_for k)
-keyed_by None = refl
-keyed_by (Some k) = keyed k
+keyed_by k = grind (arith, keyed)
 
 -- whatever was read, it is read of some token
 some_token : (at : ℕ) (found : ReadToken) → IsSound found → (t : Token) × IsReadAs at t found

@@ -1,7 +1,7 @@
 -- Where the names and values of the nodes so far end.
-use Rattle.std.proofs.Common.{◌≡◌, ◌<◌, ◌≤◌, ◌+◌, ℕ, List, [], ◌∷◌, ◌++◌, length, Ok, Err, ap, sym, subst, arith}
+use Rattle.std.proofs.Common.{◌≡◌, ◌<◌, ◌≤◌, ◌+◌, ℕ, List, [], ◌∷◌, ◌++◌, length, Ok, Err, sym, subst, arith}
 use Rattle.std.specs.List.{AllByRecursion}
-use Rattle.uimg_blob_reading.specs.{declared.tokens.ReadToken.ReadToken, Walk.{opened, as_node}}
+use Rattle.uimg_blob_reading.specs.{declared.tokens.ReadToken.ReadToken, Walk.opened}
 use Rattle.uimg_blob_reading.specs.{ReadTokens.{IsReadAs, Stands}, Grammar.{Siblings, none, node}}
 use Rattle.uimg_blob_reading.specs.{Kept.{Kept, kept_of, LiesIn}, SoFar.{so_far, open_row}}
 use Rattle.uimg_blob_reading.specs.declared.tokens.ReadToken.TheVariants as read
@@ -71,38 +71,11 @@ lies_more limit p (stray at f) q h this lies = absurd (on_stop (sym h))
 
 -- what was read ends within the block, whatever the source said
 pub token_lies : (at limit : ℕ) (t : Token) (found : ReadToken) → IsReadAs at t found → Stands limit at found → TokenLies limit t
-token_lies at limit t (read.BeginNode size l) is stands =
-    let inside_it : at + 4 + length is.name ≤ limit = omega (arith, stands.1, is.sized) in
-    subst (TokenLies limit) (sym is.is) inside_it
-token_lies at limit t (read.BadBeginNode f) is stands = subst (TokenLies limit) (sym is) tt
-token_lies at limit t read.EndNode is stands = subst (TokenLies limit) (sym is) tt
-token_lies at limit t (read.Prop size k) is stands =
-    let inside_it : (0 < is.property.place) × (is.property.place + length is.property.value ≤ limit) =
-    (omega (arith, is.place), omega (arith, is.place, is.sized, stands)) in
-    subst (TokenLies limit) (sym is.is) inside_it
-token_lies at limit t (read.BadProp f) is stands = subst (TokenLies limit) (sym is) tt
-token_lies at limit t read.Nop is stands = subst (TokenLies limit) (sym is) tt
-token_lies at limit t read.End is stands = subst (TokenLies limit) (sym is) tt
-token_lies at limit t (read.Stray f) is stands = subst (TokenLies limit) (sym is) tt
+token_lies at limit t found is stands = grind arith
 
 stop_tree : (x t : Siblings) → stop (Ok x) ≡ stop (Ok t) → x ≡ t
 stop_tree x t h = cc
 
 -- the nodes of a tree that ends
 pub last_nodes : (p : Phase) (t : Token) (x : Siblings) → step p t ≡ stop (Ok x) → nodes_at p ≡ kept_of x
-last_nodes (inside ls) (begin_node at (Ok name)) x h = absurd (on_stop h)
-last_nodes (inside ls) (begin_node at (Err f)) x h = absurd (stop_ok (sym h))
-last_nodes (after o) (begin_node at name) x h = absurd (stop_ok (sym h))
-last_nodes (inside []) (end_node at) x h = absurd (stop_ok (sym h))
-last_nodes (inside (o ∷ [])) (end_node at) x h = absurd (on_stop h)
-last_nodes (inside (o ∷ parent ∷ ls)) (end_node at) x h = absurd (on_stop h)
-last_nodes (after o) (end_node at) x h = absurd (stop_ok (sym h))
-last_nodes (inside []) (prop at p) x h = absurd (stop_ok (sym h))
-last_nodes (inside (opened place name own none ∷ ls)) (prop at (Ok p)) x h = absurd (on_stop h)
-last_nodes (inside (opened place name own none ∷ ls)) (prop at (Err f)) x h = absurd (stop_ok (sym h))
-last_nodes (inside (opened place name own (node a b c d k) ∷ ls)) (prop at p) x h = absurd (stop_ok (sym h))
-last_nodes (after o) (prop at p) x h = absurd (stop_ok (sym h))
-last_nodes p (nop at) x h = absurd (on_stop h)
-last_nodes (inside ls) (last at) x h = absurd (stop_ok (sym h))
-last_nodes (after o) (last at) x h = ap kept_of (stop_tree (as_node o) x h)
-last_nodes p (stray at f) x h = absurd (stop_ok (sym h))
+last_nodes p t x h = grind (arith, on_stop, stop_ok, stop_tree)

@@ -17,8 +17,7 @@ joined (k ∷ ks) b i n h more =
     (h.0, h.1, h.2, joined ks b (i + 1) n h.3 (subst (λ (j : ℕ). AreLinked j n b) e more))
 
 below_more : (o : Option ℕ) (i j : ℕ) → i ≤ j → IfSome o (λ p. p < i) → IfSome o (λ p. p < j)
-below_more None i j le h = tt
-below_more (Some p) i j le h = omega (arith, le, h)
+below_more o i j le h = grind arith
 
 pub linked : (level : Level) (parent : Option ℕ) (i n : ℕ) (t : Siblings) → IfSome parent (λ p. p < i) → i + size t ≤ n → AreLinked i n (kept level parent i t)
 unfolding kept

@@ -1,15 +1,13 @@
 -- What the entries of a tree say of each of its rows.
 use Rattle.std.proofs.Common.{◌≡◌, ◌<◌, ◌≤◌, ◌+◌, ◌-◌, ◌^◌, ℕ, zero, suc, List, [], ◌∷◌, ◌++◌, length, map, replicate, find, Option, Some, None, IfSome, Bool, true, false, cond, if◌then◌else◌, refl, ap, sym, ◌∙◌, subst, append_assoc, get_or, arith}
 use Rattle.std.specs.{Prelude.{⊤, ◌==◌}, List.{slice_get, AllByRecursion}, Str.bytes_eq}
-use Rattle.std.{specs.Option.{option_map, is_some}, proofs.lemmas.List.length-append}
-use Rattle.std.proofs.lemmas.{Option.{slice_get-map, slice_get_past}, Bool.{eq-eqb, ne_eqb}}
-use Rattle.std.proofs.Math.ListN.{get_or-append}
+use Rattle.std.{specs.Option.option_map, proofs.lemmas.{List.length-append, Bool.{eq-eqb, ne_eqb}}}
+use Rattle.std.proofs.{lemmas.Option.{slice_get-map, slice_get_past}, Math.ListN.get_or-append}
 use Rattle.uimg_blob_reading.specs.declared.{keys.Key.Key, roles.Role.Role, nodes.Blob.Blob}
 use Rattle.uimg_blob_reading.specs.{Tokens.Property, Grammar.{Siblings, none, node}, Keys.name_of}
 use Rattle.uimg_blob_reading.specs.{Rows.{Row, size, first_of, rows, table}, LookUps.first}
-use Rattle.uimg_blob_reading.specs.Spots.{spot_of}
+use Rattle.uimg_blob_reading.specs.{Spots.spot_of, declared.roles.Role.TheVariants.Hash}
 use Rattle.uimg_blob_reading.specs.Indexed.{IsIndexed, IsRow, property_span, value_span, value_of}
-use Rattle.uimg_blob_reading.specs.declared.roles.Role.TheVariants.{Root, Images, Image, Hash, Configurations, Configuration, Other}
 use Rattle.uimg_blob_reading.specs.Roles.{Level, top, role_at, level_in, level_after, keys_of, is_hash_role}
 use Rattle.uimg_blob_reading.specs.Kept.{Kept, kept, kept_of, entry_of, slot, value_word, span_word, number_word, property_named, LiesIn, entry_under}
 use Rattle.uimg_base.specs.declared.spans.Span.{Span}
@@ -32,16 +30,7 @@ pub record Seat (ks : List Kept) (i n : ℕ) (row : Row) : Type 0 where
   pub sibling : row.next_sibling ≡ under end (number_word row.parent) (slice_get ks (end - i))
 
 shift : (k : Kept) (ks : List Kept) (i n : ℕ) (row : Row) → Seat ks (i + 1) n row → Seat (k ∷ ks) i (suc n) row
-shift k ks i n row s =
-    let number : i + 1 + n + 1 ≡ i + suc n + 1 = omega arith in
-    let further : s.end - i ≡ suc (s.end - (i + 1)) = omega (arith, s.past) in
-    record {
-      end = s.end;
-      here = s.here;
-      past = omega (arith, s.past);
-      child = s.child ∙ ap (λ (m : ℕ). under m m (slice_get ks (suc n))) number;
-      sibling = s.sibling ∙ ap (λ (m : ℕ). under s.end (number_word row.parent) (slice_get (k ∷ ks) m)) (sym further);
-    }
+shift k ks i n row s = grind arith
 
 shift_by : (front ks : List Kept) (i n : ℕ) (row : Row) → Seat ks (i + length front) n row → Seat (front ++ ks) i (length front + n) row
 shift_by [] ks i n row s =
@@ -67,11 +56,7 @@ not_same a b lt = ne_eqb a b (λ same. absurd (omega (arith, lt, same)))
 first_under : (level : Level) (parent : Option ℕ) (i : ℕ) (t : Siblings) (rest : List Kept) → Outer (number_word parent) rest
     → first_of i t ≡ under i (number_word parent) (slice_get (kept level parent i t ++ rest) 0)
 unfolding kept
-first_under level parent i none [] outer = refl
-first_under level parent i none (k ∷ rest) outer =
-    sym (ap (λ (b : Bool). if b then Some i else None) (not_same (number_word k.parent) (number_word parent) outer))
-first_under level parent i (node at name own below after) rest outer =
-    sym (ap (λ (b : Bool). if b then Some i else None) (eq-eqb (number_word parent) (number_word parent) refl))
+first_under level parent i t rest outer = grind (arith, eq-eqb, not_same)
 
 outer_more : (level : Level) (parent : Option ℕ) (i word : ℕ) (t : Siblings) (rest : List Kept) → number_word parent < word → Outer (number_word parent) rest
     → Outer word (kept level parent i t ++ rest)
@@ -167,8 +152,7 @@ abbrev pub node_of : Row → ℕ → Kept
 node_of row end = record { at = row.at; name = row.name; own = row.own; role = row.role; parent = row.parent; end = end }
 
 under_entry : (number word : ℕ) (o : Option Kept) → under number word o ≡ entry_under number word (option_map entry_of o)
-under_entry number word None = refl
-under_entry number word (Some k) = refl
+under_entry number word o = grind arith
 
 all_at : (limit : ℕ) (ks : List Kept) (n : ℕ) (k : Kept) → AllByRecursion (LiesIn limit) ks → slice_get ks n ≡ Some k → LiesIn limit k
 all_at limit [] n k h is = absurd (some_none (sym is))
@@ -183,15 +167,10 @@ pub record EntryOf (t : Siblings) (limit n : ℕ) (e : List ℕ) : Type 0 where
   pub lies : LiesIn limit kept
 
 from_option : (ks : List Kept) (n : ℕ) (e : List ℕ) (o : Option Kept) → slice_get ks n ≡ o → Some e ≡ option_map entry_of o → (k : Kept) × (slice_get ks n ≡ Some k) × (e ≡ entry_of k)
-from_option ks n e None is h = absurd (some_none h)
-from_option ks n e (Some k) is h = (k, is, some_some e (entry_of k) h)
+from_option ks n e o is h = grind (arith, some_none, some_some)
 
 pub entry_is : (t : Siblings) (blob : Blob) (es : List (List ℕ)) (n : ℕ) (e : List ℕ) → IsIndexed t blob es → slice_get es n ≡ Some e → EntryOf t blob.totalsize n e
-entry_is t blob es n e h read =
-    let there : Some e ≡ option_map entry_of (slice_get (kept_of t) n) =
-    sym read ∙ ap (λ (l : List (List ℕ)). slice_get l n) h.kept ∙ slice_get-map entry_of (kept_of t) n in
-    let k = from_option (kept_of t) n e (slice_get (kept_of t) n) refl there in
-    record { kept = k.0; at = k.1; is = k.2; lies = all_at blob.totalsize (kept_of t) n k.0 h.lies k.1 }
+entry_is t blob es n e h read = grind (arith, all_at, from_option, slice_get-map)
 
 -- the entry of a row
 pub row_entry : (blob : Blob) (es : List (List ℕ)) (n : ℕ) (row : Row) (e : List ℕ) (h : IsRow blob es n row) → slice_get es n ≡ Some e
@@ -269,8 +248,7 @@ pub last_child : (blob : Blob) (es : List (List ℕ)) (n : ℕ) (row : Row) → 
 last_child blob es n row h le = sym (row_child blob es n row h ∙ ap (entry_under (n + 1) (n + 1)) (slice_get_past es (n + 1) le))
 
 pub later_by : (o : Option ℕ) (n m size : ℕ) → IfSome o (λ i. (i ≡ m) × (i < size)) → n < m → IfSome o (λ i. (n < i) × (i < size))
-later_by None n m size h lt = tt
-later_by (Some i) n m size h lt = (omega (arith, h.0, lt), h.1)
+later_by o n m size h lt = grind arith
 
 -- the span of a value that is there
 pub value_some : (found : Option Property) (word : ℕ) (s : Span) → (word ≡ 0 → ⊥) → IfSome found (λ p. (0 < p.place) × (length p.value < 2 ^ 32)) → word ≡ value_word found
@@ -280,41 +258,23 @@ value_some (Some p) word s some placed is known = ap (λ (x : Span). Some x) (kn
 
 pub few_bytes : (found : Option Property) (limit : ℕ) → limit < 2 ^ 32 → IfSome found (λ p. (0 < p.place) × (p.place + length p.value ≤ limit))
     → IfSome found (λ p. (0 < p.place) × (length p.value < 2 ^ 32))
-few_bytes None limit small h = tt
-few_bytes (Some p) limit small h = (h.0, omega (arith, h.1, small))
+few_bytes found limit small h = grind arith
 
 pub span_lies : (found : Option Property) (o : Option Span) (limit : ℕ) → o ≡ option_map property_span found → IfSome found (λ p. (0 < p.place) × (p.place + length p.value ≤ limit))
     → IfSome o (λ s. s.place + s.length ≤ limit)
-span_lies found o limit is h = subst (λ (x : Option Span). IfSome x (λ s. s.place + s.length ≤ limit)) (sym is) (mapped found h)
-  where
-    mapped : (found : Option Property) → IfSome found (λ p. (0 < p.place) × (p.place + length p.value ≤ limit)) → IfSome (option_map property_span found) (λ s. s.place + s.length ≤ limit)
-    mapped None h = tt
-    mapped (Some p) h = h.1
+span_lies found o limit is h = grind arith
 
 -- no value of the key is kept
 pub unkept : (row : Row) (key : Key) (role : Role) → role ≡ row.role → None ≡ slot (name_of key) (keys_of role) → None ≡ option_map value_span (value_of row key)
-unkept row key role same place =
-    ap (λ (o : Option ℕ). option_map value_span (if is_some o then first (map spot_of row.own) (name_of key) else None))
-    (place ∙ ap (λ (r : Role). slot (name_of key) (keys_of r)) same)
+unkept row key role same place = grind arith
 
 to_spot : (found : Option Property) → option_map property_span found ≡ option_map value_span (option_map (λ p. record { place = p.place; bytes = p.value }) found)
-to_spot None = refl
-to_spot (Some p) = refl
+to_spot found = grind arith
 
 -- the value of a key that is kept
 pub is_kept : (row : Row) (key : Key) (role : Role) (i : ℕ) → role ≡ row.role → Some i ≡ slot (name_of key) (keys_of role)
     → option_map property_span (property_named row.own (name_of key)) ≡ option_map value_span (value_of row key)
-is_kept row key role i same place =
-    to_spot (property_named row.own (name_of key))
-    ∙ ap (option_map value_span) (sym (first_spots row.own (name_of key)))
-    ∙ ap (λ (o : Option ℕ). option_map value_span (if is_some o then first (map spot_of row.own) (name_of key) else None))
-    (place ∙ ap (λ (r : Role). slot (name_of key) (keys_of r)) same)
+is_kept row key role i same place = grind (arith, first_spots, to_spot)
 
 pub not_hash : (role : Role) → (role ≡ Hash → ⊥) → false ≡ is_hash_role role
-not_hash Root h = refl
-not_hash Images h = refl
-not_hash Image h = refl
-not_hash Hash h = absurd (h refl)
-not_hash Configurations h = refl
-not_hash Configuration h = refl
-not_hash Other h = refl
+not_hash role h = grind arith

@@ -1,24 +1,21 @@
 -- The numbers of the root's `images` and `configurations`, of the nodes so far.
-use Rattle.std.proofs.Common.{◌≡◌, ◌+◌, ℕ, suc, List, [], ◌∷◌, ◌++◌, length, Option, Some, None, Bool, true, false, ◌||◌, if◌then◌else◌, refl, ap, sym, ◌∙◌, arith}
+use Rattle.std.proofs.Common.{◌≡◌, ◌+◌, ℕ, suc, List, [], ◌∷◌, ◌++◌, length, Option, Some, None, Bool, true, false, ◌||◌, if◌then◌else◌, ap, sym, ◌∙◌, arith}
 use Rattle.std.specs.{Option.{is_some, option_or}, Prelude.codes}
 use Rattle.std.proofs.lemmas.Slice.Eq.{bytes_eq-Decides}
-use Rattle.uimg_blob_reading.specs.{declared.roles.Role.Role, Grammar.none, Walk.{Open, opened}}
-use Rattle.uimg_blob_reading.specs.Kept.{Kept, number_of_role}
-use Rattle.uimg_blob_reading.specs.SoFar.{next_level, level_past, so_far, open_row}
-use Rattle.uimg_blob_reading.specs.declared.roles.Role.TheVariants.{Root, Images, Image, Hash, Configurations, Configuration, Other}
-use Rattle.uimg_blob_reading.specs.Roles.{Level, in_root, role_at, root_child, level_after, is_images, is_configurations, is_hash, is_images_role, is_configurations_role}
+use Rattle.uimg_blob_reading.specs.declared.roles.Role.{Role, TheVariants.{Hash, Other}}
+use Rattle.uimg_blob_reading.specs.{Grammar.none, Kept.{Kept, number_of_role}, Walk.{Open, opened}}
+use Rattle.uimg_blob_reading.specs.SoFar.{next_level, level_past, so_far}
+use Rattle.uimg_blob_reading.specs.Roles.{Level, in_root, role_at, root_child, level_after, is_images, is_configurations, is_images_role, is_configurations_role}
 use Rattle.uimg_blob_reading.specs.Passes.{root_level, child_level, noted_images, noted_configurations}
 use Rattle.uimg_blob_reading.proofs.{SoFarLaws.{Seam, begin_row}, KeyLaws.none_from}
 use Rattle.uimg_blob_reading.proofs.PhaseLaws.{true_false}
 use Rattle.uimg_blob_reading.proofs.RoleLaws.{is_root, level_is, inner_not_root}
 
 or_none : (x : Option ℕ) → option_or x None ≡ x
-or_none None = refl
-or_none (Some i) = refl
+or_none x = grind arith
 
 pub first_or : (b : Bool) (i : ℕ) (n m z : Option ℕ) → m ≡ option_or n z → (if b then Some i else m) ≡ option_or (if b then Some i else n) z
-first_or true i n m z h = refl
-first_or false i n m z h = h
+first_or b i n m z h = grind arith
 
 -- with a node more
 number_last : (is_it : Role → Bool) (i : ℕ) (ks : List Kept) (k : Kept)
@@ -39,92 +36,42 @@ number_changed is_it i (q ∷ before) after row changed same =
 -- a change that leaves a node's role
 pub seam_number : (is_it : Role → Bool) (i : ℕ) (change : Kept → Kept) (old new : List Kept) → ((k : Kept) → (change k).role ≡ k.role) → Seam i change old new
     → number_of_role is_it 0 old ≡ number_of_role is_it 0 new
-seam_number is_it i change old new same s =
-    ap (number_of_role is_it 0) s.old_is
-    ∙ sym (number_changed is_it 0 s.before s.after s.row (change s.row) (same s.row))
-    ∙ sym (ap (number_of_role is_it 0) s.new_is)
+seam_number is_it i change old new same s = grind (arith, number_changed)
 
 -- a node of a role more, which is the first of its role
 images_more : (role : Role) (n m : ℕ) (found number : Option ℕ) → found ≡ number → n ≡ m → (is_images_role role ≡ true → is_some found ≡ false)
     → noted_images role n found ≡ option_or number (if is_images_role role then Some m else None)
-images_more Images n m found number same at fresh =
-    ap (λ (k : ℕ). Some k) at ∙ ap (λ (o : Option ℕ). option_or o (Some m)) (sym (none_from found (fresh refl)) ∙ same)
-images_more Root n m found number same at fresh = same ∙ sym (or_none number)
-images_more Image n m found number same at fresh = same ∙ sym (or_none number)
-images_more Hash n m found number same at fresh = same ∙ sym (or_none number)
-images_more Configurations n m found number same at fresh = same ∙ sym (or_none number)
-images_more Configuration n m found number same at fresh = same ∙ sym (or_none number)
-images_more Other n m found number same at fresh = same ∙ sym (or_none number)
+images_more role n m found number same at fresh = grind (arith, none_from, or_none)
 
 configurations_more : (role : Role) (n m : ℕ) (found number : Option ℕ) → found ≡ number → n ≡ m → (is_configurations_role role ≡ true → is_some found ≡ false)
     → noted_configurations role n found ≡ option_or number (if is_configurations_role role then Some m else None)
-configurations_more Configurations n m found number same at fresh =
-    ap (λ (k : ℕ). Some k) at ∙ ap (λ (o : Option ℕ). option_or o (Some m)) (sym (none_from found (fresh refl)) ∙ same)
-configurations_more Root n m found number same at fresh = same ∙ sym (or_none number)
-configurations_more Images n m found number same at fresh = same ∙ sym (or_none number)
-configurations_more Image n m found number same at fresh = same ∙ sym (or_none number)
-configurations_more Hash n m found number same at fresh = same ∙ sym (or_none number)
-configurations_more Configuration n m found number same at fresh = same ∙ sym (or_none number)
-configurations_more Other n m found number same at fresh = same ∙ sym (or_none number)
+configurations_more role n m found number same at fresh = grind (arith, none_from, or_none)
 
 fresh_root_images : (a b c d : Bool) → is_images_role (root_child a b c d) ≡ true → a ≡ false
-fresh_root_images true b true d h = absurd (true_false (sym h))
-fresh_root_images false b true d h = refl
-fresh_root_images a true false true h = absurd (true_false (sym h))
-fresh_root_images a false false true h = absurd (true_false (sym h))
-fresh_root_images a b false false h = absurd (true_false (sym h))
+fresh_root_images a b c d h = grind (arith, true_false)
 
 fresh_root_configurations : (a b c d : Bool) → is_configurations_role (root_child a b c d) ≡ true → b ≡ false
-fresh_root_configurations true b true d h = absurd (true_false (sym h))
-fresh_root_configurations false b true d h = absurd (true_false (sym h))
-fresh_root_configurations a true false true h = absurd (true_false (sym h))
-fresh_root_configurations a false false true h = refl
-fresh_root_configurations a b false false h = absurd (true_false (sym h))
+fresh_root_configurations a b c d h = grind (arith, true_false)
 
 pub hash_images : (b : Bool) → is_images_role (if b then Hash else Other) ≡ false
-hash_images true = refl
-hash_images false = refl
+hash_images b = grind arith
 
 pub hash_configurations : (b : Bool) → is_configurations_role (if b then Hash else Other) ≡ false
-hash_configurations true = refl
-hash_configurations false = refl
+hash_configurations b = grind arith
 
 -- only children of the root are `images` or `configurations`
 never_images : (r : Role) (hi hc : Bool) (name : List ℕ) → is_root r ≡ false → is_images_role (role_at (child_level r hi hc) name) ≡ false
-never_images Root hi hc name h = absurd (true_false h)
-never_images Images hi hc name h = refl
-never_images Image hi hc name h = hash_images (is_hash name)
-never_images Hash hi hc name h = refl
-never_images Configurations hi hc name h = refl
-never_images Configuration hi hc name h = refl
-never_images Other hi hc name h = refl
+never_images r hi hc name h = grind (arith, hash_images, true_false)
 
 never_configurations : (r : Role) (hi hc : Bool) (name : List ℕ) → is_root r ≡ false → is_configurations_role (role_at (child_level r hi hc) name) ≡ false
-never_configurations Root hi hc name h = absurd (true_false h)
-never_configurations Images hi hc name h = refl
-never_configurations Image hi hc name h = hash_configurations (is_hash name)
-never_configurations Hash hi hc name h = refl
-never_configurations Configurations hi hc name h = refl
-never_configurations Configuration hi hc name h = refl
-never_configurations Other hi hc name h = refl
+never_configurations r hi hc name h = grind (arith, hash_configurations, true_false)
 
 fresh_images_in : (r : Role) (hi hc : Bool) (name : List ℕ) → is_images_role (role_at (child_level r hi hc) name) ≡ true → hi ≡ false
-fresh_images_in Root hi hc name h = fresh_root_images hi hc (is_images name) (is_configurations name) h
-fresh_images_in Images hi hc name h = absurd (true_false (sym h))
-fresh_images_in Image hi hc name h = absurd (true_false (sym h ∙ hash_images (is_hash name)))
-fresh_images_in Hash hi hc name h = absurd (true_false (sym h))
-fresh_images_in Configurations hi hc name h = absurd (true_false (sym h))
-fresh_images_in Configuration hi hc name h = absurd (true_false (sym h))
-fresh_images_in Other hi hc name h = absurd (true_false (sym h))
+fresh_images_in r hi hc name h = grind (arith, fresh_root_images, hash_images, true_false)
 
 fresh_configurations_in : (r : Role) (hi hc : Bool) (name : List ℕ) → is_configurations_role (role_at (child_level r hi hc) name) ≡ true → hc ≡ false
-fresh_configurations_in Root hi hc name h = fresh_root_configurations hi hc (is_images name) (is_configurations name) h
-fresh_configurations_in Images hi hc name h = absurd (true_false (sym h))
-fresh_configurations_in Image hi hc name h = absurd (true_false (sym h ∙ hash_configurations (is_hash name)))
-fresh_configurations_in Hash hi hc name h = absurd (true_false (sym h))
-fresh_configurations_in Configurations hi hc name h = absurd (true_false (sym h))
-fresh_configurations_in Configuration hi hc name h = absurd (true_false (sym h))
-fresh_configurations_in Other hi hc name h = absurd (true_false (sym h))
+fresh_configurations_in r hi hc name h =
+    grind (arith, fresh_root_configurations, hash_configurations, true_false)
 
 -- the first of its role, by what the root had
 fresh_images : (ls : List Open) (name : List ℕ) (hi hc : Bool) → root_level ls ≡ in_root hi hc → is_images_role (role_at (next_level ls) name) ≡ true → hi ≡ false
@@ -146,27 +93,16 @@ pub images_begun : (ls : List Open) (at n : ℕ) (name : List ℕ) (role : Role)
     → role ≡ role_at (next_level ls) name → root_level ls ≡ in_root (is_some found) hc → found ≡ number_of_role is_images_role 0 (so_far ls) → n ≡ length (so_far ls)
     → noted_images role n found ≡ number_of_role is_images_role 0 (so_far (opened at name [] none ∷ ls))
 images_begun ls at n name role found hc is marks same number =
-    let place : n ≡ 0 + length (so_far ls) = omega (arith, number) in
-    images_more role n (0 + length (so_far ls)) found (number_of_role is_images_role 0 (so_far ls)) same place
-    (λ h. fresh_images ls name (is_some found) hc marks (ap is_images_role (sym is) ∙ h))
-    ∙ ap (λ (r : Role). option_or (number_of_role is_images_role 0 (so_far ls)) (if is_images_role r then Some (0 + length (so_far ls)) else None)) is
-    ∙ sym (number_last is_images_role 0 (so_far ls) (open_row ls at name []))
-    ∙ sym (ap (number_of_role is_images_role 0) (begin_row ls at name))
+    grind (arith, begin_row, fresh_images, images_more, number_last)
 
 pub configurations_begun : (ls : List Open) (at n : ℕ) (name : List ℕ) (role : Role) (found : Option ℕ) (hi : Bool)
     → role ≡ role_at (next_level ls) name → root_level ls ≡ in_root hi (is_some found) → found ≡ number_of_role is_configurations_role 0 (so_far ls) → n ≡ length (so_far ls)
     → noted_configurations role n found ≡ number_of_role is_configurations_role 0 (so_far (opened at name [] none ∷ ls))
 configurations_begun ls at n name role found hi is marks same number =
-    let place : n ≡ 0 + length (so_far ls) = omega (arith, number) in
-    configurations_more role n (0 + length (so_far ls)) found (number_of_role is_configurations_role 0 (so_far ls)) same place
-    (λ h. fresh_configurations ls name hi (is_some found) marks (ap is_configurations_role (sym is) ∙ h))
-    ∙ ap (λ (r : Role). option_or (number_of_role is_configurations_role 0 (so_far ls)) (if is_configurations_role r then Some (0 + length (so_far ls)) else None)) is
-    ∙ sym (number_last is_configurations_role 0 (so_far ls) (open_row ls at name []))
-    ∙ sym (ap (number_of_role is_configurations_role 0) (begin_row ls at name))
+    grind (arith, begin_row, configurations_more, fresh_configurations, number_last)
 
 pub or_false : (x : Bool) → (x || false) ≡ x
-or_false true = refl
-or_false false = refl
+or_false x = grind arith
 
 pub images_not : (name : List ℕ) → is_images name ≡ true → is_configurations name ≡ false
 images_not name h = ap is_configurations ((bytes_eq-Decides name (codes "images")).0 h)
@@ -176,32 +112,13 @@ marked_root : (a b : Bool) (images configurations : Option ℕ) (n : ℕ) → (a
     → in_root (is_some images || a) (is_some configurations || b)
     ≡ in_root (is_some (noted_images (root_child (is_some images) (is_some configurations) a b) n images))
     (is_some (noted_configurations (root_child (is_some images) (is_some configurations) a b) n configurations))
-marked_root true true images configurations n other = absurd (true_false (other refl))
-marked_root true false None configurations n other = ap (λ (x : Bool). in_root true x) (or_false (is_some configurations))
-marked_root true false (Some i) configurations n other = ap (λ (x : Bool). in_root true x) (or_false (is_some configurations))
-marked_root false true images None n other = ap (λ (x : Bool). in_root x true) (or_false (is_some images))
-marked_root false true images (Some j) n other = ap (λ (x : Bool). in_root x true) (or_false (is_some images))
-marked_root false false images configurations n other =
-    ap (λ (x : Bool). in_root x (is_some configurations || false)) (or_false (is_some images))
-    ∙ ap (λ (x : Bool). in_root (is_some images) x) (or_false (is_some configurations))
+marked_root a b images configurations n other = grind (arith, or_false, true_false)
 
 unnoted_images : (role : Role) (n : ℕ) (found : Option ℕ) → is_images_role role ≡ false → noted_images role n found ≡ found
-unnoted_images Root n found h = refl
-unnoted_images Images n found h = absurd (true_false h)
-unnoted_images Image n found h = refl
-unnoted_images Hash n found h = refl
-unnoted_images Configurations n found h = refl
-unnoted_images Configuration n found h = refl
-unnoted_images Other n found h = refl
+unnoted_images role n found h = grind (arith, true_false)
 
 unnoted_configurations : (role : Role) (n : ℕ) (found : Option ℕ) → is_configurations_role role ≡ false → noted_configurations role n found ≡ found
-unnoted_configurations Root n found h = refl
-unnoted_configurations Images n found h = refl
-unnoted_configurations Image n found h = refl
-unnoted_configurations Hash n found h = refl
-unnoted_configurations Configurations n found h = absurd (true_false h)
-unnoted_configurations Configuration n found h = refl
-unnoted_configurations Other n found h = refl
+unnoted_configurations role n found h = grind (arith, true_false)
 
 abbrev marked : Role → ℕ → Option ℕ → Option ℕ → Level
 marked role n images configurations = in_root (is_some (noted_images role n images)) (is_some (noted_configurations role n configurations))

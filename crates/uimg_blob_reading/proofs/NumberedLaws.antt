@@ -3,10 +3,10 @@ use Rattle.std.proofs.Common.{◌≡◌, ◌+◌, ℕ, suc, List, [], ◌∷◌,
 use Rattle.std.specs.{Option.option_or, Prelude.{not, codes}}
 use Rattle.std.proofs.lemmas.Slice.Eq.{bytes_eq-Decides}
 use Rattle.uimg_blob_reading.specs.declared.roles.Role.{Role, TheVariants.{Root, Hash, Other}}
-use Rattle.uimg_blob_reading.specs.{Grammar.{Siblings, none, node}, Walk.{Open, opened, as_node}}
+use Rattle.uimg_blob_reading.specs.{Grammar.{Siblings, none, node}, Walk.{Open, as_node}}
 use Rattle.uimg_blob_reading.specs.Rows.{size, number_named, child_number}
 use Rattle.uimg_blob_reading.specs.Kept.{Kept, kept, kept_of, number_of_role}
-use Rattle.uimg_blob_reading.specs.Roles.{Level, top, in_root, in_images, in_image, in_configurations, elsewhere, role_at, root_child, level_in, level_after, is_images, is_configurations, is_hash, is_images_role, is_configurations_role}
+use Rattle.uimg_blob_reading.specs.Roles.{Level, top, in_root, in_images, in_image, in_configurations, elsewhere, role_at, root_child, level_in, level_after, is_images, is_configurations, is_images_role, is_configurations_role}
 use Rattle.uimg_blob_reading.proofs.{SoFarLaws.length_kept, PhaseLaws.{true_false, by_bool}}
 use Rattle.uimg_blob_reading.proofs.NoteLaws.{first_or, hash_images, hash_configurations}
 
@@ -69,17 +69,7 @@ first_is is_it gives named level f other parent i (node at name own below after)
 root_first : (is_it : Role → Bool) (gives : Level → Bool) (named : List ℕ → Bool) (level : Bool → Level) → FirstOf is_it gives named level
     → is_it Root ≡ false → level false ≡ in_root false false → (o : Open) → number_of_role is_it 0 (kept_of (as_node o)) ≡ child_number named (as_node o)
 unfolding kept
-root_first is_it gives named level f apart start (opened at name own below) =
-    let under : List Kept = kept (in_root false false) (Some 0) 1 below in
-    ap (λ (b : Bool). if b then Some 0 else number_of_role is_it 1 (under ++ [])) apart
-    ∙ number_append is_it 1 under []
-    ∙ or_nothing (number_of_role is_it 1 under)
-    ∙ ap (λ (l : Level). number_of_role is_it 1 (kept l (Some 0) 1 below)) (sym start)
-    ∙ first_is is_it gives named level f false (Some 0) 1 below
-  where
-    or_nothing : (x : Option ℕ) → option_or x None ≡ x
-    or_nothing None = refl
-    or_nothing (Some i) = refl
+root_first is_it gives named level f apart start o = grind (arith, first_is, number_append)
 
 -- the root alone, and its children before the first of the name
 abbrev gives_images : Level → Bool
@@ -99,113 +89,57 @@ gives_configurations in_configurations = false
 gives_configurations elsewhere = false
 
 root_other_images : (hi hc a b : Bool) → not hi ≡ false → is_images_role (root_child hi hc a b) ≡ false
-root_other_images true hc true b h = refl
-root_other_images false hc true b h = absurd (true_false h)
-root_other_images hi true false true h = refl
-root_other_images hi false false true h = refl
-root_other_images hi hc false false h = refl
+root_other_images hi hc a b h = grind (arith, true_false)
 
 root_other_configurations : (hi hc a b : Bool) → not hc ≡ false → is_configurations_role (root_child hi hc a b) ≡ false
-root_other_configurations true hc true b h = refl
-root_other_configurations false hc true b h = refl
-root_other_configurations hi true false true h = refl
-root_other_configurations hi false false true h = absurd (true_false h)
-root_other_configurations hi hc false false h = refl
+root_other_configurations hi hc a b h = grind (arith, true_false)
 
 in_child_images : (hi hc a b : Bool) → gives_images (level_in (root_child hi hc a b)) ≡ false
-in_child_images true hc true b = refl
-in_child_images false hc true b = refl
-in_child_images hi true false true = refl
-in_child_images hi false false true = refl
-in_child_images hi hc false false = refl
+in_child_images hi hc a b = grind arith
 
 in_child_configurations : (hi hc a b : Bool) → gives_configurations (level_in (root_child hi hc a b)) ≡ false
-in_child_configurations true hc true b = refl
-in_child_configurations false hc true b = refl
-in_child_configurations hi true false true = refl
-in_child_configurations hi false false true = refl
-in_child_configurations hi hc false false = refl
+in_child_configurations hi hc a b = grind arith
 
 hash_in_images : (b : Bool) → gives_images (level_in (if b then Hash else Other)) ≡ false
-hash_in_images true = refl
-hash_in_images false = refl
+hash_in_images b = grind arith
 
 hash_in_configurations : (b : Bool) → gives_configurations (level_in (if b then Hash else Other)) ≡ false
-hash_in_configurations true = refl
-hash_in_configurations false = refl
+hash_in_configurations b = grind arith
 
 still_had : (a b : Bool) → not a ≡ false → not (a || b) ≡ false
-still_had true b h = h
-still_had false b h = absurd (true_false h)
+still_had a b h = grind (arith, true_false)
 
 images_here : (level : Level) (name : List ℕ) → gives_images level ≡ false → is_images_role (role_at level name) ≡ false
-images_here top name h = absurd (true_false h)
-images_here (in_root hi hc) name h = root_other_images hi hc (is_images name) (is_configurations name) h
-images_here in_images name h = refl
-images_here in_image name h = hash_images (is_hash name)
-images_here in_configurations name h = refl
-images_here elsewhere name h = refl
+images_here level name h = grind (arith, hash_images, root_other_images, true_false)
 
 images_below : (level : Level) (name : List ℕ) → gives_images level ≡ false → gives_images (level_in (role_at level name)) ≡ false
-images_below top name h = absurd (true_false h)
-images_below (in_root hi hc) name h = in_child_images hi hc (is_images name) (is_configurations name)
-images_below in_images name h = refl
-images_below in_image name h = hash_in_images (is_hash name)
-images_below in_configurations name h = refl
-images_below elsewhere name h = refl
+images_below level name h = grind (arith, hash_in_images, in_child_images, true_false)
 
 images_past : (level : Level) (name : List ℕ) → gives_images level ≡ false → gives_images (level_after level name) ≡ false
-images_past top name h = absurd (true_false h)
-images_past (in_root hi hc) name h = still_had hi (is_images name) h
-images_past in_images name h = refl
-images_past in_image name h = refl
-images_past in_configurations name h = refl
-images_past elsewhere name h = refl
+images_past level name h = grind (arith, still_had, true_false)
 
 configurations_here : (level : Level) (name : List ℕ) → gives_configurations level ≡ false → is_configurations_role (role_at level name) ≡ false
-configurations_here top name h = absurd (true_false h)
-configurations_here (in_root hi hc) name h = root_other_configurations hi hc (is_images name) (is_configurations name) h
-configurations_here in_images name h = refl
-configurations_here in_image name h = hash_configurations (is_hash name)
-configurations_here in_configurations name h = refl
-configurations_here elsewhere name h = refl
+configurations_here level name h =
+    grind (arith, hash_configurations, root_other_configurations, true_false)
 
 configurations_below : (level : Level) (name : List ℕ) → gives_configurations level ≡ false → gives_configurations (level_in (role_at level name)) ≡ false
-configurations_below top name h = absurd (true_false h)
-configurations_below (in_root hi hc) name h = in_child_configurations hi hc (is_images name) (is_configurations name)
-configurations_below in_images name h = refl
-configurations_below in_image name h = hash_in_configurations (is_hash name)
-configurations_below in_configurations name h = refl
-configurations_below elsewhere name h = refl
+configurations_below level name h =
+    grind (arith, hash_in_configurations, in_child_configurations, true_false)
 
 configurations_past : (level : Level) (name : List ℕ) → gives_configurations level ≡ false → gives_configurations (level_after level name) ≡ false
-configurations_past top name h = absurd (true_false h)
-configurations_past (in_root hi hc) name h = still_had hc (is_configurations name) h
-configurations_past in_images name h = refl
-configurations_past in_image name h = refl
-configurations_past in_configurations name h = refl
-configurations_past elsewhere name h = refl
+configurations_past level name h = grind (arith, still_had, true_false)
 
 named_images : (hc a b : Bool) → a ≡ true → is_images_role (root_child false hc a b) ≡ true
-named_images hc true b h = refl
-named_images hc false b h = absurd (true_false (sym h))
+named_images hc a b h = grind (arith, true_false)
 
 other_images : (hc a b : Bool) → a ≡ false → is_images_role (root_child false hc a b) ≡ false
-other_images hc true b h = absurd (true_false h)
-other_images true false true h = refl
-other_images false false true h = refl
-other_images hc false false h = refl
+other_images hc a b h = grind (arith, true_false)
 
 named_configurations : (hi a b : Bool) → a ≡ false → b ≡ true → is_configurations_role (root_child hi false a b) ≡ true
-named_configurations hi true b h is = absurd (true_false h)
-named_configurations hi false true h is = refl
-named_configurations hi false false h is = absurd (true_false (sym is))
+named_configurations hi a b h is = grind (arith, true_false)
 
 other_configurations : (hi a b : Bool) → b ≡ false → is_configurations_role (root_child hi false a b) ≡ false
-other_configurations true true b h = refl
-other_configurations false true b h = refl
-other_configurations hi false true h = absurd (true_false h)
-other_configurations hi false false h = refl
+other_configurations hi a b h = grind (arith, true_false)
 
 configurations_not : (name : List ℕ) → is_configurations name ≡ true → is_images name ≡ false
 configurations_not name h = ap is_images ((bytes_eq-Decides name (codes "configurations")).0 h)

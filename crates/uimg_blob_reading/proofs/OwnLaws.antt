@@ -20,8 +20,7 @@ ok_ok x y h = cc
 
 -- what was found first, where all was found
 found_first : {A B F : Type 0} (r : Result A F) (f : A → Result B F) (y : B) → (r >>= f) ≡ Ok y → (x : A) × (r ≡ Ok x) × (f x ≡ Ok y)
-found_first (Ok x) f y h = (x, refl, h)
-found_first (Err e) f y h = absurd (err_ok h)
+found_first r f y h = grind (arith, err_ok)
 
 -- tokens end with others
 abbrev pub Behind : List Token → List Token → Type 0
@@ -79,18 +78,7 @@ no_child ts below rest h ends = subst (λ (x : Siblings × List Token). end x.1 
 -- no property stands where children and the end of their parent do
 children_edge : (n : ℕ) (ts : List Token) (below : Siblings × List Token) (rest : List Token) → children n ts ≡ Ok below → end below.1 ≡ Ok rest → own_of ts ≡ Some []
 unfolding children own_of
-children_edge n (begin_node at name ∷ ts) below rest h ends = refl
-children_edge n (end_node at ∷ ts) below rest h ends = refl
-children_edge zero [] below rest h ends = absurd (err_ok (no_child [] below rest h ends))
-children_edge (suc n) [] below rest h ends = absurd (err_ok (no_child [] below rest h ends))
-children_edge zero (prop at p ∷ ts) below rest h ends = absurd (err_ok (no_child (prop at p ∷ ts) below rest h ends))
-children_edge (suc n) (prop at p ∷ ts) below rest h ends = absurd (err_ok (no_child (prop at p ∷ ts) below rest h ends))
-children_edge zero (nop at ∷ ts) below rest h ends = absurd (err_ok (no_child (nop at ∷ ts) below rest h ends))
-children_edge (suc n) (nop at ∷ ts) below rest h ends = absurd (err_ok (no_child (nop at ∷ ts) below rest h ends))
-children_edge zero (last at ∷ ts) below rest h ends = absurd (err_ok (no_child (last at ∷ ts) below rest h ends))
-children_edge (suc n) (last at ∷ ts) below rest h ends = absurd (err_ok (no_child (last at ∷ ts) below rest h ends))
-children_edge zero (stray at fault ∷ ts) below rest h ends = absurd (err_ok (no_child (stray at fault ∷ ts) below rest h ends))
-children_edge (suc n) (stray at fault ∷ ts) below rest h ends = absurd (err_ok (no_child (stray at fault ∷ ts) below rest h ends))
+children_edge n ts below rest h ends = grind (arith, err_ok, no_child)
 
 -- A node begins among some tokens, and these properties stand behind its name.
 pub record Begins (all : List Token) (at : ℕ) (name : List ℕ) (own : List Property) : Type 0 where
@@ -162,13 +150,7 @@ children_read (suc n) all (last at ∷ ts) x behind h = none_read all (last at �
 children_read (suc n) all (stray at fault ∷ ts) x behind h = none_read all (stray at fault ∷ ts) x behind h
 
 ended_is : (r t : Siblings) (ts : List Token) → ended r ts ≡ Ok t → r ≡ t
-ended_is r t (last at ∷ ts) h = ok_ok r t h
-ended_is r t [] h = absurd (err_ok h)
-ended_is r t (begin_node at name ∷ ts) h = absurd (err_ok h)
-ended_is r t (end_node at ∷ ts) h = absurd (err_ok h)
-ended_is r t (prop at p ∷ ts) h = absurd (err_ok h)
-ended_is r t (nop at ∷ ts) h = absurd (err_ok h)
-ended_is r t (stray at fault ∷ ts) h = absurd (err_ok h)
+ended_is r t ts h = grind (arith, err_ok, ok_ok)
 
 is_root : (all : List Token) (at : ℕ) (name : List ℕ) (own : List Property) (below t : Siblings) (rest : List Token) → ended (node at name own below none) rest ≡ Ok t
     → Begins all at name own → AllBegin all below → AllBegin all t

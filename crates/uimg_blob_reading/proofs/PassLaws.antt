@@ -9,7 +9,7 @@ use Rattle.uimg_blob_reading.specs.{declared.roles.Role.TheVariants.Root, Tokens
 use Rattle.uimg_blob_reading.specs.Kept.{entry_of, number_word, role_word, number_of_role}
 use Rattle.uimg_blob_reading.specs.Entering.{begun_entry, ended_entries, GainsProperty}
 use Rattle.uimg_blob_reading.specs.SoFar.{next_number, level_past, next_level, open_row, so_far}
-use Rattle.uimg_blob_reading.specs.Roles.{Level, top, in_root, role_at, level_in, level_after, is_images_role, is_configurations_role}
+use Rattle.uimg_blob_reading.specs.Roles.{Level, in_root, role_at, level_after, is_images_role, is_configurations_role}
 use Rattle.uimg_blob_reading.specs.Passes.{Phase, inside, after, stack, child_level, PassStep, on, begins_in, ends_in, prop_in, is_after, bare, root_level, noted_images, noted_configurations, InPhase, Acts, RefusesMemory, IsPlaced}
 use Rattle.uimg_blob_reading.proofs.SoFarLaws.{length_so_far, property_row, end_row, root_row}
 use Rattle.uimg_blob_reading.proofs.PhaseLaws.{some_none, some_some, true_false, count_is}
@@ -22,10 +22,7 @@ pub length_ended : (n : ℕ) (es : List (List ℕ)) → length (ended_entries n 
 length_ended n es = length-set es n (set (get_or es n []) 2 (length es))
 
 number_same : (a b : Option ℕ) → number_word a ≡ number_word b → a ≡ b
-number_same None None h = refl
-number_same None (Some i) h = absurd (omega (arith, h))
-number_same (Some i) None h = absurd (omega (arith, h))
-number_same (Some i) (Some j) h = ap (λ (k : ℕ). Some k) (omega (arith, h))
+number_same a b h = grind arith
 
 past_join : (l : Level) (a below : Siblings) (at : ℕ) (name : List ℕ) (own : List Property) → level_past l (join a (node at name own below none)) ≡ level_after (level_past l a) name
 unfolding level_past
@@ -34,9 +31,7 @@ past_join l (node at' name' own' below' next) below at name own = past_join (lev
 
 marks_end : (o parent : Open) (ls : List Open) → root_level (close o parent ∷ ls) ≡ root_level (o ∷ parent ∷ ls)
 unfolding next_level
-marks_end (opened at name own below) (opened at' name' own' below') [] = past_join (level_in (role_at top name')) below' below at name own
-marks_end (opened at name own below) (opened at' name' own' below') (q ∷ []) = refl
-marks_end (opened at name own below) (opened at' name' own' below') (q ∷ r ∷ ls) = refl
+marks_end o parent ls = grind (arith, past_join)
 
 placed_end : (o parent : Open) → IsPlaced parent → IsPlaced (close o parent)
 placed_end (opened at name own below) (opened at' name' own' below') h = h
@@ -48,9 +43,7 @@ number_end is_it (opened at name own below) (opened at' name' own' below') ls =
 -- the role of a node that begins where none is open
 pub root_in : (p : Phase) (s : State) (es : List (List ℕ)) (name : List ℕ) → InPhase p s es → s.current ≡ None → Root ≡ role_at (next_level (stack p)) name
 unfolding next_level
-root_in (inside []) s es name h is = refl
-root_in (inside (o ∷ ls)) s es name h is = absurd (some_none (sym h.current ∙ is))
-root_in (after o) s es name h is = refl
+root_in p s es name h is = grind (arith, some_none)
 
 -- the role of a child of the innermost node
 pub child_in : (p : Phase) (s : State) (n : ℕ) (name : List ℕ) (role parent : Role) (es : List (List ℕ)) (e : List ℕ) → InPhase p s es → s.current ≡ Some n → slice_get es n ≡ Some e
@@ -131,9 +124,7 @@ all_more (q ∷ own) x h here = (h.0, all_more own x h.1 here)
 
 marks_prop : (ls : List Open) (at : ℕ) (name : List ℕ) (own more : List Property) (below : Siblings) → root_level (opened at name more below ∷ ls) ≡ root_level (opened at name own below ∷ ls)
 unfolding next_level
-marks_prop [] at name own more below = refl
-marks_prop (q ∷ []) at name own more below = refl
-marks_prop (q ∷ r ∷ ls) at name own more below = refl
+marks_prop ls at name own more below = grind arith
 
 -- the innermost node has a property
 pub prop_goes : (p : Phase) (s : State) (es new : List (List ℕ)) (n : ℕ) (x : Property) (at : ℕ)

@@ -1,8 +1,7 @@
 -- What a phase of a pass is, and what a token may do in it.
-use Rattle.std.proofs.Common.{◌≡◌, ◌<◌, ◌+◌, ℕ, List, [], ◌∷◌, length, Option, Some, None, Ok, Err, Bool, true, false, refl, ap, sym, ◌∙◌, subst, nat_lt, IfSome, arith}
+use Rattle.std.proofs.Common.{◌≡◌, ◌<◌, ◌+◌, ℕ, List, [], ◌∷◌, length, Option, Some, None, Ok, Bool, true, false, refl, ap, sym, ◌∙◌, subst, nat_lt, IfSome, arith}
 use Rattle.std.proofs.lemmas.Bool.{lt-ltb}
-use Rattle.uimg_blob_reading.specs.{declared.states.State.State, Grammar.{none, node}}
-use Rattle.uimg_blob_reading.specs.Tokens.{Token, begin_node, end_node, prop, nop, last, stray}
+use Rattle.uimg_blob_reading.specs.{declared.states.State.State, Grammar.{none, node}, Tokens.Token}
 use Rattle.uimg_blob_reading.specs.Walk.{Open, opened, as_node, walk, begun, finished}
 use Rattle.uimg_blob_reading.specs.Kept.{kept, kept_of, entries}
 use Rattle.uimg_blob_reading.specs.SoFar.{next_number, so_far, entries_so_far}
@@ -12,36 +11,13 @@ use Rattle.uimg_blob_reading.proofs.{SoFarLaws.length_so_far, EntryLaws.length_e
 -- A token, and then the tokens after it.
 pub left_is : (p : Phase) (t : Token) (ts : List Token) → left_after p (t ∷ ts) ≡ then_left (step p t) ts
 unfolding walk begun finished
-left_is (inside []) (begin_node at (Ok name)) ts = refl
-left_is (inside []) (begin_node at (Err f)) ts = refl
-left_is (inside []) (end_node at) ts = refl
-left_is (inside []) (prop at p) ts = refl
-left_is (inside []) (nop at) ts = refl
-left_is (inside []) (last at) ts = refl
-left_is (inside []) (stray at f) ts = refl
-left_is (inside (o ∷ ls)) (begin_node at (Ok name)) ts = refl
-left_is (inside (o ∷ ls)) (begin_node at (Err f)) ts = refl
-left_is (inside (o ∷ [])) (end_node at) ts = refl
-left_is (inside (o ∷ parent ∷ ls)) (end_node at) ts = refl
-left_is (inside (opened place name own none ∷ ls)) (prop at (Ok p)) ts = refl
-left_is (inside (opened place name own none ∷ ls)) (prop at (Err f)) ts = refl
-left_is (inside (opened place name own (node a b c d e) ∷ ls)) (prop at p) ts = refl
-left_is (inside (o ∷ ls)) (nop at) ts = refl
-left_is (inside (o ∷ ls)) (last at) ts = refl
-left_is (inside (o ∷ ls)) (stray at f) ts = refl
-left_is (after o) (begin_node at name) ts = refl
-left_is (after o) (end_node at) ts = refl
-left_is (after o) (prop at p) ts = refl
-left_is (after o) (nop at) ts = refl
-left_is (after o) (last at) ts = refl
-left_is (after o) (stray at f) ts = refl
+left_is p t ts = grind arith
 
 pub some_none : {X : Type 0} {x : X} → Some x ≡ None → ⊥
 some_none h = grind (arith, h)
 
 pub by_bool : {P : Type 0} (b : Bool) → (b ≡ true → P) → (b ≡ false → P) → P
-by_bool true when other = when refl
-by_bool false when other = other refl
+by_bool b when other = grind arith
 
 pub some_some : {X : Type 0} (x y : X) → Some x ≡ Some y → x ≡ y
 some_some x y h = cc
@@ -96,10 +72,4 @@ holds_within (after o) s es h = subst (λ (o : Option ℕ). IfSome o (λ i. i < 
 
 -- the last token after the root
 pub done_goes : (p : Phase) (s : State) (es : List (List ℕ)) (t : Token) → InPhase p s es → is_done p t ≡ true → (o : Open) × (step p t ≡ stop (Ok (as_node o))) × (es ≡ entries (as_node o))
-done_goes (inside ls) s es t h is = absurd (true_false (sym is))
-done_goes (after o) s es (last at) h is = (o, refl, h.entries)
-done_goes (after o) s es (begin_node at name) h is = absurd (true_false (sym is))
-done_goes (after o) s es (end_node at) h is = absurd (true_false (sym is))
-done_goes (after o) s es (prop at p) h is = absurd (true_false (sym is))
-done_goes (after o) s es (nop at) h is = absurd (true_false (sym is))
-done_goes (after o) s es (stray at f) h is = absurd (true_false (sym is))
+done_goes p s es t h is = grind (arith, true_false)

@@ -7,16 +7,14 @@ use Rattle.uimg_blob_reading.specs.SoFar.{so_far, next_number, open_row}
 use Rattle.uimg_blob_reading.specs.Passes.{Phase, inside, after, on, step, nodes_at, begin_places}
 use Rattle.uimg_blob_reading.proofs.SoFarLaws.{Seam, begin_row, property_row, end_row, root_row}
 use Rattle.uimg_blob_reading.proofs.CostLaws.{on_stop, on_same}
+use Rattle.std.proofs.Common.{arith}
 
 abbrev places : List Kept → List ℕ
 places ks = map (λ k. k.at) ks
 
 -- a change that leaves a node's place
 seam_places : (i : ℕ) (change : Kept → Kept) (old new : List Kept) → ((k : Kept) → (change k).at ≡ k.at) → Seam i change old new → places new ≡ places old
-seam_places i change old new same s =
-    ap places s.new_is ∙ map-append (λ k. k.at) s.before (change s.row ∷ s.after)
-    ∙ ap (λ (n : ℕ). places s.before ++ n ∷ places s.after) (same s.row)
-    ∙ sym (map-append (λ k. k.at) s.before (s.row ∷ s.after)) ∙ sym (ap places s.old_is)
+seam_places i change old new same s = grind (arith, map-append)
 
 nothing : (xs : List ℕ) → xs ≡ xs ++ []
 nothing [] = refl

@@ -3,11 +3,11 @@ use Rattle.std.proofs.Common.{◌≡◌, ◌≤◌, ◌<◌, ◌+◌, ◌-◌, �
 use Rattle.std.{specs.Option.{MatchOption, option_map}, proofs.lemmas.Bool.{lt-ltb, le-ltb}}
 use Rattle.std.proofs.lemmas.List.{take-take}
 use Rattle.uimg_texts.specs.{Numbers.be32, Nul.before_nul, Slices.slice}
-use Rattle.uimg_base.specs.{declared.spans.Span.Span, Device.{Device, SameDevice}}
+use Rattle.uimg_base.specs.Device.{Device, SameDevice}
 use Rattle.uimg_blob_reading.specs.declared.{extent.Extent.Extent, keys.Key.Key, tokens.Head.Head}
 use Rattle.uimg_blob_reading.specs.Tokens.{Blocks, prop, reach, property_with_name, property_at}
 use Rattle.uimg_blob_reading.specs.{Keys.key_named, Extents.blocks_of, ReadTokens.ReadsProp}
-use Rattle.uimg_blob_reading.specs.{Plain.NamedOf, Places.{IsHead, NameIs, FindsPlace}}
+use Rattle.uimg_blob_reading.specs.Places.{IsHead, NameIs, FindsPlace}
 use Rattle.uimg_blob_reading.proofs.{NumberLaws.reach-slice, PhaseLaws.{some_none, some_some}}
 
 -- what is so over a source that is what it was
@@ -41,14 +41,7 @@ value_size bytes at size within = omega (arith, within, length-take size (drop a
 -- the key of a property
 keyed_by : (bytes : List ℕ) (x : Extent) (at : ℕ) (head : Head) (key : Option Key) (name : Option (List ℕ)) → property_at (blocks_of bytes x) at ≡ property_with_name name (at + 12) (slice bytes (at + 12) head.length)
     → at + 12 + head.length ≤ length bytes → Some key ≡ option_map key_named name → ReadsProp at (prop at (property_at (blocks_of bytes x) at)) head.length key
-keyed_by bytes x at head key None is within keyed = absurd (some_none keyed)
-keyed_by bytes x at head key (Some name) is within keyed = record {
-  property = record { name = name; place = at + 12; value = slice bytes (at + 12) head.length };
-  is = ap (prop at) is;
-  place = refl;
-  sized = value_size bytes (at + 12) head.length within;
-  keyed = some_some key (key_named name) keyed;
-}
+keyed_by bytes x at head key name is within keyed = grind (arith, some_none, some_some, value_size)
 
 pub key_read : (bytes : List ℕ) (x : Extent) (at : ℕ) (head : Head) (key : Option Key) → IsHead bytes x at (Ok head) → at + 12 + head.length ≤ length bytes
     → Some key ≡ option_map key_named (before_nul (reach bytes head.name (x.strings + x.strings_size))) → ReadsProp at (prop at (property_at (blocks_of bytes x) at)) head.length key
@@ -58,10 +51,4 @@ key_read bytes x at head key is within keyed = keyed_by bytes x at head key (bef
 pub place_found : (bytes : List ℕ) (x : Extent) (at : ℕ) (head : Head) (n : ℕ) → IsHead bytes x at (Ok head) → at + 12 + head.length ≤ length bytes
     → NameIs bytes head.name (x.strings + x.strings_size) (Some n)
     → FindsPlace bytes (property_at (blocks_of bytes x) at) (Some (record { name = record { place = head.name; length = n }; value = record { place = at + 12; length = head.length } }))
-place_found bytes x at head n is within name =
-    let value : List ℕ = slice bytes (at + 12) head.length in
-    let size : head.length ≡ length value = value_size bytes (at + 12) head.length within in (
-      record { name = slice bytes head.name n; place = at + 12; value = value },
-      is ∙ ap (λ (o : Option (List ℕ)). property_with_name o (at + 12) value) name,
-      ap (λ (k : ℕ). let said : NamedOf Span = record { name = slice bytes head.name n; value = record { place = at + 12; length = k } } in said) size,
-    )
+place_found bytes x at head n is within name = grind (arith, value_size)

@@ -1,12 +1,12 @@
 -- The roles of the nodes that a pass enters.
-use Rattle.std.proofs.Common.{◌≡◌, ◌+◌, ℕ, List, [], ◌∷◌, ◌++◌, length, map, Some, Bool, true, false, refl, ap, sym, ◌∙◌, if◌then◌else◌, get_or}
+use Rattle.std.proofs.Common.{◌≡◌, ◌+◌, ℕ, List, [], ◌∷◌, ◌++◌, length, map, Some, Bool, true, false, refl, ap, sym, ◌∙◌, if◌then◌else◌, get_or, arith}
 use Rattle.std.{specs.List.slice_get, proofs.lemmas.{List.map-append, Option.get_or_from_slice_get}}
 use Rattle.std.proofs.Math.Seq.{get_or-append_seam}
 use Rattle.uimg_blob_reading.specs.{declared.roles.Role.Role, Tokens.Property, Walk.{Open, opened}}
 use Rattle.uimg_blob_reading.specs.{Grammar.{Siblings, none, node}, Kept.{Kept, kept, entry_of}}
 use Rattle.uimg_blob_reading.specs.Passes.{root_level, child_level}
 use Rattle.uimg_blob_reading.specs.declared.roles.Role.TheVariants.{Root, Images, Image, Hash, Configurations, Configuration, Other}
-use Rattle.uimg_blob_reading.specs.Roles.{Level, top, in_root, in_images, in_image, in_configurations, elsewhere, role_at, root_child, level_in, level_after, is_images, is_configurations, is_hash}
+use Rattle.uimg_blob_reading.specs.Roles.{Level, top, in_root, in_images, in_image, in_configurations, elsewhere, role_at, root_child, level_in, level_after}
 use Rattle.uimg_blob_reading.specs.SoFar.{next_number, level_past, next_level, open_row, so_far, entries_so_far}
 use Rattle.uimg_blob_reading.proofs.{SoFarLaws.length_so_far, EntryLaws.length_entries}
 use Rattle.uimg_blob_reading.proofs.PhaseLaws.{true_false}
@@ -42,12 +42,7 @@ is_root Configuration = false
 is_root Other = false
 
 after_not_top : (l : Level) (name : List ℕ) → is_top l ≡ false → is_top (level_after l name) ≡ false
-after_not_top top name h = h
-after_not_top (in_root a b) name h = refl
-after_not_top in_images name h = refl
-after_not_top in_image name h = refl
-after_not_top in_configurations name h = refl
-after_not_top elsewhere name h = refl
+after_not_top l name h = grind arith
 
 past_not_top : (l : Level) (b : Siblings) → is_top l ≡ false → is_top (level_past l b) ≡ false
 unfolding level_past
@@ -55,32 +50,16 @@ past_not_top l none h = h
 past_not_top l (node at name own below next) h = past_not_top (level_after l name) next (after_not_top l name h)
 
 in_not_top : (r : Role) → is_top (level_in r) ≡ false
-in_not_top Root = refl
-in_not_top Images = refl
-in_not_top Image = refl
-in_not_top Hash = refl
-in_not_top Configurations = refl
-in_not_top Configuration = refl
-in_not_top Other = refl
+in_not_top r = grind arith
 
 root_child_not : (a b c d : Bool) → is_root (root_child a b c d) ≡ false
-root_child_not true b true d = refl
-root_child_not false b true d = refl
-root_child_not a true false true = refl
-root_child_not a false false true = refl
-root_child_not a b false false = refl
+root_child_not a b c d = grind arith
 
 hash_not : (b : Bool) → is_root (if b then Hash else Other) ≡ false
-hash_not true = refl
-hash_not false = refl
+hash_not b = grind arith
 
 role_not_root : (l : Level) (name : List ℕ) → is_top l ≡ false → is_root (role_at l name) ≡ false
-role_not_root top name h = absurd (true_false h)
-role_not_root (in_root a b) name h = root_child_not a b (is_images name) (is_configurations name)
-role_not_root in_images name h = refl
-role_not_root in_image name h = hash_not (is_hash name)
-role_not_root in_configurations name h = refl
-role_not_root elsewhere name h = refl
+role_not_root l name h = grind (arith, hash_not, root_child_not, true_false)
 
 past_same : (l : Level) (b : Siblings) → ((name : List ℕ) → level_after l name ≡ l) → level_past l b ≡ l
 unfolding level_past
@@ -88,13 +67,7 @@ past_same l none same = refl
 past_same l (node at name own below next) same = ap (λ (k : Level). level_past k next) (same name) ∙ past_same l next same
 
 past_child : (r : Role) (b : Siblings) (hi hc : Bool) → is_root r ≡ false → level_past (level_in r) b ≡ child_level r hi hc
-past_child Root b hi hc h = absurd (true_false h)
-past_child Images b hi hc h = past_same in_images b (λ name. refl)
-past_child Image b hi hc h = past_same in_image b (λ name. refl)
-past_child Hash b hi hc h = past_same elsewhere b (λ name. refl)
-past_child Configurations b hi hc h = past_same in_configurations b (λ name. refl)
-past_child Configuration b hi hc h = past_same elsewhere b (λ name. refl)
-past_child Other b hi hc h = past_same elsewhere b (λ name. refl)
+past_child r b hi hc h = grind (arith, past_same, true_false)
 
 pub inner_not_root : (ls : List Open) (at : ℕ) (name : List ℕ) (own : List Property) (below : Siblings) (inner : List ℕ)
     → is_root (role_at (next_level (opened at name own below ∷ ls)) inner) ≡ false

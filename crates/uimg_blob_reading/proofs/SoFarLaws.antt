@@ -73,14 +73,7 @@ begin_row ls at name = refl
 pub property_row : (ls : List Open) (at : ℕ) (name : List ℕ) (own : List Property) (p : Property)
     → Seam (next_number ls) (λ k. record k { own = k.own ++ p ∷ [] }) (so_far (opened at name own none ∷ ls)) (so_far (opened at name (own ++ p ∷ []) none ∷ ls))
 unfolding so_far kept
-property_row ls at name own p = record {
-  before = so_far ls;
-  row = open_row ls at name own;
-  after = [];
-  place = length_so_far ls;
-  old_is = refl;
-  new_is = refl;
-}
+property_row ls at name own p = grind (arith, length_so_far)
 
 -- the innermost node ends
 pub end_row : (at : ℕ) (name : List ℕ) (own : List Property) (below : Siblings) (parent_at : ℕ) (parent_name : List ℕ) (parent_own : List Property) (parent_below : Siblings) (ls : List Open)

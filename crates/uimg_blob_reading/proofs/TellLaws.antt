@@ -1,20 +1,19 @@
 -- What is told of a node's properties, token by token.
-use Rattle.std.proofs.Common.{◌≡◌, ◌≤◌, ◌+◌, ◌*◌, ℕ, zero, suc, List, [], ◌∷◌, ◌++◌, length, map, Option, Some, None, Result, Ok, Err, true, refl, ap, sym, ◌∙◌, subst, cond, append_assoc, append-nil, IsTrue, arith}
+use Rattle.std.proofs.Common.{◌≡◌, ◌≤◌, ◌+◌, ◌*◌, ℕ, List, [], ◌∷◌, ◌++◌, length, map, Option, Some, Result, Ok, Err, true, refl, ap, sym, ◌∙◌, subst, cond, append_assoc, append-nil, IsTrue, arith}
 use Rattle.std.specs.{Prelude.{IsErrAnd, Vec}, List.{count_by, slice_get}, Option.option_map}
 use Rattle.std.proofs.lemmas.{Result.err_from_is_err_and, List.{map-append, Sums.sum_by-cons}}
 use Rattle.uimg_texts.specs.Numbers.{up4}
 use Rattle.uimg_base.specs.{declared.spans.Span.Span, Device.{Device, SameDevice}, Results.◌>>=◌}
-use Rattle.uimg_blob_reading.specs.{Reading.Fault, Blob.{tree, blocks}, Spots.spot_of}
+use Rattle.uimg_blob_reading.specs.{Blob.tree, declared.properties.PropertiesFault.PropertiesFault}
+use Rattle.uimg_blob_reading.specs.{Spots.spot_of, Rows.{Row, table}, Owns.{own_of, LeftFrom}}
 use Rattle.uimg_blob_reading.specs.{declared.fault.BlobFault.BlobFault, Plain.{NamedOf, with_value}}
 use Rattle.uimg_blob_reading.specs.declared.fault.IndexFault.{IndexFault, TheVariants.Blob}
 use Rattle.uimg_blob_reading.specs.{declared.extent.Extent.Extent, Extents.{blocks_of, GivesBlocks}}
-use Rattle.uimg_blob_reading.specs.{declared.places.PropertyPlace.PropertyPlace, Rows.{Row, table}}
-use Rattle.uimg_blob_reading.specs.declared.properties.PropertiesFault.{PropertiesFault}
-use Rattle.uimg_blob_reading.specs.{Grammar.{Siblings, root, without_nops}, Owns.{own_of, LeftFrom}}
+use Rattle.uimg_blob_reading.specs.{declared.places.PropertyPlace.PropertyPlace, Grammar.Siblings}
 use Rattle.uimg_blob_reading.specs.{Counts.{is_nop, nops_met}, Indexed.{name_span, value_span}}
 use Rattle.uimg_blob_reading.specs.declared.places.Met.TheVariants as met
 use Rattle.uimg_blob_reading.specs.declared.properties.PropertiesFault.TheVariants.{Read, OutOfMemory, Changed}
-use Rattle.uimg_blob_reading.specs.Tokens.{Property, Token, Blocks, begin_node, end_node, prop, nop, last, stray, token_at, next, tokens_from, tokens}
+use Rattle.uimg_blob_reading.specs.Tokens.{Property, Token, Blocks, prop, nop, token_at, next, tokens_from}
 use Rattle.uimg_blob_reading.specs.Places.{read_place, placed, is_edge, is_strange, IsMet, meeting_cost}
 use Rattle.uimg_blob_reading.specs.Properties.{places_of, telling_cost, TellsPlaces, TookFrom, TookAll, TakesOne, FindsBlocks}
 use Rattle.uimg_blob_reading.proofs.PhaseLaws.{some_none, some_some, true_false}
@@ -29,24 +28,19 @@ record First (b : Blocks) (at : ℕ) (t : Token) (own : List Property) (nops : �
 first_by : (b : Blocks) (at : ℕ) (own : List Property) (nops fuel : ℕ) → own_of (tokens_from fuel b (Some at)) ≡ Some own → count_by is_nop (tokens_from fuel b (Some at)) ≤ nops
     → First b at (token_at b at) own nops
 unfolding tokens_from own_of
-first_by b at own nops zero is few = absurd (some_none (sym is))
-first_by b at own nops (suc n) is few = record { fuel = n; is = is; few = few }
+first_by b at own nops fuel is few = grind (arith, some_none)
 
 first_of : (b : Blocks) (at : ℕ) (t : Token) (own : List Property) (nops : ℕ) → token_at b at ≡ t → LeftFrom b at own nops → First b at t own nops
 first_of b at t own nops same left = subst (λ (k : Token). First b at k own nops) same (first_by b at own nops left.fuel left.is left.few)
 
 mapped : {A B : Type 0} (f : A → B) (o : Option A) (y : B) → option_map f o ≡ Some y → (x : A) × (o ≡ Some x) × (f x ≡ y)
-mapped f None y h = absurd (some_none (sym h))
-mapped f (Some x) y h = (x, refl, some_some (f x) y h)
+mapped f o y h = grind (arith, some_none, some_some)
 
 -- a property, and the others
 left_property : (b : Blocks) (at : ℕ) (p : Property) (own : List Property) (nops : ℕ) → First b at (prop at (Ok p)) own nops
     → (rest : List Property) × (p ∷ rest ≡ own) × LeftFrom b (at + 12 + up4 (length p.value)) rest nops
 unfolding own_of
-left_property b at p own nops first =
-    let us : List Token = tokens_from first.fuel b (Some (at + 12 + up4 (length p.value))) in
-    let rest = mapped (λ l. p ∷ l) (own_of us) own first.is in
-    (rest.0, rest.2, record { fuel = first.fuel; is = rest.1; few = omega (arith, first.few, sum_by-cons (λ k. cond (is_nop k) 1 0) (prop at (Ok p)) us) })
+left_property b at p own nops first = grind (arith, mapped, sum_by-cons)
 
 -- an FDT_NOP
 left_nop : (b : Blocks) (at : ℕ) (own : List Property) (nops : ℕ) → First b at (nop at) own nops → (fewer : ℕ) × (fewer + 1 ≤ nops) × LeftFrom b (at + 4) own fewer
@@ -58,34 +52,15 @@ left_nop b at own nops first =
 -- a token that begins or ends a node
 left_edge : (t : Token) (us : List Token) (own : List Property) → is_edge t ≡ true → own_of (t ∷ us) ≡ Some own → [] ≡ own
 unfolding own_of
-left_edge (begin_node at name) us own edge is = some_some [] own is
-left_edge (end_node at) us own edge is = some_some [] own is
-left_edge (prop at p) us own edge is = absurd (true_false (sym edge))
-left_edge (nop at) us own edge is = absurd (true_false (sym edge))
-left_edge (last at) us own edge is = absurd (true_false (sym edge))
-left_edge (stray at fault) us own edge is = absurd (true_false (sym edge))
+left_edge t us own edge is = grind (arith, some_some, true_false)
 
 left_strange : (t : Token) (us : List Token) (own : List Property) → is_strange t ≡ true → own_of (t ∷ us) ≡ Some own → ⊥
 unfolding own_of
-left_strange (begin_node at name) us own strange is = true_false (sym strange)
-left_strange (end_node at) us own strange is = true_false (sym strange)
-left_strange (prop at (Ok p)) us own strange is = true_false (sym strange)
-left_strange (prop at (Err fault)) us own strange is = some_none (sym is)
-left_strange (nop at) us own strange is = true_false (sym strange)
-left_strange (last at) us own strange is = some_none (sym is)
-left_strange (stray at fault) us own strange is = some_none (sym is)
+left_strange t us own strange is = grind (arith, some_none, true_false)
 
 cost_by : (t : Token) (us : List Token) (own : List Property) (nops : ℕ) → own_of (t ∷ us) ≡ Some own → meeting_cost t ≤ telling_cost own nops
 unfolding own_of
-cost_by (prop at (Ok p)) us own nops is =
-    let rest = mapped (λ l. p ∷ l) (own_of us) own is in
-    omega (arith, ap length rest.2)
-cost_by (prop at (Err fault)) us own nops is = absurd (some_none (sym is))
-cost_by (begin_node at name) us own nops is = omega arith
-cost_by (end_node at) us own nops is = omega arith
-cost_by (nop at) us own nops is = omega arith
-cost_by (last at) us own nops is = omega arith
-cost_by (stray at fault) us own nops is = omega arith
+cost_by t us own nops is = grind (arith, mapped, some_none)
 
 -- a token is paid for by what is left
 pub paid_left : (b : Blocks) (at : ℕ) (own : List Property) (nops base asked : ℕ) → asked ≤ base + meeting_cost (token_at b at) → LeftFrom b at own nops → asked ≤ base + telling_cost own nops
@@ -178,10 +153,7 @@ places_are (p ∷ own) = ap (λ (l : List (NamedOf Span)). placed p ∷ l) (plac
 -- a file that has a tree has blocks
 pub no_fault : (file : List ℕ) (t : Siblings) (e : IndexFault) (fault : BlobFault) (at : ℕ) → tree file ≡ Ok t → e ≡ Blob fault at → GivesBlocks file (Err e) → ⊥
 unfolding tree
-no_fault file t e fault at is named gives =
-    let none : blocks file ≡ Err (fault, at) = subst (λ (k : IndexFault). GivesBlocks file (Err k)) named gives in
-    let h : (let r : Result Siblings Fault = Err (fault, at) in r) ≡ Ok t = sym (ap (λ (r : Result Blocks Fault). r >>= (λ found. root (without_nops (tokens found)))) none) ∙ is in
-    grind (arith, h)
+no_fault file t e fault at is named gives = grind arith
 
 -- what is told of a row
 pub told_row : {Z : Type 0} (d e : Device) (x : Extent) (t : Siblings) (node : ℕ) (row : Row) (name : Span) (size : ℕ) (r q : Result (Vec PropertyPlace Z) PropertiesFault) (now : ℕ) → q ≡ r → SameDevice d e

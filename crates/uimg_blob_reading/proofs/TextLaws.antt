@@ -16,8 +16,7 @@ abbrev text_by : List ℕ → Option (List ℕ) → List ℕ
 text_by bytes o = elim o as (λ _. List ℕ) [ None ↦ bytes | Some found ↦ found ]
 
 by_nul : {P : Type 0} (o : Option (List ℕ)) → (o ≡ None → P) → ((t : List ℕ) → o ≡ Some t → P) → P
-by_nul None without within = without refl
-by_nul (Some t) without within = within t refl
+by_nul o without within = grind arith
 
 text_is : (xs : List ℕ) → text xs ≡ text_by xs (before_nul xs)
 unfolding text
@@ -54,17 +53,10 @@ pub text_all : (a : List ℕ) → before_nul a ≡ None → text a ≡ a
 text_all a h = text_is a ∙ ap (text_by a) h
 
 pub text_ended : (a b : List ℕ) → is_some (before_nul a) ≡ true → text (a ++ b) ≡ text a
-text_ended a b h = by_nul (before_nul a)
-    (λ without. absurd (true_false (sym h ∙ ap is_some without)))
-    (λ t is. text_is (a ++ b) ∙ ap (text_by (a ++ b)) (nul_first a b t is) ∙ sym (ap (text_by a) is) ∙ sym (text_is a))
+text_ended a b h = grind (arith, by_nul, nul_first, text_is, true_false)
 
 pub text_later : (a b : List ℕ) → before_nul a ≡ None → text (a ++ b) ≡ a ++ text b
-text_later a b h =
-    text_is (a ++ b) ∙ ap (text_by (a ++ b)) (nul_later a b h) ∙ onward (before_nul b) ∙ ap (λ (t : List ℕ). a ++ t) (sym (text_is b))
-  where
-    onward : (o : Option (List ℕ)) → text_by (a ++ b) (option_map (λ t. a ++ t) o) ≡ a ++ text_by b o
-    onward None = refl
-    onward (Some t) = refl
+text_later a b h = grind (arith, nul_later, text_is)
 
 pub without_nul : (a : List ℕ) → is_some (before_nul a) ≡ false → before_nul a ≡ None
 without_nul a h = by_nul (before_nul a) (λ is. is) (λ t is. absurd (true_false (sym (ap is_some is) ∙ h)))
@@ -135,16 +127,13 @@ text_put s m t b p done next len le without put ended more =
 
 -- no NUL stands in a window more
 pub still_without : (b : List ℕ) (p done next : ℕ) → before_nul (slice b p done) ≡ None → before_nul (slice b (p + done) next) ≡ None → before_nul (slice b p (done + next)) ≡ None
-still_without b p done next first second =
-    ap before_nul (slice-add b p done next) ∙ nul_later (slice b p done) (slice b (p + done) next) first
-    ∙ ap (option_map (λ t. slice b p done ++ t)) second
+still_without b p done next first second = grind (arith, nul_later, slice-add)
 
 pub written_all : (s t : Sink) (xs : List ℕ) → AppendsAll s t xs → Written false s t xs
 written_all s t xs all = record { all = all; prefix = prefix_all s t xs all }
 
 pub written_some : (e : Bool) (s t : Sink) (xs : List ℕ) → e ≡ true → AppendsPrefix s t xs → Written e s t xs
-written_some true s t xs h prefix = record { all = tt; prefix = prefix }
-written_some false s t xs h prefix = absurd (true_false (sym h))
+written_some e s t xs h prefix = grind (arith, true_false)
 
 pub nul_nothing : (b : List ℕ) (p : ℕ) → before_nul (slice b p 0) ≡ None
 unfolding before_nul

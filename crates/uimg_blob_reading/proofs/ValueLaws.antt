@@ -20,8 +20,7 @@ are_apart [] = true
 are_apart (key ∷ keys) = cond (is_apart key keys) (are_apart keys) false
 
 or_none : {X : Type 0} (x : Option X) → option_or x None ≡ x
-or_none None = refl
-or_none (Some x) = refl
+or_none x = grind arith
 
 -- the first property of a name, with a property more
 first_more : (own : List Property) (p : Property) (name : List ℕ) → property_named (own ++ p ∷ []) name ≡ option_or (property_named own name) (cond (bytes_eq name p.name) (Some p) None)
@@ -36,13 +35,10 @@ had_one own p q name had = first_more own p name
     ∙ ap (λ (o : Option Property). option_or o (cond (bytes_eq name p.name) (Some p) None)) had ∙ sym had
 
 had_none : (own : List Property) (p : Property) (name : List ℕ) → property_named own name ≡ None → bytes_eq name p.name ≡ true → property_named (own ++ p ∷ []) name ≡ Some p
-had_none own p name none same = first_more own p name
-    ∙ ap (λ (o : Option Property). option_or o (cond (bytes_eq name p.name) (Some p) None)) none
-    ∙ ap (λ (b : Bool). option_or None (cond b (Some p) None)) same
+had_none own p name none same = grind (arith, first_more)
 
 by_bool : {P : Type 0} (b : Bool) → (b ≡ true → P) → (b ≡ false → P) → P
-by_bool true same_name other = same_name refl
-by_bool false same_name other = other refl
+by_bool b h other = grind arith
 
 some_none : {X : Type 0} {x : X} → Some x ≡ None → ⊥
 some_none h = grind (arith, h)
@@ -54,12 +50,10 @@ some_some : {X : Type 0} (x y : X) → Some x ≡ Some y → x ≡ y
 some_some x y h = cc
 
 none_of : (x : Option ℕ) → option_map suc x ≡ None → x ≡ None
-none_of None h = refl
-none_of (Some i) h = absurd (some_none h)
+none_of x h = grind (arith, some_none)
 
 some_of : (x : Option ℕ) (j : ℕ) → option_map suc x ≡ Some j → (i : ℕ) × (x ≡ Some i) × (j ≡ suc i)
-some_of None j h = absurd (some_none (sym h))
-some_of (Some i) j h = (i, refl, sym (some_some (suc i) j h))
+some_of x j h = grind (arith, some_none, some_some)
 
 -- the place of a name among a key and others
 at_key : (name : List ℕ) (key : Key) (keys : List Key) (b : Bool) → bytes_eq (name_of key) name ≡ b

@@ -78,10 +78,7 @@ prop_more n a name own p ls (Ok x) = ap (λ (l : List Property). closing n l non
 one_more : (n a a' : ℕ) (name name' : List ℕ) (own own' : List Property) (below before : Siblings) (ls : List (ℕ × Open)) (r : Result (Siblings × List Token) Fault)
     → (r >>= (λ more. end more.1 >>= λ left. (let y : Result ((List Property × Siblings) × List Token) Fault = Ok ((own, join (join before (node a' name' own' below none)) more.0), left) in y)) >>= close_all a name ls)
     ≡ (r >>= (λ more. (let y : Result (Siblings × List Token) Fault = Ok (node a' name' own' below more.0, more.1) in y)) >>= (λ below. end below.1 >>= λ left. (let y : Result ((List Property × Siblings) × List Token) Fault = Ok ((own, join before below.0), left) in y)) >>= close_all a name ls)
-one_more n a a' name name' own own' below before ls (Err e) = refl
-one_more n a a' name name' own own' below before ls (Ok more) =
-    ap (λ (b : Siblings). end more.1 >>= (λ left. (let y : Result ((List Property × Siblings) × List Token) Fault = Ok ((own, b), left) in y)) >>= close_all a name ls)
-    (join_assoc before (node a' name' own' below none) more.0)
+one_more n a a' name name' own own' below before ls r = grind (arith, join_assoc)
 
 -- one child more, then the others
 child_more : (n a a' : ℕ) (name name' : List ℕ) (own : List Property) (before : Siblings) (ls : List (ℕ × Open)) (r : Result ((List Property × Siblings) × List Token) Fault)
