@@ -122,9 +122,10 @@ impl<'a, R: Files + AllocGlobal, W: Write + Drop> FolderTaker<'a, R, W> {
         if self.has_refused && !self.keeps_good {
             return Ok(());
         }
+        let file = String::from_str(self.rt.alloc(), self.staging.last_name())?;
         let line = Line::Kept {
             name,
-            file: self.staging.last_name(),
+            file: file.as_str(),
             size,
             vouched,
         };
