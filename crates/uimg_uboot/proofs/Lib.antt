@@ -1,0 +1,4 @@
+pub mod CleanLaws
+pub mod PayloadLaws
+pub mod UBootLaws
+pub mod RightLaws
