@@ -122,6 +122,7 @@ arm64-test:
 peers: bin/uimg bin/uimg_peers
 	@scripts/needs.sh python3
 	python3 peers/peers.py bin/uimg bin/uimg_peers
+	python3 peers/strict.py bin/uimg
 
 ## make bench    times the program, and those of release/, beside dumpimage, mkimage, cat and cp; draws
 ##               bench/chart.svg with python3-matplotlib

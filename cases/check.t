@@ -319,14 +319,189 @@ are not counted, nor are those of images:
   $ fit "a { data = \"abc\"; hash-1 { algo = \"crc32\"; }; $signature };" && uimg check --strict k.itb
   k.itb: ok 1 payload, 1 hash
 
-An empty value names nothing; an image without a hash is weak, and a FIT image without images is empty:
+An empty value, an empty name and a value that does not end with a NUL are missing; an image without a hash is weak, and a FIT
+image without images is empty:
 
-  $ fit2 'default = []; c { kernel = []; };' && uimg check --strict k.itb
+  $ fit2 'default = []; c { kernel = "kernel"; };' && uimg check k.itb && uimg check --strict k.itb
   k.itb: ok 2 payloads, 2 hashes
+  k.itb: missing default 
+  [1]
+  $ fit2 'default = "c", ""; c { kernel = "kernel"; };' && uimg check --strict --json k.itb
+  {"path":"k.itb","status":1,"verdict":"missing","format":"fit","property":"default","name":""}
+  [1]
+  $ fit2 'c { kernel = [6b 65 72 6e 65 6c]; };' && uimg check --strict k.itb
+  k.itb: missing c kernel kernel
+  [1]
+  $ fit2 'c { fdt = "board", [6b]; };' && uimg check --strict --json k.itb
+  {"path":"k.itb","status":1,"verdict":"missing","format":"fit","configuration":"c","property":"fdt","name":"k"}
+  [1]
   $ fit 'a { data = "abc"; };' && uimg check k.itb && uimg check --strict k.itb
   k.itb: unhashed a
   k.itb: weak a
   [1]
   $ fit '' && uimg check --strict k.itb
   k.itb: empty
+  [1]
+
+With --strict U-Boot has to read the tree as the check does. It finds a node by its name up to a unit address, and the first of
+two nodes or properties of a name, and compares no hash of a node with uboot-ignore:
+
+  $ strict() { uimg check k.itb && uimg check --strict k.itb; }
+  $ tree() {
+  >     echo "/dts-v1/; / { $1 };" > k.its
+  >     SOURCE_DATE_EPOCH=0 uimg mkimage -f k.its k.itb > /dev/null && strict
+  > }
+  $ hash='hash-1 { algo = "sha256"; };'
+  $ fit "a@1 { data = \"abc\"; $hash };" && strict
+  k.itb: ok 1 payload, 1 hash
+  k.itb: unit-address a@1
+  [1]
+  $ tree "description = \"d\"; images@1 { a { data = \"evil\"; }; }; images { a { data = \"abc\"; $hash }; };"
+  k.itb: ok 1 payload, 1 hash
+  k.itb: unit-address images@1
+  [1]
+  $ fit 'a { data = "abc"; hash-1@ { algo = "sha256"; }; };' && strict
+  k.itb: ok 1 payload, 1 hash
+  k.itb: unit-address hash-1@
+  [1]
+  $ fit "a { data = \"abc\"; $hash }; b { data = \"d\"; $hash }; a { data = \"e\"; $hash };" && strict
+  k.itb: ok 3 payloads, 3 hashes
+  k.itb: doubled-node a
+  [1]
+  $ tree "description = \"d\"; images { a { data = \"abc\"; $hash }; }; images { b { data = \"e\"; }; };"
+  k.itb: ok 1 payload, 1 hash
+  k.itb: doubled-node images
+  [1]
+  $ fit "a { data = \"abc\"; os = \"linux\"; os = \"efi\"; $hash };" && strict
+  k.itb: ok 1 payload, 1 hash
+  k.itb: doubled-property a
+  [1]
+  $ fit 'a { data = "abc"; hash-1 { algo = "sha256"; uboot-ignore = <1>; }; };' && strict
+  k.itb: ok 1 payload, 1 hash
+  k.itb: ignored-hash hash-1
+  [1]
+  $ uimg check --strict --json k.itb
+  {"path":"k.itb","status":1,"verdict":"ignored-hash","format":"fit","node":"hash-1"}
+  [1]
+
+A root needs both its properties. mkimage adds the timestamp, so its name is changed:
+
+  $ tree "images { a { data = \"abc\"; $hash }; };"
+  k.itb: ok 1 payload, 1 hash
+  k.itb: no-description
+  [1]
+  $ fit "a { data = \"abc\"; $hash };" && at=$(grep -abo timestamp k.itb | cut -d: -f 1) && cell k.itb $at 84 && strict
+  k.itb: ok 1 payload, 1 hash
+  k.itb: no-timestamp
+  [1]
+  $ uimg check --strict --json k.itb
+  {"path":"k.itb","status":1,"verdict":"no-timestamp","format":"fit"}
+  [1]
+
+U-Boot reads the first four bytes of a cell, whatever its length, and takes `data` only where there is no offset. `payload WORDS`
+has the payload of image a both ways; a cell of another length counts as missing in a check without --strict:
+
+  $ payload() { fit "a { data = \"abc\"; unused = \"\"; $1 $hash };" && sed -e 's/DATA/data/g' < k.itb > l.itb && mv l.itb k.itb && strict; }
+  $ payload 'DATA-size = <3 4>; DATA-offset = <0>;'
+  k.itb: ok 1 payload, 1 hash
+  k.itb: odd-cell a
+  [1]
+  $ payload 'DATA-size = <3>; DATA-offset = [00 00 00];'
+  k.itb: ok 1 payload, 1 hash
+  k.itb: odd-cell a
+  [1]
+  $ payload 'DATA-size = <3>; DATA-position = [];'
+  k.itb: ok 1 payload, 1 hash
+  k.itb: odd-cell a
+  [1]
+  $ payload 'DATA-size = <3>;'
+  k.itb: ok 1 payload, 1 hash
+  k.itb: half-place a
+  [1]
+  $ payload 'DATA-offset = <0>;'
+  k.itb: ok 1 payload, 1 hash
+  k.itb: half-place a
+  [1]
+  $ payload 'DATA-position = <0>; DATA-size = <3>;'
+  k.itb: bad a hash-1
+  [1]
+  $ at=$(grep -abo abc k.itb | cut -d: -f 1) && payload "DATA-position = <$at>; DATA-size = <4>;"
+  k.itb: ok 1 payload, 1 hash
+  k.itb: two-payloads a
+  [1]
+
+Payloads after the tree come in the order of their images and share no bytes:
+
+  $ fit "a { data = /incbin/(\"zeros\"); $hash }; b { data = /incbin/(\"zeros\"); $hash };"
+  $ uimg mkimage -f k.its -E k.itb > /dev/null && strict
+  k.itb: ok 2 payloads, 2 hashes
+  k.itb: ok 2 payloads, 2 hashes
+  $ python3 - <<'END'
+  > import re, struct
+  > image = bytearray(open("k.itb", "rb").read())
+  > # (as above: 4000 is the size of the first, the offset of the second, which becomes 3999, and its size)
+  > _, at, _ = [it.start() for it in re.finditer(rb"\0\0\x0f\xa0", image)]
+  > image[at:at + 4] = struct.pack(">I", 3999)
+  > open("k.itb", "wb").write(image)
+  > END
+  $ strict
+  k.itb: ok 2 payloads, 2 hashes
+  k.itb: misplaced b
+  [1]
+
+libfdt's fdt_check_full refuses a block that begins in the header, a reservation block without an end, and a root with a name:
+
+  $ sound() { fit "a { data = \"abc\"; $hash };" && cell k.itb "$@" && strict; }
+  $ sound 16 0 0 0 39
+  k.itb: ok 1 payload, 1 hash
+  k.itb: unsound-blob
+  [1]
+  $ sound 48 0 0 0 0 0 0 0 1
+  k.itb: ok 1 payload, 1 hash
+  k.itb: unsound-blob
+  [1]
+  $ sound 60 97
+  k.itb: ok 1 payload, 1 hash
+  k.itb: unsound-blob
+  [1]
+
+A legacy image needs data, codes of image.h, and parts that end in the data. `header AT BYTE` changes a byte of a header:
+
+  $ header() {
+  >     cp kernel.img changed.img && cell changed.img "$@" && python3 - <<'END'
+  > import struct, zlib
+  > image = bytearray(open("changed.img", "rb").read())
+  > image[24:28] = struct.pack(">I", zlib.crc32(image[64:64 + struct.unpack(">I", image[12:16])[0]]))
+  > image[4:8] = bytes(4)
+  > image[4:8] = struct.pack(">I", zlib.crc32(image[:64]))
+  > open("changed.img", "wb").write(image)
+  > END
+  >     uimg check changed.img && uimg check --strict changed.img
+  > }
+  $ header 12 0 0 0 0
+  changed.img: ok 2 checksums
+  changed.img: empty-data
+  [1]
+  $ for at in 30 29 28 31; do header $at 99; done
+  changed.img: ok 2 checksums
+  changed.img: unknown-type
+  changed.img: ok 2 checksums
+  changed.img: unknown-architecture
+  changed.img: ok 2 checksums
+  changed.img: unknown-system
+  changed.img: ok 2 checksums
+  changed.img: unknown-compression
+  [1]
+  $ header 30 39
+  changed.img: ok 2 checksums
+  changed.img: ok 2 checksums
+  $ uimg check --strict --json changed.img && header 31 99 > /dev/null; uimg check --strict --json changed.img
+  {"path":"changed.img","status":0,"verdict":"ok","format":"legacy","checksums":2}
+  {"path":"changed.img","status":1,"verdict":"unknown-compression","format":"legacy"}
+  [1]
+  $ cp "$files/part-outside.img" "$files/no-table-end.img" . && uimg check part-outside.img no-table-end.img && uimg check --strict part-outside.img no-table-end.img
+  part-outside.img: ok 2 checksums
+  no-table-end.img: ok 2 checksums
+  part-outside.img: refused L7 part outside
+  no-table-end.img: refused L6 no table end
   [1]

@@ -169,11 +169,13 @@ def text_of(told):
         rest = f"{told['checksums']} checksums"
     elif "image" in told:
         rest = " ".join(spelled(bytes_of(told, key)) for key in ("image", "hash") if key in told)
+    elif "node" in told:
+        rest = spelled(bytes_of(told, "node"))
     elif "property" in told:
         rest = " ".join(spelled(bytes_of(told, key)) for key in ("configuration", "property", "name") if key in told)
     else:
         rest = told.get("message") or told.get("algo") or ("checksum" if verdict == "bad" else "")
-    return f"{spelled(bytes_of(told, 'path'))}: {verdict} {rest}".rstrip(" ")
+    return f"{spelled(bytes_of(told, 'path'))}: {verdict}" + (f" {rest}" if rest else "")
 
 
 def unchecked_of(path):

@@ -10,9 +10,12 @@ use Rattle.uimg_fit_base.specs.Report.{word_text}
 use Rattle.uimg_checks.specs.declared.answer.Answer.{Answer}
 use Rattle.uimg_fit_checking.specs.declared.checking.Finding.{Finding}
 use Rattle.uimg_fit_checking.specs.declared.checking.Finding.TheVariants.{Right, Unhashed, Wrong, Weak, Overlapping, NoImage}
-use Rattle.uimg_checks.specs.declared.answer.Answer.TheVariants.{Found, Missing, Refused, Failed}
+use Rattle.uimg_checks.specs.declared.answer.Answer.TheVariants.{Found, Missing, Loose, Refused, Failed}
 use Rattle.uimg_checks.specs.declared.finding.Checked.{Checked}
 use Rattle.uimg_checks.specs.declared.finding.Checked.TheVariants as checked
+use Rattle.uimg_strict.specs.declared.loose.Looseness.{Looseness}
+use Rattle.uimg_strict.specs.declared.loose.Looseness.TheVariants as loose
+use Rattle.uimg_strict.specs.Words.{word_of}
 use Rattle.uimg_checks.specs.Answers.{finding_word, found_word, answer_word}
 use Rattle.uimg_checks.specs.Lines.{nodes_text, some_unchecked, unchecked_text, spaced_name, named_if, finding_details, found_details, details_of, answer_line, own_text}
 
@@ -64,6 +67,7 @@ details_shown (Found found unchecked) own = found_shown found unchecked
 details_shown (Missing configuration property name) own =
     let giver = joined (named_if configuration) (codes " ") (named_if_shown configuration) refl in
     joined (named_if configuration ++ codes " " ++ property.now) (spaced_name name.now) (joined (named_if configuration ++ codes " ") property.now giver own) (named_shown name.now)
+details_shown (Loose format why place) own = named_if_shown place
 details_shown (Refused stop) own = joined (codes " ") stop.message.now refl own
 details_shown (Failed stop) own = joined (codes " ") stop.message.now refl own
 
@@ -87,9 +91,28 @@ found_word_shown checked.Right = refl
 found_word_shown checked.Damaged = refl
 found_word_shown checked.Weak = refl
 
+why_shown : (why : Looseness) → is_shown (word_of why) ≡ true
+why_shown loose.NoDescription = refl
+why_shown loose.NoTimestamp = refl
+why_shown loose.UnitAddress = refl
+why_shown loose.DoubledNode = refl
+why_shown loose.DoubledProperty = refl
+why_shown loose.IgnoredHash = refl
+why_shown loose.OddCell = refl
+why_shown loose.TwoPayloads = refl
+why_shown loose.HalfPlace = refl
+why_shown loose.UnsoundBlob = refl
+why_shown loose.Misplaced = refl
+why_shown loose.EmptyData = refl
+why_shown loose.UnknownType = refl
+why_shown loose.UnknownArchitecture = refl
+why_shown loose.UnknownSystem = refl
+why_shown loose.UnknownCompression = refl
+
 word_shown : (answer : Answer) → is_shown (answer_word answer) ≡ true
 word_shown (Found found unchecked) = found_word_shown found
 word_shown (Missing configuration property name) = refl
+word_shown (Loose format why place) = why_shown why
 word_shown (Refused stop) = refl
 word_shown (Failed stop) = refl
 

@@ -6,7 +6,7 @@ use Rattle.uimg_printing.proofs.SoundLaws.{Sound, AreSound, append_sound, number
 use Rattle.uimg_checks.specs.declared.answer.Answer.{Answer}
 use Rattle.uimg_fit_checking.specs.declared.checking.Finding.{Finding}
 use Rattle.uimg_fit_checking.specs.declared.checking.Finding.TheVariants.{Right, Unhashed, Wrong, Weak, Overlapping, NoImage}
-use Rattle.uimg_checks.specs.declared.answer.Answer.TheVariants.{Found, Missing, Refused, Failed}
+use Rattle.uimg_checks.specs.declared.answer.Answer.TheVariants.{Found, Missing, Loose, Refused, Failed}
 use Rattle.uimg_checks.specs.declared.finding.Checked.{Checked}
 use Rattle.uimg_checks.specs.declared.finding.Checked.TheVariants as checked
 use Rattle.uimg_checks.specs.declared.answer.Format.{Format}
@@ -57,6 +57,7 @@ about_sound (Missing configuration property name) =
     let names : List Member = text_members (codes "name") name.now in
     append_sound 0 (name_if (codes "configuration") configuration) (string_member (codes "property") property.now ++ names) (name_if_sound (codes "configuration") configuration)
     (append_sound 0 (string_member (codes "property") property.now) names (string_sound 0 (codes "property") property.now) (text_sound 0 (codes "name") name.now))
+about_sound (Loose format why place) = name_if_sound (codes "node") place
 about_sound (Refused stop) = stop_sound stop
 about_sound (Failed stop) = stop_sound stop
 

@@ -6,10 +6,12 @@ use Rattle.uimg_fit_base.specs.Report.{word_text}
 use Rattle.uimg_fit_checking.specs.declared.checking.Finding.{Finding}
 use Rattle.uimg_fit_checking.specs.declared.checking.Finding.TheVariants as fit_finding
 use Rattle.uimg_checks.specs.declared.answer.Answer.{Answer}
-use Rattle.uimg_checks.specs.declared.answer.Answer.TheVariants.{Found, Missing, Refused, Failed}
+use Rattle.uimg_checks.specs.declared.answer.Answer.TheVariants.{Found, Missing, Loose, Refused}
+use Rattle.uimg_checks.specs.declared.answer.Answer.TheVariants.{Failed}
 use Rattle.uimg_checks.specs.declared.finding.Checked.{Checked}
 use Rattle.uimg_checks.specs.declared.finding.Checked.TheVariants as checked
 use Rattle.uimg_checks.specs.Finding as of
+use Rattle.uimg_strict.specs.Words as strict
 
 abbrev pub exit_status : Status → ℕ
 exit_status Done = 0
@@ -18,6 +20,7 @@ exit_status NotRight = 1
 abbrev pub answer_status : Answer → ℕ
 answer_status (Found found unchecked) = exit_status (of.status_of found)
 answer_status (Missing configuration property name) = 1
+answer_status (Loose format why place) = 1
 answer_status (Refused stop) = 1
 answer_status (Failed stop) = 3
 
@@ -38,5 +41,6 @@ found_word checked.Weak = codes "weak"
 abbrev pub answer_word : Answer → List ℕ
 answer_word (Found found unchecked) = found_word found
 answer_word (Missing configuration property name) = codes "missing"
+answer_word (Loose format why place) = strict.word_of why
 answer_word (Refused stop) = codes "refused"
 answer_word (Failed stop) = codes "failed"

@@ -7,7 +7,8 @@ use Rattle.uimg_printing.specs.Printing.{printed}
 use Rattle.uimg_fit_checking.specs.declared.checking.Finding.{Finding}
 use Rattle.uimg_fit_checking.specs.declared.checking.Finding.TheVariants as fit_finding
 use Rattle.uimg_checks.specs.declared.answer.Answer.{Answer}
-use Rattle.uimg_checks.specs.declared.answer.Answer.TheVariants.{Found, Missing, Refused, Failed}
+use Rattle.uimg_checks.specs.declared.answer.Answer.TheVariants.{Found, Missing, Loose, Refused}
+use Rattle.uimg_checks.specs.declared.answer.Answer.TheVariants.{Failed}
 use Rattle.uimg_checks.specs.declared.finding.Checked.{Checked}
 use Rattle.uimg_checks.specs.declared.finding.Checked.TheVariants as checked
 use Rattle.uimg_checks.specs.Answers.{answer_word}
@@ -57,6 +58,7 @@ abbrev pub details_of : Answer → List ℕ
 details_of (Found found unchecked) = found_details found unchecked
 details_of (Missing configuration property name) =
     named_if configuration ++ codes " " ++ property.now ++ spaced_name name.now
+details_of (Loose format why place) = named_if place
 details_of (Refused stop) = codes " " ++ stop.message.now
 details_of (Failed stop) = codes " " ++ stop.message.now
 
@@ -69,5 +71,6 @@ answer_line path answer =
 abbrev pub own_text : Answer → List ℕ
 own_text (Found found unchecked) = []
 own_text (Missing configuration property name) = property.now
+own_text (Loose format why place) = []
 own_text (Refused stop) = stop.message.now
 own_text (Failed stop) = stop.message.now

@@ -7,7 +7,8 @@ use Rattle.uimg_printing.specs.Members.{text_members}
 use Rattle.uimg_fit_checking.specs.declared.checking.Finding.{Finding}
 use Rattle.uimg_fit_checking.specs.declared.checking.Finding.TheVariants as fit_finding
 use Rattle.uimg_checks.specs.declared.answer.Answer.{Answer}
-use Rattle.uimg_checks.specs.declared.answer.Answer.TheVariants.{Found, Missing, Refused, Failed}
+use Rattle.uimg_checks.specs.declared.answer.Answer.TheVariants.{Found, Missing, Loose, Refused}
+use Rattle.uimg_checks.specs.declared.answer.Answer.TheVariants.{Failed}
 use Rattle.uimg_checks.specs.declared.finding.Checked.{Checked}
 use Rattle.uimg_checks.specs.declared.finding.Checked.TheVariants as checked
 use Rattle.uimg_checks.specs.declared.answer.Format.{Format}
@@ -43,6 +44,7 @@ found_format checked.Weak = Legacy
 abbrev pub format_of : Answer → Option Format
 format_of (Found found unchecked) = Some (found_format found)
 format_of (Missing configuration property name) = Some Fit
+format_of (Loose format why place) = Some format
 format_of (Refused stop) = stop.format
 format_of (Failed stop) = stop.format
 
@@ -78,6 +80,7 @@ about (Found found unchecked) = about_found found unchecked
 about (Missing configuration property name) =
     name_if (codes "configuration") configuration
     ++ (string_member (codes "property") property.now ++ text_members (codes "name") name.now)
+about (Loose format why place) = name_if (codes "node") place
 about (Refused stop) = stop_members stop
 about (Failed stop) = stop_members stop
 

@@ -1,5 +1,6 @@
 -- Names in a set, and at spans of a file.
-use Rattle.std.specs.Prelude.{◌≡◌, ◌||◌, ℕ, List, Bool, not, Result, IfOk, IsTrue, Vec}
+use Rattle.std.specs.Prelude.{◌≡◌, ◌||◌, ◌==◌, ◌-◌, ℕ, List, length, Bool, not, false, Result, IfOk}
+use Rattle.std.specs.Prelude.{IsTrue, Vec, if◌then◌else◌, slice_index}
 use Rattle.std.specs.List.{list_any}
 use Rattle.std.specs.Str.{bytes_eq}
 use Rattle.std.specs.BTreeSet.{BTreeSet}
@@ -29,9 +30,14 @@ abbrev pub TellsNames : {S Z E : Type 0} → (List ℕ → List (List ℕ)) → 
 TellsNames list result device source = IsTrue (device source.entry.now).honest
     → IfOk result (λ names. HasNames names (list (device source.entry.now).bytes))
 
--- whether a name is not in a list
+-- whether a name is empty, or not in a list
 abbrev pub is_lost : List (List ℕ) → List ℕ → Bool
-is_lost list name = not (list_any (bytes_eq name) list)
+is_lost list name = (length name == 0) || not (list_any (bytes_eq name) list)
+
+-- whether a value ends with a NUL, as a list of names does
+unfoldable pub is_ended : List ℕ → Bool
+is_ended value =
+    if length value == 0 then false else slice_index value (length value - 1) == 0
 
 -- the name at a span of a file
 abbrev pub name_in_span : List ℕ → Span → List ℕ

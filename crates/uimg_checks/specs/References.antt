@@ -1,6 +1,6 @@
 -- Names that a FIT image uses but lacks (Flattened Image Tree format, "'/configurations' node").
 use Rattle.std.specs.Prelude.{◌≡◌, ℕ, List, [], ◌∷◌, map, Option, Some, None, Result, IfOk, IsTrue}
-use Rattle.std.specs.Prelude.{Vec}
+use Rattle.std.specs.Prelude.{Vec, if◌then◌else◌}
 use Rattle.std.specs.BTreeSet.{BTreeSet}
 use Rattle.std.specs.List.{find}
 use Rattle.std.specs.Option.{option_map}
@@ -19,7 +19,7 @@ use Rattle.uimg_checks.specs.declared.references.missing.Missing.{Missing}
 use Rattle.uimg_checks.specs.declared.references.reference.Reference.{Reference}
 use Rattle.uimg_checks.specs.declared.references.reference.Reference.TheVariants.{Default}
 use Rattle.uimg_checks.specs.Given.{given_by, read_given}
-use Rattle.uimg_checks.specs.ReferenceNames.{HasNames, is_lost}
+use Rattle.uimg_checks.specs.ReferenceNames.{HasNames, is_lost, is_ended}
 
 -- A missing name: the configuration that gives it, none for the default, and the property.
 pub record MissingSaid : Type 0 where
@@ -27,10 +27,15 @@ pub record MissingSaid : Type 0 where
   pub reference : Reference
   pub name : List ℕ
 
--- the first text of a value that is not among these names
+-- a text that is lost, or else the whole value if it does not end with a NUL, as a name does
+abbrev pub or_unended : Option (List ℕ) → List ℕ → Option (List ℕ)
+or_unended (Some text) value = Some text
+or_unended None value = if is_ended value then None else Some value
+
+-- the first text of a value that is empty or not among these names, or else a value without its end
 abbrev pub lost_in : List (List ℕ) → Option (List ℕ) → Option (List ℕ)
 lost_in names None = None
-lost_in names (Some value) = find (is_lost names) (pieces value)
+lost_in names (Some value) = or_unended (find (is_lost names) (pieces value)) value
 
 -- the same with the configuration and the property that give it
 abbrev pub missing_under : List (List ℕ) → Option (List ℕ) → Reference → Option (List ℕ)

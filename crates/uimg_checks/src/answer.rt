@@ -7,6 +7,7 @@ use crate::finding::Checked;
 use uimg_base::Status;
 use uimg_fit_base::word_text;
 use uimg_fit_checking::Finding;
+use uimg_strict::Looseness;
 
 /// The format of an image.
 #[derive(Clone, Copy, Debug, PartialEq, Eq)]
@@ -45,6 +46,16 @@ pub enum Answer<'a> {
         property: &'static str,
         /// The name.
         name: &'a [u8],
+    },
+
+    /// A strict check refuses the image, whose checksums or hashes are right.
+    Loose {
+        /// The format of the image.
+        format: Format,
+        /// Why it is refused.
+        why: Looseness,
+        /// The name of the node, none for a legacy image, the root and the blob.
+        node: Option<&'a [u8]>,
     },
 
     /// The image is refused.
@@ -109,6 +120,7 @@ impl<'a> Answer<'a> {
         match self {
             Answer::Found(found, _) => found_word(found),
             Answer::Missing { .. } => "missing",
+            Answer::Loose { why, .. } => why.word(),
             Answer::Refused(_) => "refused",
             Answer::Failed(_) => "failed",
         }

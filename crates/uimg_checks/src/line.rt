@@ -45,6 +45,7 @@ fn put_details<W: Write>(answer: &Answer<'_>, f: &mut Formatter<W>) -> fmt::Resu
             property,
             name,
         } => put_missing(configuration, property, name, f),
+        Answer::Loose { node, .. } => put_named_if(node, f),
         Answer::Refused(stop) | Answer::Failed(stop) => write!(f, " {}", stop.message),
     }
 }
@@ -145,6 +146,16 @@ fn put_named<W: Write>(name: &[u8], f: &mut Formatter<W>) -> fmt::Result
     write!(f, " {}", Printed(name))
 }
 
+// Writes a name after a space, if there is one.
+fn put_named_if<W: Write>(name: Option<&[u8]>, f: &mut Formatter<W>) -> fmt::Result
+    ensures { WritesOnOk W.Write.write_str_gives f.old result (named_if name.entry) f.new }
+{
+    match name {
+        Some(name) => put_named(name, f),
+        None => Ok(()),
+    }
+}
+
 // Writes a missing name, and what gives it.
 fn put_missing<W: Write>(
     configuration: Option<&[u8]>,
@@ -155,9 +166,7 @@ fn put_missing<W: Write>(
     ensures { WritesOnOk W.Write.write_str_gives f.old result
         (named_if configuration.entry ++ codes " " ++ property.now ++ spaced_name name.now) f.new }
 {
-    if let Some(configuration) = configuration {
-        put_named(configuration, f)?;
-    }
+    put_named_if(configuration, f)?;
     write!(f, " {property}")?;
     put_named(name, f)
 }

@@ -46,6 +46,7 @@ fn format_of(answer: &Answer<'_>) -> Option<Format>
     match answer {
         Answer::Found(found, _) => Some(found_format(found)),
         Answer::Missing { .. } => Some(Format::Fit),
+        Answer::Loose { format, .. } => Some(*format),
         Answer::Refused(stop) | Answer::Failed(stop) => stop.format,
     }
 }
@@ -193,6 +194,7 @@ fn put_about(alloc: Global, writer: &mut Writer, answer: &Answer<'_>) -> Result<
             property,
             name,
         } => put_missing(alloc, writer, configuration, property, name),
+        Answer::Loose { node, .. } => put_name_if(alloc, writer, "node", node),
         Answer::Refused(stop) | Answer::Failed(stop) => put_stop(writer, stop),
     }
 }

@@ -8,6 +8,7 @@ use uimg_base::{Source, Span};
 use uimg_checks::{Answer, Checked, Format, Missing, Stop};
 use uimg_engine::Fault;
 use uimg_fit_checking::Finding;
+use uimg_strict::{Loose, Looseness};
 
 /// The longest name of a node, in bytes.
 const NAME_LEN: usize = 255;
@@ -108,6 +109,33 @@ pub(crate) fn answer_of_missing<'a, S: Source>(
         configuration: Some(&names.image[..length]),
         property: reference.name(),
         name: names.missing.as_slice(),
+    }
+}
+
+/// Returns the result for what a strict check refuses of a FIT image.
+pub(crate) fn answer_of_loose<'a>(loose: Loose, names: &'a mut Names) -> Answer<'a> {
+    let Loose { why, node } = loose;
+    let Some(name) = node else {
+        return Answer::Loose {
+            format: Format::Fit,
+            why,
+            node: None,
+        };
+    };
+    names.missing = name;
+    Answer::Loose {
+        format: Format::Fit,
+        why,
+        node: Some(names.missing.as_slice()),
+    }
+}
+
+/// Returns the result for what a strict check refuses of a legacy image.
+pub(crate) fn answer_of_header<'a>(why: Looseness) -> Answer<'a> {
+    Answer::Loose {
+        format: Format::Legacy,
+        why,
+        node: None,
     }
 }
 

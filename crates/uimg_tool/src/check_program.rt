@@ -1,18 +1,19 @@
 //! Checks many images, with a line for each.
 
-use crate::check_answers::{CHANGED, Names, UNREAD, answer_of, answer_of_fault, answer_of_missing};
+use crate::check_answers::{Names, UNREAD, answer_of};
 use crate::json_lines::put_json;
 use crate::main_program::{DONE, FAILED, RequestFault, WRONG_LINE, tell};
+use crate::strict_answers::{answer_of_fit, answer_of_legacy};
 use std::alloc::{AllocError, Global};
 use std::io::{BufRead, BufReader, BufWriter, ErrorKind, Write};
 use std::os::unix::fs::FileTypeExt;
 use std::rt::Files;
 use std::{fs, io};
-use uimg_base::{FileSource, Room, Source};
-use uimg_checks::{Answer, Checked, Missing, check, find_missing, line_text, object_text};
+use uimg_base::{FileSource, Room};
+use uimg_checks::{Answer, Checked, check, line_text, object_text};
 use uimg_cli::{CheckRequest, WordsFault};
 use uimg_engine::Fault;
-use uimg_fit_checking::{ConfigurationFacts, Finding, SurveyFault, survey};
+use uimg_fit_checking::Finding;
 
 /// The path of standard input as a file.
 const STANDARD_INPUT: &str = "/dev/stdin";
@@ -205,19 +206,15 @@ impl<'a, W: Write> Checks<'a, W> {
             return UNREAD;
         };
         let end = check(request.need, &mut source, &mut self.room);
-        let mut unchecked = None;
-        if request.is_strict && matches!(end, Ok(Checked::Fit(Finding::Right { .. }))) {
-            match look_further(rt.alloc(), &mut source, &mut self.room) {
-                Ok((Some(missing), _)) => return answer_of_missing(missing, &mut source, names),
-                Ok((None, nodes)) => unchecked = Some(nodes as u64),
-                Err(SurveyFault::Stopped(fault)) => {
-                    return answer_of_fault(Fault::from(fault), names);
-                }
-                Err(SurveyFault::OutOfMemory) => return answer_of_fault(Fault::OutOfMemory, names),
-                Err(SurveyFault::Changed) => return CHANGED,
+        match end {
+            Ok(Checked::Fit(Finding::Right { .. })) if request.is_strict => {
+                answer_of_fit(rt.alloc(), end, &mut source, &mut self.room, names)
             }
+            Ok(Checked::Right) if request.is_strict => {
+                answer_of_legacy(rt.alloc(), &mut source, &mut self.room, names)
+            }
+            _ => answer_of(end, None, &mut source, names),
         }
-        answer_of(end, unchecked, &mut source, names)
     }
 }
 
@@ -227,26 +224,6 @@ fn stop_of_names<'b>(error: &io::Error, path: &'b str) -> Stop<'b> {
         ErrorKind::OutOfMemory => Stop::NoMemory,
         _ => Stop::NoNames(path),
     }
-}
-
-// Returns the first missing name in a FIT image, and the number of nodes of its configurations.
-fn look_further<S: Source>(
-    alloc: Global,
-    source: &mut S,
-    room: &mut Room<Global>,
-) -> Result<(Option<Missing>, usize), SurveyFault> {
-    let facts = survey(alloc, source, room)?;
-    let missing = find_missing(alloc, source, &facts)?;
-    Ok((missing, count_nodes(facts.configurations.as_slice())))
-}
-
-// Counts the child nodes of configurations.
-fn count_nodes(configurations: &[ConfigurationFacts]) -> usize {
-    let mut count: usize = 0;
-    for configuration in configurations {
-        count = count.saturating_add(configuration.nodes.len());
-    }
-    count
 }
 
 /// Returns whether a path leads to a pipe; to open one would wait for a writer.

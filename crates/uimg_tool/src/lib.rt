@@ -16,6 +16,7 @@ mod old_program;
 mod old_tools;
 mod safe_path;
 mod source_warnings;
+mod strict_answers;
 mod unpack_program;
 mod xip_files;
 

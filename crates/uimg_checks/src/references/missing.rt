@@ -9,9 +9,9 @@ ghost use Rattle.uimg_fit_checking.specs.SurveyParts.{IsOwn, ConfigurationInside
 ghost use Rattle.uimg_fit_reading.specs.PayloadPlaces.{Ends};
 ghost use Rattle.uimg_fit_reading.specs.Values.{pieces};
 ghost use Rattle.uimg_checks.specs.Given.{given_facts, GivenInside};
-ghost use Rattle.uimg_checks.specs.ReferenceNames.{HasNames, is_lost};
+ghost use Rattle.uimg_checks.specs.ReferenceNames.{HasNames, is_lost, is_ended};
 ghost use Rattle.uimg_checks.specs.ReferenceWork.{given_size, values_size, missing_work};
-ghost use Rattle.uimg_checks.specs.References.{Seeks, TellsFirst, under_property, among_properties, of_configuration, of_configurations};
+ghost use Rattle.uimg_checks.specs.References.{Seeks, TellsFirst, or_unended, under_property, among_properties, of_configuration, of_configurations};
 
 use crate::references::names::{configuration_names, image_names};
 use crate::references::reference::Reference;
@@ -20,7 +20,7 @@ use std::collections::BTreeSet;
 use uimg_base::{Source, Span, before_nul};
 use uimg_fit_checking::{ConfigurationFacts, Survey, SurveyFault, read_bytes};
 
-/// A name that no image, or no configuration, has.
+/// A name that no image, or no configuration, has, or a value that is no list of names.
 #[derive(Drop)]
 pub struct Missing {
     /// The span of the name of the configuration that gives it; none for the default, which the
@@ -30,7 +30,7 @@ pub struct Missing {
     /// The property that gives it.
     pub reference: Reference,
 
-    /// The name.
+    /// The name, or the whole value if it does not end with a NUL.
     pub name: Vec<u8>,
 }
 
@@ -45,7 +45,7 @@ fn behind(bytes: &[u8], text: usize) -> &[u8]
     }
 }
 
-// Returns the first text of a value that is not among these names.
+// Returns the first text of a value that is empty or not among these names.
 fn lost_in<'a>(names: &BTreeSet<Vec<u8>>, value: &'a [u8]) -> Option<&'a [u8]>
     ensures { (list : List (List ℕ)) → HasNames names.now list →
         option_map (λ text. text.now) result ≡ find (is_lost list) (pieces value.now) }
@@ -53,6 +53,9 @@ fn lost_in<'a>(names: &BTreeSet<Vec<u8>>, value: &'a [u8]) -> Option<&'a [u8]>
     let mut rest = value;
     while !rest.is_empty() {
         let text = before_nul(rest);
+        if text.is_empty() {
+            return Some(text);
+        }
         if !names.contains(text) {
             return Some(text);
         }
@@ -61,7 +64,29 @@ fn lost_in<'a>(names: &BTreeSet<Vec<u8>>, value: &'a [u8]) -> Option<&'a [u8]>
     None
 }
 
-// Returns the first text of a property's value that is not among these names, if there is one.
+// Returns whether a value ends with a NUL.
+#[tactic(auto, unfolding(crate::specs::ReferenceNames::is_ended))]
+fn is_ended(value: &[u8]) -> bool
+    ensures { result ≡ is_ended value.now }
+{
+    if value.is_empty() {
+        return false;
+    }
+    value[value.len() - 1] == 0
+}
+
+// Returns a text that is lost, or else a value without its NUL.
+fn or_unended<'a>(lost: Option<&'a [u8]>, value: &'a [u8]) -> Option<&'a [u8]>
+    ensures { option_map (λ text. text.now) result
+        ≡ or_unended (option_map (λ text. text.now) lost.entry) value.now }
+{
+    match lost {
+        Some(text) => Some(text),
+        None => { if is_ended(value) { None } else { Some(value) } }
+    }
+}
+
+// Returns what is lost in a property's value, if it has one: a text, or a value without its NUL.
 fn missing_under<S: Source>(
     alloc: Global,
     source: &mut S,
@@ -78,7 +103,8 @@ fn missing_under<S: Source>(
         return Ok(None);
     };
     let bytes = read_bytes(alloc, source, span)?;
-    match lost_in(names, bytes.as_slice()) {
+    let value = bytes.as_slice();
+    match or_unended(lost_in(names, value), value) {
         Some(name) => Ok(Some(Missing {
             configuration,
             reference,
@@ -162,7 +188,8 @@ fn first_missing<S: Source>(
 }
 
 /// Finds the first name that a FIT image uses but lacks: its default, if no configuration has this
-/// name, or else a name that no image has, under `kernel`, `ramdisk`, `fdt`, `loadables`,
+/// name, or else a name that no image has, or that is empty, or a value that does not end with a
+/// NUL, under `kernel`, `ramdisk`, `fdt`, `loadables`,
 /// `firmware`, `fpga`, `setup`, `standalone` or `script` of a configuration, in this order.
 /// Configurations are checked in their order, and each text of a value is a name.
 ///

@@ -2,7 +2,7 @@ use Rattle.std.proofs.Common.{ℕ, List, Bool, ◌||◌, Vec, Global, ap, ◌∙
 use Rattle.std.specs.List.{list_any}
 use Rattle.std.specs.Str.{bytes_eq}
 use Rattle.uimg_checks.specs.ReferenceNames.{has_name}
-use Rattle.uimg_checks.proofs.SetLaws.{any_inserted, same_name}
+use Rattle.uimg_strict.proofs.SetLaws.{any_inserted, same_name}
 use Rattle.uimg_checks.proofs.references.names.add_name.Goals as goal
 
 pub returns-clause-told : goal.returns-clause-told

@@ -1,0 +1,6 @@
+pub mod Words
+pub mod Names
+pub mod Looseness
+pub mod Telling
+pub mod Headers
+pub mod Soundness

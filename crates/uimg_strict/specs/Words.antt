@@ -1,0 +1,30 @@
+-- The words of what strictness refuses.
+use Rattle.std.specs.Prelude.{ℕ, List, codes}
+use Rattle.uimg_strict.specs.declared.loose.Looseness.{Looseness}
+use Rattle.uimg_strict.specs.declared.loose.Looseness.TheVariants.{NoDescription, NoTimestamp}
+use Rattle.uimg_strict.specs.declared.loose.Looseness.TheVariants.{UnitAddress, DoubledNode}
+use Rattle.uimg_strict.specs.declared.loose.Looseness.TheVariants.{DoubledProperty, IgnoredHash}
+use Rattle.uimg_strict.specs.declared.loose.Looseness.TheVariants.{OddCell, TwoPayloads}
+use Rattle.uimg_strict.specs.declared.loose.Looseness.TheVariants.{HalfPlace, UnsoundBlob}
+use Rattle.uimg_strict.specs.declared.loose.Looseness.TheVariants.{Misplaced, EmptyData}
+use Rattle.uimg_strict.specs.declared.loose.Looseness.TheVariants.{UnknownType, UnknownArchitecture}
+use Rattle.uimg_strict.specs.declared.loose.Looseness.TheVariants.{UnknownSystem}
+use Rattle.uimg_strict.specs.declared.loose.Looseness.TheVariants.{UnknownCompression}
+
+abbrev pub word_of : Looseness → List ℕ
+word_of NoDescription = codes "no-description"
+word_of NoTimestamp = codes "no-timestamp"
+word_of UnitAddress = codes "unit-address"
+word_of DoubledNode = codes "doubled-node"
+word_of DoubledProperty = codes "doubled-property"
+word_of IgnoredHash = codes "ignored-hash"
+word_of OddCell = codes "odd-cell"
+word_of TwoPayloads = codes "two-payloads"
+word_of HalfPlace = codes "half-place"
+word_of UnsoundBlob = codes "unsound-blob"
+word_of Misplaced = codes "misplaced"
+word_of EmptyData = codes "empty-data"
+word_of UnknownType = codes "unknown-type"
+word_of UnknownArchitecture = codes "unknown-architecture"
+word_of UnknownSystem = codes "unknown-system"
+word_of UnknownCompression = codes "unknown-compression"

@@ -1,0 +1,18 @@
+//! What a strict check refuses of an image whose checksums or hashes are right: a FIT image that
+//! U-Boot reads in another way than the check, or not at all, and a legacy image whose header or
+//! table of parts means nothing.
+#![tactic(auto)]
+
+mod headers;
+mod images;
+mod loose;
+mod names;
+mod node_names;
+mod nodes;
+mod placement;
+mod soundness;
+mod strictness;
+
+pub use headers::find_loose_header;
+pub use loose::{Loose, Looseness};
+pub use strictness::find_loose;

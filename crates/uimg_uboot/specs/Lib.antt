@@ -1,0 +1,2 @@
+pub mod UBoot
+pub mod Readings
