@@ -37,7 +37,7 @@ unchecked_shown None = refl
 unchecked_shown (Some n) = some_shown n
 
 named_shown : (name : List ℕ) → is_shown (spaced_name name) ≡ true
-named_shown name = joined (codes " ") (printed false name) refl (shown false name)
+named_shown name = joined (codes " ") (printed true name) refl (shown true name)
 
 named_if_shown : (name : Option (Bor (List ℕ))) → is_shown (named_if name) ≡ true
 named_if_shown None = refl

@@ -1,6 +1,6 @@
 -- The line of a checked image: its path, the word of the finding, and the details.
-use Rattle.std.specs.Prelude.{ℕ, ◌==◌, List, [], ◌++◌, codes, false, if◌then◌else◌, Option, Some}
-use Rattle.std.specs.Prelude.{None}
+use Rattle.std.specs.Prelude.{ℕ, ◌==◌, List, [], ◌++◌, codes, true, false, if◌then◌else◌, Option}
+use Rattle.std.specs.Prelude.{Some, None}
 use Rattle.std.specs.Borrow.{Bor}
 use Rattle.uimg_printing.specs.Counting.{counted}
 use Rattle.uimg_printing.specs.Printing.{printed}
@@ -25,9 +25,9 @@ abbrev pub unchecked_text : Option ℕ → List ℕ
 unchecked_text None = []
 unchecked_text (Some n) = some_unchecked n
 
--- a name after a space
+-- a name after a space, as one word
 abbrev pub spaced_name : List ℕ → List ℕ
-spaced_name name = codes " " ++ printed false name
+spaced_name name = codes " " ++ printed true name
 
 abbrev pub named_if : Option (Bor (List ℕ)) → List ℕ
 named_if None = []

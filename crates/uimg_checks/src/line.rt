@@ -12,10 +12,11 @@ use std::alloc::{AllocError, Global};
 use std::fmt;
 use std::fmt::{Display, Formatter, Write};
 use uimg_fit_checking::Finding;
-use uimg_printing::{Counted, Printed};
+use uimg_printing::{Counted, Printed, PrintedWord};
 
 /// The line of the image at a path, without its end. It begins with the path and the word of the
-/// finding. Names and the path are printed as by `Printed`, so none adds a line.
+/// finding. The path is printed as by `Printed`, and a name as by `PrintedWord`, so none adds a line
+/// and no name a word.
 #[derive(Clone, Copy, Debug)]
 pub struct Line<'a> {
     /// The path.
@@ -143,7 +144,7 @@ fn put_unchecked<W: Write>(count: u64, f: &mut Formatter<W>) -> fmt::Result
 fn put_named<W: Write>(name: &[u8], f: &mut Formatter<W>) -> fmt::Result
     ensures { WritesOnOk W.Write.write_str_gives f.old result (spaced_name name.now) f.new }
 {
-    write!(f, " {}", Printed(name))
+    write!(f, " {}", PrintedWord(name))
 }
 
 // Writes a name after a space, if there is one.
