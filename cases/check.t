@@ -136,6 +136,11 @@ A name does not end its line, and hides nothing in it:
   $ uimg check name.itb
   name.itb: bad o\x0ak\x5c\x7f\x1b hash-2
   [1]
+  $ fit 'aaaaaaaaaaaaaaaaaaaaaaa { data = "abcd"; hash-2 { algo = "crc32"; }; };' && cell k.itb $(grep -abo abcd k.itb | cut -d: -f 1) 65
+  $ python3 -c 'image = open("k.itb", "rb").read(); open("spoof.itb", "wb").write(image.replace(b"a" * 23, b"k: ok 1 payload, 1 hash"))'
+  $ uimg check spoof.itb
+  spoof.itb: bad k\x3a\x20ok\x201\x20payload\x2c\x201\x20hash hash-2
+  [1]
   $ uimg check text.itb
   text.itb: bad k\xc3\xa4\\xc2\\x85n hash-2 (esc)
   [1]

@@ -96,11 +96,11 @@ A line has the path of the image and the first finding:
   overlapping  With this image, the payloads to hash are longer than the file
   refused      The image is refused, with this fault
   failed       The file cannot be opened, a read failed, or memory ran out
-In names, control characters and \\ are printed as \\xNN. --files-from - reads
-standard input; a file without a path is refused (--allow-empty). --json prints
-path, status and verdict (the word), and depending on it format, images, hashes,
-unchecked, checksums, algo, image, hash, configuration, property, name, node,
-fault, message and offset.
+In paths and names, control characters and \\ are printed as \\xNN, in names also
+spaces, colons and commas. --files-from - reads standard input; a file without a
+path is refused (--allow-empty). --json prints path, status and verdict (the
+word), and depending on it format, images, hashes, unchecked, checksums, algo,
+image, hash, configuration, property, name, node, fault, message and offset.
 Signatures and the hashes of configurations are not checked.
 
 Examples:
