@@ -169,6 +169,13 @@ Helps
                  gives by kernel, ramdisk, fdt, loadables, firmware, fpga, setup,
                  standalone or script; or the default configuration does not
                  exist
+    no-description no-timestamp unit-address doubled-node doubled-property
+    ignored-hash odd-cell half-place two-payloads misplaced unsound-blob
+                 With --strict: U-Boot refuses the FIT, or reads this node in
+                 another way
+    empty-data unknown-type unknown-architecture unknown-system
+    unknown-compression
+                 With --strict: the header of the legacy image has no meaning
     overlapping  With this image, the payloads to hash are longer than the file
     refused      The image is refused, with this fault
     failed       The file cannot be opened, a read failed, or memory ran out

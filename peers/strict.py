@@ -9,6 +9,7 @@ U-Boot has to take the image, and to find the payloads that `uimg info` lists, i
 at the same offsets and of the same sizes, and to compare the same hash nodes.
 
 It prints a table of the counts, and the first differences. It needs a C compiler and libfdt-dev."""
+import base64
 import collections
 import hashlib
 import json
@@ -192,11 +193,17 @@ def verdicts(uimg, paths):
     return {it["path"]: it["verdict"] for it in told}
 
 
+def name_of(it):
+    """The name of a node, byte by byte."""
+    name = base64.b64decode(it["name_base64"]) if "name_base64" in it else it["name"].encode()
+    return name.decode("latin-1")
+
+
 def uimg_list(uimg, path):
     """The payloads that `uimg info` lists."""
     done = subprocess.run([uimg, "info", path], capture_output=True, check=True)
     images = json.loads(done.stdout)["images"]
-    return [(it["name"], True, it["offset"], it["data-size"], True, [h["name"] for h in it["hashes"]]) for it in images]
+    return [(name_of(it), True, it["offset"], it["data-size"], True, [name_of(h) for h in it["hashes"]]) for it in images]
 
 
 def make(folder, made, mutated):

@@ -1,10 +1,13 @@
 /* uboot_fit.c: lists what U-Boot 2023.01 finds in FIT images, over libfdt and by U-Boot's rules: whether it takes the
    image, and the offset and size of each payload with the hash nodes that are compared. The paths are read from standard
-   input, a line each; each image has a line `image PATH`, then `refused REASON` or the lines of its payloads.
+   input, a line each; each image has a line `image PATH`, then `refused REASON` or the lines of its payloads. libfdt's
+   check reads where nothing is for some blobs (peers/fdt_check.c): that refuses an image too.
 
        cc -std=gnu11 -o out/uboot_fit peers/uboot_fit.c -lfdt */
 #include <libfdt.h>
 
+#include <setjmp.h>
+#include <signal.h>
 #include <stdint.h>
 #include <stdio.h>
 #include <stdlib.h>
@@ -12,6 +15,13 @@
 
 /* The bytes after a file that a short value at its end is read from, as from a board's memory. */
 enum { BEHIND = 16, LONGEST_PATH = 4096 };
+
+static sigjmp_buf crashed;
+
+static void on_crash(int signal)
+{
+    siglongjmp(crashed, signal);
+}
 
 static const char *reason_of(int error, const char *reason)
 {
@@ -126,6 +136,16 @@ static void list(const void *fit)
     }
 }
 
+static void report(const void *fit, size_t size)
+{
+    const char *why = refusal(fit, size);
+
+    if (why)
+        printf("refused %s\n", why);
+    else
+        list(fit);
+}
+
 static void *contents(const char *path, size_t *size)
 {
     FILE *file = fopen(path, "rb");
@@ -149,21 +169,21 @@ int main(void)
 {
     char path[LONGEST_PATH];
 
+    signal(SIGSEGV, on_crash);
+    signal(SIGBUS, on_crash);
     while (fgets(path, sizeof path, stdin)) {
         size_t size;
         void *fit;
-        const char *why;
 
         path[strcspn(path, "\n")] = '\0';
         fit = contents(path, &size);
         if (!fit)
             return 1;
-        why = refusal(fit, size);
         printf("image %s\n", path);
-        if (why)
-            printf("refused %s\n", why);
+        if (sigsetjmp(crashed, 1) == 0)
+            report(fit, size);
         else
-            list(fit);
+            printf("refused crash\n");
         free(fit);
     }
     return 0;

@@ -1,2 +1,7 @@
-//! How U-Boot reads a FIT image, and that it reads one so that a strict check takes.
+//! How U-Boot reads a FIT image (`specs/UBoot.antt`), and a strict check: what it finds right,
+//! U-Boot reads as it was checked.
 #![tactic(auto)]
+
+mod strict_check;
+
+pub use strict_check::{Strict, check_strictly};
