@@ -263,7 +263,7 @@ kernel, ramdisk, fdt, loadables, firmware, fpga, setup, standalone and script:
   k.itb: missing c ramdisk kernel2
   $ missing 'c { fdt = "board", "over, lay"; loadables = "gone"; };' | head -n 2
   k.itb: ok 2 payloads, 2 hashes
-  k.itb: missing c fdt over, lay
+  k.itb: missing c fdt over\x2c\x20lay
   $ missing 'c { loadables = "kernel", "", "board"; };'
   k.itb: ok 2 payloads, 2 hashes
   k.itb: missing c loadables 
