@@ -143,7 +143,7 @@ Helps
   
   Options:
         --need <algo>        Require a hash by this algorithm or a stronger one
-        --strict             Require a hash of each image, and an image for each name in configurations
+        --strict             Require hashes, images for all names, and a tree that U-Boot reads alike
         --files-from <file>  Also check the images whose paths are in this file, one a line
     -0                       Paths in that file end with NUL, not with a newline
         --json               Print a JSON object for each image

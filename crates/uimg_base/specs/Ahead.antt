@@ -15,4 +15,5 @@ pub record AreAhead (w : Windows) (s : Option Stream) : Type 0 where
 
 -- The piece has the file's bytes at its offset, if they are known.
 abbrev pub IsPieceAhead : Piece → Option Stream → Type 0
-IsPieceAhead p s = IfSome s (λ stream. p.bytes.items ≡ slice stream.bytes p.at (length p.bytes.items))
+IsPieceAhead p s =
+    IfSome s (λ stream. p.bytes.items ≡ slice stream.bytes p.at (length p.bytes.items))

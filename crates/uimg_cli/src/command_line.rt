@@ -196,6 +196,14 @@ fn flag<'a>(alloc: Global, id: &'a str, short: char, help: &'a str) -> Arg<'a> {
     option(alloc, id, short, help).action(ArgAction::SetTrue)
 }
 
+// Returns an option without a value and without a letter.
+fn switch<'a>(alloc: Global, id: &'a str, help: &'a str) -> Arg<'a> {
+    Arg::new(alloc, id)
+        .long(id)
+        .action(ArgAction::SetTrue)
+        .help(help)
+}
+
 // Returns the operand for the image.
 fn image<'a>(alloc: Global, help: &'a str) -> Arg<'a> {
     Arg::new(alloc, "image").required(true).help(help)

@@ -86,7 +86,8 @@ fn list_properties<S: Source, A: Allocator>(
 ) -> Result<Vec<PropertyPlace>, SurveyFault>
     requires { HasNode (S.device source.old) blob.now room.old node }
     ensures leaves { LeavesSurvey result S.device source room }
-    ensures inside { IfOk result (λ places. All (NameEnds (length (S.device source.old).bytes)) places.items) }
+    ensures inside { IfOk result (λ places.
+        All (NameEnds (length (S.device source.old).bytes)) places.items) }
     ensures told { OfAnyNode (S.device source.old) blob.now room.old node (λ level found.
         ReadsAs (λ places. map (place_name (S.device source.old).bytes) places.items)
         (map (λ p. p.name) found.own) result) }

@@ -14,7 +14,7 @@ const HEADER_LEN: usize = 40;
 /// The length of an entry of the reservation block: an address and a size.
 const ENTRY_LEN: usize = 16;
 
-/// The size from which libfdt takes no blob.
+/// The size from which no blob is taken. libfdt takes this one, and none beyond it.
 const SIZE_LIMIT: u32 = 0x7fff_ffff;
 
 // Returns whether the offsets and the size in a header are such as libfdt takes.

@@ -122,7 +122,8 @@ fn loose_file<S: Source, A: Allocator>(
 /// the blob, else of the root, else of a node by the names in it, in reading order, else of an
 /// image by where its payload is.
 ///
-/// Indexes the blob again and reads names, no value. It takes memory for the names in one node.
+/// Indexes the blob again. Reads the header, the reservation block, names, and the cells of payloads
+/// after the tree. It takes memory for the names in one node.
 /// Returns the faults of the blob, then `NoImages`; `OutOfMemory` if memory for names was refused,
 /// and `Changed` only if the source does not have the blob that was indexed.
 pub fn find_loose<S: Source, A: Allocator>(

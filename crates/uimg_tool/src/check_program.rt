@@ -20,9 +20,9 @@ const STANDARD_INPUT: &str = "/dev/stdin";
 
 /// Checks the requested images, those of the command line first, with a line for each on `out`,
 /// even after one that is not right. Returns the greatest status, or that of a wrong command line if
-/// there is no image. A file of names that cannot be
-/// read, a line that cannot be written and refused memory end it with a line on `err`; a closed
-/// `out` ends it without one, as failed, because not all images were checked.
+/// there is no image, unless none is allowed. A file of names that cannot be read, a line that cannot
+/// be written and refused memory end it with a line on `err`; a closed `out` ends it without one, as
+/// failed, because not all images were checked.
 pub(crate) fn check_images<R: Files + AllocGlobal, W: Write, V: Write>(
     rt: &R,
     request: &CheckRequest<'_>,

@@ -24,7 +24,7 @@ pub(crate) fn unpack_image<R: Files + AllocGlobal, W: Write, V: Write>(
         return tell(err, &RequestFault::OutOfMemory, FAILED);
     };
     let cleaned = if request.cleans {
-        folder_of(request, None).clean(rt, &mut gathered)
+        folder_of(request, None).clean(rt, request.image, &mut gathered)
     } else {
         Ok(())
     };

@@ -90,14 +90,18 @@ impl<'a> Folder<'a> {
     }
 
     /// Removes the files and folders without a name in it, which commands that were stopped have
-    /// left, with a line for each on `out`.
+    /// left, with a line for each on `out`. Stops before one that is the image at a path, or has it.
     pub fn clean<R: Files + AllocGlobal, W: Write>(
         &self,
         rt: &R,
+        image: Option<&str>,
         out: &mut W,
     ) -> Result<(), Trouble> {
         for number in 1..=TRIED {
             let path = self.unnamed(rt, number)?;
+            if is_or_has(rt, path.as_str(), image) {
+                return Err(Trouble::IsImage(path));
+            }
             let removed = match fs::symlink_metadata(rt, path.as_str()) {
                 Ok(found) if found.is_dir() => fs::remove_dir_all(rt, path.as_str()),
                 Ok(_) => fs::remove_file(rt, path.as_str()),
@@ -110,6 +114,20 @@ impl<'a> Folder<'a> {
         }
         out.flush()?;
         Ok(())
+    }
+}
+
+// Returns whether the file of an image is at a path, or in a folder there.
+fn is_or_has<R: Files + AllocGlobal>(rt: &R, path: &str, image: Option<&str>) -> bool {
+    let Some(image) = image else {
+        return false;
+    };
+    let (Ok(path), Ok(image)) = (fs::canonicalize(rt, path), fs::canonicalize(rt, image)) else {
+        return false;
+    };
+    match image.as_str().strip_prefix(path.as_str()) {
+        Some(rest) => rest.is_empty() || rest.starts_with('/'),
+        None => false,
     }
 }
 

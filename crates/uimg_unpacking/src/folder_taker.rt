@@ -28,6 +28,8 @@ pub(crate) struct FolderTaker<'a, R: Files + AllocGlobal, W: Write + Drop> {
     // The lines to print once the files have their names, or if none gets one.
     lines: String,
     has_refused: bool,
+    // The names of refused payloads, whose old files are removed if good payloads are kept.
+    outdated: Vec<String>,
     // The names of the files that were checked, then of those that were begun: the same ones.
     looked: Names,
     taken: Names,
@@ -46,6 +48,7 @@ impl<'a, R: Files + AllocGlobal, W: Write + Drop> FolderTaker<'a, R, W> {
             staging: Staging::new(rt, asked.folder),
             lines: String::new(rt.alloc()),
             has_refused: false,
+            outdated: Vec::new(rt.alloc()),
             looked: Names::new(rt.alloc()),
             taken: Names::new(rt.alloc()),
             claimed: Claimed::new(asked.limits),
@@ -68,6 +71,7 @@ impl<'a, R: Files + AllocGlobal, W: Write + Drop> FolderTaker<'a, R, W> {
             staging,
             lines: _lines,
             has_refused: _has_refused,
+            outdated: _outdated,
             looked: _looked,
             taken,
             claimed: _claimed,
@@ -82,6 +86,9 @@ impl<'a, R: Files + AllocGlobal, W: Write + Drop> FolderTaker<'a, R, W> {
         let names = self.keeps_good || is_whole && !self.has_refused;
         if names {
             self.staging.name_all()?;
+            for name in &self.outdated {
+                self.remove_old(name.as_str())?;
+            }
         }
         if names || self.has_refused {
             self.out.write_all(self.lines.as_bytes())?;
@@ -134,11 +141,11 @@ impl<'a, R: Files + AllocGlobal, W: Write + Drop> FolderTaker<'a, R, W> {
         Ok(())
     }
 
-    // Removes a refused payload, and if good ones are kept, the file that it was to replace.
+    // Removes a refused payload.
     fn throw_away(&mut self, name: &NodeName, refusal: Refusal) -> Result<(), Trouble> {
         let file = self.staging.drop_last()?;
         if self.keeps_good {
-            self.remove_old(file.as_str())?;
+            self.outdated.push(file)?;
         } else if !self.has_refused {
             self.lines.clear();
         }

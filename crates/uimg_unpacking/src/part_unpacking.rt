@@ -3,7 +3,7 @@
 use crate::part_folder::PartFolder;
 use crate::trouble::Trouble;
 use crate::unpacking::Unpacking;
-use std::alloc::{AllocError, Global};
+use std::alloc::Global;
 use std::io::Write;
 use std::rt::Files;
 use uimg_base::{Algo, Room, Source, Span};
@@ -51,7 +51,8 @@ pub fn unpack_parts<R: Files + AllocGlobal, S: Source, W: Write + Drop>(
         match bytes_of(rt.alloc(), only, source, &mut room) {
             Ok(bytes) if bytes > most => return PartsEnded::Troubled(Trouble::TooManyBytes(most)),
             Ok(_) => {}
-            Err(_) => return PartsEnded::Troubled(Trouble::OutOfMemory),
+            Err(PartsFault::OutOfMemory) => return PartsEnded::Troubled(Trouble::OutOfMemory),
+            Err(PartsFault::Stopped(fault)) => return PartsEnded::Stopped(fault),
         }
     }
     let mut taker = PartFolder::new(rt, asked, out);
@@ -65,22 +66,19 @@ pub fn unpack_parts<R: Files + AllocGlobal, S: Source, W: Write + Drop>(
     }
 }
 
-// Returns how many bytes the requested parts have together; 0 for an image that is refused, which
-// unpacking it reports. Fails if memory is refused.
+// Returns how many bytes the requested parts have together.
 fn bytes_of<S: Source>(
     alloc: Global,
     only: Option<u32>,
     source: &mut S,
     room: &mut Room<Global>,
-) -> Result<u64, AllocError> {
-    let Ok(header) = read_header(source) else {
-        return Ok(0);
+) -> Result<u64, PartsFault> {
+    let header = match read_header(source) {
+        Ok(header) => header,
+        Err(fault) => return Err(PartsFault::Stopped(fault)),
     };
-    match locate_parts(alloc, source, room, &header) {
-        Ok(parts) => Ok(sum_of(parts.as_slice(), only)),
-        Err(PartsFault::OutOfMemory) => Err(AllocError),
-        Err(PartsFault::Stopped(_)) => Ok(0),
-    }
+    let parts = locate_parts(alloc, source, room, &header)?;
+    Ok(sum_of(parts.as_slice(), only))
 }
 
 // Returns the sum of the lengths of all parts, or the length of the one of a number.

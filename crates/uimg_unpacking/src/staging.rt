@@ -21,6 +21,14 @@ pub(crate) struct Staging<'a, R: Files + AllocGlobal> {
     is_writing: bool,
 }
 
+// The paths of a file: while it is written, of what it replaces then, and with its name.
+#[derive(Drop)]
+struct Paths {
+    new: String,
+    old: String,
+    whole: String,
+}
+
 impl<'a, R: Files + AllocGlobal> Staging<'a, R> {
     /// Returns that nothing was written for a folder.
     pub(crate) fn new(rt: &'a R, folder: Folder<'a>) -> Staging<'a, R> {
@@ -43,12 +51,13 @@ impl<'a, R: Files + AllocGlobal> Staging<'a, R> {
             }
         }
         let path = self.path_of("new", self.names.len())?;
+        let file = match fs::File::create_new(self.rt, path.as_str()) {
+            Ok(file) => BufWriter::new(self.rt.alloc(), file)?,
+            Err(reason) => return Err(Trouble::CannotCreate(whole, reason)),
+        };
         self.names.push(name)?;
         self.is_writing = true;
-        match fs::File::create_new(self.rt, path.as_str()) {
-            Ok(file) => Ok(NewFile::new(BufWriter::new(self.rt.alloc(), file)?)),
-            Err(reason) => Err(Trouble::CannotCreate(whole, reason)),
-        }
+        Ok(NewFile::new(file))
     }
 
     /// Completes the file that was begun last. Returns its length in bytes.
@@ -101,14 +110,15 @@ impl<'a, R: Files + AllocGlobal> Staging<'a, R> {
         if self.is_writing {
             self.drop_last()?;
         }
-        for number in 0..self.names.len() {
-            if let Err(trouble) = self.name(number) {
-                self.take_back(number);
+        let paths = self.all_paths()?;
+        for (number, its) in paths.iter().enumerate() {
+            if let Err(trouble) = self.name(its) {
+                self.take_back(&paths, number);
                 return Err(trouble);
             }
         }
-        for number in 0..self.names.len() {
-            self.remove("old", number);
+        for its in &paths {
+            let _ = fs::remove_file(self.rt, its.old.as_str());
         }
         if self.folder.is_synced
             && let Ok(folder) = fs::open(self.rt, self.folder.path)
@@ -120,23 +130,38 @@ impl<'a, R: Files + AllocGlobal> Staging<'a, R> {
 
     /// Removes the files that have no name, and their folder.
     pub(crate) fn end(self) {
-        for number in 0..self.names.len() {
-            self.remove("new", number);
+        for number in 0..=self.names.len() {
+            if let Ok(path) = self.path_of("new", number) {
+                let _ = fs::remove_file(self.rt, path.as_str());
+            }
         }
         if let Some(made) = &self.made {
             let _ = fs::remove_dir(self.rt, made.as_str());
         }
     }
 
+    // Returns the paths of all files, so that taking names back needs no memory.
+    fn all_paths(&self) -> Result<Vec<Paths>, Trouble> {
+        let mut paths = Vec::new(self.rt.alloc());
+        for number in 0..self.names.len() {
+            paths.push(Paths {
+                new: self.path_of("new", number)?,
+                old: self.path_of("old", number)?,
+                whole: self.whole(number)?,
+            })?;
+        }
+        Ok(paths)
+    }
+
     // Gives a file its name. What it replaces is kept under another.
-    fn name(&self, number: usize) -> Result<(), Trouble> {
-        let (new, old) = (self.path_of("new", number)?, self.path_of("old", number)?);
-        let whole = self.folder.allows(self.rt, self.whole(number)?)?;
+    fn name(&self, paths: &Paths) -> Result<(), Trouble> {
+        let whole = String::from_str(self.rt.alloc(), paths.whole.as_str())?;
+        let whole = self.folder.allows(self.rt, whole)?;
         let replaces = self.folder.is_forced && is_there(self.rt, whole.as_str());
-        if replaces && let Err(reason) = keep_as(self.rt, whole.as_str(), old.as_str()) {
+        if replaces && let Err(reason) = keep_as(self.rt, whole.as_str(), paths.old.as_str()) {
             return Err(Trouble::CannotCreate(whole, reason));
         }
-        match give_name(self.rt, new.as_str(), whole.as_str(), replaces) {
+        match give_name(self.rt, paths.new.as_str(), whole.as_str(), replaces) {
             Ok(()) => Ok(()),
             Err(reason) => Err(Trouble::CannotCreate(whole, reason)),
         }
@@ -144,11 +169,15 @@ impl<'a, R: Files + AllocGlobal> Staging<'a, R> {
 
     // Takes the names of the files before a number away, and puts back what they, and the file of
     // this number, were to replace.
-    fn take_back(&self, number: usize) {
-        for before in 0..=number {
-            if let (Ok(whole), Ok(old)) = (self.whole(before), self.path_of("old", before)) {
-                let has_name = before < number;
-                put_back(self.rt, whole.as_str(), old.as_str(), has_name);
+    fn take_back(&self, paths: &[Paths], number: usize) {
+        for (before, its) in paths.iter().enumerate() {
+            if before <= number {
+                put_back(
+                    self.rt,
+                    its.whole.as_str(),
+                    its.old.as_str(),
+                    before < number,
+                );
             }
         }
     }
@@ -166,13 +195,6 @@ impl<'a, R: Files + AllocGlobal> Staging<'a, R> {
         match &self.made {
             Some(made) => Ok(format!(in self.rt.alloc(); "{made}/{kind}-{number}")?),
             None => Err(Trouble::NoName),
-        }
-    }
-
-    // Removes a file of the temporary folder, if it exists.
-    fn remove(&self, kind: &str, number: usize) {
-        if let Ok(path) = self.path_of(kind, number) {
-            let _ = fs::remove_file(self.rt, path.as_str());
         }
     }
 }

@@ -1,7 +1,7 @@
 //! The words of `check`.
 
 use super::help_notes::CHECK_NOTES;
-use super::{WordsFault, flag};
+use super::{WordsFault, flag, switch};
 use clap::{Arg, ArgAction, ArgMatches};
 use std::alloc::{AllocError, Global};
 use uimg_base::Algo;
@@ -45,12 +45,7 @@ pub(super) fn command<'a>(alloc: Global) -> Result<clap::Command<'a>, AllocError
                 .value_name("algo")
                 .help("Require a hash by this algorithm or a stronger one"),
         )?
-        .arg(
-            Arg::new(alloc, "strict")
-                .long("strict")
-                .action(ArgAction::SetTrue)
-                .help("Require a hash of each image, and an image for each name in configurations"),
-        )?
+        .arg(switch(alloc, "strict", STRICT))?
         .arg(
             Arg::new(alloc, "files-from")
                 .long("files-from")
@@ -64,24 +59,9 @@ pub(super) fn command<'a>(alloc: Global) -> Result<clap::Command<'a>, AllocError
             '0',
             "Paths in that file end with NUL, not with a newline",
         ))?
-        .arg(
-            Arg::new(alloc, "json")
-                .long("json")
-                .action(ArgAction::SetTrue)
-                .help("Print a JSON object for each image"),
-        )?
-        .arg(
-            Arg::new(alloc, "quiet")
-                .long("quiet")
-                .action(ArgAction::SetTrue)
-                .help("Print no line for images that are ok"),
-        )?
-        .arg(
-            Arg::new(alloc, "allow-empty")
-                .long("allow-empty")
-                .action(ArgAction::SetTrue)
-                .help("Accept a file of paths that has none"),
-        )?
+        .arg(switch(alloc, "json", JSON))?
+        .arg(switch(alloc, "quiet", QUIET))?
+        .arg(switch(alloc, "allow-empty", ALLOW_EMPTY))?
         .arg(
             Arg::new(alloc, "image")
                 .action(ArgAction::Append)
@@ -89,6 +69,15 @@ pub(super) fn command<'a>(alloc: Global) -> Result<clap::Command<'a>, AllocError
                 .help("The images"),
         )
 }
+
+// The helps of options.
+const STRICT: &str = "Require hashes, images for all names, and a tree that U-Boot reads alike";
+
+const JSON: &str = "Print a JSON object for each image";
+
+const QUIET: &str = "Print no line for images that are ok";
+
+const ALLOW_EMPTY: &str = "Accept a file of paths that has none";
 
 pub(super) fn request<'a>(
     alloc: Global,

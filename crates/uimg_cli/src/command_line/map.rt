@@ -1,7 +1,7 @@
 //! The words of `map`.
 
 use super::help_notes::MAP_NOTES;
-use super::image;
+use super::{image, switch};
 use clap::{Arg, ArgAction, ArgMatches};
 use std::alloc::{AllocError, Global};
 
@@ -29,12 +29,7 @@ pub(super) fn command<'a>(alloc: Global) -> Result<clap::Command<'a>, AllocError
                 .value_name("file")
                 .help("Write a picture to this file instead of printing lines"),
         )?
-        .arg(
-            Arg::new(alloc, "force")
-                .long("force")
-                .action(ArgAction::SetTrue)
-                .help("Replace a file that exists by the picture"),
-        )?
+        .arg(switch(alloc, "force", "Replace a file that exists by the picture"))?
         .arg(image(alloc, "The image"))
 }
 

@@ -1,7 +1,7 @@
 //! The words of `unpack`.
 
 use super::help_notes::UNPACK_NOTES;
-use super::{WordsFault, value};
+use super::{WordsFault, switch, value};
 use clap::{Arg, ArgAction, ArgMatches};
 use std::alloc::{AllocError, Global};
 use uimg_base::Algo;
@@ -48,56 +48,45 @@ pub(super) fn command<'a>(alloc: Global) -> Result<clap::Command<'a>, AllocError
         .about("Write the payloads of an image to a folder, if their hashes are right")
         .after_help(UNPACK_NOTES)
         .arg(value(alloc, "folder", 'C', "Write the files to this folder"))?
-        .arg(
-            Arg::new(alloc, "only")
-                .long("only")
-                .action(ArgAction::Set)
-                .value_name("name")
-                .help("Unpack only the payload of the image of this name, or one part: image-0"),
-        )?
-        .arg(
-            Arg::new(alloc, "need")
-                .long("need")
-                .alias("need-hash")?
-                .action(ArgAction::Set)
-                .value_name("algo")
-                .help("Require a hash by this algorithm or a stronger one"),
-        )?
-        .arg(flag(alloc, "force", "Replace files that exist"))?
-        .arg(flag(
-            alloc,
-            "keep-good",
-            "Keep the good payloads if another one is refused",
-        ))?
-        .arg(flag(
-            alloc,
-            "no-sync",
-            "Do not wait until the files are on the disk",
-        ))?
-        .arg(number(
-            alloc,
-            "max-files",
-            "Unpack nothing if there are more files (4096)",
-        ))?
-        .arg(number(
-            alloc,
-            "max-bytes",
-            "Unpack nothing if the files have more bytes together",
-        ))?
-        .arg(flag(
-            alloc,
-            "clean",
-            "Remove the temporary files that stopped commands left in the folder",
-        ))?
+        .arg(only(alloc))?
+        .arg(need(alloc)?)?
+        .arg(switch(alloc, "force", "Replace files that exist"))?
+        .arg(switch(alloc, "keep-good", KEEP_GOOD))?
+        .arg(switch(alloc, "no-sync", NO_SYNC))?
+        .arg(number(alloc, "max-files", MAX_FILES))?
+        .arg(number(alloc, "max-bytes", MAX_BYTES))?
+        .arg(switch(alloc, "clean", CLEAN))?
         .arg(Arg::new(alloc, "image").help("The image"))
 }
 
-// Returns an option without a value.
-fn flag<'a>(alloc: Global, id: &'a str, help: &'a str) -> Arg<'a> {
-    Arg::new(alloc, id)
-        .long(id)
-        .action(ArgAction::SetTrue)
-        .help(help)
+// The helps of options.
+const KEEP_GOOD: &str = "Keep the good payloads if another one is refused";
+
+const NO_SYNC: &str = "Do not wait until the files are on the disk";
+
+const MAX_FILES: &str = "Unpack nothing if there are more files (4096)";
+
+const MAX_BYTES: &str = "Unpack nothing if the files have more bytes together";
+
+const CLEAN: &str = "Remove the temporary files that stopped commands left in the folder";
+
+// Returns the option for one payload or part.
+fn only<'a>(alloc: Global) -> Arg<'a> {
+    Arg::new(alloc, "only")
+        .long("only")
+        .action(ArgAction::Set)
+        .value_name("name")
+        .help("Unpack only the payload of the image of this name, or one part: image-0")
+}
+
+// Returns the option for a needed strength, by both its names.
+fn need<'a>(alloc: Global) -> Result<Arg<'a>, AllocError> {
+    let need = Arg::new(alloc, "need").long("need").alias("need-hash")?;
+    Ok(
+        need.action(ArgAction::Set)
+            .value_name("algo")
+            .help("Require a hash by this algorithm or a stronger one"),
+    )
 }
 
 // Returns an option whose value is a number.
