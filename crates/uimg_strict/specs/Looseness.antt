@@ -1,6 +1,7 @@
 -- What strictness refuses in the tree of a FIT image (Flattened Image Tree format, "Root node",
 -- "'/images' node", "External data"; U-Boot's doc/uImage.FIT).
-use Rattle.std.specs.Prelude.{length, ℕ, ◌+◌, nat_lt, Err, List, [], ◌∷◌, ◌++◌, map, not, ◌==◌, ◌||◌, ◌&&◌, Bool}
+use Rattle.std.specs.Prelude.{length, ℕ, ◌+◌, nat_lt, Err, List, [], ◌∷◌, ◌++◌}
+use Rattle.std.specs.Prelude.{map, not, ◌==◌, ◌||◌, ◌&&◌, Bool}
 use Rattle.std.specs.Prelude.{true, false, if◌then◌else◌, Option, Some, None, Result, Ok, codes}
 use Rattle.std.specs.Option.{option_map, is_some}
 use Rattle.uimg_base.specs.Results.{◌>>=◌}
