@@ -1,6 +1,7 @@
 -- What contracts know of a file with a position.
 use Rattle.std.specs.Prelude.{◌≡◌, ℕ, IfSome, ◌+◌, ◌-◌, ◌^◌, ◌<◌, ◌≤◌, List, take, length, Option}
-use Rattle.std.{specs.{Prelude.{Some, None, Result, Ok, Err}, Option.option_map}, proofs.Common.{subst, sym}}
+use Rattle.std.specs.{Prelude.{Some, None, Result, Ok, Err}, Option.option_map}
+use Rattle.std.proofs.Common.{subst, sym}
 use Rattle.uimg_texts.specs.Slices.{slice}
 use Rattle.uimg_base.specs.Zeros.{zeros, zeros_short}
 
