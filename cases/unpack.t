@@ -414,6 +414,18 @@ Existing files with the temporary names are left alone, and a hundred of them st
   image-0: 3 bytes, data crc32 352441c2
   old
 
+It never removes the image:
+
+  $ rm -r out && mkdir -p out/.uimg-new3 && cp abc-kernel.img out/.uimg-new2 && cp abc-kernel.img out/.uimg-new3/image && touch out/.uimg-new1
+  $ uimg unpack --clean -C out out/.uimg-new2
+  .uimg-new1: removed
+  uimg: out/.uimg-new2 would be removed while it is read
+  [2]
+  $ mv out/.uimg-new2 out/image && uimg unpack --clean -C out out/.uimg-new3/image
+  uimg: out/.uimg-new3 would be removed while it is read
+  [2]
+  $ cmp abc-kernel.img out/image && cmp abc-kernel.img out/.uimg-new3/image
+
 At most 4096 files, or as many as are allowed, and as many bytes as are allowed; of an image with more nothing is unpacked:
 
   $ fit 'a { data = [61 62 63]; }; b { data = [64 65]; }; c { data = []; };' && rm -r out && mkdir out
@@ -434,6 +446,9 @@ At most 4096 files, or as many as are allowed, and as many bytes as are allowed;
   [1]
   $ uimg unpack --max-bytes 11 -C out three-part-multi.img
   uimg: more than 11 bytes; --max-bytes allows more
+  [1]
+  $ uimg unpack --max-bytes 1 -C out part-outside.img
+  uimg: L7 part outside
   [1]
   $ uimg unpack --max-bytes 2 -C out abc-kernel.img
   uimg: more than 2 bytes; --max-bytes allows more

@@ -123,7 +123,7 @@ fn tell_stopped<V: Write>(fault: Fault, err: &mut V) -> u8 {
 fn tell_trouble<V: Write>(trouble: Trouble, err: &mut V) -> u8 {
     match trouble {
         Trouble::Closed => FAILED,
-        Trouble::IsImage(_) => tell(err, &trouble, WRONG_LINE),
+        Trouble::IsImage(_) | Trouble::RemovesImage(_) => tell(err, &trouble, WRONG_LINE),
         Trouble::NoName | Trouble::TooManyFiles(_) | Trouble::TooManyBytes(_) => {
             tell(err, &trouble, REFUSED)
         }

@@ -100,7 +100,7 @@ impl<'a> Folder<'a> {
         for number in 1..=TRIED {
             let path = self.unnamed(rt, number)?;
             if is_or_has(rt, path.as_str(), image) {
-                return Err(Trouble::IsImage(path));
+                return Err(Trouble::RemovesImage(path));
             }
             let removed = match fs::symlink_metadata(rt, path.as_str()) {
                 Ok(found) if found.is_dir() => fs::remove_dir_all(rt, path.as_str()),

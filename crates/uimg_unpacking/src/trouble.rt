@@ -20,6 +20,10 @@ pub enum Trouble {
     #[error("{0} would be written while it is read")]
     IsImage(String),
 
+    /// A file or folder to remove is the image, or has it.
+    #[error("{0} would be removed while it is read")]
+    RemovesImage(String),
+
     /// The image has more files than this.
     #[error("more than {0} files; --max-files allows more")]
     TooManyFiles(u64),
