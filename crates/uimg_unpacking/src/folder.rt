@@ -111,8 +111,8 @@ impl<'a> Folder<'a> {
                 return Err(Trouble::CannotRemove(path));
             }
             writeln!(out, ".uimg-new{number}: removed")?;
+            out.flush()?;
         }
-        out.flush()?;
         Ok(())
     }
 }
