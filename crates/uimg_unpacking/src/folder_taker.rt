@@ -87,7 +87,7 @@ impl<'a, R: Files + AllocGlobal, W: Write + Drop> FolderTaker<'a, R, W> {
         if names {
             self.staging.name_all()?;
             for name in &self.outdated {
-                self.remove_old(name.as_str())?;
+                remove_old(self.rt, &self.folder, name.as_str())?;
             }
         }
         if names || self.has_refused {
@@ -155,16 +155,6 @@ impl<'a, R: Files + AllocGlobal, W: Write + Drop> FolderTaker<'a, R, W> {
         Ok(())
     }
 
-    // Removes a file that was to be replaced.
-    fn remove_old(&self, name: &str) -> Result<(), Trouble> {
-        let whole = self.folder.path_of(self.rt, name)?;
-        let is_old = self.folder.is_forced && is_there(self.rt, whole.as_str());
-        if is_old && fs::remove_file(self.rt, whole.as_str()).is_err() {
-            return Err(Trouble::CannotRemove(whole));
-        }
-        Ok(())
-    }
-
     // Keeps a trouble, and returns it as a fault.
     fn kept<X>(&mut self, done: Result<X, Trouble>) -> Result<X, PutFault> {
         match done {
@@ -175,6 +165,20 @@ impl<'a, R: Files + AllocGlobal, W: Write + Drop> FolderTaker<'a, R, W> {
             }
         }
     }
+}
+
+// Removes a file that was to be replaced.
+fn remove_old<R: Files + AllocGlobal>(
+    rt: &R,
+    folder: &Folder<'_>,
+    name: &str,
+) -> Result<(), Trouble> {
+    let whole = folder.path_of(rt, name)?;
+    let is_old = folder.is_forced && is_there(rt, whole.as_str());
+    if is_old && fs::remove_file(rt, whole.as_str()).is_err() {
+        return Err(Trouble::CannotRemove(whole));
+    }
+    Ok(())
 }
 
 impl<'a, R: Files + AllocGlobal, W: Write + Drop> Taker for FolderTaker<'a, R, W> {
