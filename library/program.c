@@ -1,8 +1,12 @@
-/* program.c: the C calls of a statically linked uimg: its arguments, its environment, errno, and
-   memory over malloc. The kit declares them in rattle/os/src/c.rt and rattle/libc/src/heap.rt. */
+/* program.c: the C calls of a statically linked uimg: its arguments, its environment, errno,
+   directories, and memory over malloc. The kit declares them in rattle/os/src/c.rt and
+   rattle/libc/src/heap.rt. */
+#define _POSIX_C_SOURCE 200809L
+
 #include "malloc.c"
 
 #include <errno.h>
+#include <fcntl.h>
 #include <string.h>
 
 extern char **environ;
@@ -64,4 +68,11 @@ int32_t rattle_errno(void)
 void rattle_set_errno(int32_t error)
 {
     errno = error;
+}
+
+/* Opens the directory that a name reaches from another directory, to read it. The name ends with a
+   NUL. Returns a descriptor, or -1, also for a symbolic link and for what is no directory. */
+int32_t rattle_open_dir_at(int32_t directory, const uint8_t *name)
+{
+    return openat(directory, (const char *)name, O_RDONLY | O_DIRECTORY | O_NOFOLLOW | O_CLOEXEC);
 }

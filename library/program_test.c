@@ -2,7 +2,10 @@
    program_test [exec | memory]: with exec it runs itself with an empty list of arguments, to which
    Linux since 5.18 adds an empty one; with memory, under a limit of the address space, allocations
    beyond it have to be refused. */
+#define _POSIX_C_SOURCE 200809L
+
 #include <errno.h>
+#include <fcntl.h>
 #include <stddef.h>
 #include <stdint.h>
 #include <stdio.h>
@@ -23,6 +26,7 @@ void rattle_set_errno(int32_t error);
 struct memory rattle_alloc(size_t size, size_t alignment);
 struct memory rattle_realloc(void *start, size_t kept, size_t size, size_t alignment);
 void rattle_dealloc(void *start);
+int32_t rattle_open_dir_at(int32_t directory, const uint8_t *name);
 
 extern char **environ;
 
@@ -107,6 +111,22 @@ static void test_memory(size_t beyond)
     require(!refused.is_there && (uintptr_t)refused.start % 16 == 0, "refused memory", 0);
 }
 
+static int32_t open_at(int32_t directory, const char *path)
+{
+    return rattle_open_dir_at(directory, (const uint8_t *)path);
+}
+
+static void test_directories(void)
+{
+    int32_t root = open_at(AT_FDCWD, "/"), inner = open_at(root, "proc");
+
+    require(root >= 0 && inner >= 0, "directories", 0);
+    require(open_at(inner, "self") == -1, "symbolic link as a directory", 0);
+    require(open_at(inner, "version") == -1, "file as a directory", 0);
+    require(open_at(inner, "no-such-directory") == -1, "absent directory", 0);
+    require(close(root) == 0 && close(inner) == 0, "closed directories", 0);
+}
+
 int main(int argc, char **argv)
 {
     char *none[] = {NULL};
@@ -120,6 +140,7 @@ int main(int argc, char **argv)
     require(rattle_arg((size_t)argc, buffer, sizeof buffer) == -1, "argument after the last", (size_t)argc);
     require(rattle_arg(SIZE_MAX, buffer, sizeof buffer) == -1, "last number of an argument", SIZE_MAX);
     test_environment();
+    test_directories();
     rattle_set_errno(EIO);
     require(errno == EIO && rattle_errno() == EIO, "errno", 0);
     test_memory(argc == 2 && strcmp(argv[1], "memory") == 0 ? (size_t)1 << 31 : SIZE_MAX / 2);
