@@ -118,13 +118,13 @@ static int32_t open_at(int32_t directory, const char *path)
 
 static void test_directories(void)
 {
-    int32_t root = open_at(AT_FDCWD, "/"), inner = open_at(root, "proc");
+    int32_t outer = open_at(AT_FDCWD, "/proc"), inner = open_at(outer, "sys");
 
-    require(root >= 0 && inner >= 0, "directories", 0);
-    require(open_at(inner, "self") == -1, "symbolic link as a directory", 0);
-    require(open_at(inner, "version") == -1, "file as a directory", 0);
-    require(open_at(inner, "no-such-directory") == -1, "absent directory", 0);
-    require(close(root) == 0 && close(inner) == 0, "closed directories", 0);
+    require(outer >= 0 && inner >= 0, "directories", 0);
+    require(open_at(outer, "self") == -1, "symbolic link as a directory", 0);
+    require(open_at(outer, "version") == -1, "file as a directory", 0);
+    require(open_at(outer, "no-such-directory") == -1, "absent directory", 0);
+    require(close(outer) == 0 && close(inner) == 0, "closed directories", 0);
 }
 
 int main(int argc, char **argv)
