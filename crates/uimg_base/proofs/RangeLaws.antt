@@ -1,5 +1,5 @@
 -- Bytes of a range that are summed, or summed and written, piece after piece.
-use Rattle.std.proofs.Common.{◌≡◌, ◌+◌, ℕ, List, [], ◌++◌, length-append, Bool, IsTrue, refl, ap, sym, subst, ◌∙◌, arith}
+use Rattle.std.proofs.Common.{◌≡◌, ◌+◌, ℕ, Result, Ok, Err, OnOk, List, [], ◌++◌, length-append, Bool, IsTrue, refl, ap, sym, subst, ◌∙◌, arith}
 use Rattle.std.proofs.KnownBytes.{Appends-nil}
 use Rattle.uimg_texts.specs.Slices.{slice}
 use Rattle.uimg_base.specs.{Device.{Device, SameDevice}, Sink.{Sink, AppendsAll}}
@@ -40,3 +40,8 @@ summed_right {T} {fed} {d} {at} {len} {a} {b} p honest = subst (fed a b) (p.righ
 -- the range of an honest device was written
 pub taken_right : {T : Type 0} {fed : T → T → List ℕ → Type 0} {d : Device} {at len : ℕ} {a b : T} {s t : Sink} → TakesRange fed d at len a b s t → IsTrue d.honest → AppendsAll s t (slice d.bytes at len)
 taken_right {s = s} {t = t} p honest = subst (AppendsAll s t) (p.sums.right honest) p.wrote
+
+-- what was fed was written, too, unless a write failed
+pub taken_if : {T X E : Type 0} {fed : T → T → List ℕ → Type 0} {d : Device} {at len : ℕ} {a b : T} (s t : Sink) → (all : SumsRange fed d at len a b) → (result : Result X E) → OnOk result (AppendsAll s t all.piece) → OnOk result (TakesRange fed d at len a b s t)
+taken_if s t all (Ok x) wrote = record { sums = all; wrote = wrote }
+taken_if s t all (Err fault) wrote = tt

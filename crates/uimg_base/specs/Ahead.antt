@@ -1,5 +1,5 @@
 -- What is read ahead of a file.
-use Rattle.std.specs.Prelude.{◌≡◌, length, take, Option, IfSome}
+use Rattle.std.specs.Prelude.{◌≡◌, ◌≤◌, ◌+◌, ◌-◌, ℕ, length, take, Option, IfSome}
 use Rattle.uimg_texts.specs.Slices.{slice}
 use Rattle.uimg_base.specs.Streams.{Stream}
 use Rattle.uimg_base.specs.declared.{piece.Piece.Piece, windows.{Window.Window, Windows.Windows}}
@@ -17,3 +17,8 @@ pub record AreAhead (w : Windows) (s : Option Stream) : Type 0 where
 abbrev pub IsPieceAhead : Piece → Option Stream → Type 0
 IsPieceAhead p s =
     IfSome s (λ stream. p.bytes.items ≡ slice stream.bytes p.at (length p.bytes.items))
+
+-- The piece has all of these bytes of the file.
+pub record HasPiece (at len : ℕ) (p : Piece) : Type 0 where
+  pub begins : p.at ≤ at
+  pub ends : (at - p.at) + len ≤ length p.bytes.items

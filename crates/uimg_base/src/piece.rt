@@ -1,15 +1,15 @@
 //! A piece read ahead of a file, which serves long reads that follow one another.
 ghost use Rattle.std.specs.Prelude.{◌≡◌, ◌≤◌, length, Option, IsTrue, []};
 ghost use Rattle.uimg_base.specs.Streams.{Stream, StandsAt, SameBytes, HoldsFrom, IsInside};
-ghost use Rattle.uimg_base.specs.Ahead.{IsPieceAhead};
+ghost use Rattle.uimg_base.specs.Ahead.{IsPieceAhead, HasPiece};
 
 use crate::reading::{move_to, read_some};
 use crate::seek_read::SeekRead;
 use crate::windows::AHEAD;
 use std::alloc::Global;
 
-/// The most bytes of a piece: 256 KiB.
-pub(crate) const PIECE: usize = 262144;
+/// The most bytes of a piece: 128 KiB.
+pub(crate) const PIECE: usize = 131072;
 
 /// Bytes of a file from one long read, and their offset.
 ///
@@ -35,16 +35,16 @@ impl Piece {
         }
     }
 
-    // Fills `to` if the piece has its bytes, or if a new piece, read because this read follows the
-    // one before, has them. `left` is the number of bytes from the offset to the file's end.
-    // Returns whether `to` is full.
-    pub(crate) fn fill<F: SeekRead>(
+    // Returns whether the piece has `len` bytes at an offset, or a new one does, which is read because
+    // this read follows the one before. `left` is the number of bytes from the offset to the file's
+    // end.
+    pub(crate) fn hold<F: SeekRead>(
         &mut self,
         file: &mut F,
         position: &mut Option<u64>,
         at: u64,
         left: u64,
-        to: &mut [u8],
+        len: usize,
     ) -> bool
         requires stands { StandsAt position.old (F.stream file.old) }
         requires ahead { IsPieceAhead self.old (F.stream file.old) }
@@ -52,20 +52,45 @@ impl Piece {
         ensures stands { StandsAt position.new (F.stream file.new) }
         ensures same { SameBytes (F.stream file.old) (F.stream file.new) }
         ensures ahead { IsPieceAhead self.new (F.stream file.new) }
-        ensures filled { IsTrue result → HoldsFrom at (F.stream file.old) to.new }
-        ensures freed { left ≤ length to.old → self.new.bytes.items ≡ [] }
+        ensures holds { IsTrue result → HasPiece at len self.new }
     {
-        let follows = self.follows(at, to.len());
-        let mut full = self.give(at, to);
-        if follows && !full {
+        let follows = self.follows(at, len);
+        if follows && !self.has(at, len) {
             let most = u64::min(PIECE as u64, left) as usize;
             self.read_ahead(file, position, at, most);
-            full = self.give(at, to);
         }
-        if left <= to.len() as u64 {
-            self.free();
+        self.has(at, len)
+    }
+
+    // Returns whether the piece has `len` bytes at an offset.
+    fn has(&self, at: u64, len: usize) -> bool
+        ensures { IsTrue result → HasPiece at len self.now }
+    {
+        if at < self.at || at - self.at > self.bytes.len() as u64 {
+            return false;
         }
-        full
+        len <= self.bytes.len() - (at - self.at) as usize
+    }
+
+    // Returns the `len` bytes at an offset.
+    pub(crate) fn part(&self, at: u64, len: usize) -> &[u8]
+        requires { HasPiece at len self.now }
+        ensures length { length result.now ≡ len }
+        ensures part { (s : Option Stream) → IsPieceAhead self.now s → HoldsFrom at s result.now }
+    {
+        let start = (at - self.at) as usize;
+        &self.bytes[start..start + len]
+    }
+
+    // Frees the memory, and so drops the bytes, if a read of `len` bytes reaches the end of the file.
+    pub(crate) fn free_at_end(&mut self, left: u64, len: usize)
+        ensures ahead { (s : Option Stream) → IsPieceAhead self.old s → IsPieceAhead self.new s }
+        ensures freed { left ≤ len → self.new.bytes.items ≡ [] }
+    {
+        if left <= len as u64 {
+            self.bytes.clear();
+            self.bytes.shrink_to_fit();
+        }
     }
 
     // Returns whether a read is long and begins where the last long one ended. Notes where it ends.
@@ -81,22 +106,6 @@ impl Piece {
         follows
     }
 
-    // Copies the bytes at an offset if the piece has all of them. Returns whether it has.
-    fn give(&self, at: u64, to: &mut [u8]) -> bool
-        ensures { IsTrue result → (s : Option Stream) → IsPieceAhead self.now s →
-            HoldsFrom at s to.new }
-    {
-        if at < self.at || at - self.at > self.bytes.len() as u64 {
-            return false;
-        }
-        let start = (at - self.at) as usize;
-        if to.len() > self.bytes.len() - start {
-            return false;
-        }
-        to.copy_from_slice(&self.bytes[start..start + to.len()]);
-        true
-    }
-
     // Reads once at an offset, at most `most` bytes. After a failure the piece has none.
     fn read_ahead<F: SeekRead>(
         &mut self,
@@ -105,7 +114,7 @@ impl Piece {
         at: u64,
         most: usize,
     )
-        requires few { most ≤ 262144 }
+        requires few { most ≤ 131072 }
         requires inside { IsInside at most (F.stream file.old) }
         requires stands { StandsAt position.old (F.stream file.old) }
         ensures stands { StandsAt position.new (F.stream file.new) }
@@ -121,13 +130,5 @@ impl Piece {
         let count = read_some(file, &mut self.bytes[..]);
         *position = count.and_then(|count| at.checked_add(count as u64));
         self.bytes.truncate(count.unwrap_or(0));
-    }
-
-    // Frees the memory, and so drops the bytes.
-    fn free(&mut self)
-        ensures { self.new.bytes.items ≡ [] }
-    {
-        self.bytes.clear();
-        self.bytes.shrink_to_fit();
     }
 }

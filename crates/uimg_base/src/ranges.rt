@@ -1,8 +1,8 @@
 //! Ranges of a source, copied to an output or fed to a sum, one window at a time.
 
-ghost use Rattle.std.specs.Prelude.{◌≡◌, ◌+◌, ◌≤◌, ⊤, length, OnOk, OnErr, IfOk, is_err};
+ghost use Rattle.std.specs.Prelude.{◌≡◌, ◌+◌, ◌≤◌, ⊤, false, length, OnOk, OnErr, IfOk, is_err};
 ghost use Rattle.uimg_base.specs.{Honest.HonestSource, Device.{RisesIf, asked_more}};
-ghost use Rattle.uimg_base.specs.{Sink.AppendsPrefix, Using.{Asks, AsksAll, Uses}};
+ghost use Rattle.uimg_base.specs.{Sink.{AppendsPrefix, AppendsAll}, Using.{Asks, AsksAll}};
 ghost use Rattle.uimg_base.specs.Ranges.{is_read, is_put, Copies, SumsRange, TakesRange};
 ghost use Rattle.uimg_texts.specs.Slices.{slice};
 ghost use Rattle.uimg_sums.specs.{Crc.crc, Digest.PutsDigest};
@@ -41,34 +41,23 @@ impl Sums for NoSums {
     fn feed_all(&mut self, _bytes: &[u8]) {}
 }
 
-// Sums and copies at most one window.
-fn take_window<S: Source, M: Sums, W: Write>(
-    source: &mut S,
-    window: &mut [u8; WINDOW],
-    at: u64,
-    len: usize,
+/// Feeds bytes to sums, and writes them. Returns `MoveFault::Put` if a write failed.
+pub(crate) fn put_fed<M: Sums, W: Write>(
+    bytes: &[u8],
     sums: &mut M,
     out: &mut Out<W>,
 ) -> Result<(), MoveFault>
-    requires range { at + len ≤ length (S.device source.old).bytes }
-    requires window { len ≤ 8192 }
-    ensures uses { Uses (is_read result) (S.device source.old) (S.device source.new) }
-    ensures asked { (S.device source.new).asked ≡ asked_more (S.device source.old).asked len }
+    ensures read { is_read result ≡ false }
     ensures faults { RisesIf (is_put result) out.old.faults out.new.faults }
-    ensures prefix { HonestSource S.device source →
-        AppendsPrefix out.old out.new (slice (S.device source.old).bytes at len) }
-    ensures taken { OnOk result (TakesRange M.fed (S.device source.old) at len
-        sums.old sums.new out.old out.new) }
+    ensures prefix { AppendsPrefix out.old out.new bytes.now }
+    ensures fed { M.fed sums.old sums.new bytes.now }
+    ensures all { OnOk result (AppendsAll out.old out.new bytes.now) }
 {
-    let window = &mut window[..len];
-    if source.fill_at(at, window).is_err() {
-        return Err(MoveFault::Read);
+    sums.feed_all(bytes);
+    match out.put_all(bytes) {
+        Ok(()) => Ok(()),
+        Err(_) => Err(MoveFault::Put),
     }
-    sums.feed_all(window);
-    if out.put_all(window).is_err() {
-        return Err(MoveFault::Put);
-    }
-    Ok(())
 }
 
 /// Copies `len` bytes at offset `at` of the source to the output, and feeds the same bytes to sums.
@@ -99,7 +88,7 @@ pub fn take_through<S: Source, M: Sums, W: Write>(
     let mut done = 0;
     while done < len {
         let next = u64::min(len - done, WINDOW as u64);
-        take_window(source, window, at + done, next as usize, sums, out)?;
+        source.take_at(at + done, &mut window[..next as usize], sums, out)?;
         done += next;
     }
     Ok(())
@@ -156,26 +145,6 @@ pub fn copy_range<S: Source, W: Write, A: Allocator>(
     copy_through(source, room.window(), at, len, out)
 }
 
-// Feeds at most one window.
-fn feed_window<M: Sums, S: Source>(
-    sums: &mut M,
-    source: &mut S,
-    window: &mut [u8; WINDOW],
-    at: u64,
-    len: usize,
-) -> Result<(), SourceFault>
-    requires range { at + len ≤ length (S.device source.old).bytes }
-    requires window { len ≤ 8192 }
-    ensures uses { Uses (is_err result) (S.device source.old) (S.device source.new) }
-    ensures asked { (S.device source.new).asked ≡ asked_more (S.device source.old).asked len }
-    ensures fed { OnOk result (SumsRange M.fed (S.device source.old) at len sums.old sums.new) }
-{
-    let window = &mut window[..len];
-    source.fill_at(at, window)?;
-    sums.feed_all(window);
-    Ok(())
-}
-
 /// Feeds `len` bytes at offset `at` of the source to sums, through a window.
 ///
 /// The range must be inside the source. Returns `SourceFault` if and only if a read failed; then
@@ -195,7 +164,7 @@ pub fn feed_through<M: Sums, S: Source>(
     let mut done = 0;
     while done < len {
         let next = u64::min(len - done, WINDOW as u64);
-        feed_window(sums, source, window, at + done, next as usize)?;
+        source.feed_at(at + done, &mut window[..next as usize], sums)?;
         done += next;
     }
     Ok(())

@@ -1,9 +1,9 @@
 //! Reads of a file at any offset; small ones, and those that follow one another, are read ahead.
 
-ghost use Rattle.std.specs.Prelude.{◌≡◌, ◌≤◌, ◌+◌, length, is_err, true, Some, IfOk, IfSome, IsTrue, OnOk};
+ghost use Rattle.std.specs.Prelude.{◌≡◌, ◌≤◌, ◌+◌, length, is_err, Option, Some, IfOk, IfSome, IsTrue, OnOk};
 ghost use Rattle.uimg_base.specs.Device.{RisesIf, asked_more};
-ghost use Rattle.uimg_base.specs.Ahead.{AreAhead, IsPieceAhead};
-ghost use Rattle.uimg_base.specs.Streams.{StandsAt, SameBytes, HoldsFrom, HasLength, ReadsOn};
+ghost use Rattle.uimg_base.specs.Ahead.{AreAhead, IsPieceAhead, HasPiece};
+ghost use Rattle.uimg_base.specs.Streams.{Stream, StandsAt, SameBytes, HoldsFrom, HasLength, ReadsOn};
 
 use crate::piece::Piece;
 use crate::seek_read::SeekRead;
@@ -69,18 +69,17 @@ impl Reading {
         ensures failures { RisesIf (is_err result) self.old.failures self.new.failures }
         ensures counted { self.new.failures ≤ self.old.failures + 1 }
     {
-        self.asked = self.asked.saturating_add(to.len() as u128);
-        if self.fill(file, at, to) {
-            Ok(())
-        } else {
-            self.failures = self.failures.saturating_add(1);
-            Err(SourceFault)
+        if !self.hold(file, at, to.len()) {
+            return self.fill_beside(file, at, to);
         }
+        to.copy_from_slice(self.piece.part(at, to.len()));
+        self.free_at_end(at, to.len());
+        Ok(())
     }
 
-    // Fills `to` from what is read ahead, if it is small or follows the read before it, or else by
-    // reading only the requested bytes. Returns whether it is full.
-    fn fill<F: SeekRead>(&mut self, file: &mut F, at: u64, to: &mut [u8]) -> bool
+    // Counts `len` requested bytes, those at an offset. Returns whether the piece has them, which is
+    // read ahead if this read follows the one before.
+    pub(crate) fn hold<F: SeekRead>(&mut self, file: &mut F, at: u64, len: usize) -> bool
         requires stands { StandsAt self.old.position (F.stream file.old) }
         requires ahead { AreAhead self.old.windows (F.stream file.old) }
         requires piece { IsPieceAhead self.old.piece (F.stream file.old) }
@@ -90,21 +89,59 @@ impl Reading {
         ensures piece { IsPieceAhead self.new.piece (F.stream file.new) }
         ensures same { SameBytes (F.stream file.old) (F.stream file.new) }
         ensures length { self.new.length ≡ self.old.length }
-        ensures asked { self.new.asked ≡ self.old.asked }
+        ensures asked { self.new.asked ≡ asked_more self.old.asked len }
         ensures failures { self.new.failures ≡ self.old.failures }
-        ensures bytes { IsTrue result → HoldsFrom at (F.stream file.old) to.new }
+        ensures holds { IsTrue result → HasPiece at len self.new.piece }
+    {
+        self.asked = self.asked.saturating_add(len as u128);
+        let left = self.length.saturating_sub(at);
+        self.piece.hold(file, &mut self.position, at, left, len)
+    }
+
+    // Frees the piece if `len` bytes at an offset reach the end of the file.
+    pub(crate) fn free_at_end(&mut self, at: u64, len: usize)
+        ensures same { self.new ≡ record self.old { piece = self.new.piece } }
+        ensures piece { (s : Option Stream) → IsPieceAhead self.old.piece s →
+            IsPieceAhead self.new.piece s }
     {
         let left = self.length.saturating_sub(at);
-        if self.piece.fill(file, &mut self.position, at, left, to) {
-            return true;
-        }
+        self.piece.free_at_end(left, len);
+    }
+
+    // Fills `to` without the piece: from a window if it is small, or else by reading only the
+    // requested bytes. Counts a failure.
+    pub(crate) fn fill_beside<F: SeekRead>(
+        &mut self,
+        file: &mut F,
+        at: u64,
+        to: &mut [u8],
+    ) -> Result<(), SourceFault>
+        requires stands { StandsAt self.old.position (F.stream file.old) }
+        requires ahead { AreAhead self.old.windows (F.stream file.old) }
+        requires piece { IsPieceAhead self.old.piece (F.stream file.old) }
+        requires whole { HasLength self.old.length (F.stream file.old) }
+        ensures stands { StandsAt self.new.position (F.stream file.new) }
+        ensures ahead { AreAhead self.new.windows (F.stream file.new) }
+        ensures piece { IsPieceAhead self.new.piece (F.stream file.new) }
+        ensures same { SameBytes (F.stream file.old) (F.stream file.new) }
+        ensures length { self.new.length ≡ self.old.length }
+        ensures bytes { OnOk result (HoldsFrom at (F.stream file.old) to.new) }
+        ensures asked { self.new.asked ≡ self.old.asked }
+        ensures failures { RisesIf (is_err result) self.old.failures self.new.failures }
+        ensures counted { self.new.failures ≤ self.old.failures + 1 }
+    {
         if to.len() < AHEAD {
+            let left = self.length.saturating_sub(at);
             let most = u64::min(AHEAD as u64, left) as usize;
             if self.windows.fill(file, &mut self.position, at, most, to) {
-                return true;
+                return Ok(());
             }
         }
-        fill_from(file, &mut self.position, at, to)
+        if fill_from(file, &mut self.position, at, to) {
+            return Ok(());
+        }
+        self.failures = self.failures.saturating_add(1);
+        Err(SourceFault)
     }
 }
 

@@ -7,10 +7,14 @@ ghost use Rattle.uimg_base.specs.Device.{IsFresh};
 ghost use Rattle.uimg_base.specs.Ahead.{IsAhead, IsPieceAhead};
 ghost use Rattle.uimg_base.specs.Streams.{StandsAt, HasLength, stream_bytes_of, short_bytes};
 
+use crate::output::Out;
+use crate::ranges::{MoveFault, put_fed};
 use crate::reading::Reading;
 use crate::seek_read::SeekRead;
 use crate::source::{Source, SourceFault};
 use std::alloc::Global;
+use std::io::Write;
+use uimg_sums::Sums;
 
 /// An open file as a source, read by seek and read.
 ///
@@ -18,8 +22,8 @@ use std::alloc::Global;
 /// source of these bytes. Over any other, contracts see zeros, and it is not claimed to be honest.
 ///
 /// Reads of fewer than 4096 bytes are served from two windows of 4096 bytes that are read ahead. If
-/// two longer ones follow one another, 256 KiB are read ahead, to memory that is freed at the end of
-/// the file; without this memory only the requested bytes are read. It never reads past the length,
+/// two longer ones follow one another, 128 KiB are read ahead, to memory that is freed at the end of
+/// the file, and from which sums are fed; without this memory only the requested bytes are read. It never reads past the length,
 /// nor ahead by more than one such piece. If a read ahead fails or is short, only the requested
 /// bytes are read.
 #[derive(Drop)]
@@ -71,6 +75,44 @@ impl<F: SeekRead> Source for SeekSource<F> {
 
     fn fill_at(&mut self, at: u64, to: &mut [u8]) -> Result<(), SourceFault> {
         self.reading.fill_at(&mut self.file, at, to)
+    }
+
+    fn feed_at<M: Sums>(
+        &mut self,
+        at: u64,
+        window: &mut [u8],
+        sums: &mut M,
+    ) -> Result<(), SourceFault> {
+        if !self.reading.hold(&mut self.file, at, window.len()) {
+            self.reading.fill_beside(&mut self.file, at, window)?;
+            sums.feed_all(window);
+            return Ok(());
+        }
+        sums.feed_all(self.reading.piece.part(at, window.len()));
+        self.reading.free_at_end(at, window.len());
+        Ok(())
+    }
+
+    fn take_at<M: Sums, W: Write>(
+        &mut self,
+        at: u64,
+        window: &mut [u8],
+        sums: &mut M,
+        out: &mut Out<W>,
+    ) -> Result<(), MoveFault> {
+        if !self.reading.hold(&mut self.file, at, window.len()) {
+            if self
+                .reading
+                .fill_beside(&mut self.file, at, window)
+                .is_err()
+            {
+                return Err(MoveFault::Read);
+            }
+            return put_fed(window, sums, out);
+        }
+        let put = put_fed(self.reading.piece.part(at, window.len()), sums, out);
+        self.reading.free_at_end(at, window.len());
+        put
     }
 
     fn asked(&self) -> u128 {

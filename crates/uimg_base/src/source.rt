@@ -3,9 +3,15 @@
 ghost use Rattle.std.specs.Prelude.{◌≡◌, ◌+◌, ◌^◌, ◌<◌, ◌≤◌, Bool, true, false, length, IsTrue, OnOk, IfOk, is_err};
 ghost use Rattle.std.proofs.Common.{refl};
 ghost use Rattle.uimg_base.specs.Device.{Device, RisesIf, SameDevice, asked_more};
+ghost use Rattle.uimg_base.specs.{Sink.AppendsPrefix, Using.Uses};
+ghost use Rattle.uimg_base.specs.Ranges.{is_read, is_put, SumsRange, TakesRange};
 ghost use Rattle.uimg_texts.specs.Slices.{slice};
 
+use crate::output::Out;
+use crate::ranges::{MoveFault, put_fed};
+use std::io::Write;
 use thiserror::Error;
+use uimg_sums::Sums;
 
 /// A source could not be opened, or a read of it failed.
 #[derive(Clone, Copy, Debug, PartialEq, Eq, Error)]
@@ -51,7 +57,57 @@ pub trait Source: Drop {
             (device self.new).failures }
         ensures counted { (device self.new).failures ≤ (device self.old).failures + 1 };
 
-    /// Returns how many bytes `fill_at` requested, failed calls included. It saturates.
+    /// Feeds to sums as many bytes as `window` has, from the offset `at`.
+    ///
+    /// They are read to `window`, unless the source has them in memory. The range must be inside the
+    /// source. Requests are counted, and `SourceFault` is returned, as `fill_at` does.
+    fn feed_at<M: Sums>(
+        &mut self,
+        at: u64,
+        window: &mut [u8],
+        sums: &mut M,
+    ) -> Result<(), SourceFault>
+        requires { at + length window.old ≤ length (device self.old).bytes }
+        ensures uses { Uses (is_err result) (device self.old) (device self.new) }
+        ensures asked { (device self.new).asked
+            ≡ asked_more (device self.old).asked (length window.old) }
+        ensures fed { OnOk result (SumsRange M.fed (device self.old) at (length window.old)
+            sums.old sums.new) }
+    {
+        self.fill_at(at, window)?;
+        sums.feed_all(window);
+        Ok(())
+    }
+
+    /// Feeds to sums, and writes, as many bytes as `window` has, from the offset `at`.
+    ///
+    /// They are read to `window`, unless the source has them in memory. The range must be inside the
+    /// source. Requests are counted as `fill_at` does. Returns `MoveFault::Read` if and only if the
+    /// read failed; then nothing is written. Returns `MoveFault::Put` if and only if a write failed.
+    fn take_at<M: Sums, W: Write>(
+        &mut self,
+        at: u64,
+        window: &mut [u8],
+        sums: &mut M,
+        out: &mut Out<W>,
+    ) -> Result<(), MoveFault>
+        requires { at + length window.old ≤ length (device self.old).bytes }
+        ensures uses { Uses (is_read result) (device self.old) (device self.new) }
+        ensures asked { (device self.new).asked
+            ≡ asked_more (device self.old).asked (length window.old) }
+        ensures faults { RisesIf (is_put result) out.old.faults out.new.faults }
+        ensures prefix { IsTrue (device self.old).honest → AppendsPrefix out.old out.new
+            (slice (device self.old).bytes at (length window.old)) }
+        ensures taken { OnOk result (TakesRange M.fed (device self.old) at (length window.old)
+            sums.old sums.new out.old out.new) }
+    {
+        if self.fill_at(at, window).is_err() {
+            return Err(MoveFault::Read);
+        }
+        put_fed(window, sums, out)
+    }
+
+    /// Returns how many bytes were requested, failed calls included. It saturates.
     fn asked(&self) -> u128
         ensures { result ≡ (device self.now).asked };
 
