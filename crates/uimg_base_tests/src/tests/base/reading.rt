@@ -4,7 +4,8 @@ use super::files::DigitFile;
 use super::steps::{number, reads_at};
 use std::alloc::Global;
 use std::cell::Cell;
-use uimg_base::SeekSource;
+use uimg_base::{Out, SeekSource, Source};
+use uimg_sums::{Crc, Summer as _, crc_of};
 
 // Reads of a file: the name, the file, the bytes per read, the offsets, how many of these reads
 // succeed before one fails, and how often the file is read in all. A read of fewer than 4096 bytes
@@ -154,18 +155,18 @@ const READS: [(&str, &str, usize, &str, u64, u64); 37] = [
         2,
     ),
     (
-        "a piece has 256 KiB",
-        "bad 600000|length 600000",
+        "a piece has 128 KiB",
+        "bad 300000|length 300000",
         4096,
-        "0 4096 262144 266240 524288",
+        "0 4096 131072 135168 262144",
         5,
         3,
     ),
     (
         "and no byte more",
-        "bad 600000|length 600000",
+        "bad 300000|length 300000",
         4096,
-        "0 4096 262145",
+        "0 4096 131073",
         3,
         3,
     ),
@@ -211,6 +212,21 @@ const READS: [(&str, &str, usize, &str, u64, u64); 37] = [
     ),
 ];
 
+// Returns whether a range is inside a source.
+fn is_inside<S: Source>(source: &mut S, at: u64, len: usize) -> bool {
+    match source.size() {
+        Ok(size) => at <= size && len as u64 <= size - at,
+        Err(_) => false,
+    }
+}
+
+// Writes the digits from an offset on.
+fn put_digits(at: u64, to: &mut [u8]) {
+    for (number, byte) in to.iter_mut().enumerate() {
+        *byte = b'0' + (at.wrapping_add(number as u64) % 10) as u8;
+    }
+}
+
 // Checks that the bytes are the digits from an offset on.
 fn are_digits(at: u64, bytes: &[u8]) -> bool {
     let mut same = true;
@@ -220,22 +236,79 @@ fn are_digits(at: u64, bytes: &[u8]) -> bool {
     same
 }
 
+// Reads the digits from an offset on, if that is inside the source. Returns whether that succeeded,
+// or `None` if other bytes were read.
+fn filled<S: Source>(source: &mut S, at: u64, to: &mut [u8]) -> Option<bool> {
+    if !reads_at(source, at, to) {
+        return Some(false);
+    }
+    if are_digits(at, to) { Some(true) } else { None }
+}
+
+// The same for bytes that are fed to a sum, and not copied.
+fn fed<S: Source>(source: &mut S, at: u64, window: &mut [u8]) -> Option<bool> {
+    if !is_inside(source, at, window.len()) {
+        return Some(false);
+    }
+    let mut sum = Crc::start();
+    if source.feed_at(at, window, &mut sum).is_err() {
+        return Some(false);
+    }
+    put_digits(at, window);
+    if sum.value() == crc_of(window) {
+        Some(true)
+    } else {
+        None
+    }
+}
+
+// The same for bytes that are written, too.
+fn taken<S: Source>(source: &mut S, at: u64, window: &mut [u8], alloc: Global) -> Option<bool> {
+    if !is_inside(source, at, window.len()) {
+        return Some(false);
+    }
+    let mut out = Out::new(Vec::new(alloc));
+    let mut sum = Crc::start();
+    if source.take_at(at, window, &mut sum, &mut out).is_err() {
+        return Some(false);
+    }
+    let written = out.into_inner();
+    let right = written.len() == window.len() && are_digits(at, written.as_slice());
+    if right && sum.value() == crc_of(written.as_slice()) {
+        Some(true)
+    } else {
+        None
+    }
+}
+
+// How bytes are read: copied, summed, or summed and written.
+#[derive(Clone, Copy)]
+enum Way {
+    Fill,
+    Feed,
+    Take,
+}
+
 // Returns how many reads succeed before one fails, if they returned the right digits.
 fn succeeding<'a>(
     source: &mut SeekSource<DigitFile<'a>>,
+    way: Way,
     size: usize,
     offsets: &str,
+    alloc: Global,
 ) -> Option<u64> {
     let mut buffer = [b'x'; 5000];
     let to = buffer.get_mut(..size)?;
     let mut count = 0u64;
     for offset in offsets.split_whitespace() {
         let at = number(offset);
-        if !reads_at(source, at, to) {
+        let is_read = match way {
+            Way::Fill => filled(source, at, to),
+            Way::Feed => fed(source, at, to),
+            Way::Take => taken(source, at, to, alloc),
+        }?;
+        if !is_read {
             return Some(count);
-        }
-        if !are_digits(at, to) {
-            return None;
         }
         count = count.saturating_add(1);
     }
@@ -243,21 +316,29 @@ fn succeeding<'a>(
 }
 
 // Returns how many reads succeed, and how often the file is read.
-fn reads(alloc: Global, description: &str, size: usize, offsets: &str) -> Option<(u64, u64)> {
+fn reads(
+    alloc: Global,
+    way: Way,
+    description: &str,
+    size: usize,
+    offsets: &str,
+) -> Option<(u64, u64)> {
     let counted = Cell::new(0);
     let Ok(mut source) = SeekSource::new(alloc, DigitFile::new(description, &counted)) else {
         return None;
     };
-    let count = succeeding(&mut source, size, offsets)?;
+    let count = succeeding(&mut source, way, size, offsets, alloc)?;
     Some((count, counted.get()))
 }
 
 #[test]
 fn reads_of_slow_files(rt: HostRuntime) {
     for (name, description, size, offsets, wanted, turns) in &READS {
-        assert!(rt;
-            reads(rt.alloc(), description, *size, offsets) == Some((*wanted, *turns)),
-            "{name}"
-        );
+        for way in [Way::Fill, Way::Feed, Way::Take] {
+            assert!(rt;
+                reads(rt.alloc(), way, description, *size, offsets) == Some((*wanted, *turns)),
+                "{name}"
+            );
+        }
     }
 }
