@@ -35,7 +35,7 @@ enum uimg_status {
 };
 
 /* The code of a fault: UIMG_FAULT('L', 8) is L8, no such part; 0 is no fault. The letter is L for legacy images, B
-   for the blob of a FIT image, and F for the images in it. */
+   for the blob of a FIT image, F for the images in it, and S for what only uimg_check_strict refuses. */
 #define UIMG_FAULT(letter, number) ((uint32_t)(letter) * 256u + (uint32_t)(number))
 
 /* The result of a listing, a verification or a check. */
@@ -95,6 +95,16 @@ enum uimg_need {
    the first that is not right. Reads no more bytes of payloads than the file has, and takes no memory for a text.
    A legacy image has CRC-32 alone. No image meets a number that is not in the list above. */
 uint32_t uimg_check(const uint8_t *image, size_t image_size, uint32_t need, uimg_report *report);
+
+/* Checks an image as uimg_check does and, if that finds all right, whether U-Boot reads what was checked. U-Boot
+   searches a FIT more loosely than a check: by a name up to an @, or by the first of two properties. So it may take
+   other bytes than those whose hashes are right. If this call returns 0, U-Boot 2023.01 finds in a FIT exactly the
+   images that were checked, each with the payload whose hashes are right, and compares no others; a legacy image has
+   data, a type, an architecture, a system and a compression that image.h names, and a right table of parts. Anything
+   else is refused by a fault with the letter S, whose line has the word of `uimg check --strict`, as "S3
+   unit-address". Unlike the program it does not look whether the images that a configuration names exist. Takes memory
+   for the names in one node, which peak does not count. */
+uint32_t uimg_check_strict(const uint8_t *image, size_t image_size, uint32_t need, uimg_report *report);
 
 /* Locates the part of a legacy image, or the payload of an image in a FIT, by its position, counted from 0. Returns
    payload->status; for a legacy image that is never UIMG_NO_MEMORY. The checksums of a legacy image are verified; the

@@ -58,14 +58,16 @@ static void tell(const char *name, command *run, const uint8_t *image, size_t si
     free(text);
 }
 
-static void tell_check(const uint8_t *image, size_t size, uint32_t need)
+typedef uint32_t check(const uint8_t *, size_t, uint32_t, uimg_report *);
+
+static void tell_check(const char *name, check *run, const uint8_t *image, size_t size, uint32_t need)
 {
     uimg_report report = {0};
     uint32_t status;
 
     prepare();
-    status = uimg_check(image, size, need, &report);
-    printf("check%u: %u %u %u %llu %zu %zu\n", need, status, report.status, report.fault,
+    status = run(image, size, need, &report);
+    printf("%s%u: %u %u %u %llu %zu %zu\n", name, need, status, report.status, report.fault,
            (unsigned long long)report.place, report.needed, report.written);
     look_at_peak(status, report.peak, size);
 }
@@ -131,8 +133,10 @@ static void report(const char *path)
     tell("front", uimg_list, image, (size_t)size, 30);
     tell("verify", uimg_verify, image, (size_t)size, ROOM);
     tell("nothing", uimg_verify, image, (size_t)size, 0);
-    for (uint32_t need = 0; need <= UIMG_SHA512 + 1; need++)
-        tell_check(image, (size_t)size, need);
+    for (uint32_t need = 0; need <= UIMG_SHA512 + 1; need++) {
+        tell_check("check", uimg_check, image, (size_t)size, need);
+        tell_check("strict", uimg_check_strict, image, (size_t)size, need);
+    }
     for (uint32_t position = 0; position < POSITIONS; position++)
         tell_payload(image, (size_t)size, position);
     tell_named(image, (size_t)size, "kernel");

@@ -1,20 +1,20 @@
 //! Whether an image in memory has right checksums of a needed strength.
 
-ghost use Rattle.std.specs.Prelude.{◌≡◌, ◌≢◌, ◌≤◌, Some, false};
+ghost use Rattle.std.specs.Prelude.{◌≡◌, ◌≢◌, ◌≤◌, Some, IfSome, false};
 ghost use Rattle.uimg_requests.specs.declared.command.Form.TheVariants as form;
 ghost use Rattle.uimg_engine.specs.{Faults.{is_put, is_no_memory, end_of}, Headline.InMemory};
 ghost use Rattle.uimg_c.specs.Answers.{ReportsCheck, end_of_check, no_report, table_most};
-ghost use Rattle.uimg_c.specs.Codes.{code_of_answer, strength};
+ghost use Rattle.uimg_c.specs.Codes.{strength};
 
-use crate::codes::{NO_MEMORY, answer_code};
+use crate::codes::{Code, NO_MEMORY, answer_code};
 use crate::peaks::peak_of;
 use crate::reports::UimgReport;
 use std::alloc::{Allocator, Global};
 use uimg_base::{ALGOS, Algo, MemSource, Room, Status};
 use uimg_engine::Fault;
 
-// Returns the algorithm of a strength.
-fn strength(need: u32) -> Option<Algo>
+/// Returns the algorithm of a strength.
+pub(crate) fn strength(need: u32) -> Option<Algo>
     ensures { result ≡ strength need }
 {
     for algo in ALGOS {
@@ -25,9 +25,10 @@ fn strength(need: u32) -> Option<Algo>
     None
 }
 
-// Returns the report without a text on a result; `peak` is the memory that was taken.
-fn report_of(end: Result<Status, Fault>, peak: u64) -> UimgReport
-    ensures code { result.status ≢ 3 → code_of_answer end ≡ Some (record {
+/// Returns the report without a text by the numbers of a result; `peak` is the memory that was taken.
+pub(crate) fn report_of(code: Option<Code>, peak: u64) -> UimgReport
+    requires { IfSome code (λ c. c.status ≤ 1) }
+    ensures code { result.status ≢ 3 → code ≡ Some (record {
       status = result.status;
       fault = result.fault;
       place = result.place;
@@ -36,7 +37,7 @@ fn report_of(end: Result<Status, Fault>, peak: u64) -> UimgReport
     ensures no_text { (result.needed ≡ 0) × (result.written ≡ 0) }
     ensures peak { result.peak ≤ peak }
 {
-    match answer_code(end) {
+    match code {
         Some(code) => UimgReport {
             status: code.status,
             fault: code.fault,
@@ -56,8 +57,12 @@ fn report_of(end: Result<Status, Fault>, peak: u64) -> UimgReport
     }
 }
 
-// Checks the bytes of an image for an algorithm.
-fn check_for<A: Allocator>(need: Algo, image: &[u8], room: &mut Room<A>) -> Result<Status, Fault>
+/// Checks the bytes of an image for an algorithm.
+pub(crate) fn check_for<A: Allocator>(
+    need: Algo,
+    image: &[u8],
+    room: &mut Room<A>,
+) -> Result<Status, Fault>
     ensures end { is_no_memory result ≡ false → end_of result ≡ Some (end_of_check need image.now) }
     ensures no_put { is_put result ≡ false }
     ensures memory { InMemory form.Guess image.now result room }
@@ -78,6 +83,6 @@ pub(crate) fn check(alloc: Global, image: &[u8], need: u32, report: &mut UimgRep
         Some(algo) => check_for(algo, image, &mut room),
         None => Ok(Status::NotRight),
     };
-    *report = report_of(end, peak_of(&room));
+    *report = report_of(answer_code(end), peak_of(&room));
     report.status
 }

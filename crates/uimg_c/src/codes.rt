@@ -1,6 +1,6 @@
 //! The numbers that show how a command ended.
 
-ghost use Rattle.std.specs.Prelude.{◌≡◌, ◌+◌, ◌*◌, ◌<◌};
+ghost use Rattle.std.specs.Prelude.{◌≡◌, ◌+◌, ◌*◌, ◌<◌, ◌≤◌, IfSome};
 ghost use Rattle.uimg_c.specs.Codes.{legacy_number, blob_number, fit_number, code_of_fault, code_of_answer};
 
 use uimg_base::Status;
@@ -60,7 +60,8 @@ fn refusal(letter: u32, number: u32, place: u64) -> Code
 // Returns the numbers of a fault of an image or its blob; none if memory for the table of nodes was
 // refused, a device failed, or a making's files are at fault.
 pub(crate) fn fault_code(fault: Fault) -> Option<Code>
-    ensures { result ≡ code_of_fault fault }
+    ensures code { result ≡ code_of_fault fault }
+    ensures known { IfSome result (λ code. code.status ≤ 1) }
 {
     match fault {
         Fault::Legacy(own) => Some(refusal(b'L' as u32, number_of_legacy(own), 0)),
@@ -73,7 +74,8 @@ pub(crate) fn fault_code(fault: Fault) -> Option<Code>
 
 /// Returns the numbers of a result, or `None` if memory was refused.
 pub(crate) fn answer_code(end: Result<Status, Fault>) -> Option<Code>
-    ensures { result ≡ code_of_answer end }
+    ensures code { result ≡ code_of_answer end }
+    ensures known { IfSome result (λ code. code.status ≤ 1) }
 {
     match end {
         Ok(Status::Done) => Some(Code {

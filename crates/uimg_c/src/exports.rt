@@ -6,13 +6,15 @@
 //! has no bytes if none was found. The reported memory is at most 8192 bytes and 128 for each node;
 //! tests show that it is not less than what was taken.
 
-ghost use Rattle.std.specs.Prelude.{◌≡◌, ◌≢◌, ◌≤◌, false};
+ghost use Rattle.std.specs.Prelude.{◌≡◌, ◌≢◌, ◌≤◌, true, false};
 ghost use Rattle.uimg_requests.specs.declared.command.Action.TheVariants as action;
 ghost use Rattle.uimg_requests.specs.declared.command.Form.TheVariants as form;
 ghost use Rattle.uimg_checks.specs.Counting.{count_of};
 ghost use Rattle.uimg_engine.specs.Headline.{is_fit};
 ghost use Rattle.uimg_fit_checking.specs.Named.{name_at, payload_named};
 ghost use Rattle.uimg_c.specs.Answers.{ReportsCheck, ReportsCount, HasBytes, FindsNamed, Located, ReportsOn, no_report, outcome_by, table_most};
+ghost use Rattle.uimg_c.specs.Strict.{ReportsStrict};
+ghost use Rattle.uimg_uboot.specs.Readings.{ReadAsChecked};
 
 use crate::checks::check;
 use crate::counts::payload_count;
@@ -21,6 +23,7 @@ use crate::fronts::copy_front;
 use crate::payloads::{payload_at, payload_name, payload_named};
 use crate::reports::{UimgCount, UimgPayload, UimgReport};
 use crate::running::report_on;
+use crate::strict_checks::check_strictly;
 use std::alloc::Global;
 use uimg_requests::{Action, Command, Form, VERSION};
 
@@ -60,7 +63,7 @@ pub extern "C" fn uimg_verify(
     report_on(alloc, &command, image, text, report)
 }
 
-/// Checks an image strictly: it is whole and has images, each with a hash node of at least the
+/// Checks an image: it is whole and has images, each with a hash node of at least the
 /// strength `need`, from 1, CRC-32, to 6, SHA-512; a legacy image has CRC-32. Writes no text.
 #[unsafe(no_mangle)]
 pub extern "C" fn uimg_check(alloc: Global, image: &[u8], need: u32, report: &mut UimgReport) -> u32
@@ -70,6 +73,25 @@ pub extern "C" fn uimg_check(alloc: Global, image: &[u8], need: u32, report: &mu
     ensures nothing { result ≡ 3 → report.new ≡ no_report }
 {
     check(alloc, image, need, report)
+}
+
+/// Checks an image as `uimg_check` does. If all is right, it also refuses what U-Boot reads in
+/// another way than the check: if the status is 0, U-Boot finds in a FIT image exactly the images
+/// that were checked, each with the payload whose hash nodes are right, and compares no others.
+#[unsafe(no_mangle)]
+pub extern "C" fn uimg_check_strict(
+    alloc: Global,
+    image: &[u8],
+    need: u32,
+    report: &mut UimgReport,
+) -> u32
+    ensures told { result ≢ 3 → ReportsStrict need image.now report.new }
+    ensures read { result ≡ 0 → is_fit form.Guess image.now ≡ true → ReadAsChecked image.now }
+    ensures status { result ≡ report.new.status }
+    ensures peak { report.new.peak ≤ table_most form.Guess image.now }
+    ensures nothing { result ≡ 3 → report.new ≡ no_report }
+{
+    check_strictly(alloc, image, need, report)
 }
 
 /// Finds the part of a legacy image, or the payload of a FIT image's image, at a position, counted

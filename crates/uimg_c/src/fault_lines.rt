@@ -8,6 +8,7 @@ use std::fmt::{Display, Write};
 use uimg_blob_reading::BlobFault;
 use uimg_fit_base::FitFault;
 use uimg_legacy::LegacyFault;
+use uimg_strict::Looseness;
 
 /// L1 to L10.
 const LEGACY_FAULTS: [LegacyFault; 10] = [
@@ -50,6 +51,26 @@ const FIT_FAULTS: [FitFault; 10] = [
     FitFault::OutOfMemory,
     FitFault::NoFile,
     FitFault::ReadFailed,
+];
+
+/// S1 to S16.
+const LOOSENESS: [Looseness; 16] = [
+    Looseness::NoDescription,
+    Looseness::NoTimestamp,
+    Looseness::UnitAddress,
+    Looseness::DoubledNode,
+    Looseness::DoubledProperty,
+    Looseness::IgnoredHash,
+    Looseness::OddCell,
+    Looseness::TwoPayloads,
+    Looseness::HalfPlace,
+    Looseness::UnsoundBlob,
+    Looseness::Misplaced,
+    Looseness::EmptyData,
+    Looseness::UnknownType,
+    Looseness::UnknownArchitecture,
+    Looseness::UnknownSystem,
+    Looseness::UnknownCompression,
 ];
 
 // A line of at most 64 bytes.
@@ -110,6 +131,12 @@ pub(crate) fn put_fault_line(fault: u32, text: &mut [u8]) -> usize
     }
     if letter == b'F' as u32 {
         return put_line(FIT_FAULTS.get(number - 1), text);
+    }
+    if letter == b'S' as u32 {
+        let Some(why) = LOOSENESS.get(number - 1) else {
+            return 0;
+        };
+        return put_line(Some(&format_args!("S{number} {}", why.word())), text);
     }
     0
 }

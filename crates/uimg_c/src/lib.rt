@@ -14,3 +14,4 @@ mod payloads;
 mod peaks;
 mod reports;
 mod running;
+mod strict_checks;

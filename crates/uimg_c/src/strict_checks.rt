@@ -1,0 +1,101 @@
+//! Whether an image in memory is right, and U-Boot reads it as it was checked.
+
+ghost use Rattle.std.specs.Prelude.{◌≡◌, ◌≢◌, ◌≤◌, max, Some, IfSome, true, false};
+ghost use Rattle.uimg_base.specs.Held.{held_bytes};
+ghost use Rattle.uimg_requests.specs.declared.command.Form.TheVariants as form;
+ghost use Rattle.uimg_engine.specs.Headline.{is_fit, nodes_in};
+ghost use Rattle.uimg_uboot.specs.Readings.{ReadAsChecked};
+ghost use Rattle.uimg_c.specs.Answers.{no_report, table_most};
+ghost use Rattle.uimg_c.specs.Codes.{refusal};
+ghost use Rattle.uimg_c.specs.Strict.{ReportsStrict, code_of_loose, loose_number, strict_code_for};
+ghost use Rattle.uimg_c.specs.Strict.{why_in_fit, why_in_legacy};
+ghost use Rattle.uimg_strict.specs.{Headers.loose_legacy, Looseness.looseness_of};
+ghost use Rattle.uimg_blob_reading.specs.Counts.{nodes_met};
+
+use crate::checks::{report_of, strength};
+use crate::codes::{Code, NOT_RIGHT, answer_code, fault_code};
+use crate::peaks::peak_of;
+use crate::reports::UimgReport;
+use std::alloc::{Allocator, Global};
+use uimg_base::{Algo, MemSource, Room, Status};
+use uimg_checks::Checked;
+use uimg_engine::Fault;
+use uimg_fit_checking::{Finding, SurveyFault};
+use uimg_legacy::PartsFault;
+use uimg_strict::{Looseness, find_loose, find_loose_header};
+
+// Returns the numbers of what strictness refuses: the letter S, and a number from 1 to 16.
+fn loose_code(why: Looseness) -> Code
+    ensures { result ≡ refusal 83 (loose_number why) 0 }
+{
+    Code {
+        status: NOT_RIGHT,
+        fault: 256 * (b'S' as u32) + (why as u32 + 1),
+        place: 0,
+    }
+}
+
+// Returns the numbers of what strictness refuses of a FIT image; none if memory was refused.
+fn loose_fit<A: Allocator>(alloc: Global, image: &[u8], room: &mut Room<A>) -> Option<Code>
+    ensures peak { room.new.peak ≤ max room.old.peak (held_bytes (nodes_met image.now)) }
+    ensures known { IfSome result (λ code. code.status ≤ 1) }
+    ensures told { IfSome result (λ code. code_of_loose (why_in_fit (looseness_of image.now)) ≡ Some code) }
+{
+    match find_loose(alloc, &mut MemSource::new(image), room) {
+        Ok(None) => answer_code(Ok(Status::Done)),
+        Ok(Some(loose)) => Some(loose_code(loose.why)),
+        Err(SurveyFault::Stopped(fault)) => fault_code(Fault::from(fault)),
+        Err(_) => None,
+    }
+}
+
+// Returns the same for a legacy image.
+fn loose_legacy<A: Allocator>(alloc: Global, image: &[u8], room: &mut Room<A>) -> Option<Code>
+    ensures room { room.new ≡ room.old }
+    ensures known { IfSome result (λ code. code.status ≤ 1) }
+    ensures told { IfSome result (λ code. code_of_loose (why_in_legacy (loose_legacy image.now)) ≡ Some code) }
+{
+    match find_loose_header(alloc, &mut MemSource::new(image), room) {
+        Ok(None) => answer_code(Ok(Status::Done)),
+        Ok(Some(why)) => Some(loose_code(why)),
+        Err(PartsFault::Stopped(fault)) => fault_code(Fault::from(fault)),
+        Err(_) => None,
+    }
+}
+
+// Returns the numbers of a strict check of an image for an algorithm; none if memory was refused.
+fn strict_code<A: Allocator>(
+    alloc: Global,
+    need: Algo,
+    image: &[u8],
+    room: &mut Room<A>,
+) -> Option<Code>
+    ensures peak { room.new.peak ≤ max room.old.peak
+        (held_bytes (nodes_in (is_fit form.Guess image.now) image.now)) }
+    ensures known { IfSome result (λ code. code.status ≤ 1) }
+    ensures told { IfSome result (λ code. strict_code_for need image.now ≡ Some code) }
+{
+    match uimg_checks::check(Some(need), &mut MemSource::new(image), room) {
+        Ok(Checked::Fit(Finding::Right { .. })) => loose_fit(alloc, image, room),
+        Ok(Checked::Right) => loose_legacy(alloc, image, room),
+        Ok(_) => answer_code(Ok(Status::NotRight)),
+        Err(fault) => fault_code(fault),
+    }
+}
+
+/// Checks the bytes of an image strictly, with `need` as the number of the needed strength.
+pub(crate) fn check_strictly(alloc: Global, image: &[u8], need: u32, report: &mut UimgReport) -> u32
+    ensures told { result ≢ 3 → ReportsStrict need image.now report.new }
+    ensures read { result ≡ 0 → is_fit form.Guess image.now ≡ true → ReadAsChecked image.now }
+    ensures status { result ≡ report.new.status }
+    ensures nothing { result ≡ 3 → report.new ≡ no_report }
+    ensures peak { report.new.peak ≤ table_most form.Guess image.now }
+{
+    let mut room = Room::new(alloc);
+    let code = match strength(need) {
+        Some(algo) => strict_code(alloc, algo, image, &mut room),
+        None => answer_code(Ok(Status::NotRight)),
+    };
+    *report = report_of(code, peak_of(&room));
+    report.status
+}
