@@ -118,11 +118,13 @@ arm64-test:
 	@CPU=$(ASKED) python3 scripts/release.py --programs
 	@python3 scripts/arm64_test.py out/release
 
-## make peers    compares the program with the real mkimage, dumpimage and dtc, if installed
+## make peers    compares the program with the real mkimage, dumpimage and dtc, if installed, and its
+##               commands with each other on hostile images
 peers: bin/uimg bin/uimg_peers
 	@scripts/needs.sh python3
 	python3 peers/peers.py bin/uimg bin/uimg_peers
 	python3 peers/strict.py bin/uimg
+	python3 peers/hostile.py bin/uimg
 
 ## make bench    times the program, and those of release/, beside dumpimage, mkimage, cat and cp; draws
 ##               bench/chart.svg with python3-matplotlib
