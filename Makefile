@@ -84,7 +84,7 @@ json-test: bin/uimg
 	@scripts/needs.sh python3
 	@python3 scripts/json_test.py bin/uimg
 
-## make farm-test   kills examples/farm in the middle and resumes it, with GNU parallel
+## make farm-test   kills examples/farm, resumes it, and changes images, with GNU parallel
 farm-test: bin/uimg
 	@scripts/needs.sh python3
 	@python3 scripts/farm_test.py bin/uimg
