@@ -241,6 +241,9 @@ def check_example(*words):
     case(f"{words[-1]} unpacks", (told.returncode, told.stdout) == (0, b"abc"), str(told))
     told = ran(*words, image, "1")
     case(f"{words[-1]} refuses", (told.returncode, told.stdout) == (1, b"") and b"F4 no such image" in told.stderr, str(told))
+    made(ONE % IMAGE % (1, ""))
+    told = ran(*words, f"{WORK}/k.itb", "0")
+    case(f"{words[-1]} refuses a payload without a hash", (told.returncode, told.stdout) == (1, b""), str(told))
     for position in ("", "abc", "1x", "-1", "4294967296"):
         told = ran(*words, image, position)
         case(f"{words[-1]} at {position!r}", (told.returncode, told.stdout) == (2, b""), str(told))

@@ -6,6 +6,12 @@
     if uimg.check(image, "sha256").status == uimg.DONE:
         payload = uimg.payload(image, "kernel")
 
+check, by "sha256", is the library's strictest check: each image has a right hash of that strength.
+verify also returns DONE for an image without hashes. Neither looks how U-Boot reads the tree: by
+libfdt it finds a node kernel@1 by the name kernel, and the first of two properties or nodes of one
+name. So U-Boot may take other bytes than those that were checked, which no hash covers. The program
+refuses such images: run `uimg check --strict` on an image before U-Boot gets it.
+
 An image is bytes, or anything else with a contiguous buffer. As a program it does the same as
 examples/c/unpack.c: `python3 uimg.py kernel.itb 0 > payload`. LIBUIMG names a library to use in place
 of libuimg.so.0."""
@@ -232,10 +238,9 @@ def _mapped(path):
 
 def _unpack(path, position):
     image = _mapped(path)
-    report = verify(image)
+    report = check(image, "sha256")
     if report.status != DONE:
-        sys.stderr.write(report.text.decode(errors="replace"))
-        print(f"uimg.py: {report.fault or ('out of memory' if report.status == FAILED else 'not right')}", file=sys.stderr)
+        print(f"uimg.py: {report.fault or ('out of memory' if report.status == FAILED else 'a hash is wrong, or too weak')}", file=sys.stderr)
         return report.status
     try:
         found = payload(image, position)
