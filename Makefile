@@ -98,9 +98,7 @@ install: bin/uimg
 	done
 	install -d $(DESTDIR)$(PREFIX)/share/man/man1
 	install -m 644 docs/uimg.1 docs/uimg-mkimage.1 docs/uimg-dumpimage.1 $(DESTDIR)$(PREFIX)/share/man/man1
-	install -D -m 644 completions/uimg.bash $(DESTDIR)$(PREFIX)/share/bash-completion/completions/uimg
-	install -D -m 644 completions/_uimg $(DESTDIR)$(PREFIX)/share/zsh/site-functions/_uimg
-	install -D -m 644 completions/uimg.fish $(DESTDIR)$(PREFIX)/share/fish/vendor_completions.d/uimg.fish
+	scripts/install_completions.sh $(DESTDIR)$(PREFIX)/share $(if $(OLD_NAMES),mkimage dumpimage)
 	test ! -f lib/libuimg.a || scripts/install_lib.sh "$(DESTDIR)" "$(PREFIX)"
 
 ## make deb      packs both, with documents and examples, as Debian packages in out/
