@@ -41,6 +41,8 @@ BATCH, PATIENCE = 500, 60
 TWICE = 10
 MAGIC = 0x27051956
 COMMANDS = {"verify": (), "info": (), "map": (), "unpack": ("--no-sync", "-C", "outer/inner")}
+# The lines of those that escape names.
+LINES = {"info": re.compile(rb"\{.*\}"), "map": re.compile(rb"[0-9a-f]+-[0-9a-f]+ +\d+ [.#]+ .+"), "unpack": re.compile(rb"\S*: [^:]+")}
 NAMES = ["", ".", "..", "../out", "../../out", "/tmp/uimg-hostile", "a/b", "a b", "a: ok", "a\nb: ok", "\x1b[2J", "\x01\x7f", "-x", ".hidden", "A", "a",
          ".uimg-new1", "image-0", "images", "hash", "@", "a@1@2", "\udcff\udcfe", "\udce2\udc80", "\u202eb", "\u2028", "%s%n", "'$(x)'", "x" * 255,
          "x" * 256, "ok\\x0a", "uboot-ignore"]  # fmt: skip
@@ -159,25 +161,29 @@ def summed(image):
     return head[:4] + strict.cell(zlib.crc32(head)) + head[8:] + image[64:]
 
 
+def contents(path):
+    with open(path, "rb") as file:
+        return file.read()
+
+
 def built(uimg, folder):
     """Images that `uimg mkimage` makes, of each type, with payloads at each place."""
     images = []
     for number, given in enumerate(fit.fits(SEED, 12)):
         for it in given.images:
             it.payload = it.payload[:200]
-        paths = [fit.build(folder, given, PLACEMENTS[number % 3], (uimg, "mkimage"))]
-        images += [open(path, "rb").read() for path in paths]
+        images.append(contents(fit.build(folder, given, PLACEMENTS[number % 3], (uimg, "mkimage"))))
     for kind in ("standalone", "kernel", "ramdisk", "multi", "firmware", "script", "filesystem", "kernel_noload"):
         files = ["examples/abc.bin"] * (3 if kind in ("multi", "script") else 1)
         subprocess.run([uimg, "mkimage", "-T", kind, "-n", kind, "-d", ":".join(files), f"{folder}/u.img"], check=True, capture_output=True)
-        images.append(open(f"{folder}/u.img", "rb").read())
+        images.append(contents(f"{folder}/u.img"))
     return images
 
 
 def kinds_of(uimg, count):
     """Yields each kind of images with its images."""
     maker, share = Maker(random.Random(SEED)), count // 4
-    cases = [open(it, "rb").read() for it in sorted(glob.glob("cases/files/*.i[tm][bg]"))]
+    cases = [contents(it) for it in sorted(glob.glob("cases/files/*.i[tm][bg]"))]
     yield "mutated examples", [*broken.images(share // 2), *(maker.mutation(maker.chance.choice(cases)) for _ in range(share - share // 2))]
     with tempfile.TemporaryDirectory() as folder:
         made = built(uimg, folder)
@@ -257,9 +263,10 @@ class Reader:
             agrees = AGREES.get(here, {command: (here,)})[command]
             if answer not in agrees:
                 self.find(f"check {here}, {command} {answer}", path, ended[2][:200])
-            if command != "verify" and re.search(rb"[\0-\x09\x0b-\x1f\x7f]", ended[1] + ended[2]):
-                self.find(f"{command}: a control character", path)
-            if command != "unpack" and zlib.crc32(path.encode()) % TWICE == 0 and ended != ran([self.uimg, command, *words, path], cwd=folder):
+            is_odd = re.search(rb"[\0-\x09\x0b-\x1f\x7f]", ended[1] + ended[2])
+            if command in LINES and (is_odd or not all(LINES[command].fullmatch(it) for it in ended[1].splitlines())):
+                self.find(f"{command}: a line of another form", path, ended[1][:200])
+            if command != "unpack" and int(os.path.basename(folder)) % TWICE == 0 and ended != ran([self.uimg, command, *words, path], cwd=folder):
                 self.find(f"a second {command} is another", path)
         self.compare_files(path, plain, answers)
         shutil.rmtree(folder)
@@ -267,16 +274,16 @@ class Reader:
     def compare_files(self, path, plain, answers):
         """The files of unpack have to be the payloads that info lists, and no others exist."""
         folder = os.path.dirname(path)
-        if os.listdir(folder) != ["outer"] and sorted(os.listdir(folder)) != ["image", "outer"] or os.listdir(f"{folder}/outer") != ["inner"]:
+        if sorted(os.listdir(folder)) != ["image", "outer"] or os.listdir(f"{folder}/outer") != ["inner"]:
             self.find("unpack: a file outside the folder", path)
         names = os.listdir(f"{folder}/outer/inner")
         if answers["unpack"][0] != 0 or answers["info"][0] != 0:
             if names and answers["unpack"][0] != 0:
                 self.find("unpack: a refused one leaves a file", path, names)
             return
-        image, facts = open(path, "rb").read(), json.loads(answers["info"][1])
+        image, facts = contents(path), json.loads(answers["info"][1])
         places = [(it["offset"], it["size"]) for it in facts.get("parts", ())] + [(it.get("offset", 0), it.get("data-size", 0)) for it in facts.get("images", ())]
-        if sorted(open(f"{folder}/outer/inner/{it}", "rb").read() for it in names) != sorted(image[at : at + size] for at, size in places):
+        if sorted(contents(f"{folder}/outer/inner/{it}") for it in names) != sorted(image[at : at + size] for at, size in places):
             self.find("unpack: other bytes than info lists", path, names)
         counts = len(facts.get("images", ())), sum(len(it["hashes"]) for it in facts.get("images", ()))
         if "images" in plain and counts != (plain["images"], plain["hashes"]):
@@ -296,8 +303,8 @@ class Reader:
             for it in jobs:
                 self.compare_checks(*it)
             list(pool.map(lambda it: self.read(it[0], it[1]), jobs))
-        for left in (*sorted(set(os.listdir(self.room)) - {str(number + it) for it in range(len(images))}), "/tmp/uimg-hostile"):
-            if os.path.exists(os.path.join(self.room, left)):
+        for left in [*os.listdir(self.room), "/tmp/uimg-hostile"]:
+            if left not in {str(number + it) for it in range(len(images))} and os.path.exists(os.path.join(self.room, left)):
                 self.find("unpack: a file outside the folder", paths[0], left)
         found = [(what, by_path[path], detail) for what, path, detail in self.findings]
         self.findings.clear()
