@@ -51,13 +51,15 @@ PLACEMENTS = [[], ["-E"], ["-E", "-p", "4000"]]
 NUMBERS = [0, 1, 3, 4, 63, 2**16, 2**31 - 1, 2**31, 2**32 - 4, 2**32 - 1]
 
 # Which answers of the others agree with that of check: "bad" stands for what is not right of
-# checksums and hashes, and F2, F3, L6 and L7 for what comes after the first of these.
+# checksums and hashes, and F2, F3, L6 and L7 for what comes after the first of these. unpack also
+# counts payloads without a hash, of which check reads none.
 LATER = ("F2", "F3", "L6", "L7")
 AGREES = {
     "ok": {it: ("ok",) for it in COMMANDS},
-    "bad": {"verify": ("bad", *LATER), "info": ("ok", *LATER), "map": ("ok", *LATER), "unpack": ("bad", *LATER)},
+    "unhashed": {"verify": ("ok",), "info": ("ok",), "map": ("ok",), "unpack": ("ok", "overlapping")},
+    "bad": {"verify": ("bad", *LATER), "info": ("ok", *LATER), "map": ("ok", *LATER), "unpack": ("bad", "overlapping", *LATER)},
+    "overlapping": {"verify": ("ok", "bad", *LATER), "info": ("ok", *LATER), "map": ("ok", *LATER), "unpack": ("overlapping", *LATER)},
 }
-AGREES["overlapping"] = {**AGREES["bad"], "verify": ("ok", *AGREES["bad"]["verify"])}
 # verify reports on the checksums alone.
 AGREES |= {it: {**{command: (it,) for command in COMMANDS}, "verify": (it, "ok")} for it in ("L6", "L7")}
 
@@ -109,6 +111,9 @@ class Maker(strict.Maker):
             for _ in range(self.chance.choice([3, 70, 300])):
                 below = (self.name("deep"), [], [below])
             self.chance.choice(parents)[2].append(below)
+        if self.odd():
+            shared = [("data-position", strict.cell(0)), ("data-size", strict.cell(300))]
+            self.chance.choice(parents)[2].extend((f"shared{it}", shared, []) for it in range(8))
         if self.odd():
             parents.append((self.name("more"), [(self.chance.choice(NAMES), b"")], []))
         if self.odd():
@@ -183,7 +188,7 @@ def built(uimg, folder):
 def kinds_of(uimg, count):
     """Yields each kind of images with its images."""
     maker, share = Maker(random.Random(SEED)), count // 4
-    cases = [contents(it) for it in sorted(glob.glob("cases/files/*.i[tm][bg]"))]
+    cases = [contents(it) for it in sorted(glob.glob("cases/files/*.i[tm][bg]"))] + [json_test.shared()] * 3
     yield "mutated examples", [*broken.images(share // 2), *(maker.mutation(maker.chance.choice(cases)) for _ in range(share - share // 2))]
     with tempfile.TemporaryDirectory() as folder:
         made = built(uimg, folder)
@@ -205,7 +210,7 @@ def answer_of(command, status, out, said):
     """The answer of a command: ok, bad, the code of a fault, or a status that is not 0 or 1."""
     if status in (0, 1):
         told = re.search(rb'"fault":"([A-Z]\d+)"' if command == "info" else rb"^uimg: ([A-Z]\d+) ", out if command == "info" and status else said, re.M)
-        code = told[1].decode() if told else None
+        code = told[1].decode() if told else "overlapping" if b": overlapping" in out else None
         return "ok" if status == 0 else "bad" if code in (None, "L5") else code
     return "hang" if status == "hang" else f"signal {-status}" if status < 0 else f"status {status}"
 
@@ -215,7 +220,7 @@ def answer_of_check(told):
     verdict = told["verdict"]
     if verdict in ("refused", "failed"):
         return told.get("fault", verdict)
-    return verdict if verdict in ("ok", "overlapping") else "ok" if told["status"] == 0 else "bad"
+    return verdict if verdict in ("ok", "unhashed", "overlapping") else "bad"
 
 
 class Reader:
