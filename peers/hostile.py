@@ -60,8 +60,9 @@ AGREES = {
     "bad": {"verify": ("bad", *LATER), "info": ("ok", *LATER), "map": ("ok", *LATER), "unpack": ("bad", "overlapping", *LATER)},
     "overlapping": {"verify": ("ok", "bad", *LATER), "info": ("ok", *LATER), "map": ("ok", *LATER), "unpack": ("overlapping", *LATER)},
 }
+AGREES |= {it: {**{command: (it,) for command in COMMANDS}, "unpack": (it, "overlapping")} for it in ("F2", "F3")}
 # verify reports on the checksums alone.
-AGREES |= {it: {**{command: (it,) for command in COMMANDS}, "verify": (it, "ok")} for it in ("L6", "L7")}
+AGREES |= {it: {**{command: (it,) for command in COMMANDS}, "verify": ("ok", "bad")} for it in ("L3", "L6", "L7")}
 
 # Contradictions with a known cause.
 KNOWN = {
