@@ -84,7 +84,7 @@ json-test: bin/uimg
 	@scripts/needs.sh python3
 	@python3 scripts/json_test.py bin/uimg
 
-## make farm-test   kills examples/farm in the middle and resumes it, with GNU parallel
+## make farm-test   kills examples/farm, resumes it, and changes images, with GNU parallel
 farm-test: bin/uimg
 	@scripts/needs.sh python3
 	@python3 scripts/farm_test.py bin/uimg
@@ -98,9 +98,7 @@ install: bin/uimg
 	done
 	install -d $(DESTDIR)$(PREFIX)/share/man/man1
 	install -m 644 docs/uimg.1 docs/uimg-mkimage.1 docs/uimg-dumpimage.1 $(DESTDIR)$(PREFIX)/share/man/man1
-	install -D -m 644 completions/uimg.bash $(DESTDIR)$(PREFIX)/share/bash-completion/completions/uimg
-	install -D -m 644 completions/_uimg $(DESTDIR)$(PREFIX)/share/zsh/site-functions/_uimg
-	install -D -m 644 completions/uimg.fish $(DESTDIR)$(PREFIX)/share/fish/vendor_completions.d/uimg.fish
+	scripts/install_completions.sh $(DESTDIR)$(PREFIX)/share $(if $(OLD_NAMES),mkimage dumpimage)
 	test ! -f lib/libuimg.a || scripts/install_lib.sh "$(DESTDIR)" "$(PREFIX)"
 
 ## make deb      packs both, with documents and examples, as Debian packages in out/
@@ -118,11 +116,13 @@ arm64-test:
 	@CPU=$(ASKED) python3 scripts/release.py --programs
 	@python3 scripts/arm64_test.py out/release
 
-## make peers    compares the program with the real mkimage, dumpimage and dtc, if installed
+## make peers    compares the program with the real mkimage, dumpimage and dtc, if installed, and its
+##               commands with each other on hostile images
 peers: bin/uimg bin/uimg_peers
 	@scripts/needs.sh python3
 	python3 peers/peers.py bin/uimg bin/uimg_peers
 	python3 peers/strict.py bin/uimg
+	python3 peers/hostile.py bin/uimg
 
 ## make bench    times the program, and those of release/, beside dumpimage, mkimage, cat and cp; draws
 ##               bench/chart.svg with python3-matplotlib

@@ -6,7 +6,10 @@ What is installed with the program
 The completions have the commands, options and short names of the helps:
 
   $ "$top/scripts/completions.py" "$(command -v uimg)" --check
-  $ complete_at() { bash -c '. "$0"; COMP_WORDS=("$@"); COMP_CWORD=$(($# - 1)); _uimg 2> /dev/null; echo "${COMPREPLY[@]}"' "$top/completions/uimg.bash" "$@"; }
+  $ complete_at() {
+  >     bash -c 'compopt() { echo "$*"; }; . "$0"; COMP_WORDS=("$@"); COMP_CWORD=$(($# - 1)); _${1//-/_}; echo "${COMPREPLY[@]}"' \
+  >         "$top/completions/$1.bash" "$@"
+  > }
   $ complete_at uimg ''
   mkimage dumpimage verify check unpack info map --help --version
   $ complete_at uimg mkimage -A arm
@@ -14,7 +17,54 @@ The completions have the commands, options and short names of the helps:
   $ complete_at uimg dumpimage -T f
   firmware filesystem flat_dt
   $ complete_at uimg verify -
-  -h
+  -h --help
+
+They complete a folder after -C, and files after what takes one:
+
+  $ complete_at uimg unpack -C ''
+  -o dirnames
+  
+  $ complete_at uimg mkimage -d ''
+  -o default
+  
+  $ complete_at uimg unpack --only ''
+  
+
+The names of mkimage and dumpimage have completions of their own:
+
+  $ complete_at uimg-mkimage --os open
+  openbsd openrtos opensbi
+  $ complete_at uimg-mkimage -C l
+  lz4 lzma lzo
+  $ complete_at uimg-mkimage --a
+  --architecture --alignment
+  $ complete_at uimg-dumpimage -T f
+  firmware filesystem flat_dt
+  $ complete_at uimg-dumpimage -
+  -l -o -p -T -h -V
+  $ "$top/scripts/install_completions.sh" share mkimage && find share -type f | sort
+  share/bash-completion/completions/mkimage
+  share/bash-completion/completions/uimg
+  share/bash-completion/completions/uimg-dumpimage
+  share/bash-completion/completions/uimg-mkimage
+  share/fish/vendor_completions.d/mkimage.fish
+  share/fish/vendor_completions.d/uimg-dumpimage.fish
+  share/fish/vendor_completions.d/uimg-mkimage.fish
+  share/fish/vendor_completions.d/uimg.fish
+  share/zsh/site-functions/_mkimage
+  share/zsh/site-functions/_uimg
+  share/zsh/site-functions/_uimg-dumpimage
+  share/zsh/site-functions/_uimg-mkimage
+  $ diff "$top/completions/_uimg-mkimage" share/zsh/site-functions/_mkimage
+  1c1
+  < #compdef uimg-mkimage
+  ---
+  > #compdef mkimage
+  [1]
+  $ tail -n 1 share/bash-completion/completions/mkimage
+  complete -F _uimg_mkimage mkimage
+  $ grep -c '^complete -c mkimage ' share/fish/vendor_completions.d/mkimage.fish
+  20
 
 The manual page and the package have the program's version:
 

@@ -17,45 +17,39 @@ _uimg() {
                 -n) return ;;
                 -p) return ;;
             esac
-            test "${current#-}" = "$current" || { COMPREPLY=($(compgen -W '-A -O -T -C -a -e -n -d -f -E -p -l -h' -- "$current")); return; }
+            test "${current#-}" = "$current" || { COMPREPLY=($(compgen -W '-A -O -T -C -a -e -n -d -f -E -p -l -h --help' -- "$current")); return; }
             ;;
         dumpimage)
             case "$previous" in
                 -T) COMPREPLY=($(compgen -W 'standalone kernel ramdisk multi firmware script filesystem flat_dt kernel_noload' -- "$current")); return ;;
                 -p) return ;;
             esac
-            test "${current#-}" = "$current" || { COMPREPLY=($(compgen -W '-l -T -p -o -h' -- "$current")); return; }
+            test "${current#-}" = "$current" || { COMPREPLY=($(compgen -W '-l -T -p -o -h --help' -- "$current")); return; }
             ;;
         verify)
-            case "$previous" in
-            esac
-            test "${current#-}" = "$current" || { COMPREPLY=($(compgen -W '-h' -- "$current")); return; }
+            test "${current#-}" = "$current" || { COMPREPLY=($(compgen -W '-h --help' -- "$current")); return; }
             ;;
         check)
             case "$previous" in
-                --need) COMPREPLY=($(compgen -W 'crc32 md5 sha1 sha256 sha384 sha512' -- "$current")); return ;;
+                --need|--need-hash) COMPREPLY=($(compgen -W 'crc32 md5 sha1 sha256 sha384 sha512' -- "$current")); return ;;
             esac
-            test "${current#-}" = "$current" || { COMPREPLY=($(compgen -W '--need --strict --files-from -0 --json --quiet --allow-empty -h' -- "$current")); return; }
+            test "${current#-}" = "$current" || { COMPREPLY=($(compgen -W '--need --strict --files-from -0 --json --quiet --allow-empty -h --help' -- "$current")); return; }
             ;;
         unpack)
             case "$previous" in
-                -C) return ;;
+                -C|--directory) compopt -o dirnames; return ;;
                 --only) return ;;
-                --need) COMPREPLY=($(compgen -W 'crc32 md5 sha1 sha256 sha384 sha512' -- "$current")); return ;;
+                --need|--need-hash) COMPREPLY=($(compgen -W 'crc32 md5 sha1 sha256 sha384 sha512' -- "$current")); return ;;
                 --max-files) return ;;
                 --max-bytes) return ;;
             esac
-            test "${current#-}" = "$current" || { COMPREPLY=($(compgen -W '-C --only --need --force --keep-good --no-sync --max-files --max-bytes --clean -h' -- "$current")); return; }
+            test "${current#-}" = "$current" || { COMPREPLY=($(compgen -W '-C --only --need --force --keep-good --no-sync --max-files --max-bytes --clean -h --help' -- "$current")); return; }
             ;;
         info)
-            case "$previous" in
-            esac
-            test "${current#-}" = "$current" || { COMPREPLY=($(compgen -W '--json -h' -- "$current")); return; }
+            test "${current#-}" = "$current" || { COMPREPLY=($(compgen -W '--json -h --help' -- "$current")); return; }
             ;;
         map)
-            case "$previous" in
-            esac
-            test "${current#-}" = "$current" || { COMPREPLY=($(compgen -W '--svg --force -h' -- "$current")); return; }
+            test "${current#-}" = "$current" || { COMPREPLY=($(compgen -W '--svg --force -h --help' -- "$current")); return; }
             ;;
     esac
     compopt -o default

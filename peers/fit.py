@@ -100,15 +100,15 @@ def fits(seed, count):
     return [Fit(pick) for _ in range(count)]
 
 
-def build(folder, fit, placement):
-    """The path of the image that the real mkimage makes."""
+def build(folder, fit, placement, tool=("mkimage",)):
+    """The path of the image that the real mkimage makes, or another tool."""
     for image in fit.images:
         with open(os.path.join(folder, f"{image.name}.bin"), "wb") as file:
             file.write(image.payload)
     with open(os.path.join(folder, "fit.its"), "w") as file:
         file.write(fit.source())
     environment = dict(os.environ, SOURCE_DATE_EPOCH="1700000000", TZ="UTC")
-    command = ["mkimage", *placement, "-f", "fit.its", "fit.itb"]
+    command = [*tool, *placement, "-f", "fit.its", "fit.itb"]
     subprocess.run(command, cwd=folder, env=environment, check=True, capture_output=True)
     return os.path.join(folder, "fit.itb")
 

@@ -38,7 +38,7 @@ def cell(number):
 
 
 def text(word):
-    return word.encode() + b"\0"
+    return word.encode(errors="surrogateescape") + b"\0"
 
 
 class Blob:
@@ -153,7 +153,7 @@ class Maker:
     def mutated(self, image):
         """The image with some bytes changed, in its header, structure or strings."""
         image = bytearray(image)
-        size = min(len(image), struct.unpack(">I", image[4:8])[0])
+        size = min(len(image), struct.unpack(">I", image[4:8])[0]) or len(image)
         for _ in range(self.chance.choice([1, 1, 1, 2])):
             at = self.chance.randrange(40 if self.chance.randrange(3) == 0 else size)
             how = self.chance.randrange(4)

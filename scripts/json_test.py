@@ -142,6 +142,11 @@ def spelled(name):
         return "".join(chr(byte) if 32 <= byte < 127 and byte != 92 else f"\\x{byte:02x}" for byte in name)
 
 
+def word_of(name):
+    """The name of a node as it is printed in a line of text: one word."""
+    return re.sub("[ :,]", lambda found: f"\\x{ord(found[0]):02x}", spelled(name))
+
+
 def bytes_of(told, key):
     """The bytes of a name, which its text has to represent."""
     if f"{key}_base64" not in told:
@@ -168,14 +173,14 @@ def text_of(told):
     elif "checksums" in told:
         rest = f"{told['checksums']} checksums"
     elif "image" in told:
-        rest = " ".join(spelled(bytes_of(told, key)) for key in ("image", "hash") if key in told)
+        rest = " ".join(word_of(bytes_of(told, key)) for key in ("image", "hash") if key in told)
     elif "node" in told:
-        rest = spelled(bytes_of(told, "node"))
+        rest = word_of(bytes_of(told, "node"))
     elif "property" in told:
-        rest = " ".join(spelled(bytes_of(told, key)) for key in ("configuration", "property", "name") if key in told)
+        rest = " ".join(word_of(bytes_of(told, key)) for key in ("configuration", "property", "name") if key in told)
     else:
-        rest = told.get("message") or told.get("algo") or ("checksum" if verdict == "bad" else "")
-    return f"{spelled(bytes_of(told, 'path'))}: {verdict}" + (f" {rest}" if rest else "")
+        rest = told.get("message") or told.get("algo") or ("checksum" if verdict == "bad" else None)
+    return f"{spelled(bytes_of(told, 'path'))}: {verdict}" + ("" if rest is None else f" {rest}")
 
 
 def unchecked_of(path):

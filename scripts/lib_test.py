@@ -19,6 +19,13 @@ PROGRAM, LIBRARY = (os.path.abspath(it) for it in sys.argv[1:3])
 ONE = '/dts-v1/; / { description = "d"; images { %s }; };'
 IMAGE = 'k%d { description = "k"; data = "abc"; %s };'
 HASHED = 'hash-1 { algo = "%s"; };'
+# An image with a hash node and one thing more, which U-Boot reads in another way, or not at all.
+LOOSE_SOURCES = [
+    '/dts-v1/; / { images { %s }; };' % (IMAGE % (1, HASHED % "crc32")),
+    ONE % (IMAGE % (1, HASHED % "crc32")).replace("k1", "k1@1"),
+    ONE % (IMAGE % (1, "uboot-ignore = <1>; " + HASHED % "crc32")),
+    ONE % (IMAGE % (1, "data-size = <3>; " + HASHED % "crc32")),
+]
 CC = os.environ.get("CC", "cc")
 os.environ["LIBUIMG"] = f"{LIBRARY}/libuimg.so.0"
 sys.path.insert(0, "examples/python")
@@ -189,12 +196,26 @@ def is_vouched(image, need):
     return bool(strongest) and min(strongest.values()) >= STRENGTHS.index(need)
 
 
-def checked(image, need):
-    """Returns the status of `uimg check --need`, and the line of the fault."""
+def checked(image, need, *options):
+    """Returns what `uimg check --need` says of an image."""
     with open(f"{WORK}/checked", "wb") as file:
         file.write(image)
-    told = json.loads(ran(PROGRAM, "check", "--json", "--need", need, f"{WORK}/checked").stdout)
-    return told["status"], told.get("message", "")
+    return json.loads(ran(PROGRAM, "check", "--json", "--need", need, *options, f"{WORK}/checked").stdout)
+
+
+# What the program's strict check refuses besides the library's: a name in a configuration.
+NOT_LOOKED_AT = "missing"
+# The lines of what strictness refuses, by their words: each has the number of its place here.
+LOOSE = """no-description no-timestamp unit-address doubled-node doubled-property ignored-hash odd-cell two-payloads half-place
+unsound-blob misplaced empty-data unknown-type unknown-architecture unknown-system unknown-compression""".split()
+
+
+def strictly(told):
+    """Returns the status and the line that the library's strict check has to return, where the
+    program's says this."""
+    if told["verdict"] in LOOSE:
+        return 1, f"S{LOOSE.index(told['verdict']) + 1} {told['verdict']}"
+    return (0, "") if told["verdict"] == NOT_LOOKED_AT else (told["status"], told.get("message", ""))
 
 
 def made(source):
@@ -210,20 +231,24 @@ def check_checks(images):
     the program's, on images of each type."""
     sources = [ONE % "", ONE % IMAGE % (1, ""), ONE % (IMAGE % (1, HASHED % "sha256") + IMAGE % (2, ""))]
     sources += [ONE % (IMAGE % (1, HASHED % "sha512") + IMAGE % (2, HASHED % algo)) for algo in STRENGTHS]
-    of_each = [made(it) for it in sources]
+    of_each = [made(it) for it in [*sources, *LOOSE_SOURCES]]
     case("an image that is not hashed", uimg.verify(of_each[1]).status == 0 and uimg.check(of_each[1], "crc32").status == 1)
     case("no image at all", uimg.verify(of_each[0]).status == 0 and uimg.check(of_each[0], "crc32").status == 1)
     for number, it in enumerate([*images, *of_each]):
         for need in STRENGTHS:
             found = uimg.check(it, need)
             case(f"check of image {number} for {need}", (found.status == 0) == is_vouched(it, need), str(found))
-            case(f"as the program checks image {number} for {need}", (found.status, found.fault) == checked(it, need), str(found))
+            told = checked(it, need)
+            case(f"as the program checks image {number} for {need}", (found.status, found.fault) == (told["status"], told.get("message", "")), str(found))
+        found, wanted = uimg.check_strict(it, "crc32"), strictly(checked(it, "crc32", "--strict"))
+        case(f"as the program checks image {number} strictly", (found.status, found.fault) == wanted, f"{found} and {wanted}")
 
 
 def check_faults():
     """Each fault has the line of the manual page."""
     page = open("docs/uimg.1", encoding="utf-8").read().replace("\\-", "-")
-    for letter, count in (("L", 10), ("B", 11), ("F", 10)):
+    page += "".join(f"S{number} {word}\n" for number, word in enumerate(LOOSE, 1))
+    for letter, count in (("L", 10), ("B", 11), ("F", 10), ("S", 16)):
         for number in range(count + 2):
             line = uimg._text(uimg._library.uimg_fault_line, ord(letter) * 256 + number)
             is_one = 1 <= number <= count
@@ -241,6 +266,9 @@ def check_example(*words):
     case(f"{words[-1]} unpacks", (told.returncode, told.stdout) == (0, b"abc"), str(told))
     told = ran(*words, image, "1")
     case(f"{words[-1]} refuses", (told.returncode, told.stdout) == (1, b"") and b"F4 no such image" in told.stderr, str(told))
+    made(ONE % IMAGE % (1, ""))
+    told = ran(*words, f"{WORK}/k.itb", "0")
+    case(f"{words[-1]} refuses a payload without a hash", (told.returncode, told.stdout) == (1, b""), str(told))
     for position in ("", "abc", "1x", "-1", "4294967296"):
         told = ran(*words, image, position)
         case(f"{words[-1]} at {position!r}", (told.returncode, told.stdout) == (2, b""), str(told))

@@ -30,10 +30,11 @@ WORK = "out/release"
 # The files of a release, until all are made.
 PACKED = f"{WORK}/packed"
 MANUALS = ("uimg.1", "uimg-mkimage.1", "uimg-dumpimage.1")
+NAMES = ("uimg", "uimg-mkimage", "uimg-dumpimage")
 COMPLETIONS = {
-    "uimg.bash": "bash-completion/completions/uimg",
-    "_uimg": "zsh/site-functions/_uimg",
-    "uimg.fish": "fish/vendor_completions.d/uimg.fish",
+    **{f"{it}.bash": f"bash-completion/completions/{it}" for it in NAMES},
+    **{f"_{it}": f"zsh/site-functions/_{it}" for it in NAMES},
+    **{f"{it}.fish": f"fish/vendor_completions.d/{it}.fish" for it in NAMES},
 }
 PAPERS = ("LICENSE-MIT", "LICENSE-APACHE", "CHANGELOG.md")
 FLAGS = ("-std=c11", "-O2", "-Wall", "-Wextra", "-Werror")

@@ -1,10 +1,16 @@
-/* unpack.c: verifies an image, and writes the payload at a position to standard output.
+/* unpack.c: checks an image, and writes the payload at a position to standard output.
 
        cc -o unpack unpack.c -luimg          (or libuimg.a in place of -luimg)
        ./unpack kernel.itb 0 > payload
 
    The exit status is like that of the program uimg: 0 done, 1 refused or not right, 2 a wrong command line, 3 a
-   failed file, write or memory. */
+   failed file, write or memory.
+
+   uimg_check_strict with UIMG_SHA256 is the check for an image that U-Boot is to boot: each image in it has a right hash
+   of that strength, and U-Boot takes just the bytes that were checked. Without it U-Boot may take others, which no hash
+   covers, since by libfdt it finds a node kernel@1 by the name kernel, and the first of two properties of one name.
+   uimg_verify also returns 0 for an image without hashes.
+   A legacy image has CRC-32 alone: UIMG_CRC32 takes it. */
 #include <uimg.h>
 
 #include <fcntl.h>
@@ -25,26 +31,23 @@ static void tell(uint32_t fault, uint64_t place)
     fputc('\n', stderr);
 }
 
-/* Verifies an image and returns the status; unless that is 0, the report goes to standard error. */
-static uint32_t verify(const uint8_t *image, size_t size)
+/* Checks an image and returns the status; unless that is 0, the reason goes to standard error. */
+static uint32_t check(const uint8_t *image, size_t size)
 {
-    uint8_t text[4096] = {0};
     uimg_report report = {0};
-    uint32_t status = uimg_verify(image, size, text, sizeof text, &report);
+    uint32_t status = uimg_check_strict(image, size, UIMG_SHA256, &report);
 
-    if (status != UIMG_DONE)
-        fprintf(stderr, "%.*s", (int)report.written, (char *)text);
     if (report.fault)
         tell(report.fault, report.place);
     else if (status != UIMG_DONE)
-        fprintf(stderr, "unpack: %s\n", status == UIMG_NO_MEMORY ? "out of memory" : "not right");
+        fprintf(stderr, "unpack: %s\n", status == UIMG_NO_MEMORY ? "out of memory" : "a hash is wrong, or too weak");
     return status;
 }
 
 static uint32_t unpack(const uint8_t *image, size_t size, uint32_t position)
 {
     uimg_payload payload = {0};
-    uint32_t status = verify(image, size);
+    uint32_t status = check(image, size);
 
     if (status != UIMG_DONE)
         return status;

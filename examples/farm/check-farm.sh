@@ -3,13 +3,14 @@
 # GNU parallel on all processors, and collects the output of `uimg check --json` in
 # FOLDER/results.jsonl, in the order of LIST.
 #
-# An interrupted run resumes when it is started again with the same LIST and FOLDER: finished
-# batches are not repeated, except those in which an image failed. OPTIONs go to parallel: --jobs 2,
-# or --sshlogin one,two if each host has the images, FOLDER and the program under the same paths as
-# this one.
+# A run with a LIST and FOLDER of before goes on: it checks batches that are not finished, that have
+# an image whose size or time of change is another one than at its check, and in which an image
+# failed. OPTIONs go to parallel: --jobs 2, or --sshlogin one,two if each host has the images,
+# FOLDER and the program under the same paths as this one.
 #
-# Environment: UIMG, the program (uimg); NEED, an algorithm for --need; BATCH, how many images one
-# process checks (500). The status is the greatest of all images, or 3 if batches are not finished.
+# Environment: UIMG, the program (uimg); NEED, an algorithm for --need; STRICT=1 for --strict; ALL=1
+# to check all again; BATCH, how many images one process checks (500). The status is the greatest of
+# all images, or 3 if batches are not finished.
 set -u
 test $# -ge 2 || { sed -n '2,/^set/s/^# \{0,1\}//p' "$0" >&2; exit 2; }
 list=$1 folder=$2 farm=$(dirname "$0")
@@ -20,35 +21,52 @@ say() {
     exit 2
 }
 
-parallel --version 2> /dev/null | grep -q '^GNU parallel' || say "needs GNU parallel (apt install parallel)"
-uimg=$(command -v "${UIMG:-uimg}") || say "there is no ${UIMG:-uimg}"
-uimg=$(realpath "$uimg")
-"$uimg" check --json ${NEED:+--need "$NEED"} --files-from /dev/null || exit 2
-test -r "$list" || say "cannot read $list"
-mkdir -p "$folder/lines" "$folder/failed" "$folder/parts" || exit 2
-folder=$(cd "$folder" && pwd) || exit 2
-
 quoted() {
     printf "'%s'" "$(printf %s "$1" | sed "s/'/'\\\\''/g")"
 }
 
+# Whether a variable is set, and not to 0.
+on() {
+    test "${1:-0}" != 0
+}
+
+# A sum of the sizes and times of change of a batch's images. A time changes with each write and
+# renaming, and cannot be set.
+state() {
+    LC_ALL=C grep . "$folder/batches/$1" | tr '\n' '\0' | LC_ALL=C xargs -0 stat -L --format='%s %.Z' -- 2>&1 | sha256sum
+}
+
+parallel --version 2> /dev/null | grep -q '^GNU parallel' || say "needs GNU parallel (apt install parallel)"
+uimg=$(command -v "${UIMG:-uimg}") || say "there is no ${UIMG:-uimg}"
+options=--json
+on "${STRICT:-0}" && options="$options --strict"
+test -z "${NEED:-}" || options="$options --need $(quoted "$NEED")"
+check="$(quoted "$(realpath "$uimg")") check $options --allow-empty --files-from"
+eval "$check /dev/null" || exit 2
+test -r "$list" || say "cannot read $list"
+LC_ALL=C grep -q . "$list" || say "$list has no path"
+mkdir -p "$folder/lines" "$folder/failed" "$folder/parts" "$folder/states" || exit 2
+folder=$(cd "$folder" && pwd) || exit 2
+
 # A job checks a batch. Its output has a name of its own until it is complete, since a job of an
-# earlier run may still be at the same batch. A status of 1 is a result: only 3, of an image that
-# failed or of the job itself, is a failure, after which the next run repeats the batch.
+# earlier run may still be at the same batch; its first line is the state that the images had
+# before. A status of 1 is a result: only 3, of an image that failed or of the job itself, is a
+# failure, after which the next run repeats the batch.
 cat > "$folder/job.new" << END
 cd $(quoted "$PWD") && farm=$(quoted "$folder") && part="\$farm/parts/\$1.\$(uname -n).\$\$" || exit 3
-test ! -f "\$farm/lines/\$1" || exit 0
-$(quoted "$uimg") check --json ${NEED:+--need $(quoted "$NEED")} --files-from "\$farm/batches/\$1" > "\$part"
+cat "\$farm/states/\$1" > "\$part" || exit 3
+$check "\$farm/batches/\$1" >> "\$part"
 status=\$? to=lines
 case \$status in 0 | 1) ;; 3) to=failed ;; *) exit "\$status" ;; esac
-test "\$(wc -l < "\$part")" = "\$(LC_ALL=C grep -c . "\$farm/batches/\$1")" || exit 3
+test "\$(grep -c '^{' "\$part")" = "\$(LC_ALL=C grep -c . "\$farm/batches/\$1")" || exit 3
+head -n 1 "\$part" | cmp -s - "\$farm/states/\$1" || exit 3
 mv -f "\$part" "\$farm/\$to/\$1" && test \$to = lines || exit 3
 END
 
 # Batches are cut once. Another list, or other settings, need another folder.
 if test -d "$folder/batches"; then
     cmp -s "$list" "$folder/list" || say "$folder is of another list"
-    cmp -s "$folder/job.new" "$folder/job" || say "$folder is of another program, folder or NEED: $folder/job"
+    cmp -s "$folder/job.new" "$folder/job" || say "$folder is of another program, folder, NEED or STRICT: $folder/job"
     rm -f "$folder/job.new"
 else
     rm -rf "$folder/batches.new" && mkdir "$folder/batches.new" && cp "$list" "$folder/list" || exit 2
@@ -56,12 +74,20 @@ else
     mv -f "$folder/job.new" "$folder/job" && mv "$folder/batches.new" "$folder/batches" || exit 2
 fi
 
-# A batch gets a job unless the log has one that succeeded.
-ls "$folder/batches" | parallel --joblog "$folder/joblog" --resume-failed --quote "$@" sh "$folder/job" "{}"
+# A batch gets a job unless it has a result of the state in which its images are now.
+for batch in $(ls "$folder/batches"); do
+    state "$batch" > "$folder/states/$batch" || exit 2
+    if on "${ALL:-0}" || ! head -n 1 "$folder/lines/$batch" 2> /dev/null | cmp -s - "$folder/states/$batch"; then
+        rm -f "$folder/lines/$batch" "$folder/failed/$batch" && echo "$batch" || exit 2
+    fi
+done > "$folder/jobs" || exit 2
+rm -f "$folder/joblog"
+parallel --joblog "$folder/joblog" --quote "$@" sh "$folder/job" "{}" < "$folder/jobs"
 
 # Collects the results in the order of the list.
 for batch in $(ls "$folder/batches"); do
-    cat "$folder/lines/$batch" 2> /dev/null || cat "$folder/failed/$batch" 2> /dev/null || echo "$batch" >&3
+    grep '^{' "$folder/lines/$batch" 2> /dev/null || grep '^{' "$folder/failed/$batch" 2> /dev/null ||
+        ! LC_ALL=C grep -q . "$folder/batches/$batch" || echo "$batch" >&3
 done > "$folder/results.new" 3> "$folder/undone"
 if test -s "$folder/undone"; then
     echo "check-farm: $(wc -l < "$folder/undone") batches are not done; start it again to go on" >&2

@@ -1,9 +1,11 @@
 #!/usr/bin/env python3
-"""summary.py FOLDER: summarizes what a farm found, from FOLDER/results.jsonl and FOLDER/joblog.
+"""summary.py FOLDER: summarizes what a farm found, from FOLDER/results.jsonl, and what its last run
+did, from FOLDER/jobs and FOLDER/joblog.
 
-It prints how many images have each verdict, a line for each whose verdict is not ok, and how
-many images were checked a second, over the time in which jobs ran: by all together, and by one.
-The status is the greatest of all images."""
+It prints how many images were checked by this run, and how many results are of an earlier one; how
+many images have each verdict, a line for each whose verdict is not ok, and how many images were
+checked a second, over the time in which jobs ran: by all together, and by one. The status is the
+greatest of all images."""
 import collections
 import json
 import os
@@ -14,6 +16,16 @@ def results(folder):
     """The results of each image. Lines end with newlines alone."""
     with open(os.path.join(folder, "results.jsonl"), encoding="utf-8", newline="\n") as file:
         return [json.loads(line) for line in file]
+
+
+def checked(folder):
+    """How many images this run checked: those of the batches that got a job."""
+    count = 0
+    with open(os.path.join(folder, "jobs"), encoding="utf-8") as names:
+        for name in names:
+            with open(os.path.join(folder, "batches", name.rstrip("\n")), "rb") as file:
+                count += sum(line != b"\n" for line in file)
+    return count
 
 
 def jobs(folder):
@@ -42,7 +54,8 @@ def main():
     folder = sys.argv[1]
     told = results(folder)
     counts = collections.Counter(one["verdict"] for one in told)
-    print(f"{len(told)} images")
+    now = checked(folder)
+    print(f"{len(told)} images: {now} checked now, {len(told) - now} by an earlier run")
     for verdict, count in counts.most_common():
         print(f"  {verdict:<12} {count:>9}")
     wrong = [one for one in told if one["verdict"] != "ok"]
@@ -54,7 +67,7 @@ def main():
     ran = sum(took for _, took in spans)
     print(f"\n{len(spans)} jobs in {busy(spans):.1f} s, {ran:.1f} s of jobs")
     if ran:
-        print(f"{len(told) / busy(spans):.0f} images a second, {len(told) / ran:.0f} by each job")
+        print(f"{now / busy(spans):.0f} images a second, {now / ran:.0f} by each job")
     return max((one["status"] for one in told), default=0)
 
 

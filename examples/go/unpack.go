@@ -1,6 +1,12 @@
-// unpack.go verifies an image, and writes the payload at a position to standard output, like
+// unpack.go checks an image, and writes the payload at a position to standard output, like
 // examples/c/unpack.c: go run unpack.go kernel.itb 0 > payload. CGO_LDFLAGS names the library, if the
 // linker does not find it.
+//
+// uimg_check_strict with UIMG_SHA256 is the check for an image that U-Boot is to boot: each image in it
+// has a right hash of that strength, and U-Boot takes just the bytes that were checked. Without it
+// U-Boot may take others, which no hash covers, since by libfdt it finds a node kernel@1 by the name
+// kernel, and the first of two properties of one name. uimg_verify also returns 0 for an image without
+// hashes.
 package main
 
 /*
@@ -41,26 +47,22 @@ func tell(fault C.uint32_t, place C.uint64_t) {
 	fmt.Fprintln(os.Stderr)
 }
 
-// verify verifies an image and returns the status; unless that is 0, it prints the report to stderr.
-func verify(image []byte) int {
-	text := make([]byte, 4096)
+// check checks an image and returns the status; unless that is 0, it prints the reason to stderr.
+func check(image []byte) int {
 	var report C.uimg_report
-	status := C.uimg_verify(pointer(image), C.size_t(len(image)), pointer(text), C.size_t(len(text)), &report)
-	if status != done {
-		os.Stderr.Write(text[:report.written])
-	}
+	status := C.uimg_check_strict(pointer(image), C.size_t(len(image)), C.UIMG_SHA256, &report)
 	if report.fault != 0 {
 		tell(report.fault, report.place)
 	} else if status == failed {
 		fmt.Fprintln(os.Stderr, "unpack: out of memory")
 	} else if status != done {
-		fmt.Fprintln(os.Stderr, "unpack: not right")
+		fmt.Fprintln(os.Stderr, "unpack: a hash is wrong, or too weak")
 	}
 	return int(status)
 }
 
 func unpack(image []byte, position uint64) int {
-	if status := verify(image); status != done {
+	if status := check(image); status != done {
 		return status
 	}
 	var payload C.uimg_payload

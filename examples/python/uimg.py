@@ -3,8 +3,13 @@
     import mmap, uimg
     with open("kernel.itb", "rb") as file:
         image = mmap.mmap(file.fileno(), 0, access=mmap.ACCESS_READ)
-    if uimg.check(image, "sha256").status == uimg.DONE:
+    if uimg.check_strict(image, "sha256").status == uimg.DONE:
         payload = uimg.payload(image, "kernel")
+
+check_strict is the check for an image that U-Boot is to boot: each image in it has a right hash of
+the strength, and U-Boot takes just the bytes that were checked. Without it U-Boot may take others,
+which no hash covers, since by libfdt it finds a node kernel@1 by the name kernel, and the first of
+two properties of one name. verify also returns DONE for an image without hashes.
 
 An image is bytes, or anything else with a contiguous buffer. As a program it does the same as
 examples/c/unpack.c: `python3 uimg.py kernel.itb 0 > payload`. LIBUIMG names a library to use in place
@@ -56,7 +61,8 @@ _library = ctypes.CDLL(os.environ.get("LIBUIMG", "libuimg.so.0"))
 _bytes, _size = ctypes.POINTER(ctypes.c_uint8), ctypes.c_size_t
 for _name in ("uimg_list", "uimg_verify"):
     getattr(_library, _name).argtypes = [_bytes, _size, _bytes, _size, ctypes.POINTER(_Report)]
-_library.uimg_check.argtypes = [_bytes, _size, ctypes.c_uint32, ctypes.POINTER(_Report)]
+for _name in ("uimg_check", "uimg_check_strict"):
+    getattr(_library, _name).argtypes = [_bytes, _size, ctypes.c_uint32, ctypes.POINTER(_Report)]
 for _name in ("uimg_payload_at", "uimg_payload_name"):
     getattr(_library, _name).argtypes = [_bytes, _size, ctypes.c_uint32, ctypes.POINTER(_Payload)]
 _library.uimg_payload_count.argtypes = [_bytes, _size, ctypes.POINTER(_Count)]
@@ -164,9 +170,18 @@ def check(image, need="sha256"):
     """Checks an image, as `uimg check --need`: DONE only if verify returns DONE, there is an image,
     and each has a hash node that is compared by this algorithm or a stronger one, of crc32, md5,
     sha1, sha256, sha384 and sha512. There is no text."""
+    return _check(_library.uimg_check, image, need)
+
+
+def check_strict(image, need="sha256"):
+    """Checks an image, as check does: DONE only if U-Boot reads in it just what was checked."""
+    return _check(_library.uimg_check_strict, image, need)
+
+
+def _check(call, image, need):
     pointer, size, _keep = _passed(image)
     report = _Report()
-    _library.uimg_check(pointer, size, _STRENGTHS.index(need) + 1, ctypes.byref(report))
+    call(pointer, size, _STRENGTHS.index(need) + 1, ctypes.byref(report))
     return Report(report.status, _line(report), b"", report.peak)
 
 
@@ -232,10 +247,9 @@ def _mapped(path):
 
 def _unpack(path, position):
     image = _mapped(path)
-    report = verify(image)
+    report = check_strict(image, "sha256")
     if report.status != DONE:
-        sys.stderr.write(report.text.decode(errors="replace"))
-        print(f"uimg.py: {report.fault or ('out of memory' if report.status == FAILED else 'not right')}", file=sys.stderr)
+        print(f"uimg.py: {report.fault or ('out of memory' if report.status == FAILED else 'a hash is wrong, or too weak')}", file=sys.stderr)
         return report.status
     try:
         found = payload(image, position)
