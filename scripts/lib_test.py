@@ -24,7 +24,7 @@ LOOSE_SOURCES = [
     '/dts-v1/; / { images { %s }; };' % (IMAGE % (1, HASHED % "crc32")),
     ONE % (IMAGE % (1, HASHED % "crc32")).replace("k1", "k1@1"),
     ONE % (IMAGE % (1, "uboot-ignore = <1>; " + HASHED % "crc32")),
-    ONE % (IMAGE % (1, "data-size = <3>; " + HASHED % "crc32")),
+    ONE % (IMAGE % (1, HASHED % "crc32") * 2),
 ]
 CC = os.environ.get("CC", "cc")
 os.environ["LIBUIMG"] = f"{LIBRARY}/libuimg.so.0"
