@@ -1,11 +1,12 @@
-//! The program: passes words, streams and the clock of the operating system to `program`.
+//! The program: passes words, files, streams and the clock of the operating system to `program`.
 
 // The program uimg, a function of uimg_tool.
 #![tactic(auto)]
 
+use std::io::IsTerminal;
 use std::process::ExitCode;
 use std::{env, io};
-use uimg_tool::{epoch, now, program};
+use uimg_tool::{Cleared, Meter, WatchedFiles, epoch, now, program};
 
 fn main(rt: HostRuntime) -> ExitCode {
     match run(&rt) {
@@ -29,12 +30,21 @@ fn run(rt: &HostRuntime) -> io::Result<u8> {
     }
     let epoch = epoch(rt)?;
     let now = now(rt).unwrap_or(0);
-    Ok(program(
-        rt,
+    let is_shown = rt.stderr().is_terminal() && !is_quiet(&words);
+    let meter = Meter::new(rt, rt.alloc(), rt.stderr(), is_shown);
+    let status = program(
+        &WatchedFiles::new(rt, &meter),
         &words,
         epoch.as_deref(),
         now,
-        &mut rt.stdout(),
-        &mut rt.stderr(),
-    ))
+        &mut Cleared::new(&meter, rt.stdout()),
+        &mut Cleared::new(&meter, rt.stderr()),
+    );
+    meter.clear();
+    Ok(status)
+}
+
+// Returns whether a word asks for less output.
+fn is_quiet(words: &[&str]) -> bool {
+    words.iter().any(|word| *word == "-q" || *word == "--quiet")
 }

@@ -14,12 +14,16 @@ mod moments;
 mod new_shelf;
 mod old_program;
 mod old_tools;
+mod progress;
 mod safe_path;
 mod source_warnings;
 mod strict_answers;
 mod unpack_program;
+mod watched_files;
 mod xip_files;
 
 pub use main_program::program;
 pub use moments::{epoch, now};
+pub use progress::{Cleared, Meter};
 pub use uimg_engine::{Action, Command, DiskFiles, Fault, Form, MakeCommand, make, run};
+pub use watched_files::WatchedFiles;
