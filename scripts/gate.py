@@ -149,6 +149,8 @@ def gate():
             library.start()
         more, bad = counted(["scripts/play.py", PROGRAM, *test.PLAYED], environment)
         passed, failed = passed + more, failed + bad
+        more, bad = counted(["scripts/terminal_test.py", PROGRAM], environment)
+        passed, failed = passed + more, failed + bad
         if has_compiler:
             library.join()
             passed, failed = passed + library.is_right, failed + (not library.is_right)
