@@ -23,6 +23,11 @@ Legacy images:
   $ cp kernel.img data.img && printf b | dd of=data.img bs=1 seek=64 conv=notrunc status=none
   $ head -c 63 kernel.img > short.img
   $ cp "$files/size-too-large.img" cut.img
+  $ cp kernel.img name.img && printf 1 | dd of=name.img bs=1 seek=32 conv=notrunc status=none
+  $ cp "$files/no-table-end.img" . && uimg check --json name.img no-table-end.img
+  {"path":"name.img","status":1,"verdict":"refused","format":"legacy","fault":"L3","message":"L3 bad header CRC"}
+  {"path":"no-table-end.img","status":1,"verdict":"refused","format":"legacy","fault":"L6","message":"L6 no table end"}
+  [1]
   $ uimg check --json kernel.img data.img short.img cut.img none.img
   {"path":"kernel.img","status":0,"verdict":"ok","format":"legacy","checksums":2}
   {"path":"data.img","status":1,"verdict":"bad","format":"legacy"}

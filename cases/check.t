@@ -28,11 +28,21 @@ Legacy images have two checksums:
   $ head -c 63 kernel.img > short.img
   $ cp "$files/size-too-large.img" cut.img
   $ uimg check name.img data.img short.img cut.img kernel.img
-  name.img: bad checksum
+  name.img: refused L3 bad header CRC
   data.img: bad checksum
   short.img: refused L1 too short
   cut.img: refused L4 truncated
   kernel.img: ok 2 checksums
+  [1]
+
+A table of parts has to fit the data, which are read after it:
+
+  $ cp "$files/part-outside.img" "$files/no-table-end.img" . && cp part-outside.img both.img
+  $ printf b | dd of=both.img bs=1 seek=76 conv=notrunc status=none
+  $ uimg check part-outside.img no-table-end.img both.img
+  part-outside.img: refused L7 part outside
+  no-table-end.img: refused L6 no table end
+  both.img: refused L7 part outside
   [1]
 
 The line of a FIT image reports its first hash that is not right:
@@ -503,10 +513,4 @@ A legacy image needs data, codes of image.h, and parts that end in the data. `he
   $ uimg check --strict --json changed.img && header 31 99 > /dev/null; uimg check --strict --json changed.img
   {"path":"changed.img","status":0,"verdict":"ok","format":"legacy","checksums":2}
   {"path":"changed.img","status":1,"verdict":"unknown-compression","format":"legacy"}
-  [1]
-  $ cp "$files/part-outside.img" "$files/no-table-end.img" . && uimg check part-outside.img no-table-end.img && uimg check --strict part-outside.img no-table-end.img
-  part-outside.img: ok 2 checksums
-  no-table-end.img: ok 2 checksums
-  part-outside.img: refused L7 part outside
-  no-table-end.img: refused L6 no table end
   [1]

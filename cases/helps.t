@@ -159,7 +159,8 @@ Helps
                  --strict the line of a FIT also counts the nodes of its
                  configurations, if any: 2 nodes of configurations unchecked
     unhashed     The same, but this image of the FIT has no hash
-    bad          This hash of this image is wrong, or a checksum of a legacy image
+    bad          This hash of this image, or the data's checksum of a legacy image,
+                 is wrong
     malformed    This hash has no algorithm, no value, or one of the wrong length
     unsupported  This hash has an unknown algorithm
     weak         This image has no hash as strong as --need, or with --strict none;

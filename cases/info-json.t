@@ -46,13 +46,14 @@ Payloads after the blob, and from a position on:
   $ uimg info k.itb
   {"path":"k.itb","status":0,"format":"fit","size":4100,"totalsize":212,"description":"d","timestamp":1700000000,"reservations":[],"images":[{"name":"a","offset":4096,"data-size":4,"hashes":[]}],"configurations":[]}
 
-No payload, and one that ends after the file; an extraction would refuse them:
+No payload, and one that ends after the file:
 
   $ uimg info "$files/no-data.itb" | sed "s|$files/||"
-  {"path":"no-data.itb","status":0,"format":"fit","size":164,"totalsize":160,"reservations":[],"images":[{"name":"a","fault":"F2","message":"F2 no data","hashes":[]}],"configurations":[]}
+  {"path":"no-data.itb","status":1,"verdict":"refused","format":"fit","fault":"F2","message":"F2 no data"}
   $ fit 'images { a { data = "abcd"; hash-1 { algo = "crc32"; }; }; };' -E
   $ head -c -4 k.itb > cut.itb && uimg info cut.itb
-  {"path":"cut.itb","status":0,"format":"fit","size":276,"totalsize":272,"description":"d","timestamp":1700000000,"reservations":[],"images":[{"name":"a","offset":272,"data-size":5,"fault":"F3","message":"F3 data outside","hashes":[{"name":"hash-1","algo":"crc32","value":"b85f4db2"}]}],"configurations":[]}
+  {"path":"cut.itb","status":1,"verdict":"refused","format":"fit","fault":"F3","message":"F3 data outside"}
+  [1]
   $ uimg check cut.itb
   cut.itb: refused F3 data outside
   [1]
@@ -271,12 +272,12 @@ Wrong command lines:
   Prints one line, a JSON object. For a FIT image it has path, status, format, size,
   totalsize, description, timestamp, default, reservations, images and
   configurations. An image has name, description, type, arch, os, compression, load,
-  entry, offset and data-size of its payload, and hashes; without a payload in the
-  file it has fault and message. A configuration has the names that its properties
-  give, nodes and properties. Of a legacy image the object has path, status, format,
-  size, name, time, load, entry, header-crc, data-crc, os, arch, type and compression
-  (each with its code), data-size and parts. What the image lacks is left out. An
-  image that is refused or cannot be read has the line of check --json.
+  entry, offset and data-size of its payload, and hashes. A configuration has the
+  names that its properties give, nodes and properties. Of a legacy image the object
+  has path, status, format, size, name, time, load, entry, header-crc, data-crc, os,
+  arch, type and compression (each with its code), data-size and parts. What the image
+  lacks is left out. An image that is refused or cannot be read has the line of check
+  --json.
   Hashes and the checksum of a legacy image's data are printed, not checked.
   
   Examples:

@@ -93,7 +93,8 @@ enum uimg_need {
    if uimg_verify returns 0, the FIT has an image, each of its images has a right hash by the needed algorithm or a
    stronger one, and their payloads together are not longer than the file. Checks images in their order, and stops at
    the first that is not right. Reads no more bytes of payloads than the file has, and takes no memory for a text.
-   A legacy image has CRC-32 alone. No image meets a number that is not in the list above. */
+   A legacy image has CRC-32 alone, and is refused if its table of parts does not fit its data. No image meets a number
+   that is not in the list above. */
 uint32_t uimg_check(const uint8_t *image, size_t image_size, uint32_t need, uimg_report *report);
 
 /* Checks an image as uimg_check does and, if that finds all right, whether U-Boot reads what was checked. U-Boot

@@ -2,7 +2,8 @@
 """test.py: the tests, which need no proof. The crates of tests are compiled with run-time checks,
 and run, side by side (`rt try --test`). So is the program, against which the command lines of
 cases/, README.md, docs/GUIDE.md, docs/JSON.md and the manual page are played; those that set limits
-which its checks exceed are named, and left to the proved program.
+which its checks exceed are named, and left to the proved program. With it agree_test.py holds the
+commands together.
 
 It prints a line for each crate of tests and for the command lines, with what failed; then that
 nothing was proved, and last 'N passed, M failed'. The status is 0 if nothing failed."""
@@ -18,6 +19,8 @@ import time
 import kit
 import try_build
 
+# The last line of play.py and agree_test.py.
+COUNTS = r"^(\d+) passed, (\d+) failed$"
 PLAYED = [*sorted(glob.glob("cases/*.t")), "README.md", "docs/GUIDE.md", "docs/JSON.md", "docs/uimg.1"]
 
 
@@ -46,15 +49,20 @@ def tests_of(name):
 
 
 def command_lines():
-    """Plays the command lines. Returns how many passed and failed, and the lines to print."""
+    """Plays the command lines, and holds the commands together. Returns how many passed and failed,
+    and the lines to print."""
     with tempfile.TemporaryDirectory(prefix="uimg-tried-") as room:
         os.chmod(room, 0o755)
         if not try_build.build(room):
             with open(f"{room}/log", encoding="utf-8", errors="replace") as log:
                 return 0, 1, [*log.read().rstrip("\n").split("\n")[-24:], "uimg: it was not compiled"]
         _, lines = run(["scripts/play.py", "--tried", f"{room}/uimg", *PLAYED])
-    passed, failed = counted(lines, r"^(\d+) passed, (\d+) failed$")
-    return passed, failed, [*lines[:-1], f"command lines: {passed} passed, {failed} failed"]
+        _, more = run(["scripts/agree_test.py", f"{room}/uimg"])
+    passed, failed = counted(lines, COUNTS)
+    agreed, not_agreed = counted(more, COUNTS)
+    said = [*lines[:-1], f"command lines: {passed} passed, {failed} failed"]
+    said += [*more[:-1][-24:], f"commands that agree: {agreed} passed, {not_agreed} failed"]
+    return passed + agreed, failed + not_agreed, said
 
 
 def test():

@@ -6,7 +6,6 @@ use Rattle.uimg_sums.specs.declared.algo.Algo.TheVariants as algo
 use Rattle.uimg_base.specs.Device.{Device}
 use Rattle.uimg_base.specs.Held.{Held}
 use Rattle.uimg_base.specs.Lent.{Lent}
-use Rattle.uimg_base.specs.Outcome.{End, done, not_right, refused}
 use Rattle.uimg_base.specs.Using.{UsesAtMost}
 use Rattle.uimg_base.specs.declared.spans.Span.{Span}
 use Rattle.uimg_base.specs.declared.status.Status.{Status}
@@ -15,8 +14,8 @@ use Rattle.uimg_fit_base.specs.declared.fault.Fault.{Fault as FitEngineFault}
 use Rattle.uimg_fit_checking.specs.Checks as fit
 use Rattle.uimg_fit_checking.specs.declared.checking.Finding.TheVariants as fit_finding
 use Rattle.uimg_legacy.specs.declared.fault.LegacyFault.{LegacyFault}
-use Rattle.uimg_legacy.specs.Report as legacy_report
-use Rattle.uimg_legacy.specs.Work as legacy
+use Rattle.uimg_legacy.specs.Checking as legacy
+use Rattle.uimg_legacy.specs.Work as legacy_work
 use Rattle.uimg_requests.specs.declared.command.Form.TheVariants as form
 use Rattle.uimg_engine.specs.declared.fault.Fault.{Fault}
 use Rattle.uimg_engine.specs.declared.fault.Fault.TheVariants.{Legacy}
@@ -28,10 +27,11 @@ use Rattle.uimg_engine.specs.Headline.{is_fit, TakesTable}
 -- the most bytes that a check of a format requests
 abbrev pub check_work_in : Bool → List ℕ → ℕ
 check_work_in true file = fit.check_work file
-check_work_in false file = legacy.verify_work file
+check_work_in false file = legacy_work.check_work file
 
 -- the most bytes that a check requests: the four of the format, the metadata, and of all payloads
--- together at most the file's length
+-- together at most the file's length; of a legacy image the table of parts is metadata, and takes
+-- 16 bytes for each size
 abbrev pub check_work : List ℕ → ℕ
 check_work file = 4 + check_work_in (is_fit form.Guess file) file
 
@@ -70,11 +70,12 @@ abbrev pub if_strong : Bool → Checked (List ℕ)
 if_strong true = checked.Right
 if_strong false = checked.Weak
 
--- the finding about a legacy image by the end of its report, or the fault that refuses it
-abbrev pub found_by : Option Algo → End LegacyFault → Result (Checked (List ℕ)) Fault
-found_by need done = Ok (if_strong (stands_by_crc32 need))
-found_by need not_right = Ok checked.Damaged
-found_by need (refused fault) = Err (Legacy fault)
+-- the finding about a legacy image by whether its data's checksum is right, or the fault that
+-- refuses it
+abbrev pub found_by : Option Algo → Result Bool LegacyFault → Result (Checked (List ℕ)) Fault
+found_by need (Ok true) = Ok (if_strong (stands_by_crc32 need))
+found_by need (Ok false) = Ok checked.Damaged
+found_by need (Err fault) = Err (Legacy fault)
 
 -- the finding about a FIT image, or the fault that refuses it
 abbrev pub found_in_fit : Result fit.NamedFinding FitEngineFault → Result (Checked (List ℕ)) Fault
@@ -84,7 +85,7 @@ found_in_fit (Err fault) = Err (of_fit fault)
 -- the finding about a file that is read as a FIT image, or as a legacy image
 abbrev pub check_of : Bool → Option Algo → List ℕ → Result (Checked (List ℕ)) Fault
 check_of true need file = found_in_fit (fit.check_of need file)
-check_of false need file = found_by need (legacy_report.verify_of file).end
+check_of false need file = found_by need (legacy.checked file)
 
 -- a result with the names at its spans
 abbrev pub told_at : List ℕ → Result (Checked Span) Fault → Result (Checked (List ℕ)) Fault

@@ -22,7 +22,7 @@ pub enum Checked<N> {
     /// Both checksums of a legacy image are right and strong enough.
     Right,
 
-    /// A checksum of a legacy image is not right.
+    /// The checksum of a legacy image's data is not right.
     Damaged,
 
     /// The checksums of a legacy image are right, but a stronger algorithm than CRC-32 is needed.
@@ -86,15 +86,17 @@ fn check_fit<S: Source, A: Allocator>(
 }
 
 /// Checks the checksums and hashes of an image, up to the first finding. The first four bytes
-/// decide its format. If an algorithm is needed, a FIT image has to have images, each with a hash
-/// node that is compared by it or a stronger one, in the order CRC-32, MD5, SHA-1, SHA-256,
-/// SHA-384, SHA-512.
+/// decide its format. A legacy image is refused if its header's checksum is wrong or its table of
+/// parts does not fit its data. If an algorithm is needed, a FIT image has to have images, each
+/// with a hash node that is compared by it or a stronger one, in the order CRC-32, MD5, SHA-1,
+/// SHA-256, SHA-384, SHA-512.
 ///
 /// Over an honest source the finding, or the fault that refuses the image, is exactly that of the
 /// definition, and of a FIT image's payloads no more bytes are requested than the file has, even if
-/// they overlap. A returned name ends inside the source, whatever that returns. Returns
-/// `Fault::Read` exactly if a read failed, `OutOfMemory` of the blob exactly if the room refused to
-/// grow, which a legacy image never requests, and never `Fault::Put` or a fault of making.
+/// they overlap. Of a legacy image the data are requested, 80 bytes, and 16 for each size in its
+/// table. A returned name ends inside the source, whatever that returns. Returns `Fault::Read`
+/// exactly if a read failed, `OutOfMemory` of the blob exactly if the room refused to grow, which a
+/// legacy image never requests, and never `Fault::Put` or a fault of making.
 pub fn check<S: Source, A: Allocator>(
     need: Option<Algo>,
     source: &mut S,

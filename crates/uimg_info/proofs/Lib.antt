@@ -4,7 +4,7 @@ mod InsideLaws
 mod LegacyLaws
 mod ObjectLaws
 mod PieceLaws
+mod PlacingLaws
 mod PropertyLaws
 mod SoundLaws
-mod StepLaws
 mod WorkLaws

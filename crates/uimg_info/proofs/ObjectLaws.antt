@@ -1,5 +1,5 @@
 -- The objects of images are sound.
-use Rattle.std.proofs.Common.{ℕ, suc, ◌+◌, Bool, Option, Some, None, true, false, List, [], ◌∷◌, ◌++◌, map, nat_lt, codes, Result, Ok, Err}
+use Rattle.std.proofs.Common.{ℕ, suc, Option, Some, None, List, [], ◌∷◌, ◌++◌, map, codes, Result, Ok, Err}
 use Rattle.json.specs.Json.{Json}
 use Rattle.uimg_base.specs.declared.spans.Span.{Span}
 use Rattle.uimg_blob_reading.specs.Plain.{NamedOf}
@@ -10,33 +10,24 @@ use Rattle.uimg_printing.specs.Members.{Member, array_of, items_of, number_membe
 use Rattle.uimg_info.specs.{Members.facts_members, declared.reservations.Reservation.Reservation}
 use Rattle.uimg_info.specs.Reservations.{reservation_json, reservations_members}
 use Rattle.uimg_printing.proofs.LineLaws as line
-use Rattle.uimg_info.specs.Fit.{hash_facts, image_facts, configuration_facts, node_facts, node_json, property_json, root_facts, root_members, fault_members, outside, place_members, hash_json, configuration_json, configurations_json, image_json, head_members, fit_json}
+use Rattle.uimg_info.specs.Fit.{hash_facts, image_facts, configuration_facts, node_facts, node_json, property_json, root_facts, root_members, place_members, hash_json, configuration_json, configurations_json, image_json, head_members, fit_json}
 use Rattle.uimg_printing.proofs.SoundLaws.{Sound, SoundItems, AreSound, append_sound, number_sound, items_sound}
 use Rattle.uimg_info.proofs.SoundLaws.{facts_sound}
 
 string_sound : (d : ℕ) (name s : List ℕ) → AreSound d (string_member name s)
 string_sound d name s = (tt, tt)
 
-fault_sound : (d : ℕ) (code message : List ℕ) → AreSound d (fault_members code message)
-fault_sound d code message = (tt, (tt, tt))
+place_sound : (d : ℕ) (found : Result Span FitFault) → AreSound d (place_members found)
+place_sound d (Err fault) = tt
+place_sound d (Ok place) =
+    append_sound d (number_member (codes "offset") place.place) (number_member (codes "data-size") place.length) (number_sound d (codes "offset") place.place) (number_sound d (codes "data-size") place.length)
 
-outside_sound : (d : ℕ) (b : Bool) → AreSound d (outside b)
-outside_sound d true = fault_sound d (codes "F3") (codes "F3 data outside")
-outside_sound d false = tt
-
-place_sound : (d size : ℕ) (found : Result Span FitFault) → AreSound d (place_members size found)
-place_sound d size (Err fault) = fault_sound d (codes "F2") (codes "F2 no data")
-place_sound d size (Ok place) =
-    let after : List Member = outside (nat_lt size (place.place + place.length)) in
-    append_sound d (number_member (codes "offset") place.place) (number_member (codes "data-size") place.length ++ after) (number_sound d (codes "offset") place.place)
-    (append_sound d (number_member (codes "data-size") place.length) after (number_sound d (codes "data-size") place.length) (outside_sound d (nat_lt size (place.place + place.length))))
-
-image_sound : (size totalsize : ℕ) (image : ImageSaid) → Sound 4 (image_json size totalsize image)
-image_sound size totalsize image =
+image_sound : (totalsize : ℕ) (image : ImageSaid) → Sound 4 (image_json totalsize image)
+image_sound totalsize image =
     let hashes : List Member = (codes "hashes", array_of (map hash_json image.hashes)) ∷ [] in
-    let placed : List Member = place_members size (place_said totalsize image.payload) in
+    let placed : List Member = place_members (place_said totalsize image.payload) in
     append_sound 3 (facts_members (image_facts image)) (placed ++ hashes) (facts_sound 2 (image_facts image))
-    (append_sound 3 placed hashes (place_sound 3 size (place_said totalsize image.payload))
+    (append_sound 3 placed hashes (place_sound 3 (place_said totalsize image.payload))
     (items_sound 2 hash_json (λ hash. facts_sound 0 (hash_facts hash)) image.hashes, tt))
 
 property_sound : (property : NamedOf Span) → Sound 2 (property_json property)
@@ -75,12 +66,12 @@ reservations_sound d (Some entries) = (items_sound (suc d) reservation_json (res
 
 pub fit_sound : (path : List ℕ) (size : ℕ) (reserved : Option (List Reservation)) (said : Said) (properties : List (List (NamedOf Span))) → Sound 6 (fit_json path size reserved said properties)
 fit_sound path size reserved said properties =
-    let images : Json = array_of (map (image_json size said.totalsize) said.images) in
+    let images : Json = array_of (map (image_json said.totalsize) said.images) in
     let configurations : Json = array_of (configurations_json said.configurations properties) in
     let arrays : List Member = (codes "images", images) ∷ (codes "configurations", configurations) ∷ [] in
     append_sound 5 (head_members path size said.totalsize) (root_members reserved said ++ arrays) (head_sound 5 path size said.totalsize)
     (append_sound 5 (root_members reserved said) arrays
     (append_sound 5 (facts_members (root_facts said)) (reservations_members reserved) (facts_sound 4 (root_facts said)) (reservations_sound 3 reserved)) (
-      items_sound 4 (image_json size said.totalsize) (image_sound size said.totalsize) said.images,
+      items_sound 4 (image_json said.totalsize) (image_sound said.totalsize) said.images,
       (configurations_sound said.configurations properties, tt),
     ))

@@ -1,16 +1,15 @@
 -- The JSON object of a FIT image's facts.
-use Rattle.std.specs.Prelude.{ℕ, ◌+◌, List, [], ◌∷◌, ◌++◌, map, codes, nat_lt, Bool, true, false}
-use Rattle.std.specs.Prelude.{length, Option, Some, None, Result, Ok, Err}
+use Rattle.std.specs.Prelude.{ℕ, List, [], ◌∷◌, ◌++◌, map, codes, length, Option, Some, None, Result, Ok, Err}
 use Rattle.json.specs.Json.{Json}
 use Rattle.uimg_base.specs.{declared.spans.Span.Span, Results.◌>>=◌}
 use Rattle.uimg_blob_reading.specs.Plain.{NamedOf}
-use Rattle.uimg_fit_base.specs.declared.fault.{Fault.Fault, FitFault.FitFault}
+use Rattle.uimg_fit_base.specs.declared.fault.{Fault.{Fault, TheVariants.Fit}, FitFault.FitFault}
 use Rattle.uimg_fit_checking.specs.FullSurvey.{properties_of}
 use Rattle.uimg_fit_checking.specs.Survey.{Said, ImageSaid, HashSaid, ConfigurationSaid, survey_of}
 use Rattle.uimg_fit_reading.specs.PayloadPlaces.{place_said}
 use Rattle.uimg_info.specs.declared.reservations.Reservation.{Reservation}
 use Rattle.uimg_info.specs.Reservations.{reservations_of, reservations_members}
-use Rattle.uimg_info.specs.Members.{Fact, facts_members}
+use Rattle.uimg_info.specs.{Members.{Fact, facts_members}, Placing.first_fault}
 use Rattle.uimg_info.specs.declared.forms.Form.TheVariants.{Text, Texts, Digest, Cell, Address}
 use Rattle.uimg_printing.specs.Members.{Member, object_of, array_of, string_member, number_member}
 
@@ -67,26 +66,11 @@ root_facts said =
 abbrev pub root_members : Option (List Reservation) → Said → List Member
 root_members reserved said = facts_members (root_facts said) ++ reservations_members reserved
 
--- a fault of a payload
-abbrev pub fault_members : List ℕ → List ℕ → List Member
-fault_members code message =
-    string_member (codes "fault") code ++ string_member (codes "message") message
-
--- where a payload is, in a file of `size` bytes, and the fault if it ends after the file
-abbrev pub outside : Bool → List Member
-outside true = fault_members (codes "F3") (codes "F3 data outside")
-outside false = []
-
-abbrev pub span_members : ℕ → Span → List Member
-span_members size place =
-    number_member (codes "offset") place.place
-    ++ (number_member (codes "data-size") place.length
-    ++ outside (nat_lt size (place.place + place.length)))
-
--- the same for an image, or that it has no payload
-abbrev pub place_members : ℕ → Result Span FitFault → List Member
-place_members size (Ok place) = span_members size place
-place_members size (Err fault) = fault_members (codes "F2") (codes "F2 no data")
+-- where a payload is, if it was found
+abbrev pub place_members : Result Span FitFault → List Member
+place_members (Ok place) =
+    number_member (codes "offset") place.place ++ number_member (codes "data-size") place.length
+place_members (Err fault) = []
 
 abbrev pub hash_json : HashSaid → Json
 hash_json hash = object_of (facts_members (hash_facts hash))
@@ -120,14 +104,14 @@ configurations_json (configuration ∷ configurations) [] = []
 configurations_json (configuration ∷ configurations) (properties ∷ lists) =
     configuration_json configuration properties ∷ configurations_json configurations lists
 
--- an image in a file of `size` bytes, whose blob has this total size
-abbrev pub image_members : ℕ → ℕ → ImageSaid → List Member
-image_members size totalsize image =
-    facts_members (image_facts image) ++ (place_members size (place_said totalsize image.payload)
+-- an image of a blob of this total size
+abbrev pub image_members : ℕ → ImageSaid → List Member
+image_members totalsize image =
+    facts_members (image_facts image) ++ (place_members (place_said totalsize image.payload)
     ++ (codes "hashes", array_of (map hash_json image.hashes)) ∷ [])
 
-abbrev pub image_json : ℕ → ℕ → ImageSaid → Json
-image_json size totalsize image = object_of (image_members size totalsize image)
+abbrev pub image_json : ℕ → ImageSaid → Json
+image_json totalsize image = object_of (image_members totalsize image)
 
 -- the first members of each image
 abbrev pub head_members : List ℕ → ℕ → ℕ → List Member
@@ -141,7 +125,7 @@ abbrev pub fit_members : List ℕ → ℕ → Option (List Reservation) → Said
     → List Member
 fit_members path size reserved said properties =
     head_members path size said.totalsize ++ (root_members reserved said
-    ++ ((codes "images", array_of (map (image_json size said.totalsize) said.images))
+    ++ ((codes "images", array_of (map (image_json said.totalsize) said.images))
     ∷ (codes "configurations", array_of (configurations_json said.configurations properties)) ∷ []))
 
 abbrev pub fit_json : List ℕ → ℕ → Option (List Reservation) → Said → List (List (NamedOf Span))
@@ -149,11 +133,17 @@ abbrev pub fit_json : List ℕ → ℕ → Option (List Reservation) → Said �
 fit_json path size reserved said properties =
     object_of (fit_members path size reserved said properties)
 
--- the object of a file at a path, or the file's first fault
+-- an object, unless a payload has a fault
+abbrev pub unless_misplaced : Option FitFault → Json → Result Json Fault
+unless_misplaced None j = Ok j
+unless_misplaced (Some fault) j = Err (Fit fault)
+
+-- the object of a file at a path, or the file's first fault: of the blob, or of a payload
 abbrev pub info_of : List ℕ → List ℕ → Result Json Fault
 info_of path file = do
   said ← survey_of file
-  Ok (fit_json path (length file) (reservations_of file said.totalsize) said (properties_of file))
+  unless_misplaced (first_fault (length file) said.totalsize said.images)
+      (fit_json path (length file) (reservations_of file said.totalsize) said (properties_of file))
 
 abbrev pub ok_of : Result Json Fault → Option Json
 ok_of (Ok j) = Some j

@@ -1,4 +1,5 @@
 pub mod Fit
+pub mod Placing
 pub mod Legacy
 pub mod Members
 pub mod Steps

@@ -1,6 +1,6 @@
--- The most bytes requested: each value once, twelve for the place of a payload, the memory
--- reservation block, and the properties of the configurations with their names.
-use Rattle.std.specs.Prelude.{ℕ, ◌+◌, List, [], ◌∷◌, Option, Some, length, Result, Ok, Err, Vec}
+-- The most bytes requested: each value once, twelve for the place of a payload, which is looked for
+-- twice, the memory reservation block, and the properties of the configurations with their names.
+use Rattle.std.specs.Prelude.{ℕ, ◌+◌, ◌*◌, List, [], ◌∷◌, Option, Some, length, Result, Ok, Err, Vec}
 use Rattle.std.specs.{List.sum_by, Option.option_map_or}
 use Rattle.uimg_base.specs.declared.spans.Span.{Span}
 use Rattle.uimg_blob_reading.specs.{Counts.index_cost, Plain.NamedOf}
@@ -101,8 +101,13 @@ abbrev pub facts_size : Result Said Fault → ℕ
 facts_size (Ok said) = said_size said
 facts_size (Err fault) = 0
 
+-- how many payloads are looked for, or 0 for a refused file
+abbrev pub payload_count : Result Said Fault → ℕ
+payload_count (Ok said) = length said.images
+payload_count (Err fault) = 0
+
 -- the most bytes requested: the index, the configurations' properties and their names, each value
 abbrev pub info_work : List ℕ → ℕ
 info_work file =
     index_cost file + properties_cost file + sum_by names_size (properties_of file)
-    + facts_size (survey_of file)
+    + 12 * payload_count (survey_of file) + facts_size (survey_of file)

@@ -1,14 +1,12 @@
 //! The object of a FIT image's facts.
 
-ghost use Rattle.std.specs.Prelude.{◌≡◌, ◌+◌, ◌^◌, ◌<◌, ◌≤◌, length, map, IfOk};
+ghost use Rattle.std.specs.Prelude.{◌≤◌, length, map};
 ghost use Rattle.std.specs.List.{All, sum_by};
 ghost use Rattle.json.specs.Tree.{json_tokens};
-ghost use Rattle.uimg_base.specs.{Honest.IfHonest, Using.Asks};
 ghost use Rattle.uimg_fit_checking.specs.FullSurvey.{FullInside};
 ghost use Rattle.uimg_fit_checking.specs.Survey.{read_hash, read_image, read_survey};
-ghost use Rattle.uimg_fit_reading.specs.PayloadPlaces.{read_payload, place_said, PayloadInside};
-ghost use Rattle.uimg_fit_checking.specs.SurveyParts.{HashInside, ImageInside, SurveyInside, is_unread, IsOwn};
-ghost use Rattle.uimg_info.specs.Fit.{fault_members, span_members, place_members, image_facts, root_members, hash_json, image_json, head_members};
+ghost use Rattle.uimg_fit_checking.specs.SurveyParts.{HashInside, ImageInside, SurveyInside};
+ghost use Rattle.uimg_info.specs.Fit.{place_members, image_facts, root_members, hash_json, image_json, head_members};
 ghost use Rattle.uimg_printing.specs.Members.{array_of, tokens_of};
 ghost use Rattle.uimg_info.specs.{Members.facts_members, Reservations.reservations_of};
 ghost use Rattle.uimg_info.specs.Steps.{PutsTokens, AddsTokens, read_json};
@@ -17,13 +15,13 @@ ghost use Rattle.uimg_info.specs.Work.{hash_size, image_rows_size, image_size, r
 use crate::configurations::put_configurations;
 use crate::facts::{put_object, put_rows};
 use crate::forms::Form::{Address, Cell, Digest, Text};
+use crate::placing::find_place;
 use crate::reservations::put_reservations;
 use json::Writer;
 use std::alloc::{AllocError, Global};
 use uimg_base::{Source, Span};
-use uimg_fit_base::{Fault, FitFault};
+use uimg_fit_base::FitFault;
 use uimg_fit_checking::{FullSurvey, HashFacts, ImageFacts, Survey, SurveyFault};
-use uimg_fit_reading::{PayloadFacts, find_payload};
 use uimg_printing::{put_number, put_string};
 
 // Writes a hash node.
@@ -64,42 +62,16 @@ fn put_hashes<S: Source>(
     Ok(())
 }
 
-// Writes a fault of a payload.
-fn put_fault(writer: &mut Writer, code: &str, message: &str) -> Result<(), AllocError>
-    ensures { AddsTokens result writer (tokens_of (fault_members code.now message.now)) }
+// Writes where a payload is, if it was found.
+fn put_place(writer: &mut Writer, found: Result<Span, FitFault>) -> Result<(), AllocError>
+    ensures { AddsTokens result writer (tokens_of (place_members found)) }
 {
-    put_string(writer, "fault", code)?;
-    put_string(writer, "message", message)?;
-    Ok(())
-}
-
-// Writes where a payload is, and `F3` if it ends after a file of `size` bytes.
-fn put_span(writer: &mut Writer, size: u64, place: Span) -> Result<(), AllocError>
-    requires { place.place + place.length < 2 ^ 64 }
-    ensures { AddsTokens result writer (tokens_of (span_members size place)) }
-{
+    let Ok(place) = found else {
+        return Ok(());
+    };
     put_number(writer, "offset", place.place)?;
     put_number(writer, "data-size", place.length)?;
-    if place.place + place.length <= size {
-        return Ok(());
-    }
-    put_fault(writer, "F3", "F3 data outside")?;
     Ok(())
-}
-
-// Writes where a payload is in a file of `size` bytes, or that it is missing.
-fn put_place(
-    writer: &mut Writer,
-    size: u64,
-    found: Result<Span, FitFault>,
-) -> Result<(), AllocError>
-    requires { IfOk found (λ p. p.place + p.length < 2 ^ 64) }
-    ensures { AddsTokens result writer (tokens_of (place_members size found)) }
-{
-    match found {
-        Ok(place) => put_span(writer, size, place),
-        Err(_) => put_fault(writer, "F2", "F2 no data"),
-    }
 }
 
 // Writes the facts of an image, without its payload and its hash nodes.
@@ -126,45 +98,24 @@ fn put_image_rows<S: Source>(
     put_rows(alloc, source, writer, &rows)
 }
 
-// Finds the payload of an image, or that it has none.
-fn place_of<S: Source>(
-    source: &mut S,
-    totalsize: u32,
-    facts: &PayloadFacts,
-) -> Result<Result<Span, FitFault>, SurveyFault>
-    requires values { PayloadInside totalsize facts.now }
-    requires blob { totalsize ≤ length (S.device source.old).bytes }
-    ensures uses { Asks 12 (is_unread result) (S.device source.old) (S.device source.new) }
-    ensures own { IsOwn result }
-    ensures small { IfOk result (λ found. IfOk found (λ p. p.place + p.length < 2 ^ 64)) }
-    ensures place { IfHonest S.device source (λ file.
-        IfOk result (λ found. found ≡ place_said totalsize (read_payload file facts.now))) }
-{
-    match find_payload(source, totalsize, facts) {
-        Ok(found) => Ok(found),
-        Err(_) => Err(SurveyFault::Stopped(Fault::Read)),
-    }
-}
-
-// Writes an image of a file of `size` bytes, whose blob has this total size.
+// Writes an image of a blob of this total size.
 #[tactic(auto, unfolding(crate::specs::Work::image_size))]
 fn put_image<S: Source>(
     alloc: Global,
     source: &mut S,
     writer: &mut Writer,
-    size: u64,
     totalsize: u32,
     facts: &ImageFacts,
 ) -> Result<(), SurveyFault>
     requires inside { ImageInside totalsize facts.now }
     requires blob { totalsize ≤ length (S.device source.old).bytes }
     ensures { PutsTokens (image_size facts.now) result S.device source writer
-        (λ file. json_tokens (image_json size totalsize (read_image file facts.now))) }
+        (λ file. json_tokens (image_json totalsize (read_image file facts.now))) }
 {
     writer.begin_object()?;
     put_image_rows(alloc, source, writer, facts)?;
-    let place = place_of(source, totalsize, &facts.payload)?;
-    put_place(writer, size, place)?;
+    let place = find_place(source, totalsize, &facts.payload)?;
+    put_place(writer, place)?;
     writer.key("hashes")?;
     put_hashes(alloc, source, writer, facts.hashes.as_slice())?;
     writer.end_object()?;
@@ -176,7 +127,6 @@ fn put_images<S: Source>(
     alloc: Global,
     source: &mut S,
     writer: &mut Writer,
-    size: u64,
     totalsize: u32,
     images: &[ImageFacts],
 ) -> Result<(), SurveyFault>
@@ -184,11 +134,11 @@ fn put_images<S: Source>(
     requires blob { totalsize ≤ length (S.device source.old).bytes }
     ensures { PutsTokens (sum_by image_size images.now) result S.device source writer
         (λ file. json_tokens (array_of
-        (map (image_json size totalsize) (map (read_image file) images.now)))) }
+        (map (image_json totalsize) (map (read_image file) images.now)))) }
 {
     writer.begin_array()?;
     for image in images {
-        put_image(alloc, source, writer, size, totalsize, image)?;
+        put_image(alloc, source, writer, totalsize, image)?;
     }
     writer.end_array()?;
     Ok(())
@@ -250,7 +200,6 @@ pub(crate) fn put_fit<S: Source>(
         alloc,
         source,
         writer,
-        size,
         survey.totalsize,
         survey.images.as_slice(),
     )?;

@@ -7,6 +7,7 @@ mod fit;
 mod forms;
 mod legacy;
 mod members;
+mod placing;
 mod reservations;
 mod texts;
 

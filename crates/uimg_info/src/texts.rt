@@ -11,6 +11,7 @@ ghost use Rattle.uimg_info.specs.{Fit.{info_of, ok_of}, Steps.{Informs, Prints, 
 ghost use Rattle.uimg_info.specs.Work.{full_size, info_work};
 
 use crate::fit::put_fit;
+use crate::placing::first_fault;
 use json::Writer;
 use std::alloc::{Allocator, Global};
 use uimg_base::{Room, Source};
@@ -43,9 +44,10 @@ fn survey_text<S: Source>(
 /// Returns the text of the object of a FIT image's facts, of a file at a path. Over an honest
 /// source it is one line, without its end, and reads as this object; over any source it is UTF-8.
 ///
-/// Returns the faults of `survey_with_properties`. Reads each value at most once, none of more than
-/// 65,536 bytes, and no payload. Requests no more than that call, the values, the names of the
-/// properties, 12 bytes for each image and 65,540 for the memory reservation block. The room holds
+/// Returns the faults of `survey_with_properties`, then `NoData` or `DataOutside` of the first image
+/// whose payload is not in the file. Reads each value at most once, none of more than 65,536 bytes,
+/// and no payload. Requests no more than that call, the values, the names of the properties, 24
+/// bytes for each image and 65,540 for the memory reservation block. The room holds
 /// the nodes meanwhile. Returns `OutOfMemory` if memory for facts, a value or the text was refused.
 pub fn fit_text<S: Source, A: Allocator>(
     alloc: Global,
@@ -68,5 +70,9 @@ pub fn fit_text<S: Source, A: Allocator>(
     let Ok(size) = source.size() else {
         return Err(SurveyFault::Stopped(Fault::Read));
     };
-    survey_text(alloc, path, source, size, &full)
+    let survey = &full.survey;
+    match first_fault(source, size, survey.totalsize, survey.images.as_slice())? {
+        Some(fault) => Err(SurveyFault::Stopped(Fault::Fit(fault))),
+        None => survey_text(alloc, path, source, size, &full),
+    }
 }

@@ -20,3 +20,4 @@ pub mod DataLaws
 pub mod UnpackLaws
 pub mod ExtractedLaws
 pub mod PlacingLaws
+pub mod CheckingLaws

@@ -1,32 +1,37 @@
--- Whether an image's checksums are right.
-use Rattle.std.specs.Prelude.{◌≡◌, List, ℕ, Result, Ok, Err, Bool, true, false, Option, Some, None}
-use Rattle.std.specs.Prelude.{IfSome}
-use Rattle.uimg_base.specs.{Outcome.{End, done, not_right, refused}, Results.◌>>=◌}
+-- Whether an image and its parts are whole, and the checksum of its data is right.
+use Rattle.std.specs.Prelude.{ℕ, List, ⊤, Result, Ok, Bool, true}
+use Rattle.uimg_base.specs.{Results.◌>>=◌, declared.spans.Span.Span}
 use Rattle.uimg_legacy.specs.{declared.fault.{LegacyFault.LegacyFault, Fault.Fault}, Faults.Gives}
-use Rattle.uimg_legacy.specs.{declared.fault.Fault.TheVariants.Legacy, Image.has_right_data}
-use Rattle.uimg_legacy.specs.{Header.{head, has_right_crc, fields}, Report.verify_of}
+use Rattle.uimg_legacy.specs.{declared.header.Header.Header, Header.header, Image.{payload, has_right_data}}
+use Rattle.uimg_legacy.specs.Placing.{places_in, spans_of_parts}
 
--- the result for the data, if the header's checksum is right
-abbrev pub right_behind : Bool → Result Bool LegacyFault → Result Bool LegacyFault
-right_behind true found = found
-right_behind false found = Ok false
+-- the same without the spans
+abbrev pub if_placed : Result (List Span) LegacyFault → Result ⊤ LegacyFault
+if_placed found = do
+  spans ← found
+  Ok tt
 
--- whether both are right, or the first fault
+-- an image with this header has its data and its parts, or the first fault: truncated, no table
+-- end, part outside
+abbrev pub has_its_parts : List ℕ → Header → Result ⊤ LegacyFault
+has_its_parts image h = if_placed (spans_of_parts image h)
+
+-- whether the checksum of the data is right, or the first fault: too short, bad magic, bad header
+-- CRC, or one of the parts
 abbrev pub checked : List ℕ → Result Bool LegacyFault
 checked image = do
-  bytes ← head image
-  right_behind (has_right_crc bytes) (has_right_data image (fields bytes))
+  h ← header image
+  whole ← has_its_parts image h
+  has_right_data image h
 
 abbrev pub Checks : List ℕ → Result Bool Fault → Type 0
 Checks image result = Gives (λ right. right) result (checked image)
 
--- the end of a report with this result
-abbrev pub check_end : Result Bool Fault → Option (End LegacyFault)
-check_end (Ok true) = Some done
-check_end (Ok false) = Some not_right
-check_end (Err (Legacy fault)) = Some (refused fault)
-check_end (Err _) = None
+-- the result is whether an image with this header has its parts
+abbrev pub ChecksParts : Header → List ℕ → Result ⊤ Fault → Type 0
+ChecksParts h image result = Gives (λ it. it) result (has_its_parts image h)
 
--- The result is the end of the report, unless a device failed.
-abbrev pub ChecksAs : List ℕ → Result Bool Fault → Type 0
-ChecksAs image result = IfSome (check_end result) (λ end. (verify_of image).end ≡ end)
+-- the same by its table
+abbrev pub ChecksTable : Header → List ℕ → Result ⊤ Fault → Type 0
+ChecksTable h image result =
+    Gives (λ it. it) result (if_placed (places_in true (payload image h) h.size))

@@ -7,7 +7,7 @@ use Rattle.uimg_base.specs.{Outcome.{Outcome, Tells}, declared.source.SourceFaul
 use Rattle.uimg_base.specs.declared.{status.Status.Status, spans.Span.Span}
 use Rattle.uimg_legacy.specs.{declared.fault.LegacyFault.LegacyFault, Listing.{tail_with, lines_of}}
 use Rattle.uimg_legacy.specs.{declared.fault.Fault.Fault, Image.{payload, has_right_data, legacy}}
-use Rattle.uimg_legacy.specs.{declared.header.Header.Header, Extraction.{part_of_data, part_at}}
+use Rattle.uimg_legacy.specs.{declared.header.Header.Header, Extraction.{listed_part, part_of_data, part_at}}
 use Rattle.uimg_legacy.specs.{Words.whole_words, Parts.{has_parts, sizes}, Report.data_report}
 use Rattle.uimg_legacy.specs.{Header.spelled, Faults.{is_read, is_put, is_of_making, end_of, Gives}}
 
@@ -115,6 +115,13 @@ bytes_at image span = slice image span.place span.length
 abbrev pub EndsInFile : {S : Type 0} → Result Span Fault → (S → Device) → Lent S → Type 0
 EndsInFile result device source =
     IfOk result (λ span. span.place + span.length ≤ length (device source.entry.now).bytes)
+
+-- In data of `size` bytes whose table has `count` sizes: the result is the span of the part at a
+-- position, or its fault.
+abbrev pub ListsPart : ℕ → ℕ → ℕ → List ℕ → Result Span Fault → Type 0
+ListsPart size count position image result = count ≡ length (sizes (slice image 64 size))
+    → Gives (bytes_at image) result
+    (listed_part (slice image 64 size) (sizes (slice image 64 size)) position)
 
 -- the result is the span of the part at a position of an image with this header, or its fault
 abbrev pub FindsPart : Header → ℕ → List ℕ → Result Span Fault → Type 0

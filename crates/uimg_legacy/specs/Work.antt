@@ -49,6 +49,15 @@ sizes_read image = sizes_read_from (legacy image)
 abbrev pub verify_work : List ℕ → ℕ
 verify_work image = own_meta 0 + data_length image
 
+-- how many sizes a check reads: of an image whose header is refused none
+abbrev pub sizes_checked : List ℕ → Result Header LegacyFault → ℕ
+sizes_checked image (Ok h) = sizes_read_with (has_parts h.kind) (payload image h)
+sizes_checked image (Err fault) = 0
+
+-- the most bytes that a check requests
+abbrev pub check_work : List ℕ → ℕ
+check_work image = own_meta (sizes_checked image (header image)) + data_length image
+
 -- the most bytes that a listing requests
 abbrev pub list_work : List ℕ → ℕ
 list_work image = own_meta (sizes_read image) + data_length image

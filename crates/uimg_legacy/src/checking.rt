@@ -1,33 +1,73 @@
-//! Whether an image's checksums are right, without a report.
+//! Whether an image and its parts are whole and its checksums right, without a report.
 
+ghost use Rattle.std.specs.Prelude.{◌≡◌, ◌+◌, ◌≤◌, length, true};
 ghost use Rattle.uimg_base.specs.{Honest.IfHonest, Using.UsesAtMost};
-ghost use Rattle.uimg_legacy.specs.{Checking.{ChecksAs, Checks}, Commands.Inspects, Reading.Reads};
-ghost use Rattle.uimg_legacy.specs.Work.{verify_work};
+ghost use Rattle.uimg_legacy.specs.{Checking.{Checks, ChecksParts, ChecksTable}, Commands.Inspects};
+ghost use Rattle.uimg_legacy.specs.{Parts.has_parts, Reading.Reads, Work.{check_work, table_work}};
 
-use crate::fault::Fault;
-use crate::header::{fields, has_right_crc, read_head};
+use crate::fault::{Fault, LegacyFault};
+use crate::header::{Header, read_header};
 use crate::image::has_right_data;
+use crate::parts::{count_sizes, has_parts, listed_part};
 use std::alloc::Allocator;
 use uimg_base::{Room, Source};
 
-// Returns whether both checksums are right.
-fn are_right<S: Source, A: Allocator>(source: &mut S, room: &mut Room<A>) -> Result<bool, Fault>
-    ensures { Reads UsesAtMost verify_work Checks result S.device source room }
+// Refuses a table whose parts do not all end inside the data. The last part ends last.
+fn check_table<S: Source, A: Allocator>(
+    source: &mut S,
+    room: &mut Room<A>,
+    header: &Header,
+) -> Result<(), Fault>
+    requires data { 64 + header.now.size ≤ length (S.device source.old).bytes }
+    requires kind { has_parts header.now.kind ≡ true }
+    ensures { Reads UsesAtMost (table_work header.now) (ChecksTable header.now) result
+        S.device source room }
 {
-    let bytes = read_head(source)?;
-    if !has_right_crc(&bytes) {
-        return Ok(false);
+    let count = count_sizes(source, room, header.size)?;
+    if count == 0 {
+        return Ok(());
     }
-    has_right_data(source, room, &fields(&bytes))
+    match listed_part(source, room, header.size, count, count - 1) {
+        Ok(_) => Ok(()),
+        Err(fault) => Err(fault),
+    }
 }
 
-/// Returns whether both checksums of the image are right, as a report would, but without its lines.
-/// Returns `TooShort`, `BadMagic` or, if the header's checksum is right, `Truncated`. Requests no
-/// more than a report; the room is only cleared.
+// Refuses an image with this header that lacks data or a part.
+fn check_parts<S: Source, A: Allocator>(
+    source: &mut S,
+    room: &mut Room<A>,
+    header: &Header,
+) -> Result<(), Fault>
+    ensures { Reads UsesAtMost (table_work header.now) (ChecksParts header.now) result
+        S.device source room }
+{
+    if source.size()? < 64 + header.size as u64 {
+        return Err(Fault::Legacy(LegacyFault::Truncated));
+    }
+    if !has_parts(header.kind) {
+        return Ok(());
+    }
+    check_table(source, room, header)
+}
+
+// Returns whether the data's checksum is right.
+fn is_right<S: Source, A: Allocator>(source: &mut S, room: &mut Room<A>) -> Result<bool, Fault>
+    ensures { Reads UsesAtMost check_work Checks result S.device source room }
+{
+    let header = read_header(source)?;
+    check_parts(source, room, &header)?;
+    has_right_data(source, room, &header)
+}
+
+/// Returns whether the checksum of the image's data is right. Returns the first fault of
+/// `TooShort`, `BadMagic`, `BadHeaderCrc` and, before the data are read, those of `locate_parts`.
+/// Requests no more than a listing, also of an image that a listing refuses; the room is only
+/// cleared.
 pub fn check<S: Source, A: Allocator>(source: &mut S, room: &mut Room<A>) -> Result<bool, Fault>
-    ensures inspects { Inspects verify_work result S.device source room }
-    ensures told { IfHonest S.device source (λ file. ChecksAs file result) }
+    ensures inspects { Inspects check_work result S.device source room }
+    ensures told { IfHonest S.device source (λ file. Checks file result) }
 {
     room.clear();
-    are_right(source, room)
+    is_right(source, room)
 }

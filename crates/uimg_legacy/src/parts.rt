@@ -1,9 +1,9 @@
 //! The parts of the types multi and script: how many, and where each is.
 
-ghost use Rattle.std.specs.Prelude.{◌≡◌, ◌+◌, ◌*◌, ◌≤◌, length, IfOk, is_err};
+ghost use Rattle.std.specs.Prelude.{◌≡◌, ◌+◌, ◌*◌, ◌≤◌, ◌<◌, length, IfOk, is_err};
 ghost use Rattle.uimg_base.specs.{Honest.IfHonest, Using.{Asks, UsesAtMost}};
 ghost use Rattle.uimg_legacy.specs.{Parts.has_parts, Work.table_work, Tables.{Counts, sizes_work}};
-ghost use Rattle.uimg_legacy.specs.Reading.{Reads, FindsPart, IsWordAt};
+ghost use Rattle.uimg_legacy.specs.Reading.{Reads, FindsPart, ListsPart, IsWordAt};
 
 use crate::fault::{Fault, LegacyFault};
 use crate::header::Header;
@@ -55,6 +55,32 @@ pub(crate) fn count_sizes<S: Source, A: Allocator>(
     Err(Fault::Legacy(LegacyFault::NoTableEnd))
 }
 
+// Finds the part at a position of a table of `count` sizes in `size` bytes of data.
+pub(crate) fn listed_part<S: Source, A: Allocator>(
+    source: &mut S,
+    room: &mut Room<A>,
+    size: u32,
+    count: u32,
+    position: u32,
+) -> Result<Span, Fault>
+    requires data { 64 + size ≤ length (S.device source.old).bytes }
+    requires table { 4 * (count + 1) ≤ size }
+    requires position { position < count }
+    ensures reads { Reads Asks (λ _. 4 * (position + 1)) (ListsPart size count position) result
+        S.device source room }
+    ensures inside { IfOk result (λ span. span.place + span.length ≤ 64 + size) }
+{
+    let start = 4 * (count as u64 + 1) + sum_first(source, room, position)?;
+    let len = size_at(source, position)?;
+    if start + len as u64 > size as u64 {
+        return Err(Fault::Legacy(LegacyFault::PartOutside));
+    }
+    Ok(Span {
+        place: 64 + start,
+        length: len as u64,
+    })
+}
+
 // Finds the part at a position: one of the table, or the data of a single file.
 #[tactic(auto, unfolding(crate::specs::Extraction::single))]
 pub(crate) fn find_part<S: Source, A: Allocator>(
@@ -81,13 +107,5 @@ pub(crate) fn find_part<S: Source, A: Allocator>(
     if position >= count {
         return Err(Fault::Legacy(LegacyFault::NoSuchPart));
     }
-    let start = 4 * (count as u64 + 1) + sum_first(source, room, position)?;
-    let len = size_at(source, position)?;
-    if start + len as u64 > header.size as u64 {
-        return Err(Fault::Legacy(LegacyFault::PartOutside));
-    }
-    Ok(Span {
-        place: 64 + start,
-        length: len as u64,
-    })
+    listed_part(source, room, header.size, count, position)
 }

@@ -1,16 +1,13 @@
 -- What strictness refuses of a legacy image (U-Boot's image.h).
-use Rattle.std.specs.Prelude.{◌≡◌, ◌==◌, ⊤, ℕ, List, Bool, not, if◌then◌else◌, Option, Some, None}
-use Rattle.std.specs.Prelude.{Result, Ok, Err}
+use Rattle.std.specs.Prelude.{◌==◌, ℕ, List, Bool, not, if◌then◌else◌, Option, Some, None}
+use Rattle.std.specs.Prelude.{Result, Ok}
 use Rattle.std.specs.List.{list_any}
 use Rattle.uimg_base.specs.Results.{◌>>=◌}
-use Rattle.uimg_base.specs.declared.spans.Span.{Span}
-use Rattle.uimg_legacy.specs.declared.fault.Fault.TheVariants as of
+use Rattle.uimg_legacy.specs.declared.fault.Fault.{Fault}
 use Rattle.uimg_legacy.specs.declared.fault.LegacyFault.{LegacyFault}
 use Rattle.uimg_legacy.specs.declared.header.Header.{Header}
-use Rattle.uimg_legacy.specs.declared.placing.PartsFault.{PartsFault}
-use Rattle.uimg_legacy.specs.declared.placing.PartsFault.TheVariants.{Stopped, OutOfMemory}
+use Rattle.uimg_legacy.specs.Faults.{Gives}
 use Rattle.uimg_legacy.specs.Header.{header}
-use Rattle.uimg_legacy.specs.Placing.{spans_of_parts}
 use Rattle.uimg_names.specs.declared.field.Field.{Field}
 use Rattle.uimg_names.specs.declared.field.Field.TheVariants.{Kind, Architecture, System}
 use Rattle.uimg_names.specs.declared.field.Field.TheVariants.{Compression}
@@ -35,23 +32,12 @@ loose_header h =
     else if not (has_code Compression h.comp) then Some UnknownCompression
     else None
 
--- something that is refused, or else the fault of the parts
-abbrev pub or_parts : Option Looseness → Result (List Span) LegacyFault
-    → Result (Option Looseness) LegacyFault
-or_parts (Some why) parts = Ok (Some why)
-or_parts None (Ok parts) = Ok None
-or_parts None (Err fault) = Err fault
-
 -- what is refused of a legacy image, or its first fault
 abbrev pub loose_legacy : List ℕ → Result (Option Looseness) LegacyFault
 loose_legacy file = do
   h ← header file
-  or_parts (loose_header h) (spans_of_parts file h)
+  Ok (loose_header h)
 
--- The result is what is refused, or the fault, unless a read failed or memory was refused.
-abbrev pub TellsHeader : List ℕ → Result (Option Looseness) PartsFault → Type 0
-TellsHeader file (Ok found) = loose_legacy file ≡ Ok found
-TellsHeader file (Err (Stopped (of.Legacy fault))) = loose_legacy file ≡ Err fault
-TellsHeader file (Err (Stopped of.Read)) = ⊤
-TellsHeader file (Err (Stopped of.Put)) = ⊥
-TellsHeader file (Err OutOfMemory) = ⊤
+-- The result is what is refused, or the fault, unless a read failed.
+abbrev pub TellsHeader : List ℕ → Result (Option Looseness) Fault → Type 0
+TellsHeader file result = Gives (λ why. why) result (loose_legacy file)

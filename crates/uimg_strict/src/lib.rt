@@ -1,6 +1,6 @@
 //! What a strict check refuses of an image whose checksums or hashes are right: a FIT image that
-//! U-Boot reads in another way than the check, or not at all, and a legacy image whose header or
-//! table of parts means nothing.
+//! U-Boot reads in another way than the check, or not at all, and a legacy image whose header means
+//! nothing.
 #![tactic(auto)]
 
 mod headers;

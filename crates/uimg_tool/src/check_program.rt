@@ -210,9 +210,7 @@ impl<'a, W: Write> Checks<'a, W> {
             Ok(Checked::Fit(Finding::Right { .. })) if request.is_strict => {
                 answer_of_fit(rt.alloc(), end, &mut source, &mut self.room, names)
             }
-            Ok(Checked::Right) if request.is_strict => {
-                answer_of_legacy(rt.alloc(), &mut source, &mut self.room, names)
-            }
+            Ok(Checked::Right) if request.is_strict => answer_of_legacy(&mut source, names),
             _ => answer_of(end, None, &mut source, names),
         }
     }

@@ -9,7 +9,6 @@ use uimg_base::{Room, Source, Span};
 use uimg_checks::{Answer, Checked, Missing, find_missing};
 use uimg_engine::Fault;
 use uimg_fit_checking::{ConfigurationFacts, SurveyFault, survey};
-use uimg_legacy::PartsFault;
 use uimg_strict::{Loose, find_loose, find_loose_header};
 
 // What is found in a FIT image whose hashes are right.
@@ -69,16 +68,10 @@ fn count_nodes(configurations: &[ConfigurationFacts]) -> u64 {
 }
 
 /// Returns the result for a legacy image whose checksums are right.
-pub(crate) fn answer_of_legacy<'a, S: Source>(
-    alloc: Global,
-    source: &mut S,
-    room: &mut Room<Global>,
-    names: &'a mut Names,
-) -> Answer<'a> {
-    match find_loose_header(alloc, source, room) {
+pub(crate) fn answer_of_legacy<'a, S: Source>(source: &mut S, names: &'a mut Names) -> Answer<'a> {
+    match find_loose_header(source) {
         Ok(Some(why)) => answer_of_header(why),
         Ok(None) => answer_of(Ok(Checked::Right), None, source, names),
-        Err(PartsFault::Stopped(fault)) => answer_of_fault(Fault::from(fault), names),
-        Err(PartsFault::OutOfMemory) => answer_of_fault(Fault::OutOfMemory, names),
+        Err(fault) => answer_of_fault(Fault::from(fault), names),
     }
 }

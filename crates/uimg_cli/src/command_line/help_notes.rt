@@ -76,7 +76,8 @@ A line has the path of the image and the first finding:
                --strict the line of a FIT also counts the nodes of its
                configurations, if any: 2 nodes of configurations unchecked
   unhashed     The same, but this image of the FIT has no hash
-  bad          This hash of this image is wrong, or a checksum of a legacy image
+  bad          This hash of this image, or the data's checksum of a legacy image,
+               is wrong
   malformed    This hash has no algorithm, no value, or one of the wrong length
   unsupported  This hash has an unknown algorithm
   weak         This image has no hash as strong as --need, or with --strict none;
@@ -190,12 +191,12 @@ pub(super) const INFO_NOTES: &str =
     "Prints one line, a JSON object. For a FIT image it has path, status, format, size,
 totalsize, description, timestamp, default, reservations, images and
 configurations. An image has name, description, type, arch, os, compression, load,
-entry, offset and data-size of its payload, and hashes; without a payload in the
-file it has fault and message. A configuration has the names that its properties
-give, nodes and properties. Of a legacy image the object has path, status, format,
-size, name, time, load, entry, header-crc, data-crc, os, arch, type and compression
-(each with its code), data-size and parts. What the image lacks is left out. An
-image that is refused or cannot be read has the line of check --json.
+entry, offset and data-size of its payload, and hashes. A configuration has the
+names that its properties give, nodes and properties. Of a legacy image the object
+has path, status, format, size, name, time, load, entry, header-crc, data-crc, os,
+arch, type and compression (each with its code), data-size and parts. What the image
+lacks is left out. An image that is refused or cannot be read has the line of check
+--json.
 Hashes and the checksum of a legacy image's data are printed, not checked.
 
 Examples:

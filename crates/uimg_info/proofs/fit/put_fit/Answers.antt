@@ -38,8 +38,8 @@ returns g c =
           let honest_images = subst IsTrue (sym images.uses.same.honest) honest_root in
           let same_images = images.uses.same.bytes ∙ root.uses.same.bytes in
           let first = appended_as _ _ _ _
-          (ap (λ (f : List ℕ). json_tokens (array_of (map (image_json c.args.size survey.totalsize) (map (read_image f) c.as_slice.result.now)))) root.uses.same.bytes
-          ∙ ap (λ (is : List ImageFacts). json_tokens (array_of (map (image_json c.args.size survey.totalsize) (map (read_image file) is)))) those) (images.told honest_root) in
+          (ap (λ (f : List ℕ). json_tokens (array_of (map (image_json survey.totalsize) (map (read_image f) c.as_slice.result.now)))) root.uses.same.bytes
+          ∙ ap (λ (is : List ImageFacts). json_tokens (array_of (map (image_json survey.totalsize) (map (read_image file) is)))) those) (images.told honest_root) in
           let second = appended_as _ _ _ _
           (ap (λ (f : List ℕ). json_tokens (array_of (configurations_json (map (read_configuration f) c.as_slice-2.result.now) (map (read_properties f) c.as_slice-3.result.now)))) same_images
           ∙ ap (λ (cs : List ConfigurationFacts). json_tokens (array_of (configurations_json (map (read_configuration file) cs) (map (read_properties file) c.as_slice-3.result.now)))) these
@@ -48,7 +48,7 @@ returns g c =
           object_appended _ _ _ _ (fit_members c.args.path.now c.args.size reserved said properties)
           (one c.in_ok-begin_object.ensures.ok c.begin_object.ensures.room.0)
           (appended_as _ _ _ _ (sym (tokens_two (head_members c.args.path.now c.args.size survey.totalsize) (root_members reserved said) (codes "images") (codes "configurations")
-          (array_of (map (image_json c.args.size survey.totalsize) said.images)) (array_of (configurations_json said.configurations properties))))
+          (array_of (map (image_json survey.totalsize) said.images)) (array_of (configurations_json said.configurations properties))))
           (after c.in_ok-put_head.ensures (after (root.told honest)
           (after (after (one c.in_ok-key.ensures.ok c.key.ensures.room.0) first) (after (one c.in_ok-key-2.ensures.ok c.key-2.ensures.room.0) second)))))
           (one c.in_ok-end_object.ensures.ok c.end_object.ensures.room.0);

@@ -33,13 +33,13 @@ returns g c =
           let same_place = placed.uses.same.bytes ∙ rows.uses.same.bytes in
           let found : c.in_ok-place.place ≡ place_said c.args.totalsize image.payload =
           placed.place honest_rows ∙ ap (λ (f : List ℕ). place_said c.args.totalsize (read_payload f facts.payload)) rows.uses.same.bytes in
-          let at = appended_as _ _ _ _ (ap (λ (p : Result Span FitFault). tokens_of (place_members c.args.size p)) found) c.in_ok-put_place.ensures in
+          let at = appended_as _ _ _ _ (ap (λ (p : Result Span FitFault). tokens_of (place_members p)) found) c.in_ok-put_place.ensures in
           let hashes = appended_as _ _ _ _
           (ap (λ (f : List ℕ). json_tokens (array_of (map hash_json (map (read_hash f) c.as_slice.result.now)))) same_place
           ∙ ap (λ (hs : List HashFacts). json_tokens (array_of (map hash_json (map (read_hash file) hs)))) items) (hashed.told honest_place) in
-          object_appended _ _ _ _ (image_members c.args.size c.args.totalsize image)
+          object_appended _ _ _ _ (image_members c.args.totalsize image)
           (one c.in_ok-begin_object.ensures.ok c.begin_object.ensures.room.0)
-          (appended_as _ _ _ _ (sym (tokens_one (facts_members (image_facts image)) (place_members c.args.size (place_said c.args.totalsize image.payload)) (codes "hashes") (array_of (map hash_json image.hashes))))
+          (appended_as _ _ _ _ (sym (tokens_one (facts_members (image_facts image)) (place_members (place_said c.args.totalsize image.payload)) (codes "hashes") (array_of (map hash_json image.hashes))))
           (after (rows.told honest) (after at (after (one c.in_ok-key.ensures.ok c.key.ensures.room.0) hashes))))
           (one c.in_ok-end_object.ensures.ok c.end_object.ensures.room.0);
     }

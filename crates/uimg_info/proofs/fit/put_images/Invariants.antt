@@ -16,5 +16,5 @@ invariant-loop-image g l =
       asked : (device l.source).asked ≤ (device l.fn.source).asked + sum_by image_size (take l.image-index l.images);
       failures : (device l.source).failures ≡ (device l.fn.source).failures;
       before : l.writer.before ≡ l.fn.writer.before;
-      all : IsTrue (device l.fn.source).honest → l.writer.tokens ++ items_tokens (items_of (map (image_json l.size l.totalsize) (map (read_image file) (drop l.image-index l.images)))) ≡ l.fn.writer.tokens ++ json_tokens (array_of (map (image_json l.size l.totalsize) (map (read_image file) l.images)));
+      all : IsTrue (device l.fn.source).honest → l.writer.tokens ++ items_tokens (items_of (map (image_json l.totalsize) (map (read_image file) (drop l.image-index l.images)))) ≡ l.fn.writer.tokens ++ json_tokens (array_of (map (image_json l.totalsize) (map (read_image file) l.images)));
     }

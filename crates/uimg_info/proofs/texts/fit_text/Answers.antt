@@ -1,13 +1,16 @@
-use Rattle.std.proofs.Common.{◌≡◌, List, ℕ, length, map, arith, rules, ap, sym, ◌∙◌, subst, IsTrue, IfOk, Ok, Result, Vec, Global}
+use Rattle.std.proofs.Common.{◌≡◌, List, ℕ, length, map, arith, rules, ap, sym, ◌∙◌, subst, IsTrue, IfOk, Ok, Option, None, Result, Vec, Global}
 use Rattle.std.specs.List.{sum_by}
+use Rattle.std.proofs.lemmas.List.{length-map}
 use Rattle.json.specs.{Print.print, Tree.json_tokens}
 use Rattle.uimg_base.specs.{declared.spans.Span.Span, Results.◌>>=◌}
 use Rattle.uimg_blob_reading.specs.Plain.{NamedOf}
+use Rattle.uimg_fit_checking.specs.declared.surveying.facts.ImageFacts.{ImageFacts}
 use Rattle.uimg_fit_checking.specs.FullSurvey.{read_properties, properties_of}
-use Rattle.uimg_fit_checking.specs.Survey.{Said, read_survey, survey_of}
-use Rattle.uimg_fit_base.specs.declared.fault.Fault.{Fault}
-use Rattle.uimg_info.specs.{Reservations.reservations_of, Fit.{fit_json, info_of}}
-use Rattle.uimg_info.specs.Work.{facts_size, survey_size, names_size, list_size}
+use Rattle.uimg_fit_checking.specs.Survey.{Said, read_image, read_survey, survey_of}
+use Rattle.uimg_fit_base.specs.declared.fault.{Fault.Fault, FitFault.FitFault}
+use Rattle.uimg_info.specs.{Reservations.reservations_of, Placing.first_fault}
+use Rattle.uimg_info.specs.Fit.{fit_json, unless_misplaced, info_of}
+use Rattle.uimg_info.specs.Work.{facts_size, payload_count, survey_size, names_size, list_size}
 use Rattle.uimg_info.proofs.{InformLaws.informs, WorkLaws.{survey_sized, names_sized}}
 use Rattle.uimg_info.proofs.texts.fit_text.Goals as goal
 
@@ -17,16 +20,27 @@ returns-clause-told g c = λ honest.
     let path = c.args.path.now in
     let first = c.in_ok-full.ensures in
     let sized = c.in-Ok.ensures in
+    let looked = c.in_ok-fault.ensures in
     let survey = c.in_ok-full.full.survey in
     let said = read_survey file survey in
     let lists = c.in_ok-full.full.properties.items in
     let properties = map (read_properties file) lists in
     let reserved = reservations_of file survey.totalsize in
-    let honest_now = subst IsTrue (sym (sized.same.honest ∙ first.uses.same.honest)) honest in
-    let same = sized.same.bytes ∙ first.uses.same.bytes in
+    let honest_size = subst IsTrue (sym (sized.same.honest ∙ first.uses.same.honest)) honest in
+    let honest_now = subst IsTrue (sym looked.uses.same.honest) honest_size in
+    let same_size = sized.same.bytes ∙ first.uses.same.bytes in
+    let same = looked.uses.same.bytes ∙ same_size in
     let size : c.in-Ok.size ≡ length file = sized.length ∙ ap (λ (f : List ℕ). length f) first.uses.same.bytes in
+    let items : c.as_slice.result.now ≡ survey.images.items = search rules in
+    let found : c.in_ok-fault.field-0 ≡ first_fault (length file) survey.totalsize (map (read_image file) survey.images.items) =
+    looked.told honest_size
+    ∙ ap (λ (n : ℕ). first_fault n survey.totalsize (map (read_image (g.S.Source.device c.size.new.self).bytes) c.as_slice.result.now)) size
+    ∙ ap (λ (f : List ℕ). first_fault (length file) survey.totalsize (map (read_image f) c.as_slice.result.now)) same_size
+    ∙ ap (λ (is : List ImageFacts). first_fault (length file) survey.totalsize (map (read_image file) is)) items in
+    let placed : first_fault (length file) said.totalsize said.images ≡ None = sym found ∙ c.in-None.is in
     let is : info_of path file ≡ Ok (fit_json path (length file) reserved said properties) =
-    ap (λ (r : Result Said Fault). r >>= (λ s. Ok (fit_json path (length file) (reservations_of file s.totalsize) s (properties_of file)))) (first.told honest)
+    ap (λ (r : Result Said Fault). r >>= (λ s. unless_misplaced (first_fault (length file) s.totalsize s.images) (fit_json path (length file) (reservations_of file s.totalsize) s (properties_of file)))) (first.told honest)
+    ∙ ap (λ (o : Option FitFault). unless_misplaced o (fit_json path (length file) reserved said (properties_of file))) placed
     ∙ ap (λ (ps : List (List (NamedOf Span))). Ok (fit_json path (length file) reserved said ps)) (sym (first.properties honest)) in
     let told =
     subst (λ (n : ℕ). IfOk c.survey_text.result (λ (text : Vec ℕ Global). text.items ≡ print (json_tokens (fit_json path n reserved said properties)))) size
@@ -39,14 +53,18 @@ returns-clause-uses g c =
     let file = (g.S.Source.device c.args.source.now).bytes in
     let first = c.in_ok-full.ensures in
     let sized = c.in-Ok.ensures in
+    let looked = c.in_ok-fault.ensures.uses in
     let survey = c.in_ok-full.full.survey in
     let read = c.survey_text.ensures.uses in
+    let items : c.as_slice.result.now ≡ survey.images.items = search rules in
     record {
-      same = record { bytes = read.same.bytes ∙ sized.same.bytes ∙ first.uses.same.bytes; honest = read.same.honest ∙ sized.same.honest ∙ first.uses.same.honest };
+      same = record { bytes = read.same.bytes ∙ looked.same.bytes ∙ sized.same.bytes ∙ first.uses.same.bytes; honest = read.same.honest ∙ looked.same.honest ∙ sized.same.honest ∙ first.uses.same.honest };
       asked = λ honest.
           let said : facts_size (survey_of file) ≡ survey_size survey = ap facts_size (first.told honest) ∙ survey_sized file survey first.inside.survey in
           let names : sum_by names_size (properties_of file) ≡ sum_by list_size c.in_ok-full.full.properties.items =
           ap (λ (ps : List (List (NamedOf Span))). sum_by names_size ps) (sym (first.properties honest)) ∙ names_sized file c.in_ok-full.full first.inside in
-          omega (arith, said, names, first.uses.asked honest, sized.asked, read.asked);
+          let count : payload_count (survey_of file) ≡ length c.as_slice.result.now =
+          ap payload_count (first.told honest) ∙ length-map survey.images.items (read_image file) ∙ ap (λ (is : List ImageFacts). length is) (sym items) in
+          omega (arith, said, names, count, first.uses.asked honest, sized.asked, looked.asked, read.asked);
       failures = search rules;
     }
