@@ -21,7 +21,6 @@ use uimg_base::{Algo, MemSource, Room, Status};
 use uimg_checks::Checked;
 use uimg_engine::Fault;
 use uimg_fit_checking::{Finding, SurveyFault};
-use uimg_legacy::PartsFault;
 use uimg_strict::{Looseness, find_loose, find_loose_header};
 
 // Returns the numbers of what strictness refuses: the letter S, and a number from 1 to 16.
@@ -50,16 +49,14 @@ fn loose_fit<A: Allocator>(alloc: Global, image: &[u8], room: &mut Room<A>) -> O
 }
 
 // Returns the same for a legacy image.
-fn loose_legacy<A: Allocator>(alloc: Global, image: &[u8], room: &mut Room<A>) -> Option<Code>
-    ensures room { room.new ≡ room.old }
+fn loose_legacy(image: &[u8]) -> Option<Code>
     ensures known { IfSome result (λ code. code.status ≤ 1) }
     ensures told { IfSome result (λ code. code_of_loose (why_in_legacy (loose_legacy image.now)) ≡ Some code) }
 {
-    match find_loose_header(alloc, &mut MemSource::new(image), room) {
+    match find_loose_header(&mut MemSource::new(image)) {
         Ok(None) => answer_code(Ok(Status::Done)),
         Ok(Some(why)) => Some(loose_code(why)),
-        Err(PartsFault::Stopped(fault)) => fault_code(Fault::from(fault)),
-        Err(_) => None,
+        Err(fault) => fault_code(Fault::from(fault)),
     }
 }
 
@@ -77,7 +74,7 @@ fn strict_code<A: Allocator>(
 {
     match uimg_checks::check(Some(need), &mut MemSource::new(image), room) {
         Ok(Checked::Fit(Finding::Right { .. })) => loose_fit(alloc, image, room),
-        Ok(Checked::Right) => loose_legacy(alloc, image, room),
+        Ok(Checked::Right) => loose_legacy(image),
         Ok(_) => answer_code(Ok(Status::NotRight)),
         Err(fault) => fault_code(fault),
     }
