@@ -119,7 +119,7 @@ A needed strength:
   $ ls -A out
   b
   $ uimg unpack --need-hash sha3 -C out k.itb
-  uimg: unknown name
+  uimg: --need: unknown algorithm 'sha3'; use crc32, md5, sha1, sha256, sha384 or sha512
   [2]
   $ fit '' && uimg unpack -C out k.itb && uimg unpack --need-hash crc32 -C out k.itb
   uimg: no image has a hash, as there is none
@@ -185,17 +185,23 @@ Refusals come before anything is written:
   $ fit 'abcde { data = [61]; };' && uimg unpack -C none k.itb
   uimg: cannot create none/abcde: No such file or directory (os error 2)
   [3]
+  $ uimg unpack -C k.its k.itb
+  uimg: cannot create k.its/abcde: Not a directory (os error 20)
+  [3]
+  $ uimg unpack --max-files many k.itb
+  uimg: --max-files: 'many' is not a decimal number below 2^64
+  [2]
   $ uimg unpack -C '' k.itb
-  uimg: no folder
+  uimg: -C: no folder
   [2]
   $ mkfifo pipe && uimg unpack pipe
-  uimg: cannot read pipe
+  uimg: cannot read pipe: it is a pipe
   [3]
   $ uimg unpack out
-  uimg: cannot read out
+  uimg: cannot read out: Is a directory (os error 21)
   [3]
   $ uimg unpack none.itb
-  uimg: cannot read none.itb
+  uimg: cannot read none.itb: No such file or directory (os error 2)
   [3]
   $ uimg unpack
   uimg: no image
@@ -243,7 +249,7 @@ Nobody reads the lines, and there is no space for them:
   $ rm -r out && mkdir out && fit 'a { data = [61 62 63]; };' && (sleep 0.1; uimg unpack -C out k.itb; echo $? > status) | true; sleep 0.5; cat status
   3
   $ rm -f out/a && uimg unpack -C out k.itb > /dev/full
-  uimg: write failed
+  uimg: write failed: No space left on device (os error 28)
   [3]
   $ ls -A out
   a
@@ -459,12 +465,12 @@ At most 4096 files, or as many as are allowed, and as many bytes as are allowed;
   uimg: more than 0 files; --max-files allows more
   [1]
   $ for number in 18446744073709551616 +1 -1 0x1 '' ' 1'; do uimg unpack --max-bytes="$number" -C out k.itb; done
-  uimg: bad number
-  uimg: bad number
-  uimg: bad number
-  uimg: bad number
-  uimg: bad number
-  uimg: bad number
+  uimg: --max-bytes: '18446744073709551616' is not a decimal number below 2^64
+  uimg: --max-bytes: '+1' is not a decimal number below 2^64
+  uimg: --max-bytes: '-1' is not a decimal number below 2^64
+  uimg: --max-bytes: '0x1' is not a decimal number below 2^64
+  uimg: --max-bytes: '' is not a decimal number below 2^64
+  uimg: --max-bytes: ' 1' is not a decimal number below 2^64
   [2]
   $ rm out/* && python3 - <<'END'
   > import struct, zlib
@@ -493,14 +499,14 @@ A failed write leaves no file, and a line that nobody reads leaves no folder:
 
   $ rm -r out && mkdir out && head -c 3000000 /dev/zero > zeros && uimg mkimage -A arm -T kernel -C none -d zeros large.img > listing
   $ (ulimit -f 1000; trap '' XFSZ; uimg unpack -C out large.img)
-  uimg: cannot write out/image-0
+  uimg: cannot write out/image-0: File too large (os error 27)
   [3]
   $ ls -A out
   $ (sleep 0.1; uimg unpack -C out abc-kernel.img; echo $? > status) | true; sleep 0.5; cat status
   3
   $ ls -A out && rm out/* && uimg unpack -C out abc-kernel.img > /dev/full
   image-0
-  uimg: write failed
+  uimg: write failed: No space left on device (os error 28)
   [3]
   $ ls -A out
   image-0

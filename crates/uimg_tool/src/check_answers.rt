@@ -3,7 +3,9 @@
 ghost use Rattle.std.specs.Prelude.{◌≤◌, IfSome};
 
 use crate::main_program::{REFUSED, RequestFault, status_of};
+use crate::reasons::reason_unread;
 use std::alloc::Global;
+use std::rt::Files;
 use uimg_base::{Source, Span};
 use uimg_checks::{Answer, Checked, Format, Missing, Stop};
 use uimg_engine::Fault;
@@ -13,9 +15,9 @@ use uimg_strict::{Loose, Looseness};
 /// The longest name of a node, in bytes.
 const NAME_LEN: usize = 255;
 
-/// The file could not be opened.
-pub(crate) const UNREAD: Answer<'static> = Answer::Failed(Stop {
-    message: "cannot read",
+/// The path is not UTF-8, so no file was opened.
+pub(crate) const NOT_UTF8: Answer<'static> = Answer::Failed(Stop {
+    message: "cannot read: the path is not UTF-8",
     code: None,
     format: None,
     offset: None,
@@ -58,6 +60,28 @@ impl Names {
             message: String::new(alloc),
         }
     }
+}
+
+/// Returns the result for a file that could not be opened.
+pub(crate) fn answer_of_unread<'a, R: Files>(
+    rt: &R,
+    path: &str,
+    names: &'a mut Names,
+) -> Answer<'a> {
+    let message = match reason_unread(rt, path) {
+        Some(reason) => format!(in names.alloc; "cannot read: {reason}"),
+        None => String::from_str(names.alloc, "cannot read"),
+    };
+    match message {
+        Ok(message) => names.message = message,
+        Err(_) => return NO_MEMORY,
+    }
+    Answer::Failed(Stop {
+        message: names.message.as_str(),
+        code: None,
+        format: None,
+        offset: None,
+    })
 }
 
 /// Returns the result of a check, with the number of nodes of configurations, if they were counted.

@@ -14,6 +14,7 @@ mod moments;
 mod new_shelf;
 mod old_program;
 mod old_tools;
+mod reasons;
 mod safe_path;
 mod source_warnings;
 mod strict_answers;

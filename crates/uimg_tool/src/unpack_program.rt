@@ -1,7 +1,9 @@
 //! Unpacks an image.
 
-use crate::check_program::is_pipe;
-use crate::main_program::{DONE, FAILED, REFUSED, RequestFault, WRONG_LINE, status_of, tell};
+use crate::main_program::{
+    DONE, FAILED, REFUSED, RequestFault, WRONG_LINE, status_of, tell, tell_unread,
+};
+use crate::reasons::is_pipe;
 use std::io::{BufWriter, Write};
 use std::rt::Files;
 use uimg_base::{FileSource, Source};
@@ -57,10 +59,10 @@ fn unpack_at<R: Files + AllocGlobal, W: Write + Drop, V: Write>(
     err: &mut V,
 ) -> u8 {
     if is_pipe(rt, path) {
-        return tell(err, &RequestFault::CannotRead(path), FAILED);
+        return tell_unread(rt, path, err);
     }
     let Ok(mut source) = FileSource::open(rt, path) else {
-        return tell(err, &RequestFault::CannotRead(path), FAILED);
+        return tell_unread(rt, path, err);
     };
     let asked = Unpacking {
         folder: folder_of(request, FileId::of(rt, path)),

@@ -6,7 +6,7 @@ use crate::folder::{Folder, is_there};
 use crate::limits::Claimed;
 use crate::lines::Line;
 use crate::names::Names;
-use crate::new_file::NewFile;
+use crate::new_file::{ErrorCode, NewFile};
 use crate::staging::Staging;
 use crate::trouble::Trouble;
 use crate::unpacking::Unpacking;
@@ -19,12 +19,12 @@ use uimg_fit_checking::{NodeName, Refusal, Taker, Vouched};
 /// A taker that writes payloads to a folder. Their files get their names at the end: all of them,
 /// or, if one is refused, none or only the good ones.
 #[derive(Drop)]
-pub(crate) struct FolderTaker<'a, R: Files + AllocGlobal, W: Write + Drop> {
+pub(crate) struct FolderTaker<'a, 'c, R: Files + AllocGlobal, W: Write + Drop> {
     rt: &'a R,
     folder: Folder<'a>,
     keeps_good: bool,
     out: W,
-    staging: Staging<'a, R>,
+    staging: Staging<'a, 'c, R>,
     // The lines to print once the files have their names, or if none gets one.
     lines: String,
     has_refused: bool,
@@ -37,15 +37,21 @@ pub(crate) struct FolderTaker<'a, R: Files + AllocGlobal, W: Write + Drop> {
     trouble: Option<Trouble>,
 }
 
-impl<'a, R: Files + AllocGlobal, W: Write + Drop> FolderTaker<'a, R, W> {
-    /// Returns a taker for a folder, which writes its lines to `out`.
-    pub(crate) fn new(rt: &'a R, asked: &Unpacking<'a>, out: W) -> FolderTaker<'a, R, W> {
+impl<'a, 'c, R: Files + AllocGlobal, W: Write + Drop> FolderTaker<'a, 'c, R, W> {
+    /// Returns a taker for a folder, which writes its lines to `out`. Failed writes are noted in
+    /// `code`.
+    pub(crate) fn new(
+        rt: &'a R,
+        asked: &Unpacking<'a>,
+        out: W,
+        code: &'c ErrorCode,
+    ) -> FolderTaker<'a, 'c, R, W> {
         FolderTaker {
             rt,
             folder: asked.folder,
             keeps_good: asked.keeps_good,
             out,
-            staging: Staging::new(rt, asked.folder),
+            staging: Staging::new(rt, asked.folder, code),
             lines: String::new(rt.alloc()),
             has_refused: false,
             outdated: Vec::new(rt.alloc()),
@@ -111,7 +117,7 @@ impl<'a, R: Files + AllocGlobal, W: Write + Drop> FolderTaker<'a, R, W> {
     }
 
     // Creates the file of a payload, which gets its name later.
-    fn begin(&mut self, name: &NodeName) -> Result<NewFile<R>, Trouble> {
+    fn begin(&mut self, name: &NodeName) -> Result<NewFile<'c, R>, Trouble> {
         match self.taken.next(name)? {
             Some(name) => self.staging.begin(name),
             None => Err(Trouble::NoName),
@@ -122,7 +128,7 @@ impl<'a, R: Files + AllocGlobal, W: Write + Drop> FolderTaker<'a, R, W> {
     fn finish(
         &mut self,
         name: &NodeName,
-        file: NewFile<R>,
+        file: NewFile<'c, R>,
         vouched: Option<Vouched>,
     ) -> Result<(), Trouble> {
         let size = self.staging.complete(file)?;
@@ -175,14 +181,14 @@ fn remove_old<R: Files + AllocGlobal>(
 ) -> Result<(), Trouble> {
     let whole = folder.path_of(rt, name)?;
     let is_old = folder.is_forced && is_there(rt, whole.as_str());
-    if is_old && fs::remove_file(rt, whole.as_str()).is_err() {
-        return Err(Trouble::CannotRemove(whole));
+    if is_old && let Err(reason) = fs::remove_file(rt, whole.as_str()) {
+        return Err(Trouble::CannotRemove(whole, reason));
     }
     Ok(())
 }
 
-impl<'a, R: Files + AllocGlobal, W: Write + Drop> Taker for FolderTaker<'a, R, W> {
-    type Shelf = NewFile<R>;
+impl<'a, 'c, R: Files + AllocGlobal, W: Write + Drop> Taker for FolderTaker<'a, 'c, R, W> {
+    type Shelf = NewFile<'c, R>;
 
     ghost takes = { λ _. [] };
 
@@ -191,7 +197,7 @@ impl<'a, R: Files + AllocGlobal, W: Write + Drop> Taker for FolderTaker<'a, R, W
         self.kept(looked)
     }
 
-    fn shelf(&mut self, name: &NodeName) -> Result<NewFile<R>, PutFault> {
+    fn shelf(&mut self, name: &NodeName) -> Result<NewFile<'c, R>, PutFault> {
         let begun = self.begin(name);
         self.kept(begun)
     }
@@ -199,7 +205,7 @@ impl<'a, R: Files + AllocGlobal, W: Write + Drop> Taker for FolderTaker<'a, R, W
     fn keep(
         &mut self,
         name: &NodeName,
-        shelf: NewFile<R>,
+        shelf: NewFile<'c, R>,
         vouched: Option<Vouched>,
     ) -> Result<(), PutFault> {
         let finished = self.finish(name, shelf, vouched);
@@ -209,7 +215,7 @@ impl<'a, R: Files + AllocGlobal, W: Write + Drop> Taker for FolderTaker<'a, R, W
     fn refuse(
         &mut self,
         name: &NodeName,
-        shelf: NewFile<R>,
+        shelf: NewFile<'c, R>,
         refusal: Refusal,
     ) -> Result<(), PutFault> {
         drop(shelf);

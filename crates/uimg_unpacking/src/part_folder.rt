@@ -5,7 +5,7 @@ ghost use Rattle.std.specs.Prelude.{[]};
 use crate::folder::Folder;
 use crate::limits::Claimed;
 use crate::lines::Line;
-use crate::new_file::NewFile;
+use crate::new_file::{ErrorCode, NewFile};
 use crate::staging::Staging;
 use crate::trouble::Trouble;
 use crate::unpacking::Unpacking;
@@ -16,25 +16,31 @@ use uimg_legacy::PartTaker;
 
 /// A taker that writes parts to a folder. Their files get their names when all are kept.
 #[derive(Drop)]
-pub(crate) struct PartFolder<'a, R: Files + AllocGlobal, W: Write + Drop> {
+pub(crate) struct PartFolder<'a, 'c, R: Files + AllocGlobal, W: Write + Drop> {
     rt: &'a R,
     folder: Folder<'a>,
     out: W,
-    staging: Staging<'a, R>,
+    staging: Staging<'a, 'c, R>,
     // The number of each complete part, and its length in bytes.
     parts: Vec<(u32, u64)>,
     claimed: Claimed,
     trouble: Option<Trouble>,
 }
 
-impl<'a, R: Files + AllocGlobal, W: Write + Drop> PartFolder<'a, R, W> {
-    /// Returns a taker for a folder, which writes its lines to `out`.
-    pub(crate) fn new(rt: &'a R, asked: &Unpacking<'a>, out: W) -> PartFolder<'a, R, W> {
+impl<'a, 'c, R: Files + AllocGlobal, W: Write + Drop> PartFolder<'a, 'c, R, W> {
+    /// Returns a taker for a folder, which writes its lines to `out`. Failed writes are noted in
+    /// `code`.
+    pub(crate) fn new(
+        rt: &'a R,
+        asked: &Unpacking<'a>,
+        out: W,
+        code: &'c ErrorCode,
+    ) -> PartFolder<'a, 'c, R, W> {
         PartFolder {
             rt,
             folder: asked.folder,
             out,
-            staging: Staging::new(rt, asked.folder),
+            staging: Staging::new(rt, asked.folder, code),
             parts: Vec::new(rt.alloc()),
             claimed: Claimed::new(asked.limits),
             trouble: None,
@@ -73,13 +79,13 @@ impl<'a, R: Files + AllocGlobal, W: Write + Drop> PartFolder<'a, R, W> {
     }
 
     // Creates the file of a part, which gets its name later.
-    fn begin(&mut self, number: u32) -> Result<NewFile<R>, Trouble> {
+    fn begin(&mut self, number: u32) -> Result<NewFile<'c, R>, Trouble> {
         let name = self.name_of(number)?;
         self.staging.begin(name)
     }
 
     // Completes the file of a part.
-    fn complete(&mut self, number: u32, file: NewFile<R>) -> Result<(), Trouble> {
+    fn complete(&mut self, number: u32, file: NewFile<'c, R>) -> Result<(), Trouble> {
         let size = self.staging.complete(file)?;
         self.parts.push((number, size))?;
         Ok(())
@@ -112,8 +118,8 @@ impl<'a, R: Files + AllocGlobal, W: Write + Drop> PartFolder<'a, R, W> {
     }
 }
 
-impl<'a, R: Files + AllocGlobal, W: Write + Drop> PartTaker for PartFolder<'a, R, W> {
-    type Shelf = NewFile<R>;
+impl<'a, 'c, R: Files + AllocGlobal, W: Write + Drop> PartTaker for PartFolder<'a, 'c, R, W> {
+    type Shelf = NewFile<'c, R>;
 
     ghost held = { λ _. [] };
 
@@ -124,12 +130,12 @@ impl<'a, R: Files + AllocGlobal, W: Write + Drop> PartTaker for PartFolder<'a, R
         self.kept(looked)
     }
 
-    fn shelf(&mut self, number: u32) -> Result<NewFile<R>, PutFault> {
+    fn shelf(&mut self, number: u32) -> Result<NewFile<'c, R>, PutFault> {
         let begun = self.begin(number);
         self.kept(begun)
     }
 
-    fn hold(&mut self, number: u32, shelf: NewFile<R>) -> Result<(), PutFault> {
+    fn hold(&mut self, number: u32, shelf: NewFile<'c, R>) -> Result<(), PutFault> {
         let completed = self.complete(number, shelf);
         self.kept(completed)
     }

@@ -1,5 +1,6 @@
 //! Unpacks a legacy image into a folder.
 
+use crate::new_file::ErrorCode;
 use crate::part_folder::PartFolder;
 use crate::trouble::Trouble;
 use crate::unpacking::Unpacking;
@@ -55,7 +56,8 @@ pub fn unpack_parts<R: Files + AllocGlobal, S: Source, W: Write + Drop>(
             Err(PartsFault::Stopped(fault)) => return PartsEnded::Stopped(fault),
         }
     }
-    let mut taker = PartFolder::new(rt, asked, out);
+    let code = ErrorCode::new(None);
+    let mut taker = PartFolder::new(rt, asked, out, &code);
     let unpacked = uimg_legacy::unpack(only, source, &mut room, &mut taker);
     let trouble = taker.end();
     match unpacked {

@@ -4,6 +4,7 @@ use crate::folder::Folder;
 use crate::folder_taker::FolderTaker;
 use crate::limits::Limits;
 use crate::lines::Line;
+use crate::new_file::ErrorCode;
 use crate::trouble::Trouble;
 use std::io::Write;
 use std::rt::Files;
@@ -71,7 +72,8 @@ pub fn unpack<R: Files + AllocGlobal, S: Source, W: Write + Drop>(
         return Ended::Stopped(Fault::Fit(FitFault::NoSuchImage));
     };
     let mut room = Room::new(rt.alloc());
-    let mut taker = FolderTaker::new(rt, asked, out);
+    let code = ErrorCode::new(None);
+    let mut taker = FolderTaker::new(rt, asked, out, &code);
     let unpacked = uimg_fit_checking::unpack(only, asked.need, source, &mut room, &mut taker);
     let is_whole = matches!(unpacked, Ok(Unpacked::Taken(true)));
     let (out, count, trouble) = taker.end(is_whole);

@@ -1,7 +1,7 @@
 //! The words of `unpack`.
 
 use super::help_notes::UNPACK_NOTES;
-use super::{WordsFault, switch, value};
+use super::{WordsFault, need_of, switch, value};
 use clap::{Arg, ArgAction, ArgMatches};
 use std::alloc::{AllocError, Global};
 use uimg_base::Algo;
@@ -99,24 +99,26 @@ fn number<'a>(alloc: Global, id: &'a str, help: &'a str) -> Arg<'a> {
 }
 
 // Returns the number of an option, if it was given: decimal digits, below 2^64.
-fn number_of(text: Option<&str>) -> Result<Option<u64>, WordsFault> {
-    let Some(text) = text else {
+fn number_of(
+    alloc: Global,
+    matches: &ArgMatches<'_>,
+    id: &'static str,
+) -> Result<Option<u64>, WordsFault> {
+    let Some(text) = matches.get_str(id) else {
         return Ok(None);
     };
-    if !text.bytes().all(|digit| digit.is_ascii_digit()) {
-        return Err(WordsFault::BadNumber);
-    }
+    let has_digits = text.bytes().all(|digit| digit.is_ascii_digit());
     match text.parse() {
-        Ok(number) => Ok(Some(number)),
-        Err(_) => Err(WordsFault::BadNumber),
+        Ok(number) if has_digits => Ok(Some(number)),
+        _ => Err(WordsFault::NotNumber(id, String::from_str(alloc, text)?)),
     }
 }
 
-pub(super) fn request<'a>(matches: &ArgMatches<'a>) -> Result<UnpackRequest<'a>, WordsFault> {
-    let need = match matches.get_str("need") {
-        Some(name) => Some(Algo::named(name.as_bytes()).ok_or(WordsFault::UnknownName)?),
-        None => None,
-    };
+pub(super) fn request<'a>(
+    alloc: Global,
+    matches: &ArgMatches<'a>,
+) -> Result<UnpackRequest<'a>, WordsFault> {
+    let need = need_of(alloc, matches)?;
     let folder = matches.get_str("folder").unwrap_or(".");
     if folder.is_empty() {
         return Err(WordsFault::NoFolder);
@@ -133,8 +135,8 @@ pub(super) fn request<'a>(matches: &ArgMatches<'a>) -> Result<UnpackRequest<'a>,
         keeps_good: matches.get_flag("keep-good"),
         is_synced: !matches.get_flag("no-sync"),
         cleans,
-        most_files: number_of(matches.get_str("max-files"))?.unwrap_or(MOST_FILES),
-        most_bytes: number_of(matches.get_str("max-bytes"))?,
+        most_files: number_of(alloc, matches, "max-files")?.unwrap_or(MOST_FILES),
+        most_bytes: number_of(alloc, matches, "max-bytes")?,
         image,
     })
 }
