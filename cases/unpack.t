@@ -185,6 +185,8 @@ Refusals come before anything is written:
   $ fit 'abcde { data = [61]; };' && uimg unpack -C none k.itb
   uimg: cannot create none/abcde: No such file or directory (os error 2)
   [3]
+  $ uimg unpack --help | grep -c 'Write the files to this folder, which has to exist$'
+  1
   $ uimg unpack -C k.its k.itb
   uimg: cannot create k.its/abcde: Not a directory (os error 20)
   [3]
@@ -252,6 +254,22 @@ Nobody reads the lines, and there is no space for them:
   uimg: write failed: No space left on device (os error 28)
   [3]
   $ ls -A out
+  a
+
+A folder that cannot be read cannot be synced either: that is an error, and what files were to replace is there again:
+
+  $ as_user() { if test "$(id -u)" = 0; then setpriv --bounding-set=-dac_override,-dac_read_search "$@"; else "$@"; fi; }
+  $ mkdir blind && echo old > blind/a && chmod 300 blind && as_user uimg unpack --force -C blind k.itb
+  uimg: cannot sync blind: Permission denied (os error 13)
+  [3]
+  $ cp "$files/abc-kernel.img" . && as_user uimg unpack -C blind abc-kernel.img
+  uimg: cannot sync blind: Permission denied (os error 13)
+  [3]
+  $ cat blind/a && as_user uimg unpack --no-sync --force -C blind k.itb && cat blind/a && echo
+  old
+  a: 3 bytes, unhashed
+  abc
+  $ chmod 700 blind && ls -A blind
   a
 
 Of a legacy image
@@ -454,7 +472,13 @@ At most 4096 files, or as many as are allowed, and as many bytes as are allowed;
   uimg: more than 11 bytes; --max-bytes allows more
   [1]
   $ uimg unpack --max-bytes 1 -C out part-outside.img
+  uimg: more than 1 bytes; --max-bytes allows more
+  [1]
+  $ uimg unpack --max-bytes 1000 -C out part-outside.img
   uimg: L7 part outside
+  [1]
+  $ uimg unpack --max-bytes 1 --only image-1 -C out abc-kernel.img
+  uimg: L8 no such part
   [1]
   $ uimg unpack --max-bytes 2 -C out abc-kernel.img
   uimg: more than 2 bytes; --max-bytes allows more
@@ -486,6 +510,25 @@ At most 4096 files, or as many as are allowed, and as many bytes as are allowed;
   [1]
   $ ls -A out && uimg unpack --no-sync -C out 4096.img | tail -n 1 | cut -c 1-18
   image-4095: 1 byte
+
+The bytes are counted without memory for the parts: a table of 5 million parts of 1 byte, in a file of 40 MB, which the
+program with at most 64 MiB of memory refuses by their number:
+
+  $ python3 - <<'END'
+  > import struct, zlib
+  > count = 5000000
+  > data = struct.pack(">I", 1) * count + bytes(4) + bytes(4) * count
+  > fields, rest = [0x27051956, 0, 0, len(data), 0, 0, zlib.crc32(data)], bytes([5, 2, 4, 0]) + bytes(32)
+  > fields[1] = zlib.crc32(struct.pack(">7I", *fields) + rest)
+  > open("millions.img", "wb").write(struct.pack(">7I", *fields) + rest + data)
+  > END
+  $ rm out/* && (ulimit -v 65536; uimg unpack --max-bytes 5000000 -C out millions.img)
+  uimg: more than 4096 files; --max-files allows more
+  [1]
+  $ (ulimit -v 65536; uimg unpack --max-bytes 4999999 -C out millions.img)
+  uimg: more than 4999999 bytes; --max-bytes allows more
+  [1]
+  $ ls -A out && rm millions.img
 
 An image whose name cannot be a file's, where all the numbers for it are names of others:
 

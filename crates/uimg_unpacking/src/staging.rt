@@ -118,8 +118,8 @@ impl<'a, 'c, R: Files + AllocGlobal> Staging<'a, 'c, R> {
         }
     }
 
-    /// Gives all files their names. If one cannot get its name, none does, and what they were to
-    /// replace is there again.
+    /// Gives all files their names. If one cannot get its name, or the names cannot be written to
+    /// the disk, none does, and what they were to replace is there again.
     pub(crate) fn name_all(&mut self) -> Result<(), Trouble> {
         if self.is_writing {
             self.drop_last()?;
@@ -131,15 +131,24 @@ impl<'a, 'c, R: Files + AllocGlobal> Staging<'a, 'c, R> {
                 return Err(trouble);
             }
         }
+        if let Err(reason) = self.sync() {
+            self.take_back(&paths, paths.len());
+            let path = String::from_str(self.rt.alloc(), self.folder.path)?;
+            return Err(Trouble::CannotSync(path, reason));
+        }
         for its in &paths {
             let _ = fs::remove_file(self.rt, its.old.as_str());
         }
-        if self.folder.is_synced
-            && let Ok(folder) = fs::open(self.rt, self.folder.path)
-        {
-            let _ = fs::OpenFile::sync_all(&folder);
-        }
         Ok(())
+    }
+
+    // Waits until the names in the folder are on the disk, if that is requested.
+    fn sync(&self) -> io::Result<()> {
+        if !self.folder.is_synced {
+            return Ok(());
+        }
+        let folder = fs::open(self.rt, self.folder.path)?;
+        fs::OpenFile::sync_all(&folder)
     }
 
     /// Removes the files that have no name, and their folder.

@@ -40,6 +40,10 @@ pub enum Trouble {
     #[error("cannot create {0}: {1}")]
     CannotCreate(String, io::Error),
 
+    /// The names in a folder cannot be written to the disk, for this reason.
+    #[error("cannot sync {0}: {1}")]
+    CannotSync(String, io::Error),
+
     /// A file cannot be written, for this reason.
     #[error("cannot write {0}: {1}")]
     CannotWrite(String, io::Error),

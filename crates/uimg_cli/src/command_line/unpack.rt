@@ -47,7 +47,7 @@ pub(super) fn command<'a>(alloc: Global) -> Result<clap::Command<'a>, AllocError
     clap::Command::new(alloc, "unpack")
         .about("Write the payloads of an image to a folder, if their hashes are right")
         .after_help(UNPACK_NOTES)
-        .arg(value(alloc, "folder", 'C', "Write the files to this folder"))?
+        .arg(value(alloc, "folder", 'C', FOLDER))?
         .arg(only(alloc))?
         .arg(need(alloc)?)?
         .arg(switch(alloc, "force", "Replace files that exist"))?
@@ -60,6 +60,8 @@ pub(super) fn command<'a>(alloc: Global) -> Result<clap::Command<'a>, AllocError
 }
 
 // The helps of options.
+const FOLDER: &str = "Write the files to this folder, which has to exist";
+
 const KEEP_GOOD: &str = "Keep the good payloads if another one is refused";
 
 const NO_SYNC: &str = "Do not wait until the files are on the disk";
