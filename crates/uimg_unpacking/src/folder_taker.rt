@@ -8,7 +8,7 @@ use crate::lines::Line;
 use crate::names::Names;
 use crate::new_file::{ErrorCode, NewFile};
 use crate::staging::Staging;
-use crate::trouble::Trouble;
+use crate::trouble::{Trouble, kept};
 use crate::unpacking::Unpacking;
 use std::fs;
 use std::io::Write;
@@ -160,17 +160,6 @@ impl<'a, 'c, R: Files + AllocGlobal, W: Write + Drop> FolderTaker<'a, 'c, R, W> 
         self.lines.push_str(line.as_str())?;
         Ok(())
     }
-
-    // Keeps a trouble, and returns it as a fault.
-    fn kept<X>(&mut self, done: Result<X, Trouble>) -> Result<X, PutFault> {
-        match done {
-            Ok(done) => Ok(done),
-            Err(trouble) => {
-                self.trouble = Some(trouble);
-                Err(PutFault)
-            }
-        }
-    }
 }
 
 // Removes a file that was to be replaced.
@@ -194,12 +183,12 @@ impl<'a, 'c, R: Files + AllocGlobal, W: Write + Drop> Taker for FolderTaker<'a, 
 
     fn claim(&mut self, name: &NodeName, length: u64) -> Result<(), PutFault> {
         let looked = self.look(name, length);
-        self.kept(looked)
+        kept(looked, &mut self.trouble)
     }
 
     fn shelf(&mut self, name: &NodeName) -> Result<NewFile<'c, R>, PutFault> {
         let begun = self.begin(name);
-        self.kept(begun)
+        kept(begun, &mut self.trouble)
     }
 
     fn keep(
@@ -209,7 +198,7 @@ impl<'a, 'c, R: Files + AllocGlobal, W: Write + Drop> Taker for FolderTaker<'a, 
         vouched: Option<Vouched>,
     ) -> Result<(), PutFault> {
         let finished = self.finish(name, shelf, vouched);
-        self.kept(finished)
+        kept(finished, &mut self.trouble)
     }
 
     fn refuse(
@@ -220,6 +209,6 @@ impl<'a, 'c, R: Files + AllocGlobal, W: Write + Drop> Taker for FolderTaker<'a, 
     ) -> Result<(), PutFault> {
         drop(shelf);
         let thrown = self.throw_away(name, refusal);
-        self.kept(thrown)
+        kept(thrown, &mut self.trouble)
     }
 }

@@ -7,7 +7,7 @@ use crate::limits::Claimed;
 use crate::lines::Line;
 use crate::new_file::{ErrorCode, NewFile};
 use crate::staging::Staging;
-use crate::trouble::Trouble;
+use crate::trouble::{Trouble, kept};
 use crate::unpacking::Unpacking;
 use std::io::Write;
 use std::rt::Files;
@@ -105,17 +105,6 @@ impl<'a, 'c, R: Files + AllocGlobal, W: Write + Drop> PartFolder<'a, 'c, R, W> {
         self.out.flush()?;
         Ok(())
     }
-
-    // Keeps a trouble, and returns it as a fault.
-    fn kept<X>(&mut self, done: Result<X, Trouble>) -> Result<X, PutFault> {
-        match done {
-            Ok(done) => Ok(done),
-            Err(trouble) => {
-                self.trouble = Some(trouble);
-                Err(PutFault)
-            }
-        }
-    }
 }
 
 impl<'a, 'c, R: Files + AllocGlobal, W: Write + Drop> PartTaker for PartFolder<'a, 'c, R, W> {
@@ -127,22 +116,22 @@ impl<'a, 'c, R: Files + AllocGlobal, W: Write + Drop> PartTaker for PartFolder<'
 
     fn claim(&mut self, number: u32) -> Result<(), PutFault> {
         let looked = self.look(number);
-        self.kept(looked)
+        kept(looked, &mut self.trouble)
     }
 
     fn shelf(&mut self, number: u32) -> Result<NewFile<'c, R>, PutFault> {
         let begun = self.begin(number);
-        self.kept(begun)
+        kept(begun, &mut self.trouble)
     }
 
     fn hold(&mut self, number: u32, shelf: NewFile<'c, R>) -> Result<(), PutFault> {
         let completed = self.complete(number, shelf);
-        self.kept(completed)
+        kept(completed, &mut self.trouble)
     }
 
     fn keep(&mut self, dcrc: u32) -> Result<(), PutFault> {
         let finished = self.finish(dcrc);
-        self.kept(finished)
+        kept(finished, &mut self.trouble)
     }
 
     fn refuse(&mut self) -> Result<(), PutFault> {

@@ -4,6 +4,7 @@ use std::alloc::{AllocError, AllocFailed};
 use std::io;
 use std::io::ErrorKind;
 use thiserror::Error;
+use uimg_base::PutFault;
 
 /// Why a payload was not written to a folder. Its text is the line to print; `Closed` needs none.
 #[derive(Debug, Drop, Error)]
@@ -67,6 +68,20 @@ pub enum Trouble {
     /// The reader has closed the output.
     #[error("closed")]
     Closed,
+}
+
+/// Notes a trouble, and returns it as a fault.
+pub(crate) fn kept<X>(
+    done: Result<X, Trouble>,
+    trouble: &mut Option<Trouble>,
+) -> Result<X, PutFault> {
+    match done {
+        Ok(done) => Ok(done),
+        Err(found) => {
+            *trouble = Some(found);
+            Err(PutFault)
+        }
+    }
 }
 
 impl From<AllocError> for Trouble {
