@@ -272,6 +272,66 @@ A folder that cannot be read cannot be synced either: that is an error, and what
   $ chmod 700 blind && ls -A blind
   a
 
+As JSON objects: of kept payloads, with the digest of FIPS 180-2, of refused ones, of images that are refused, and of folders
+and files:
+
+  $ fit 'kernel { data = [61 62 63]; hash-1 { algo = "crc32"; }; hash-2 { algo = "sha256"; }; }; abcde { data = [64]; };'
+  $ patch k.itb abcde "$(printf 'a\n\302\205\177')" && rm -r out && mkdir out && uimg unpack --json -C out k.itb && ls -A out
+  {"path":"k.itb","status":0,"verdict":"ok","format":"fit","image":"kernel","file":"kernel","size":3,"algo":"sha256","digest":"ba7816bf8f01cfea414140de5dae2223b00361a396177a9cb410ff61f20015ad"}
+  {"path":"k.itb","status":0,"verdict":"unhashed","format":"fit","image":"a\n\u0085\u007f","file":"image-1","size":1}
+  image-1
+  kernel
+  $ uimg unpack --json -C out k.itb
+  {"path":"k.itb","status":3,"verdict":"failed","message":"out/kernel exists; use --force to replace it"}
+  [3]
+  $ uimg unpack --json -C none k.itb
+  {"path":"k.itb","status":3,"verdict":"failed","message":"cannot create none/kernel: No such file or directory (os error 2)"}
+  [3]
+  $ rm out/* && patch k.itb abc abd && uimg unpack --json -C out k.itb
+  {"path":"k.itb","status":1,"verdict":"bad","format":"fit","image":"kernel","hash":"hash-1"}
+  [1]
+  $ uimg unpack --json --keep-good -C out k.itb
+  {"path":"k.itb","status":1,"verdict":"bad","format":"fit","image":"kernel","hash":"hash-1"}
+  {"path":"k.itb","status":0,"verdict":"unhashed","format":"fit","image":"a\n\u0085\u007f","file":"image-1","size":1}
+  [1]
+  $ uimg unpack --json --need sha512 --only kernel -C out k.itb
+  {"path":"k.itb","status":1,"verdict":"bad","format":"fit","image":"kernel","hash":"hash-1"}
+  [1]
+  $ patch k.itb abd abc && uimg unpack --json --need sha512 --only kernel -C out k.itb
+  {"path":"k.itb","status":1,"verdict":"weak","format":"fit","image":"kernel"}
+  [1]
+  $ uimg unpack --json --only gone -C out k.itb
+  {"path":"k.itb","status":1,"verdict":"refused","format":"fit","fault":"F4","message":"F4 no such image"}
+  [1]
+  $ uimg unpack --json --max-files 1 -C out k.itb
+  {"path":"k.itb","status":1,"verdict":"refused","message":"more than 1 files; --max-files allows more"}
+  [1]
+  $ rm out/* && head -c 50 k.itb > cut.itb && uimg unpack --json -C out cut.itb
+  {"path":"cut.itb","status":1,"verdict":"refused","format":"fit","fault":"B4","message":"B4 block outside at 4","offset":4}
+  [1]
+  $ uimg check --json cut.itb
+  {"path":"cut.itb","status":1,"verdict":"refused","format":"fit","fault":"B4","message":"B4 block outside at 4","offset":4}
+  [1]
+  $ fit '' && uimg unpack --json --need crc32 -C out k.itb
+  {"path":"k.itb","status":1,"verdict":"empty","format":"fit"}
+  [1]
+  $ uimg unpack --json none.itb
+  {"path":"none.itb","status":3,"verdict":"failed","message":"cannot read: No such file or directory (os error 2)"}
+  [3]
+  $ uimg unpack --json -C out abc-kernel.img && uimg unpack --json --need md5 -C out abc-kernel.img
+  {"path":"abc-kernel.img","status":0,"verdict":"ok","format":"legacy","file":"image-0","size":3,"data-crc":891568578}
+  {"path":"abc-kernel.img","status":1,"verdict":"weak","format":"legacy","algo":"crc32"}
+  [1]
+  $ rm out/* && uimg unpack --json -C out abc-kernel.img > /dev/full
+  uimg: write failed: No space left on device (os error 28)
+  [3]
+  $ uimg unpack --json --clean -C out
+  uimg: --clean with --json
+  [2]
+  $ fit 'k.itb { data = [61 62 63]; };' && uimg unpack --json --force k.itb
+  uimg: ./k.itb would be written while it is read
+  [2]
+
 Of a legacy image
 -----------------
 

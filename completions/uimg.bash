@@ -45,7 +45,7 @@ _uimg() {
                 --max-files) return ;;
                 --max-bytes) return ;;
             esac
-            test "${current#-}" = "$current" || { COMPREPLY=($(compgen -W '-C --only --need --force --keep-good --no-sync --max-files --max-bytes --clean -h' -- "$current")); return; }
+            test "${current#-}" = "$current" || { COMPREPLY=($(compgen -W '-C --only --need --force --keep-good --no-sync --max-files --max-bytes --json --clean -h' -- "$current")); return; }
             ;;
         info)
             case "$previous" in

@@ -94,6 +94,10 @@ pub enum WordsFault {
     #[error("--svg -: standard output is not supported; for a file of that name use ./-")]
     PictureToOutput,
 
+    /// The lines of --clean are no JSON.
+    #[error("--clean with --json")]
+    CleansWithJson,
+
     /// Both data and a source are named.
     #[error("-d with -f")]
     DataWithSource,

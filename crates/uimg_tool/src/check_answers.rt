@@ -5,7 +5,10 @@ ghost use Rattle.std.specs.Prelude.{◌≤◌, IfSome};
 use crate::main_program::{REFUSED, RequestFault, status_of};
 use crate::reasons::reason_unread;
 use std::alloc::Global;
+use std::fmt::Display;
+use std::io;
 use std::rt::Files;
+use thiserror::Error;
 use uimg_base::{Source, Span};
 use uimg_checks::{Answer, Checked, Format, Missing, Stop};
 use uimg_engine::Fault;
@@ -68,20 +71,39 @@ pub(crate) fn answer_of_unread<'a, R: Files>(
     path: &str,
     names: &'a mut Names,
 ) -> Answer<'a> {
-    let message = match reason_unread(rt, path) {
-        Some(reason) => format!(in names.alloc; "cannot read: {reason}"),
-        None => String::from_str(names.alloc, "cannot read"),
-    };
-    match message {
-        Ok(message) => names.message = message,
-        Err(_) => return NO_MEMORY,
+    match reason_unread(rt, path) {
+        Some(reason) => answer_of_line(&Unread(reason), false, names),
+        None => answer_of_line(&"cannot read", false, names),
     }
-    Answer::Failed(Stop {
+}
+
+// Why a file could not be opened.
+#[derive(Debug, Drop, Error)]
+#[error("cannot read: {0}")]
+struct Unread(io::Error);
+
+/// Returns the result for a line that has no code: the image is refused, or else a read, a write or
+/// the like failed.
+pub(crate) fn answer_of_line<'a, D: Display>(
+    line: &D,
+    is_refused: bool,
+    names: &'a mut Names,
+) -> Answer<'a> {
+    let Ok(message) = format!(in names.alloc; "{line}") else {
+        return NO_MEMORY;
+    };
+    names.message = message;
+    let stop = Stop {
         message: names.message.as_str(),
         code: None,
         format: None,
         offset: None,
-    })
+    };
+    if is_refused {
+        Answer::Refused(stop)
+    } else {
+        Answer::Failed(stop)
+    }
 }
 
 /// Returns the result of a check, with the number of nodes of configurations, if they were counted.

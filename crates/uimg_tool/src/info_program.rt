@@ -35,8 +35,13 @@ pub(crate) fn tell_facts<R: Files + AllocGlobal, W: Write, V: Write>(
     status
 }
 
-// Writes an object as a line. Returns the status, or that of a failure.
-fn put_object<W: Write, V: Write>(text: &[u8], status: u8, out: &mut W, err: &mut V) -> u8 {
+/// Writes an object as a line. Returns the status, or that of a failure.
+pub(crate) fn put_object<W: Write, V: Write>(
+    text: &[u8],
+    status: u8,
+    out: &mut W,
+    err: &mut V,
+) -> u8 {
     match put_json(text, out).and_then(|()| out.flush()) {
         Ok(()) => status,
         Err(error) => tell_unprinted(error, err),

@@ -7,14 +7,42 @@ use std::io::Write;
 // numbers.
 const LEAD: u8 = 0xc2;
 
-/// Writes a JSON text and a newline. DEL and the characters U+0080 to U+009F, which a JSON text may
-/// have as they are (RFC 8259, section 7), are escaped, so that no terminal takes them for commands.
-pub(crate) fn put_json<W: Write>(text: &[u8], out: &mut W) -> io::Result<()> {
-    let mut lead = false;
-    for byte in text {
-        put_byte(*byte, lead, out)?;
-        lead = *byte == LEAD;
+/// A writer of JSON texts. DEL and the characters U+0080 to U+009F, which a JSON text may have as
+/// they are (RFC 8259, section 7), are escaped, so that no terminal takes them for commands.
+#[derive(Drop)]
+pub(crate) struct JsonOut<'a, W: Write> {
+    out: &'a mut W,
+    is_after_lead: bool,
+}
+
+impl<'a, W: Write> JsonOut<'a, W> {
+    /// Returns a writer of JSON texts to `out`.
+    pub(crate) fn new(out: &'a mut W) -> JsonOut<'a, W> {
+        JsonOut {
+            out,
+            is_after_lead: false,
+        }
     }
+}
+
+impl<'a, W: Write> Write for JsonOut<'a, W> {
+    fn write(&mut self, buf: &[u8]) -> io::Result<usize> {
+        for byte in buf {
+            put_byte(*byte, self.is_after_lead, self.out)?;
+            self.is_after_lead = *byte == LEAD;
+        }
+        Ok(buf.len())
+    }
+
+    fn flush(&mut self) -> io::Result<()> {
+        self.out.flush()
+    }
+}
+
+/// Writes a JSON text and a newline, escaped as by `JsonOut`.
+pub(crate) fn put_json<W: Write>(text: &[u8], out: &mut W) -> io::Result<()> {
+    let mut out = JsonOut::new(out);
+    out.write_all(text)?;
     out.write_all(b"\n")
 }
 

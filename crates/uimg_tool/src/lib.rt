@@ -18,6 +18,7 @@ mod reasons;
 mod safe_path;
 mod source_warnings;
 mod strict_answers;
+mod unpack_answers;
 mod unpack_program;
 mod xip_files;
 

@@ -7,6 +7,7 @@ use crate::limits::Claimed;
 use crate::lines::Line;
 use crate::names::Names;
 use crate::new_file::{ErrorCode, NewFile};
+use crate::objects::told;
 use crate::staging::Staging;
 use crate::trouble::{Trouble, kept};
 use crate::unpacking::Unpacking;
@@ -23,10 +24,11 @@ pub(crate) struct FolderTaker<'a, 'c, R: Files + AllocGlobal, W: Write + Drop> {
     rt: &'a R,
     folder: Folder<'a>,
     keeps_good: bool,
+    json: Option<&'a str>,
     out: W,
     staging: Staging<'a, 'c, R>,
     // The lines to print once the files have their names, or if none gets one.
-    lines: String,
+    lines: Vec<u8>,
     has_refused: bool,
     // The names of refused payloads, whose old files are removed if good payloads are kept.
     outdated: Vec<String>,
@@ -50,9 +52,10 @@ impl<'a, 'c, R: Files + AllocGlobal, W: Write + Drop> FolderTaker<'a, 'c, R, W> 
             rt,
             folder: asked.folder,
             keeps_good: asked.keeps_good,
+            json: asked.json,
             out,
             staging: Staging::new(rt, asked.folder, code),
-            lines: String::new(rt.alloc()),
+            lines: Vec::new(rt.alloc()),
             has_refused: false,
             outdated: Vec::new(rt.alloc()),
             looked: Names::new(rt.alloc()),
@@ -73,6 +76,7 @@ impl<'a, 'c, R: Files + AllocGlobal, W: Write + Drop> FolderTaker<'a, 'c, R, W> 
             rt: _rt,
             folder: _folder,
             keeps_good: _keeps_good,
+            json: _json,
             out,
             staging,
             lines: _lines,
@@ -97,7 +101,7 @@ impl<'a, 'c, R: Files + AllocGlobal, W: Write + Drop> FolderTaker<'a, 'c, R, W> 
             }
         }
         if names || self.has_refused {
-            self.out.write_all(self.lines.as_bytes())?;
+            self.out.write_all(self.lines.as_slice())?;
             self.out.flush()?;
         }
         Ok(())
@@ -142,8 +146,13 @@ impl<'a, 'c, R: Files + AllocGlobal, W: Write + Drop> FolderTaker<'a, 'c, R, W> 
             size,
             vouched,
         };
-        let line = format!(in self.rt.alloc(); "{line}\n")?;
-        self.lines.push_str(line.as_str())?;
+        self.add(&line)
+    }
+
+    // Adds a line.
+    fn add(&mut self, line: &Line<'_>) -> Result<(), Trouble> {
+        let line = told(self.rt.alloc(), self.json, line)?;
+        self.lines.extend_from_slice(line.as_slice())?;
         Ok(())
     }
 
@@ -156,9 +165,7 @@ impl<'a, 'c, R: Files + AllocGlobal, W: Write + Drop> FolderTaker<'a, 'c, R, W> 
             self.lines.clear();
         }
         self.has_refused = true;
-        let line = format!(in self.rt.alloc(); "{}\n", Line::Refused(name, refusal))?;
-        self.lines.push_str(line.as_str())?;
-        Ok(())
+        self.add(&Line::Refused(name, refusal))
     }
 }
 

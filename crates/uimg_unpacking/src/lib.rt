@@ -9,6 +9,7 @@ mod limits;
 mod lines;
 mod names;
 mod new_file;
+mod objects;
 mod part_folder;
 mod part_unpacking;
 mod staging;

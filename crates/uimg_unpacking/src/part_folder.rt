@@ -6,6 +6,7 @@ use crate::folder::Folder;
 use crate::limits::Claimed;
 use crate::lines::Line;
 use crate::new_file::{ErrorCode, NewFile};
+use crate::objects::told;
 use crate::staging::Staging;
 use crate::trouble::{Trouble, kept};
 use crate::unpacking::Unpacking;
@@ -19,6 +20,7 @@ use uimg_legacy::PartTaker;
 pub(crate) struct PartFolder<'a, 'c, R: Files + AllocGlobal, W: Write + Drop> {
     rt: &'a R,
     folder: Folder<'a>,
+    json: Option<&'a str>,
     out: W,
     staging: Staging<'a, 'c, R>,
     // The number of each complete part, and its length in bytes.
@@ -39,6 +41,7 @@ impl<'a, 'c, R: Files + AllocGlobal, W: Write + Drop> PartFolder<'a, 'c, R, W> {
         PartFolder {
             rt,
             folder: asked.folder,
+            json: asked.json,
             out,
             staging: Staging::new(rt, asked.folder, code),
             parts: Vec::new(rt.alloc()),
@@ -53,6 +56,7 @@ impl<'a, 'c, R: Files + AllocGlobal, W: Write + Drop> PartFolder<'a, 'c, R, W> {
         let PartFolder {
             rt: _rt,
             folder: _folder,
+            json: _json,
             out: _out,
             staging,
             parts: _parts,
@@ -100,7 +104,8 @@ impl<'a, 'c, R: Files + AllocGlobal, W: Write + Drop> PartFolder<'a, 'c, R, W> {
                 size: *size,
                 dcrc,
             };
-            writeln!(self.out, "{line}")?;
+            let line = told(self.rt.alloc(), self.json, &line)?;
+            self.out.write_all(line.as_slice())?;
         }
         self.out.flush()?;
         Ok(())

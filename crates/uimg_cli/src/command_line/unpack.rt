@@ -27,6 +27,9 @@ pub struct UnpackRequest<'a> {
     /// Whether files are written to the disk before they get their names.
     pub is_synced: bool,
 
+    /// Whether to print a JSON object for each payload instead of a line of text.
+    pub as_json: bool,
+
     /// Whether the temporary files of commands that were stopped are removed from the folder.
     pub cleans: bool,
 
@@ -55,12 +58,15 @@ pub(super) fn command<'a>(alloc: Global) -> Result<clap::Command<'a>, AllocError
         .arg(switch(alloc, "no-sync", NO_SYNC))?
         .arg(number(alloc, "max-files", MAX_FILES))?
         .arg(number(alloc, "max-bytes", MAX_BYTES))?
+        .arg(switch(alloc, "json", JSON))?
         .arg(switch(alloc, "clean", CLEAN))?
         .arg(Arg::new(alloc, "image").help("The image"))
 }
 
 // The helps of options.
 const FOLDER: &str = "Write the files to this folder, which has to exist";
+
+const JSON: &str = "Print a JSON object for each payload or part";
 
 const KEEP_GOOD: &str = "Keep the good payloads if another one is refused";
 
@@ -129,6 +135,10 @@ pub(super) fn request<'a>(
     if image.is_none() & !cleans {
         return Err(WordsFault::NoImages);
     }
+    let as_json = matches.get_flag("json");
+    if as_json & cleans {
+        return Err(WordsFault::CleansWithJson);
+    }
     Ok(UnpackRequest {
         folder,
         only: matches.get_str("only"),
@@ -136,6 +146,7 @@ pub(super) fn request<'a>(
         is_forced: matches.get_flag("force"),
         keeps_good: matches.get_flag("keep-good"),
         is_synced: !matches.get_flag("no-sync"),
+        as_json,
         cleans,
         most_files: number_of(alloc, matches, "max-files")?.unwrap_or(MOST_FILES),
         most_bytes: number_of(alloc, matches, "max-bytes")?,
