@@ -8,6 +8,7 @@ use crate::lines::Line;
 use crate::names::Names;
 use crate::new_file::{ErrorCode, NewFile};
 use crate::objects::told;
+use crate::plan::gives_names;
 use crate::staging::Staging;
 use crate::trouble::{Trouble, kept};
 use crate::unpacking::Unpacking;
@@ -93,7 +94,7 @@ impl<'a, 'c, R: Files + AllocGlobal, W: Write + Drop> FolderTaker<'a, 'c, R, W> 
 
     // Gives the files their names, and prints the lines of those that have one and of refused ones.
     fn name(&mut self, is_whole: bool) -> Result<(), Trouble> {
-        let names = self.keeps_good || is_whole && !self.has_refused;
+        let names = gives_names(self.keeps_good, is_whole, self.has_refused);
         if names {
             self.staging.name_all()?;
             for name in &self.outdated {

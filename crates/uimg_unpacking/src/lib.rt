@@ -12,6 +12,7 @@ mod new_file;
 mod objects;
 mod part_folder;
 mod part_unpacking;
+mod plan;
 mod staging;
 mod trouble;
 mod unpacking;
