@@ -78,7 +78,7 @@ lib-test: lib/libuimg.a bin/uimg
 	@scripts/needs.sh python3 cc
 	@python3 scripts/lib_test.py bin/uimg lib
 
-## make json-test   checks `uimg check --json` and `uimg info` by the schemas of docs/JSON.md, with
+## make json-test   checks `uimg check --json`, `info` and `unpack --json` by the schemas of docs/JSON.md, with
 ##               python3-jsonschema
 json-test: bin/uimg
 	@scripts/needs.sh python3

@@ -33,7 +33,7 @@ Legacy images:
   {"path":"data.img","status":1,"verdict":"bad","format":"legacy"}
   {"path":"short.img","status":1,"verdict":"refused","format":"legacy","fault":"L1","message":"L1 too short"}
   {"path":"cut.img","status":1,"verdict":"refused","format":"legacy","fault":"L4","message":"L4 truncated"}
-  {"path":"none.img","status":3,"verdict":"failed","message":"cannot read"}
+  {"path":"none.img","status":3,"verdict":"failed","message":"cannot read: No such file or directory (os error 2)"}
   [3]
   $ uimg check --json --need md5 kernel.img
   {"path":"kernel.img","status":1,"verdict":"weak","format":"legacy","algo":"crc32"}
@@ -157,20 +157,20 @@ Names: quotes, backslashes and control characters are escaped by RFC 8259, and a
 Paths from a file, with one that is not UTF-8:
 
   $ printf 'k\344\nkernel.img\n' | uimg check --json --files-from -
-  {"path":"k\xef\xbf\xbd","path_base64":"a+Q=","status":3,"verdict":"failed","message":"cannot read"} (esc)
+  {"path":"k\xef\xbf\xbd","path_base64":"a+Q=","status":3,"verdict":"failed","message":"cannot read: the path is not UTF-8"} (esc)
   {"path":"kernel.img","status":0,"verdict":"ok","format":"legacy","checksums":2}
   [3]
   $ printf 'kernel.img\0' | uimg check -0 --json --files-from -
   {"path":"kernel.img","status":0,"verdict":"ok","format":"legacy","checksums":2}
   $ uimg check --json kernel.img --files-from none
   {"path":"kernel.img","status":0,"verdict":"ok","format":"legacy","checksums":2}
-  uimg: cannot read none
+  uimg: cannot read none: No such file or directory (os error 2)
   [3]
 
 Lines that cannot be written, and that nobody reads:
 
   $ uimg check --json kernel.img > /dev/full
-  uimg: write failed
+  uimg: write failed: No space left on device (os error 28)
   [3]
   $ (sleep 0.5; uimg check --json kernel.img 2> said; echo "status $?" >> said) | true
   $ cat said

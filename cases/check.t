@@ -166,12 +166,12 @@ A file that cannot be read does not stop the check of the others; the status is 
 
   $ mkdir folder && mkfifo pipe && cp kernel.img "last one.img"
   $ uimg check none.img data.img folder pipe "last one.img" ''
-  none.img: failed cannot read
+  none.img: failed cannot read: No such file or directory (os error 2)
   data.img: bad checksum
-  folder: failed cannot read
-  pipe: failed cannot read
+  folder: failed cannot read: Is a directory (os error 21)
+  pipe: failed cannot read: it is a pipe
   last one.img: ok 2 checksums
-  : failed cannot read
+  : failed cannot read: No such file or directory (os error 2)
   [3]
 
 Paths from a file, a line each, after those of the command line; empty lines are ignored:
@@ -186,7 +186,7 @@ Paths from a file, a line each, after those of the command line; empty lines are
   last one.img: ok 2 checksums
   kernel.img: ok 2 checksums
   $ printf 'k\344\nkernel.img\n' | uimg check --files-from -
-  k\xe4: failed cannot read
+  k\xe4: failed cannot read: the path is not UTF-8
   kernel.img: ok 2 checksums
   [3]
 
@@ -215,16 +215,16 @@ A file of paths that cannot be read:
 
   $ uimg check kernel.img --files-from none
   kernel.img: ok 2 checksums
-  uimg: cannot read none
+  uimg: cannot read none: No such file or directory (os error 2)
   [3]
   $ uimg check --files-from folder
-  uimg: cannot read folder
+  uimg: cannot read folder: Is a directory (os error 21)
   [3]
 
 Lines that cannot be written, and that nobody reads:
 
   $ uimg check kernel.img > /dev/full
-  uimg: write failed
+  uimg: write failed: No space left on device (os error 28)
   [3]
   $ (sleep 0.5; uimg check kernel.img 2> said; echo "status $?" >> said) | true
   $ cat said
@@ -236,7 +236,7 @@ Wrong command lines:
   uimg: no image
   [2]
   $ uimg check --need sha2 kernel.img
-  uimg: unknown name
+  uimg: --need: unknown algorithm 'sha2'; use crc32, md5, sha1, sha256, sha384 or sha512
   [2]
   $ uimg check -0 kernel.img
   kernel.img: ok 2 checksums

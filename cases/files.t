@@ -53,9 +53,9 @@ Nobody writes to this one, and nobody waits for it; nor is a socket an image:
   dumpimage: status 3
   uimg: cannot read silent
   mkimage: status 3
-  uimg: cannot read silent
+  uimg: cannot read silent: it is a pipe
   map: status 3
-  uimg: cannot read silent
+  uimg: cannot read silent: it is a pipe
   unpack: status 3
   $ for command in verify 'dumpimage -l' 'dumpimage -o new' 'mkimage -l' map unpack; do refused $command socket; done
   uimg: cannot read socket
@@ -71,7 +71,7 @@ Nobody writes to this one, and nobody waits for it; nor is a socket an image:
   uimg: cannot read socket
   unpack: status 3
   $ for image in silent socket; do refused check $image; refused info $image; done | cut -c 1-27
-  silent: failed cannot read
+  silent: failed cannot read:
   check: status 3
   {"path":"silent","status":3
   info: status 3

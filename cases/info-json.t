@@ -202,13 +202,13 @@ The checksum of the data is printed and not compared; that of the header has to 
 A directory, a missing file, a pipe that nobody writes to, and an empty file; a path is escaped like a text:
 
   $ mkdir folder && uimg info folder
-  {"path":"folder","status":3,"verdict":"failed","message":"cannot read"}
+  {"path":"folder","status":3,"verdict":"failed","message":"cannot read: Is a directory (os error 21)"}
   [3]
   $ uimg info none
-  {"path":"none","status":3,"verdict":"failed","message":"cannot read"}
+  {"path":"none","status":3,"verdict":"failed","message":"cannot read: No such file or directory (os error 2)"}
   [3]
   $ mkfifo pipe && uimg info pipe
-  {"path":"pipe","status":3,"verdict":"failed","message":"cannot read"}
+  {"path":"pipe","status":3,"verdict":"failed","message":"cannot read: it is a pipe"}
   [3]
   $ : > empty && uimg info empty
   {"path":"empty","status":1,"verdict":"refused","format":"legacy","fault":"L1","message":"L1 too short"}
@@ -219,7 +219,7 @@ A directory, a missing file, a pipe that nobody writes to, and an empty file; a 
 A line that cannot be written, and one that nobody reads:
 
   $ uimg info kernel.img > /dev/full
-  uimg: write failed
+  uimg: write failed: No space left on device (os error 28)
   [3]
   $ (sleep 0.5; uimg info kernel.img 2> said; echo "status $?" >> said) | true
   $ cat said

@@ -296,11 +296,21 @@ It never replaces the image:
   [2]
   $ cmp name.itb image.itb
   $ uimg map --svg nowhere/a.svg image.itb
-  uimg: cannot write nowhere/a.svg
+  uimg: cannot write nowhere/a.svg: No such file or directory (os error 2)
   [3]
   $ uimg map --svg /dev/full image.itb
-  uimg: cannot write /dev/full
+  uimg: cannot write /dev/full: No space left on device (os error 28)
   [3]
+  $ mkdir -p taken && uimg map --svg taken image.itb
+  uimg: cannot write taken: Is a directory (os error 21)
+  [3]
+  $ uimg map --svg image.itb/a.svg image.itb
+  uimg: cannot write image.itb/a.svg: Not a directory (os error 20)
+  [3]
+  $ uimg map --svg - image.itb
+  uimg: --svg -: standard output is not supported; for a file of that name use ./-
+  [2]
+  $ test ! -e ./- && uimg map --svg ./- image.itb && cmp ./- image.svg && rm ./-
   $ uimg map --svg /dev/stdout image.itb | cmp - image.svg
 
 Texts that are too long are cut, with the whole text as a title; of many rows 1000 are drawn:
@@ -325,16 +335,16 @@ Texts that are too long are cut, with the whole text as a title; of many rows 10
 A file that cannot be read, a full device, and lines that nobody reads:
 
   $ mkdir folder && mkfifo pipe && uimg map missing
-  uimg: cannot read missing
+  uimg: cannot read missing: No such file or directory (os error 2)
   [3]
   $ uimg map folder
-  uimg: cannot read folder
+  uimg: cannot read folder: Is a directory (os error 21)
   [3]
   $ uimg map pipe
-  uimg: cannot read pipe
+  uimg: cannot read pipe: it is a pipe
   [3]
   $ uimg map image.itb > /dev/full
-  uimg: write failed
+  uimg: write failed: No space left on device (os error 28)
   [3]
   $ (sleep 0.5; uimg map image.itb 2> said; echo "status $?" >> said) | true; cat said
   status 3

@@ -406,7 +406,7 @@ The outfile gets its name when it is complete, also through a link, and an exist
   real
   $ rm link && ln -s folder/new link && mkimage -q -A arm -a 1000 -n name -d d link && cmp folder/new wanted && test -h link
   $ mkimage -A arm -a 1000 -n name -d d kept > /dev/full; cmp kept wanted; ls kept*
-  mkimage: write failed
+  mkimage: write failed: No space left on device (os error 28)
   kept
   $ mkfifo pipe && mkimage -q -A arm -d d pipe
   mkimage: cannot write pipe: it is a pipe
@@ -415,7 +415,7 @@ The outfile gets its name when it is complete, also through a link, and an exist
   mkimage: cannot write folder/none/out: No such file or directory (os error 2)
   [3]
   $ (ulimit -f 1; trap '' XFSZ; mkimage -q -A arm -d "$(command -v uimg)" out 2>&1); cat out; ls out*
-  mkimage: out: write failed
+  mkimage: cannot write out: File too large (os error 27)
   beforeout
   outside
   $ cp d out.uimg-new1 && ln -s nothing out.uimg-new2 && mkimage -q -A arm -a 1000 -n name -d out.uimg-new1 out
@@ -428,9 +428,66 @@ The outfile gets its name when it is complete, also through a link, and an exist
   mkimage: own would be written while it is read
   [2]
   $ cmp own d && mkimage -q -A arm -d d /dev/full
-  mkimage: /dev/full: write failed
+  mkimage: cannot write /dev/full: No space left on device (os error 28)
+  [3]
+  $ dumpimage -o /dev/full wanted
+  dumpimage: cannot write /dev/full: No space left on device (os error 28)
   [3]
   $ test -c /dev/full
+
+Folders in place of files, paths below files, and a folder without write permission:
+
+  $ mkimage -q -A arm -d folder out
+  mkimage: cannot read folder: Is a directory (os error 21)
+  [3]
+  $ mkimage -q -f folder out
+  mkimage: cannot read folder: Is a directory (os error 21)
+  [3]
+  $ mkimage -q -A arm -d d folder
+  mkimage: cannot write folder: Is a directory (os error 21)
+  [3]
+  $ mkimage -q -A arm -d d d/out
+  mkimage: cannot write d/out: Not a directory (os error 20)
+  [3]
+  $ dumpimage -o folder wanted
+  dumpimage: cannot write folder: Is a directory (os error 21)
+  [3]
+  $ dumpimage -l folder
+  dumpimage: cannot read folder: Is a directory (os error 21)
+  [3]
+  $ dumpimage -l pipe
+  dumpimage: cannot read pipe: it is a pipe
+  [3]
+  $ as_user() { if test "$(id -u)" = 0; then setpriv --bounding-set=-dac_override,-dac_read_search "$@"; else "$@"; fi; }
+  $ mkdir closed && chmod 500 closed && as_user mkimage -q -A arm -d d closed/out
+  mkimage: cannot write closed/out: Permission denied (os error 13)
+  [3]
+  $ as_user dumpimage -o closed/part wanted
+  dumpimage: cannot write closed/part: Permission denied (os error 13)
+  [3]
+
+Standard output is no outfile, nor is a file called - by mistake:
+
+  $ dumpimage -o - wanted
+  dumpimage: -o -: standard output is not supported; for a file of that name use ./-
+  [2]
+  $ test ! -e ./- && dumpimage -o ./- wanted && cmp ./- d && rm ./-
+
+Nobody reads what is printed:
+
+  $ unread() { python3 -c 'import os, subprocess, sys; end, to = os.pipe(); os.close(end); print("status", subprocess.call(sys.argv[1:], stdout=to))' "$@"; }
+  $ unread mkimage -A arm -d d out
+  status 3
+  $ unread mkimage -l wanted
+  status 3
+  $ unread dumpimage -l wanted
+  status 3
+  $ unread mkimage -h
+  status 3
+  $ unread dumpimage -V
+  status 3
+  $ unread uimg unpack --help
+  status 3
 
 Helps:
 

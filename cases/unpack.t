@@ -119,7 +119,7 @@ A needed strength:
   $ ls -A out
   b
   $ uimg unpack --need-hash sha3 -C out k.itb
-  uimg: unknown name
+  uimg: --need: unknown algorithm 'sha3'; use crc32, md5, sha1, sha256, sha384 or sha512
   [2]
   $ fit '' && uimg unpack -C out k.itb && uimg unpack --need-hash crc32 -C out k.itb
   uimg: no image has a hash, as there is none
@@ -185,17 +185,25 @@ Refusals come before anything is written:
   $ fit 'abcde { data = [61]; };' && uimg unpack -C none k.itb
   uimg: cannot create none/abcde: No such file or directory (os error 2)
   [3]
+  $ uimg unpack --help | grep -c 'Write the files to this folder, which has to exist$'
+  1
+  $ uimg unpack -C k.its k.itb
+  uimg: cannot create k.its/abcde: Not a directory (os error 20)
+  [3]
+  $ uimg unpack --max-files many k.itb
+  uimg: --max-files: 'many' is not a decimal number below 2^64
+  [2]
   $ uimg unpack -C '' k.itb
-  uimg: no folder
+  uimg: -C: no folder
   [2]
   $ mkfifo pipe && uimg unpack pipe
-  uimg: cannot read pipe
+  uimg: cannot read pipe: it is a pipe
   [3]
   $ uimg unpack out
-  uimg: cannot read out
+  uimg: cannot read out: Is a directory (os error 21)
   [3]
   $ uimg unpack none.itb
-  uimg: cannot read none.itb
+  uimg: cannot read none.itb: No such file or directory (os error 2)
   [3]
   $ uimg unpack
   uimg: no image
@@ -243,10 +251,86 @@ Nobody reads the lines, and there is no space for them:
   $ rm -r out && mkdir out && fit 'a { data = [61 62 63]; };' && (sleep 0.1; uimg unpack -C out k.itb; echo $? > status) | true; sleep 0.5; cat status
   3
   $ rm -f out/a && uimg unpack -C out k.itb > /dev/full
-  uimg: write failed
+  uimg: write failed: No space left on device (os error 28)
   [3]
   $ ls -A out
   a
+
+A folder that cannot be read cannot be synced either: that is an error, and what files were to replace is there again:
+
+  $ as_user() { if test "$(id -u)" = 0; then setpriv --bounding-set=-dac_override,-dac_read_search "$@"; else "$@"; fi; }
+  $ mkdir blind && echo old > blind/a && chmod 300 blind && as_user uimg unpack --force -C blind k.itb
+  uimg: cannot sync blind: Permission denied (os error 13)
+  [3]
+  $ cp "$files/abc-kernel.img" . && as_user uimg unpack -C blind abc-kernel.img
+  uimg: cannot sync blind: Permission denied (os error 13)
+  [3]
+  $ cat blind/a && as_user uimg unpack --no-sync --force -C blind k.itb && cat blind/a && echo
+  old
+  a: 3 bytes, unhashed
+  abc
+  $ chmod 700 blind && ls -A blind
+  a
+
+As JSON objects: of kept payloads, with the digest of FIPS 180-2, of refused ones, of images that are refused, and of folders
+and files:
+
+  $ fit 'kernel { data = [61 62 63]; hash-1 { algo = "crc32"; }; hash-2 { algo = "sha256"; }; }; abcde { data = [64]; };'
+  $ patch k.itb abcde "$(printf 'a\n\302\205\177')" && rm -r out && mkdir out && uimg unpack --json -C out k.itb && ls -A out
+  {"path":"k.itb","status":0,"verdict":"ok","format":"fit","image":"kernel","file":"kernel","size":3,"algo":"sha256","digest":"ba7816bf8f01cfea414140de5dae2223b00361a396177a9cb410ff61f20015ad"}
+  {"path":"k.itb","status":0,"verdict":"unhashed","format":"fit","image":"a\n\u0085\u007f","file":"image-1","size":1}
+  image-1
+  kernel
+  $ uimg unpack --json -C out k.itb
+  {"path":"k.itb","status":3,"verdict":"failed","message":"out/kernel exists; use --force to replace it"}
+  [3]
+  $ uimg unpack --json -C none k.itb
+  {"path":"k.itb","status":3,"verdict":"failed","message":"cannot create none/kernel: No such file or directory (os error 2)"}
+  [3]
+  $ rm out/* && patch k.itb abc abd && uimg unpack --json -C out k.itb
+  {"path":"k.itb","status":1,"verdict":"bad","format":"fit","image":"kernel","hash":"hash-1"}
+  [1]
+  $ uimg unpack --json --keep-good -C out k.itb
+  {"path":"k.itb","status":1,"verdict":"bad","format":"fit","image":"kernel","hash":"hash-1"}
+  {"path":"k.itb","status":0,"verdict":"unhashed","format":"fit","image":"a\n\u0085\u007f","file":"image-1","size":1}
+  [1]
+  $ uimg unpack --json --need sha512 --only kernel -C out k.itb
+  {"path":"k.itb","status":1,"verdict":"bad","format":"fit","image":"kernel","hash":"hash-1"}
+  [1]
+  $ patch k.itb abd abc && uimg unpack --json --need sha512 --only kernel -C out k.itb
+  {"path":"k.itb","status":1,"verdict":"weak","format":"fit","image":"kernel"}
+  [1]
+  $ uimg unpack --json --only gone -C out k.itb
+  {"path":"k.itb","status":1,"verdict":"refused","format":"fit","fault":"F4","message":"F4 no such image"}
+  [1]
+  $ uimg unpack --json --max-files 1 -C out k.itb
+  {"path":"k.itb","status":1,"verdict":"refused","message":"more than 1 files; --max-files allows more"}
+  [1]
+  $ rm out/* && head -c 50 k.itb > cut.itb && uimg unpack --json -C out cut.itb
+  {"path":"cut.itb","status":1,"verdict":"refused","format":"fit","fault":"B4","message":"B4 block outside at 4","offset":4}
+  [1]
+  $ uimg check --json cut.itb
+  {"path":"cut.itb","status":1,"verdict":"refused","format":"fit","fault":"B4","message":"B4 block outside at 4","offset":4}
+  [1]
+  $ fit '' && uimg unpack --json --need crc32 -C out k.itb
+  {"path":"k.itb","status":1,"verdict":"empty","format":"fit"}
+  [1]
+  $ uimg unpack --json none.itb
+  {"path":"none.itb","status":3,"verdict":"failed","message":"cannot read: No such file or directory (os error 2)"}
+  [3]
+  $ uimg unpack --json -C out abc-kernel.img && uimg unpack --json --need md5 -C out abc-kernel.img
+  {"path":"abc-kernel.img","status":0,"verdict":"ok","format":"legacy","file":"image-0","size":3,"data-crc":891568578}
+  {"path":"abc-kernel.img","status":1,"verdict":"weak","format":"legacy","algo":"crc32"}
+  [1]
+  $ rm out/* && uimg unpack --json -C out abc-kernel.img > /dev/full
+  uimg: write failed: No space left on device (os error 28)
+  [3]
+  $ uimg unpack --json --clean -C out
+  uimg: --clean with --json
+  [2]
+  $ fit 'k.itb { data = [61 62 63]; };' && uimg unpack --json --force k.itb
+  uimg: ./k.itb would be written while it is read
+  [2]
 
 Of a legacy image
 -----------------
@@ -448,7 +532,13 @@ At most 4096 files, or as many as are allowed, and as many bytes as are allowed;
   uimg: more than 11 bytes; --max-bytes allows more
   [1]
   $ uimg unpack --max-bytes 1 -C out part-outside.img
+  uimg: more than 1 bytes; --max-bytes allows more
+  [1]
+  $ uimg unpack --max-bytes 1000 -C out part-outside.img
   uimg: L7 part outside
+  [1]
+  $ uimg unpack --max-bytes 1 --only image-1 -C out abc-kernel.img
+  uimg: L8 no such part
   [1]
   $ uimg unpack --max-bytes 2 -C out abc-kernel.img
   uimg: more than 2 bytes; --max-bytes allows more
@@ -459,12 +549,12 @@ At most 4096 files, or as many as are allowed, and as many bytes as are allowed;
   uimg: more than 0 files; --max-files allows more
   [1]
   $ for number in 18446744073709551616 +1 -1 0x1 '' ' 1'; do uimg unpack --max-bytes="$number" -C out k.itb; done
-  uimg: bad number
-  uimg: bad number
-  uimg: bad number
-  uimg: bad number
-  uimg: bad number
-  uimg: bad number
+  uimg: --max-bytes: '18446744073709551616' is not a decimal number below 2^64
+  uimg: --max-bytes: '+1' is not a decimal number below 2^64
+  uimg: --max-bytes: '-1' is not a decimal number below 2^64
+  uimg: --max-bytes: '0x1' is not a decimal number below 2^64
+  uimg: --max-bytes: '' is not a decimal number below 2^64
+  uimg: --max-bytes: ' 1' is not a decimal number below 2^64
   [2]
   $ rm out/* && python3 - <<'END'
   > import struct, zlib
@@ -481,6 +571,25 @@ At most 4096 files, or as many as are allowed, and as many bytes as are allowed;
   $ ls -A out && uimg unpack --no-sync -C out 4096.img | tail -n 1 | cut -c 1-18
   image-4095: 1 byte
 
+The bytes are counted without memory for the parts: a table of 5 million parts of 1 byte, in a file of 40 MB, which the
+program with at most 64 MiB of memory refuses by their number:
+
+  $ python3 - <<'END'
+  > import struct, zlib
+  > count = 5000000
+  > data = struct.pack(">I", 1) * count + bytes(4) + bytes(4) * count
+  > fields, rest = [0x27051956, 0, 0, len(data), 0, 0, zlib.crc32(data)], bytes([5, 2, 4, 0]) + bytes(32)
+  > fields[1] = zlib.crc32(struct.pack(">7I", *fields) + rest)
+  > open("millions.img", "wb").write(struct.pack(">7I", *fields) + rest + data)
+  > END
+  $ rm out/* && (ulimit -v 65536; uimg unpack --max-bytes 5000000 -C out millions.img)
+  uimg: more than 4096 files; --max-files allows more
+  [1]
+  $ (ulimit -v 65536; uimg unpack --max-bytes 4999999 -C out millions.img)
+  uimg: more than 4999999 bytes; --max-bytes allows more
+  [1]
+  $ ls -A out && rm millions.img
+
 An image whose name cannot be a file's, where all the numbers for it are names of others:
 
   $ rm -r out && mkdir out && fit "$(for number in $(seq 100 199); do echo "image-$number { data = [61]; };"; done) a,b { data = [62]; };"
@@ -493,14 +602,14 @@ A failed write leaves no file, and a line that nobody reads leaves no folder:
 
   $ rm -r out && mkdir out && head -c 3000000 /dev/zero > zeros && uimg mkimage -A arm -T kernel -C none -d zeros large.img > listing
   $ (ulimit -f 1000; trap '' XFSZ; uimg unpack -C out large.img)
-  uimg: cannot write out/image-0
+  uimg: cannot write out/image-0: File too large (os error 27)
   [3]
   $ ls -A out
   $ (sleep 0.1; uimg unpack -C out abc-kernel.img; echo $? > status) | true; sleep 0.5; cat status
   3
   $ ls -A out && rm out/* && uimg unpack -C out abc-kernel.img > /dev/full
   image-0
-  uimg: write failed
+  uimg: write failed: No space left on device (os error 28)
   [3]
   $ ls -A out
   image-0

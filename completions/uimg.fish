@@ -40,6 +40,7 @@ complete -c uimg -n '__fish_seen_subcommand_from unpack' -l keep-good -d 'Keep t
 complete -c uimg -n '__fish_seen_subcommand_from unpack' -l no-sync -d 'Do not wait until the files are on the disk'
 complete -c uimg -n '__fish_seen_subcommand_from unpack' -l max-files -x -d 'Unpack nothing if there are more files (4096)'
 complete -c uimg -n '__fish_seen_subcommand_from unpack' -l max-bytes -x -d 'Unpack nothing if the files have more bytes together'
+complete -c uimg -n '__fish_seen_subcommand_from unpack' -l json -d 'Print a JSON object for each payload or part'
 complete -c uimg -n '__fish_seen_subcommand_from unpack' -l clean -d 'Remove the temporary files that stopped commands left in the folder'
 complete -c uimg -n '__fish_seen_subcommand_from unpack' -s h -l help -d 'Print help'
 complete -c uimg -n __fish_use_subcommand -f -a info -d 'Print the facts of an image as JSON, for scripts'

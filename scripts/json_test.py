@@ -1,12 +1,13 @@
 #!/usr/bin/env python3
-"""json_test.py PROGRAM: holds the output of `PROGRAM check --json` and `PROGRAM info` to the
-schemas of docs/JSON.md.
+"""json_test.py PROGRAM: holds the output of `PROGRAM check --json`, `PROGRAM info` and
+`PROGRAM unpack --json` to the schemas of docs/JSON.md.
 
 It checks all files of examples/ and cases/files/, FIT images of a fixed seed, whole and damaged,
 and some with hostile names. Each line has to be JSON without a control character and without a
 repeated member, has to be valid by the schema, and has to have the path and the line of text of
 the same image; for `info`, what a reader of device trees in this file finds in it (of a refused
-image, the line of a check). It needs jsonschema, and reports if no Python here has it. The last
+image, the line of a check); for `unpack`, what is in the files, and as many lines as without
+--json. It needs jsonschema, and reports if no Python here has it. The last
 line is 'N passed, M failed'."""
 import base64
 import glob
@@ -430,6 +431,54 @@ def try_facts(program, paths, validator):
     return failures, told
 
 
+def judge_unpacked(program, path, validator, folder, options):
+    """Raises an error if the lines of `unpack` of an image, or the files, are wrong. Returns the
+    lines."""
+    with tempfile.TemporaryDirectory(dir=folder) as out, tempfile.TemporaryDirectory(dir=folder) as plain_out:
+        end = subprocess.run([program, "unpack", "--json", *options, "-C", out, path], capture_output=True)
+        plain = subprocess.run([program, "unpack", *options, "-C", plain_out, path], capture_output=True)
+        assert end.stderr == b"", f"on standard error: {end.stderr!r}"
+        assert end.returncode == plain.returncode, f"without --json the status is {plain.returncode}"
+        lines = end.stdout.split(b"\n")
+        assert lines.pop() == b"" and not re.search(rb"[\0-\x09\x0b-\x1f\x7f]|\xc2[\x80-\x9f]", end.stdout), "a control character"
+        assert len(lines) == len(plain.stdout.splitlines() + plain.stderr.splitlines()), f"without --json {plain.stdout!r}"
+        told = [json.loads(line.decode(), object_pairs_hook=once) for line in lines]
+        for one in told:
+            validator.validate(one)
+            assert one["path"] == path.decode(), "it has another path"
+        assert max([one["status"] for one in told], default=0) == end.returncode, "it has another status"
+        kept = [one for one in told if "file" in one]
+        assert sorted(one["file"] for one in kept) == sorted(os.listdir(out)), f"the folder has {os.listdir(out)}"
+        for one in kept:
+            with open(os.path.join(out, one["file"]), "rb") as file:
+                data = file.read()
+            assert one["size"] == len(data), f"the file has {len(data)} bytes"
+            if "digest" in one:
+                assert one["digest"] == digest(one["algo"], data).hex(), "the file has another digest"
+        if kept and "data-crc" in kept[0]:
+            with open(path, "rb") as file:
+                assert kept[0]["data-crc"] == int.from_bytes(file.read(28)[24:], "big"), "another checksum"
+        return told
+
+
+def try_unpacking(program, paths, validator, folder):
+    """Holds `unpack` of each of these paths to the schema. Returns the number of failures, and the
+    messages."""
+    failures, told = 0, []
+    for path in paths:
+        try:
+            path.decode()
+        except UnicodeDecodeError:
+            continue
+        for options in ([], ["--keep-good"], ["--need", "sha256"]):
+            try:
+                told += judge_unpacked(program, path, validator, folder, [*options, "--no-sync"])
+            except Exception as error:
+                print(f"unpack {path!r}: {(str(error).splitlines() or [repr(error)])[0]}")
+                failures += 1
+    return failures, told
+
+
 def main():
     program = os.path.abspath(sys.argv[1])
     try:
@@ -442,7 +491,7 @@ def main():
     schemas = schemas_of(os.path.join(TOP, "docs", "JSON.md"))
     for schema in schemas:
         jsonschema.Draft202012Validator.check_schema(schema)
-    validator, of_facts = (jsonschema.Draft202012Validator(schema) for schema in schemas)
+    validator, of_facts, of_payloads = (jsonschema.Draft202012Validator(schema) for schema in schemas)
     failures, told = 0, []
     with tempfile.TemporaryDirectory() as folder:
         paths = listed() + made(folder)
@@ -451,10 +500,14 @@ def main():
             failures, told = failures + failed, told + some
         failed, facts = try_facts(program, [path for path in paths if path], of_facts)
         failures += failed
+        failed, payloads = try_unpacking(program, [path for path in paths if path], of_payloads, folder)
+        failures += failed
     verdicts = sorted({one["verdict"] for one in told})
     print(f"{len(told)} lines, verdicts: {' '.join(verdicts)}; {len({one.get('fault') for one in told}) - 1} faults")
     print(f"info: {len(facts)} lines, {sum(one['status'] == 0 for one in facts)} with facts")
-    print(f"{len(told) + len(facts)} passed, {failures} failed")
+    verdicts = sorted({one["verdict"] for one in payloads})
+    print(f"unpack: {len(payloads)} lines, verdicts: {' '.join(verdicts)}")
+    print(f"{len(told) + len(facts) + len(payloads)} passed, {failures} failed")
     return 1 if failures else 0
 
 

@@ -19,6 +19,7 @@ pub use info::InfoRequest;
 pub use map::MapRequest;
 use std::alloc::{AllocError, Global};
 use thiserror::Error;
+use uimg_base::Algo;
 use uimg_requests::{MakeRequest, RunRequest, VERSION};
 pub use unpack::UnpackRequest;
 
@@ -78,14 +79,30 @@ pub enum WordsFault {
     NoImages,
 
     /// The name of a folder is empty.
-    #[error("no folder")]
+    #[error("-C: no folder")]
     NoFolder,
+
+    /// The word of --need is not the name of an algorithm.
+    #[error("--need: unknown algorithm '{0}'; use crc32, md5, sha1, sha256, sha384 or sha512")]
+    UnknownAlgo(String),
+
+    /// The word of this option is not a decimal number of 64 bits.
+    #[error("--{0}: '{1}' is not a decimal number below 2^64")]
+    NotNumber(&'static str, String),
+
+    /// A picture would be written to standard output.
+    #[error("--svg -: standard output is not supported; for a file of that name use ./-")]
+    PictureToOutput,
+
+    /// The lines of --clean are no JSON.
+    #[error("--clean with --json")]
+    CleansWithJson,
 
     /// Both data and a source are named.
     #[error("-d with -f")]
     DataWithSource,
 
-    /// The word of -A, -O, -T, -C, --need or --need-hash is not a known short name.
+    /// The word of -A, -O, -T or -C is not a known short name.
     #[error("unknown name")]
     UnknownName,
 
@@ -93,8 +110,7 @@ pub enum WordsFault {
     #[error("flat_dt needs -f")]
     FlatDtNeedsSource,
 
-    /// A position is not a decimal number of 32 bits, a limit not one of 64 bits, or an address not a
-    /// hexadecimal one.
+    /// A position is not a decimal number of 32 bits, or an address not a hexadecimal one.
     #[error("bad number")]
     BadNumber,
 
@@ -135,8 +151,8 @@ fn request_of<'a>(
 ) -> Result<Asked<'a>, WordsFault> {
     let request = match matches.subcommand() {
         Some(("check", own)) => return Ok(Asked::Check(check::request(alloc, own)?)),
-        Some(("unpack", own)) => return Ok(Asked::Unpack(unpack::request(own)?)),
-        Some(("map", own)) => return Ok(Asked::Map(map::request(own))),
+        Some(("unpack", own)) => return Ok(Asked::Unpack(unpack::request(alloc, own)?)),
+        Some(("map", own)) => return Ok(Asked::Map(map::request(own)?)),
         Some(("info", own)) => return Ok(Asked::Info(info::request(own))),
         Some(("dumpimage", own)) => Request::Run(dumpimage::request(own)?),
         Some(("mkimage", own)) => mkimage::request(alloc, own, epoch, now)?,
@@ -202,6 +218,17 @@ fn switch<'a>(alloc: Global, id: &'a str, help: &'a str) -> Arg<'a> {
         .long(id)
         .action(ArgAction::SetTrue)
         .help(help)
+}
+
+// Returns the algorithm of --need, if it was given.
+fn need_of(alloc: Global, matches: &ArgMatches<'_>) -> Result<Option<Algo>, WordsFault> {
+    let Some(name) = matches.get_str("need") else {
+        return Ok(None);
+    };
+    match Algo::named(name.as_bytes()) {
+        Some(algo) => Ok(Some(algo)),
+        None => Err(WordsFault::UnknownAlgo(String::from_str(alloc, name)?)),
+    }
 }
 
 // Returns the operand for the image.

@@ -84,6 +84,7 @@ impl<'a> Settings<'a> {
         };
         let action = match (self.is_list, self.outfile) {
             (true, _) => Action::List,
+            (false, Some("-")) => return Err(OldFault::PartToOutput),
             (false, Some(_)) => Action::Extract(self.position),
             (false, None) => return Err(OldFault::NoOutfile),
         };

@@ -52,6 +52,10 @@ pub enum OldFault<'a> {
     #[error("no -l or -o given")]
     NoOutfile,
 
+    /// Standard output is named as the outfile.
+    #[error("-o -: standard output is not supported; for a file of that name use ./-")]
+    PartToOutput,
+
     /// mkimage was given none of -l, -d and -f.
     #[error("no -l, -d or -f given")]
     NothingToMake,

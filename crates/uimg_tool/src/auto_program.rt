@@ -1,12 +1,12 @@
 //! Makes a FIT image from the source that mkimage makes itself.
 
-use crate::main_program::{FAILED, RequestFault};
+use crate::main_program::FAILED;
 use crate::old_program::{make_image, tell, tell_unread, tell_unwritten};
 use crate::old_tools::{Called, Tool};
 use crate::safe_path::{NewBeside, new_beside};
-use std::fs;
 use std::io::{BufWriter, Write};
 use std::rt::Files;
+use std::{fs, io};
 use uimg_base::FileSource;
 use uimg_compat::{AutoRequest, AutoSource, OldFault};
 use uimg_requests::MakeRequest;
@@ -24,11 +24,9 @@ pub(crate) fn make_auto<R: Files + AllocGlobal, W: Write, V: Write>(
     }
     match new_beside(rt, request.outfile) {
         Ok(Ok(NewBeside { file, path })) => {
-            let status = if has_written(rt, file, &request.source) {
-                make_of_text(rt, tool, request, path.as_str(), out, err)
-            } else {
-                let fault = RequestFault::CannotWrite(request.outfile);
-                tell(tool, err, &fault, FAILED)
+            let status = match write_text(rt, file, &request.source) {
+                Ok(()) => make_of_text(rt, tool, request, path.as_str(), out, err),
+                Err(reason) => tell_unwritten(tool, request.outfile, &reason, err),
             };
             let _ = fs::remove_file(rt, path.as_str());
             status
@@ -82,13 +80,15 @@ fn unread_file<'a, R: Files + AllocGlobal>(rt: &R, source: &AutoSource<'a>) -> O
     }
 }
 
-// Writes the text of a source to a new file. Returns whether it is complete.
-fn has_written<R: Files + AllocGlobal>(rt: &R, mut file: R::File, source: &AutoSource<'_>) -> bool {
-    let Ok(mut gathered) = BufWriter::new(rt.alloc(), &mut file) else {
-        return false;
-    };
-    let is_whole = write!(gathered, "{source}").is_ok() && gathered.flush().is_ok();
+// Writes the text of a source to a new file.
+fn write_text<R: Files + AllocGlobal>(
+    rt: &R,
+    mut file: R::File,
+    source: &AutoSource<'_>,
+) -> io::Result<()> {
+    let mut gathered = BufWriter::new(rt.alloc(), &mut file)?;
+    let written = write!(gathered, "{source}").and_then(|()| gathered.flush());
     // A failed write leaves text in the buffer, which its drop would try to write again.
     let (_, _) = gathered.into_parts();
-    is_whole
+    written
 }

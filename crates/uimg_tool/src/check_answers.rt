@@ -3,7 +3,12 @@
 ghost use Rattle.std.specs.Prelude.{◌≤◌, IfSome};
 
 use crate::main_program::{REFUSED, RequestFault, status_of};
+use crate::reasons::reason_unread;
 use std::alloc::Global;
+use std::fmt::Display;
+use std::io;
+use std::rt::Files;
+use thiserror::Error;
 use uimg_base::{Source, Span};
 use uimg_checks::{Answer, Checked, Format, Missing, Stop};
 use uimg_engine::Fault;
@@ -13,9 +18,9 @@ use uimg_strict::{Loose, Looseness};
 /// The longest name of a node, in bytes.
 const NAME_LEN: usize = 255;
 
-/// The file could not be opened.
-pub(crate) const UNREAD: Answer<'static> = Answer::Failed(Stop {
-    message: "cannot read",
+/// The path is not UTF-8, so no file was opened.
+pub(crate) const NOT_UTF8: Answer<'static> = Answer::Failed(Stop {
+    message: "cannot read: the path is not UTF-8",
     code: None,
     format: None,
     offset: None,
@@ -57,6 +62,47 @@ impl Names {
             missing: Vec::new(alloc),
             message: String::new(alloc),
         }
+    }
+}
+
+/// Returns the result for a file that could not be opened.
+pub(crate) fn answer_of_unread<'a, R: Files>(
+    rt: &R,
+    path: &str,
+    names: &'a mut Names,
+) -> Answer<'a> {
+    match reason_unread(rt, path) {
+        Some(reason) => answer_of_line(&Unread(reason), false, names),
+        None => answer_of_line(&"cannot read", false, names),
+    }
+}
+
+// Why a file could not be opened.
+#[derive(Debug, Drop, Error)]
+#[error("cannot read: {0}")]
+struct Unread(io::Error);
+
+/// Returns the result for a line that has no code: the image is refused, or else a read, a write or
+/// the like failed.
+pub(crate) fn answer_of_line<'a, D: Display>(
+    line: &D,
+    is_refused: bool,
+    names: &'a mut Names,
+) -> Answer<'a> {
+    let Ok(message) = format!(in names.alloc; "{line}") else {
+        return NO_MEMORY;
+    };
+    names.message = message;
+    let stop = Stop {
+        message: names.message.as_str(),
+        code: None,
+        format: None,
+        offset: None,
+    };
+    if is_refused {
+        Answer::Refused(stop)
+    } else {
+        Answer::Failed(stop)
     }
 }
 

@@ -1,18 +1,17 @@
 //! Checks many images, with a line for each.
 
-use crate::check_answers::{Names, UNREAD, answer_of};
+use crate::check_answers::{NOT_UTF8, Names, answer_of, answer_of_unread};
 use crate::json_lines::put_json;
-use crate::main_program::{DONE, FAILED, RequestFault, WRONG_LINE, tell};
+use crate::main_program::{DONE, FAILED, RequestFault, WRONG_LINE, tell, tell_unprinted};
+use crate::reasons::is_pipe;
 use crate::strict_answers::{answer_of_fit, answer_of_legacy};
 use std::alloc::{AllocError, Global};
 use std::io::{BufRead, BufReader, BufWriter, ErrorKind, Write};
-use std::os::unix::fs::FileTypeExt;
 use std::rt::Files;
 use std::{fs, io};
 use uimg_base::{FileSource, Room};
 use uimg_checks::{Answer, Checked, check, line_text, object_text};
 use uimg_cli::{CheckRequest, WordsFault};
-use uimg_engine::Fault;
 use uimg_fit_checking::Finding;
 
 /// The path of standard input as a file.
@@ -52,10 +51,9 @@ pub(crate) fn check_images<R: Files + AllocGlobal, W: Write, V: Write>(
             tell(err, &WordsFault::NoImages, WRONG_LINE)
         }
         Ok(()) => greatest,
-        Err(Stop::Closed) => FAILED,
-        Err(Stop::NoNames(path)) => tell(err, &RequestFault::CannotRead(path), FAILED),
+        Err(Stop::NoNames(path, reason)) => tell(err, &RequestFault::Unread(path, reason), FAILED),
         Err(Stop::NoMemory) => tell(err, &RequestFault::OutOfMemory, FAILED),
-        Err(Stop::Put) => tell(err, &RequestFault::Stopped(Fault::Put), FAILED),
+        Err(Stop::Put(error)) => tell_unprinted(error, err),
     }
 }
 
@@ -63,24 +61,18 @@ pub(crate) fn check_images<R: Files + AllocGlobal, W: Write, V: Write>(
 #[derive(Drop)]
 enum Stop<'a> {
     // The file of names cannot be read.
-    NoNames(&'a str),
+    NoNames(&'a str, io::Error),
 
     // Memory ran out.
     NoMemory,
 
-    // The reader has closed the output.
-    Closed,
-
     // A line could not be written.
-    Put,
+    Put(io::Error),
 }
 
 impl<'a> From<io::Error> for Stop<'a> {
     fn from(error: io::Error) -> Stop<'a> {
-        match error.kind() {
-            ErrorKind::BrokenPipe => Stop::Closed,
-            _ => Stop::Put,
-        }
+        Stop::Put(error)
     }
 }
 
@@ -122,8 +114,9 @@ impl<'a, W: Write> Checks<'a, W> {
         path: &'b str,
     ) -> Result<(), Stop<'b>> {
         let from = if path == "-" { STANDARD_INPUT } else { path };
-        let Ok(file) = fs::open(rt, from) else {
-            return Err(Stop::NoNames(path));
+        let file = match fs::open(rt, from) {
+            Ok(file) => file,
+            Err(error) => return Err(Stop::NoNames(path, error)),
         };
         let Ok(names) = BufReader::new(rt.alloc(), file) else {
             return Err(Stop::NoMemory);
@@ -132,7 +125,7 @@ impl<'a, W: Write> Checks<'a, W> {
         for name in names.split(rt.alloc(), end) {
             match name {
                 Ok(name) => self.check_unless_empty(rt, request, name.as_slice())?,
-                Err(error) => return Err(stop_of_names(&error, path)),
+                Err(error) => return Err(stop_of_names(error, path)),
             }
         }
         Ok(())
@@ -161,7 +154,7 @@ impl<'a, W: Write> Checks<'a, W> {
         let mut names = Names::new(rt.alloc());
         let answer = match str::from_utf8(path) {
             Ok(path) => self.answer(rt, request, path, &mut names),
-            Err(_) => UNREAD,
+            Err(_) => NOT_UTF8,
         };
         self.greatest = u8::max(self.greatest, answer.status());
         self.has_checked = true;
@@ -200,10 +193,10 @@ impl<'a, W: Write> Checks<'a, W> {
         names: &'n mut Names,
     ) -> Answer<'n> {
         if is_pipe(rt, path) {
-            return UNREAD;
+            return answer_of_unread(rt, path, names);
         }
         let Ok(mut source) = FileSource::open(rt, path) else {
-            return UNREAD;
+            return answer_of_unread(rt, path, names);
         };
         let end = check(request.need, &mut source, &mut self.room);
         match end {
@@ -217,14 +210,9 @@ impl<'a, W: Write> Checks<'a, W> {
 }
 
 // Returns why reading the paths stopped.
-fn stop_of_names<'b>(error: &io::Error, path: &'b str) -> Stop<'b> {
+fn stop_of_names<'b>(error: io::Error, path: &'b str) -> Stop<'b> {
     match error.kind() {
         ErrorKind::OutOfMemory => Stop::NoMemory,
-        _ => Stop::NoNames(path),
+        _ => Stop::NoNames(path, error),
     }
-}
-
-/// Returns whether a path leads to a pipe; to open one would wait for a writer.
-pub(crate) fn is_pipe<R: Files>(rt: &R, path: &str) -> bool {
-    fs::metadata(rt, path).is_ok_and(|found| found.file_type().is_fifo())
 }

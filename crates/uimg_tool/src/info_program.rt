@@ -1,11 +1,11 @@
 //! Prints the facts of an image, as a line of JSON.
 
-use crate::check_answers::{CHANGED, Names, UNREAD, answer_of_fault};
-use crate::check_program::is_pipe;
+use crate::check_answers::{CHANGED, Names, answer_of_fault, answer_of_unread};
 use crate::json_lines::put_json;
-use crate::main_program::{DONE, FAILED, RequestFault, tell};
+use crate::main_program::{DONE, FAILED, RequestFault, tell, tell_unprinted};
+use crate::reasons::is_pipe;
 use std::alloc::{AllocError, Global};
-use std::io::{BufWriter, ErrorKind, Write};
+use std::io::{BufWriter, Write};
 use std::rt::Files;
 use uimg_base::{FileSource, Room, Source};
 use uimg_checks::object_text;
@@ -35,12 +35,16 @@ pub(crate) fn tell_facts<R: Files + AllocGlobal, W: Write, V: Write>(
     status
 }
 
-// Writes an object as a line. Returns the status, or that of a failure.
-fn put_object<W: Write, V: Write>(text: &[u8], status: u8, out: &mut W, err: &mut V) -> u8 {
+/// Writes an object as a line. Returns the status, or that of a failure.
+pub(crate) fn put_object<W: Write, V: Write>(
+    text: &[u8],
+    status: u8,
+    out: &mut W,
+    err: &mut V,
+) -> u8 {
     match put_json(text, out).and_then(|()| out.flush()) {
         Ok(()) => status,
-        Err(error) if error.kind() == ErrorKind::BrokenPipe => FAILED,
-        Err(_) => tell(err, &RequestFault::Stopped(Fault::Put), FAILED),
+        Err(error) => tell_unprinted(error, err),
     }
 }
 
@@ -96,7 +100,7 @@ fn object_of<R: Files + AllocGlobal>(rt: &R, path: &str) -> Result<(Vec<u8>, u8)
     let answer = match facts_of(rt, path) {
         Ok(text) => return Ok((text, DONE)),
         Err(Stop::NoMemory) => return Err(AllocError),
-        Err(Stop::Unread) => UNREAD,
+        Err(Stop::Unread) => answer_of_unread(rt, path, &mut names),
         Err(Stop::Changed) => CHANGED,
         Err(Stop::Refused(fault)) => answer_of_fault(fault, &mut names),
     };

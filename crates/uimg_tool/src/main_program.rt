@@ -1,17 +1,19 @@
 //! The function `program`, the whole program: opens the files that a command line names, carries
 //! out its request, and turns the end into a line and an exit status.
-use crate::check_program::{check_images, is_pipe};
+use crate::check_program::check_images;
 use crate::info_program::tell_facts;
 use crate::making::make_image;
 use crate::map_program::map_image;
 use crate::new_shelf::NewShelf;
 use crate::old_program::{carry_out_old, read_old_words};
 use crate::old_tools::Tool;
+use crate::reasons::{Watched, is_pipe, reason_of_code, reason_unread};
 use crate::unpack_program::unpack_image;
+use std::cell::Cell;
 use std::fmt::Display;
-use std::fs;
-use std::io::{BufWriter, Write};
+use std::io::{BufWriter, ErrorKind, Write};
 use std::rt::Files;
+use std::{fs, io};
 use thiserror::Error;
 use uimg_base::{FileShelf, FileSource, Out, Room, Status};
 use uimg_blob_reading::BlobFault;
@@ -39,8 +41,28 @@ pub(crate) enum RequestFault<'a> {
     #[error("cannot read {0}")]
     CannotRead(&'a str),
 
+    // The same, by the new commands.
+    #[error("cannot read {0}: {1}")]
+    Unread(&'a str, io::Error),
+
     #[error("cannot write {0}")]
-    CannotWrite(&'a str),
+    CannotWrite(&'a str, io::Error),
+
+    // The same, by the new commands.
+    #[error("cannot write {0}: {1}")]
+    Unwritten(&'a str, io::Error),
+
+    // Bytes of the outfile, at this path.
+    #[error("write failed")]
+    NotPut(&'a str, io::Error),
+
+    // Text for standard output.
+    #[error("write failed")]
+    NotPrinted(io::Error),
+
+    // The same, by the new commands.
+    #[error("write failed: {0}")]
+    Unprinted(io::Error),
 
     #[error("{0} exists; use --force to replace it")]
     Exists(&'a str),
@@ -98,12 +120,39 @@ fn carry_out_asked<R: Files + AllocGlobal, W: Write, V: Write>(
     err: &mut V,
 ) -> u8 {
     match asked {
-        Asked::One(request) => tell_end(&carry_out(rt, request, None, out), err),
+        Asked::One(request) => carry_out_one(rt, request, out, err),
         Asked::Check(request) => check_images(rt, request, out, err),
         Asked::Unpack(request) => unpack_image(rt, request, out, err),
         Asked::Map(request) => map_image(rt, request, out, err),
         Asked::Info(request) => tell_facts(rt, request, out, err),
     }
+}
+
+// Carries out a command on one image, the making of one, or prints a text.
+fn carry_out_one<'a, R: Files + AllocGlobal, W: Write, V: Write>(
+    rt: &'a R,
+    request: &'a Request<'a>,
+    out: &mut W,
+    err: &mut V,
+) -> u8 {
+    let end = carry_out(rt, request, None, out);
+    if matches!(request, Request::Show(_)) && is_unread(&end) {
+        return FAILED;
+    }
+    tell_end(&end, err)
+}
+
+// Returns whether a request ended because nobody reads what it prints.
+fn is_unread(end: &Result<Status, RequestFault<'_>>) -> bool {
+    match end {
+        Err(RequestFault::NotPrinted(error)) => is_closed(error),
+        _ => false,
+    }
+}
+
+/// Returns whether a write failed because nobody reads any more.
+pub(crate) fn is_closed(error: &io::Error) -> bool {
+    error.kind() == ErrorKind::BrokenPipe
 }
 
 fn tell_words_fault<V: Write>(fault: &WordsFault, err: &mut V) -> u8 {
@@ -129,6 +178,22 @@ fn tell_end<V: Write>(end: &Result<Status, RequestFault<'_>>, err: &mut V) -> u8
 pub(crate) fn tell<V: Write, D: Display>(err: &mut V, fault: &D, status: u8) -> u8 {
     let _ = writeln!(err, "uimg: {fault}");
     status
+}
+
+/// Reports a text that could not be printed, unless nobody reads any more. Returns the status.
+pub(crate) fn tell_unprinted<V: Write>(error: io::Error, err: &mut V) -> u8 {
+    if is_closed(&error) {
+        return FAILED;
+    }
+    tell(err, &RequestFault::Unprinted(error), FAILED)
+}
+
+/// Reports a file that could not be opened, with the reason if there is one. Returns the status.
+pub(crate) fn tell_unread<R: Files, V: Write>(rt: &R, path: &str, err: &mut V) -> u8 {
+    match reason_unread(rt, path) {
+        Some(reason) => tell(err, &RequestFault::Unread(path, reason), FAILED),
+        None => tell(err, &RequestFault::CannotRead(path), FAILED),
+    }
 }
 
 /// Returns the exit status of a request that was not carried out.
@@ -159,8 +224,8 @@ fn status_of_source(kind: FaultKind) -> u8 {
 }
 
 /// Carries out a request, and buffers what it prints. What it writes goes to the file that is given,
-/// if one is. If the flush at the end fails, returns `Put` instead of the end, because the text comes
-/// before what ended the request.
+/// if one is. If the flush at the end fails, returns `NotPrinted` instead of the end, because the text
+/// comes before what ended the request.
 pub(crate) fn carry_out<'a, R: Files + AllocGlobal, W: Write>(
     rt: &'a R,
     request: &'a Request<'a>,
@@ -168,21 +233,21 @@ pub(crate) fn carry_out<'a, R: Files + AllocGlobal, W: Write>(
     out: &mut W,
 ) -> Result<Status, RequestFault<'a>> {
     match carry_out_apart(rt, request, file, out) {
-        (end, true) => end,
-        (_, false) => Err(RequestFault::Stopped(Fault::Put)),
+        (end, Ok(())) => end,
+        (_, Err(error)) => Err(RequestFault::NotPrinted(error)),
     }
 }
 
-/// Carries out a request, as `carry_out` does. Returns how it ended, and whether the buffer with what
-/// it printed was flushed.
+/// Carries out a request, as `carry_out` does. Returns how it ended, and how the flush of the buffer
+/// with what it printed did.
 pub(crate) fn carry_out_apart<'a, R: Files + AllocGlobal, W: Write>(
     rt: &'a R,
     request: &'a Request<'a>,
     file: Option<R::File>,
     out: &mut W,
-) -> (Result<Status, RequestFault<'a>>, bool) {
+) -> (Result<Status, RequestFault<'a>>, io::Result<()>) {
     let Ok(mut gathered) = BufWriter::new(rt.alloc(), out) else {
-        return (Err(RequestFault::OutOfMemory), true);
+        return (Err(RequestFault::OutOfMemory), Ok(()));
     };
     let end = match request {
         Request::Run(request) => run_command(rt, request, file, &mut gathered),
@@ -192,14 +257,14 @@ pub(crate) fn carry_out_apart<'a, R: Files + AllocGlobal, W: Write>(
     let written = gathered.flush();
     // A failed write leaves text in the buffer, which its drop would try to write again.
     let (_, _) = gathered.into_parts();
-    (end, written.is_ok())
+    (end, written)
 }
 
 // Prints help or the version.
 fn show<'a, W: Write, D: Display>(text: &D, out: &mut W) -> Result<Status, RequestFault<'a>> {
     match write!(out, "{text}") {
         Ok(()) => Ok(Status::Done),
-        Err(_) => Err(RequestFault::Stopped(Fault::Put)),
+        Err(error) => Err(RequestFault::NotPrinted(error)),
     }
 }
 
@@ -229,14 +294,22 @@ fn run_command<'a, R: Files + AllocGlobal, W: Write>(
             if is_same_file(rt, path, request.image) {
                 return Err(RequestFault::WritesWhatIsRead(path));
             }
-            let outfile = outfile_at(rt, path, file)?;
-            run_by(
+            let code = Cell::new(None);
+            let outfile = Watched::new(outfile_at(rt, path, file)?, &code);
+            let ended = run_by(
                 request.naming,
                 &request.command,
                 &mut source,
                 &mut room,
                 &mut Out::new(outfile),
-            )?
+            );
+            match ended {
+                Err(Fault::Put) => return Err(RequestFault::NotPut(
+                    path,
+                    reason_of_code(code.get()),
+                )),
+                ended => ended?,
+            }
         }
     };
     Ok(status)
@@ -253,7 +326,7 @@ fn outfile_at<'a, R: Files>(
         Some(file) => Ok(file),
         None => match fs::create(rt, path) {
             Ok(file) => Ok(file),
-            Err(_) => Err(RequestFault::CannotWrite(path)),
+            Err(reason) => Err(RequestFault::CannotWrite(path, reason)),
         },
     }
 }
@@ -266,11 +339,22 @@ fn make_command<'a, R: Files + AllocGlobal, W: Write>(
     out: &mut W,
 ) -> Result<Status, RequestFault<'a>> {
     let path = request.written;
-    match file {
+    let code = Cell::new(None);
+    let made = match file {
         Some(file) => match NewShelf::new(rt, path, file) {
-            Ok(shelf) => make_image(rt, request, shelf, out),
+            Ok(shelf) => make_image(rt, request, Watched::new(shelf, &code), out),
             Err(_) => Err(RequestFault::OutOfMemory),
         },
-        None => make_image(rt, request, FileShelf::new(rt, path), out),
+        None => {
+            let shelf = Watched::new(FileShelf::new(rt, path), &code);
+            make_image(rt, request, shelf, out)
+        }
+    };
+    match (made, code.get()) {
+        (Err(RequestFault::Stopped(Fault::Put)), Some(code)) => {
+            let reason = io::Error::from_raw_os_error(code);
+            Err(RequestFault::NotPut(request.outfile, reason))
+        }
+        (made, _) => made,
     }
 }

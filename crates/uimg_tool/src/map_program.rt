@@ -1,11 +1,13 @@
 //! Prints the map of an image's file, as lines or as a picture.
 
-use crate::check_program::is_pipe;
-use crate::main_program::{DONE, FAILED, REFUSED, RequestFault, WRONG_LINE, tell};
+use crate::main_program::{
+    DONE, FAILED, REFUSED, RequestFault, WRONG_LINE, tell, tell_unprinted, tell_unread,
+};
+use crate::reasons::{is_pipe, reason_of_code};
 use crate::safe_path::{SafePath, Writing, writing_of};
-use std::fs;
 use std::io::{BufWriter, Write};
 use std::rt::Files;
+use std::{fs, io};
 use uimg_base::{FileSource, Source};
 use uimg_cli::MapRequest;
 use uimg_engine::{Fault, is_same_file};
@@ -23,10 +25,10 @@ pub(crate) fn map_image<R: Files + AllocGlobal, W: Write, V: Write>(
     err: &mut V,
 ) -> u8 {
     if is_pipe(rt, request.image) {
-        return tell(err, &RequestFault::CannotRead(request.image), FAILED);
+        return tell_unread(rt, request.image, err);
     }
     let Ok(mut source) = FileSource::open(rt, request.image) else {
-        return tell(err, &RequestFault::CannotRead(request.image), FAILED);
+        return tell_unread(rt, request.image, err);
     };
     let map = match map_of(rt.alloc(), &mut source) {
         Ok(map) => map,
@@ -58,7 +60,10 @@ fn is_taken<R: Files>(rt: &R, path: &str) -> bool {
 #[derive(Drop)]
 enum Stop<'a> {
     // The picture cannot be written at this path.
-    CannotWrite(&'a str),
+    CannotWrite(&'a str, io::Error),
+
+    // A line cannot be printed.
+    CannotPrint(io::Error),
 
     // A read, a write or memory failed, or the reader has closed the output.
     Stopped(MapStop),
@@ -68,7 +73,10 @@ fn tell_ended<V: Write>(ended: Result<(), Stop<'_>>, fault: Option<MapFault>, er
     match (ended, fault) {
         (Ok(()), None) => DONE,
         (Ok(()), Some(fault)) => tell(err, &fault, REFUSED),
-        (Err(Stop::CannotWrite(path)), _) => tell(err, &RequestFault::CannotWrite(path), FAILED),
+        (Err(Stop::CannotWrite(path, reason)), _) => {
+            tell(err, &RequestFault::Unwritten(path, reason), FAILED)
+        }
+        (Err(Stop::CannotPrint(error)), _) => tell_unprinted(error, err),
         (Err(Stop::Stopped(MapStop::Closed)), _) => FAILED,
         (Err(Stop::Stopped(MapStop::Put)), _) => tell(err, &Fault::Put, FAILED),
         (Err(Stop::Stopped(MapStop::Stopped(fault))), _) => tell(err, &fault, FAILED),
@@ -82,18 +90,23 @@ fn print<'a, R: Files + AllocGlobal, S: Source, W: Write>(
     map: &Map,
     out: &mut W,
 ) -> Result<(), Stop<'a>> {
-    let Ok(mut gathered) = BufWriter::new(rt.alloc(), out) else {
+    let Ok(mut gathered) = BufWriter::new(rt.alloc(), &mut *out) else {
         return Err(Stop::Stopped(MapStop::Stopped(MapFault::OutOfMemory)));
     };
-    let put = match put_lines(rt.alloc(), source, map, &mut gathered) {
-        Ok(()) => gathered.flush().map_err(MapStop::from),
-        Err(stop) => Err(stop),
-    };
-    // A failed write leaves text in the buffer, which its drop would try to write again.
+    let put = put_lines(rt.alloc(), source, map, &mut gathered);
+    // A failed write left text in the buffer, and fails again.
+    let flushed = gathered.flush();
+    // Its drop would try to write it once more.
     let (_, _) = gathered.into_parts();
     match put {
+        Ok(()) => {}
+        Err(MapStop::Stopped(fault)) => return Err(Stop::Stopped(MapStop::Stopped(fault))),
+        Err(_) if flushed.is_ok() => return Err(Stop::Stopped(MapStop::Put)),
+        Err(_) => {}
+    }
+    match flushed {
         Ok(()) => Ok(()),
-        Err(stop) => Err(Stop::Stopped(stop)),
+        Err(error) => Err(Stop::CannotPrint(error)),
     }
 }
 
@@ -112,9 +125,9 @@ fn draw<'a, R: Files + AllocGlobal, S: Source>(
         }
         Ok(Writing::InPlace | Writing::Pipe) => match fs::create(rt, path) {
             Ok(file) => draw_into(rt, request, path, file, source, map),
-            Err(_) => Err(Stop::CannotWrite(path)),
+            Err(reason) => Err(Stop::CannotWrite(path, reason)),
         },
-        Ok(Writing::Nowhere(_)) => Err(Stop::CannotWrite(path)),
+        Ok(Writing::Nowhere(reason)) => Err(Stop::CannotWrite(path, reason)),
         Err(_) => Err(Stop::Stopped(MapStop::Stopped(MapFault::OutOfMemory))),
     }
 }
@@ -130,8 +143,10 @@ fn name_picture<'a, R: Files>(
 ) -> Result<(), Stop<'a>> {
     let (new, whole) = (safe.new.as_str(), safe.whole.as_str());
     let named = match drawn {
-        Ok(()) if give_name(rt, new, whole, is_forced).is_ok() => return Ok(()),
-        Ok(()) => Err(Stop::CannotWrite(path)),
+        Ok(()) => match give_name(rt, new, whole, is_forced) {
+            Ok(()) => return Ok(()),
+            Err(reason) => Err(Stop::CannotWrite(path, reason)),
+        },
         Err(stop) => Err(stop),
     };
     let _ = fs::remove_file(rt, new);
@@ -153,14 +168,17 @@ fn draw_into<'a, R: Files + AllocGlobal, S: Source>(
     let Ok(mut gathered) = BufWriter::new(rt.alloc(), file) else {
         return Err(Stop::Stopped(MapStop::Stopped(MapFault::OutOfMemory)));
     };
-    let put = match put_picture(rt.alloc(), source, map, name.as_str(), &mut gathered) {
-        Ok(()) => gathered.flush().map_err(MapStop::from),
-        Err(stop) => Err(stop),
-    };
+    let put = put_picture(rt.alloc(), source, map, name.as_str(), &mut gathered);
+    let flushed = gathered.flush();
     let (_, _) = gathered.into_parts();
     match put {
+        Ok(()) => {}
+        Err(MapStop::Stopped(fault)) => return Err(Stop::Stopped(MapStop::Stopped(fault))),
+        Err(_) if flushed.is_ok() => return Err(Stop::CannotWrite(path, reason_of_code(None))),
+        Err(_) => {}
+    }
+    match flushed {
         Ok(()) => Ok(()),
-        Err(MapStop::Stopped(fault)) => Err(Stop::Stopped(MapStop::Stopped(fault))),
-        Err(_) => Err(Stop::CannotWrite(path)),
+        Err(reason) => Err(Stop::CannotWrite(path, reason)),
     }
 }

@@ -2,9 +2,11 @@
 
 use crate::auto_program::make_auto;
 use crate::main_program::{
-    DONE, FAILED, REFUSED, RequestFault, WRONG_LINE, carry_out, carry_out_apart, status_of,
+    DONE, FAILED, REFUSED, RequestFault, WRONG_LINE, carry_out, carry_out_apart, is_closed,
+    status_of,
 };
 use crate::old_tools::{Called, Tool};
+use crate::reasons::reason_unread;
 use crate::safe_path::{SafePath, Writing, writing_of};
 use crate::source_warnings::warn_of_source;
 use std::alloc::Global;
@@ -155,7 +157,7 @@ fn make_beside<'a, R: Files + AllocGlobal, W: Write, V: Write>(
     let Begun { file, path } = begun;
     request.written = path.new.as_str();
     let request = Request::Make(request);
-    let (end, is_printed) = if called.is_quiet {
+    let (end, printed) = if called.is_quiet {
         carry_out_apart(rt, &request, Some(file), &mut io::sink())
     } else {
         carry_out_apart(rt, &request, Some(file), out)
@@ -164,9 +166,12 @@ fn make_beside<'a, R: Files + AllocGlobal, W: Write, V: Write>(
         Err(RequestFault::Stopped(Fault::Its(_))) => source,
         _ => outfile,
     };
-    match tell_written(rt, called.tool, path, &end, about, err) {
-        DONE if !is_printed => tell(called.tool, err, &Fault::Put, FAILED),
-        status => status,
+    match (
+        tell_written(rt, called.tool, path, &end, about, err),
+        printed,
+    ) {
+        (DONE, Err(error)) => tell_unprinted(called.tool, &error, err),
+        (status, _) => status,
     }
 }
 
@@ -179,16 +184,19 @@ fn tell_written<R: Files, V: Write>(
     about: &str,
     err: &mut V,
 ) -> u8 {
-    let is_whole = end.is_ok();
-    if is_whole && fs::rename(rt, path.new.as_str(), path.whole.as_str()).is_ok() {
-        return tell_end(rt, tool, end, about, err);
+    let (new, whole) = (path.new.as_str(), path.whole.as_str());
+    let named = if end.is_ok() {
+        fs::rename(rt, new, whole)
+    } else {
+        fs::remove_file(rt, new)
+    };
+    match (end, named) {
+        (Ok(_), Err(reason)) => {
+            let _ = fs::remove_file(rt, new);
+            tell_unwritten(tool, whole, &reason, err)
+        }
+        _ => tell_end(rt, tool, end, about, err),
     }
-    let _ = fs::remove_file(rt, path.new.as_str());
-    if is_whole {
-        let whole = path.whole.as_str();
-        return tell(tool, err, &RequestFault::CannotWrite(whole), FAILED);
-    }
-    tell_end(rt, tool, end, about, err)
 }
 
 // Carries out a request; a quiet one prints nothing.
@@ -221,19 +229,18 @@ fn tell_end<R: Files, V: Write>(
             status_of(&RequestFault::Stopped(*fault))
         }
         Err(RequestFault::CannotRead(path)) => tell_unread(rt, tool, path, err),
+        Err(RequestFault::CannotWrite(path, reason) | RequestFault::NotPut(path, reason)) => {
+            tell_unwritten(tool, path, reason, err)
+        }
+        Err(RequestFault::NotPrinted(error)) => tell_unprinted(tool, error, err),
         Err(fault) => tell(tool, err, fault, status_of(fault)),
     }
 }
 
 /// Reports a file that could not be opened, with the operating system's reason, from another look
-/// at it. Only a regular file is opened for that, since a pipe would wait.
+/// at it.
 pub(crate) fn tell_unread<R: Files, V: Write>(rt: &R, tool: Tool, path: &str, err: &mut V) -> u8 {
-    let reason = match fs::metadata(rt, path) {
-        Ok(found) if found.is_file() => fs::open(rt, path).err(),
-        Ok(_) => None,
-        Err(reason) => Some(reason),
-    };
-    match reason {
+    match reason_unread(rt, path) {
         Some(reason) => {
             let _ = writeln!(err, "{}: cannot read {path}: {reason}", tool.name());
             FAILED
@@ -253,6 +260,14 @@ pub(crate) fn tell_unwritten<V: Write>(
     FAILED
 }
 
+// Reports a text that could not be printed, unless nobody reads any more.
+fn tell_unprinted<V: Write>(tool: Tool, error: &io::Error, err: &mut V) -> u8 {
+    if !is_closed(error) {
+        let _ = writeln!(err, "{}: write failed: {error}", tool.name());
+    }
+    FAILED
+}
+
 /// Writes the line of a fault, and returns the status. Failed writes are ignored.
 pub(crate) fn tell<V: Write, D: Display>(tool: Tool, err: &mut V, fault: &D, status: u8) -> u8 {
     let _ = writeln!(err, "{}: {fault}", tool.name());
@@ -267,7 +282,7 @@ fn show_text<W: Write, V: Write>(tool: Tool, show: Show, out: &mut W, err: &mut 
         Show::Names(field) => put_names(field, err),
     };
     match (written, show) {
-        (Err(_), _) => tell(tool, err, &Fault::Put, FAILED),
+        (Err(error), _) => tell_unprinted(tool, &error, err),
         (Ok(()), Show::Names(field)) if field != Field::Kind => WRONG_LINE,
         (Ok(()), _) => DONE,
     }

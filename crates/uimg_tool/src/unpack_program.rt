@@ -1,19 +1,25 @@
 //! Unpacks an image.
 
-use crate::check_program::is_pipe;
-use crate::main_program::{DONE, FAILED, REFUSED, RequestFault, WRONG_LINE, status_of, tell};
+use crate::check_answers::Names;
+use crate::info_program::put_object;
+use crate::json_lines::JsonOut;
+use crate::main_program::{
+    DONE, FAILED, REFUSED, RequestFault, WRONG_LINE, status_of, tell, tell_unprinted, tell_unread,
+};
+use crate::reasons::is_pipe;
+use crate::unpack_answers::{Ending, answer_of_ending, status_of_trouble};
 use std::io::{BufWriter, Write};
 use std::rt::Files;
 use uimg_base::{FileSource, Source};
+use uimg_checks::object_text;
 use uimg_cli::UnpackRequest;
 use uimg_engine::{Fault, Form, is_fit};
 use uimg_printing::Printed;
-use uimg_unpacking::{
-    Ended, FileId, Folder, Limits, PartsEnded, Trouble, Unpacking, unpack, unpack_parts,
-};
+use uimg_unpacking::{FileId, Folder, Limits, Trouble, Unpacking, unpack, unpack_parts};
 
 /// Cleans the folder and unpacks the image, as requested, with a line for each removed file, payload
-/// or part on `out`. Returns the status. A fault is reported by a line on `err`.
+/// or part on `out`. Returns the status. A fault is reported by a line on `err`, or for JSON on
+/// `out`.
 pub(crate) fn unpack_image<R: Files + AllocGlobal, W: Write, V: Write>(
     rt: &R,
     request: &UnpackRequest<'_>,
@@ -30,7 +36,10 @@ pub(crate) fn unpack_image<R: Files + AllocGlobal, W: Write, V: Write>(
     };
     let status = match (cleaned, request.image) {
         (Err(trouble), _) => tell_trouble(trouble, err),
-        (Ok(()), Some(image)) => unpack_at(rt, image, request, &mut gathered, err),
+        (Ok(()), Some(image)) => {
+            let ending = unpack_at(rt, image, request, &mut gathered);
+            tell_ending(rt, image, request.as_json, ending, &mut gathered, err)
+        }
         (Ok(()), None) => DONE,
     };
     // A failed write leaves text in the buffer, which its drop would try to write again.
@@ -48,19 +57,18 @@ fn folder_of<'a>(request: &UnpackRequest<'a>, image: Option<FileId>) -> Folder<'
     }
 }
 
-// Unpacks the image at a path. The first four bytes decide its format.
-fn unpack_at<R: Files + AllocGlobal, W: Write + Drop, V: Write>(
+// Unpacks the image at a path.
+fn unpack_at<'a, R: Files + AllocGlobal, W: Write + Drop>(
     rt: &R,
-    path: &str,
-    request: &UnpackRequest<'_>,
+    path: &'a str,
+    request: &UnpackRequest<'a>,
     out: &mut W,
-    err: &mut V,
-) -> u8 {
+) -> Ending {
     if is_pipe(rt, path) {
-        return tell(err, &RequestFault::CannotRead(path), FAILED);
+        return Ending::Unread;
     }
     let Ok(mut source) = FileSource::open(rt, path) else {
-        return tell(err, &RequestFault::CannotRead(path), FAILED);
+        return Ending::Unread;
     };
     let asked = Unpacking {
         folder: folder_of(request, FileId::of(rt, path)),
@@ -71,28 +79,77 @@ fn unpack_at<R: Files + AllocGlobal, W: Write + Drop, V: Write>(
             bytes: request.most_bytes,
         },
         keeps_good: request.keeps_good,
+        json: if request.as_json { Some(path) } else { None },
     };
-    match is_fit(Form::Guess, &mut source) {
-        Ok(true) => tell_ended(unpack(rt, &asked, &mut source, &mut *out), err),
-        Ok(false) => unpack_legacy(rt, path, &asked, &mut source, out, err),
-        Err(fault) => tell(err, &RequestFault::Stopped(Fault::from(fault)), FAILED),
+    if request.as_json {
+        unpack_source(rt, &asked, &mut source, JsonOut::new(out))
+    } else {
+        unpack_source(rt, &asked, &mut source, out)
     }
 }
 
-// Unpacks a legacy image.
-fn unpack_legacy<R: Files + AllocGlobal, S: Source, W: Write + Drop, V: Write>(
+// Unpacks an image. The first four bytes decide its format.
+fn unpack_source<R: Files + AllocGlobal, S: Source, W: Write + Drop>(
     rt: &R,
-    path: &str,
     asked: &Unpacking<'_>,
     source: &mut S,
+    out: W,
+) -> Ending {
+    match is_fit(Form::Guess, source) {
+        Ok(true) => Ending::from(unpack(rt, asked, source, out)),
+        Ok(false) => Ending::from(unpack_parts(rt, asked, source, out)),
+        Err(fault) => Ending::Stopped(Fault::from(fault)),
+    }
+}
+
+// Reports how the unpacking of the image at a path ended, and returns the status.
+fn tell_ending<R: Files + AllocGlobal, W: Write, V: Write>(
+    rt: &R,
+    path: &str,
+    as_json: bool,
+    ending: Ending,
     out: &mut W,
     err: &mut V,
 ) -> u8 {
-    match unpack_parts(rt, asked, source, &mut *out) {
-        PartsEnded::Kept => DONE,
-        PartsEnded::Weak => tell_weak(path, out, err),
-        PartsEnded::Stopped(fault) => tell_stopped(Fault::from(fault), err),
-        PartsEnded::Troubled(trouble) => tell_trouble(trouble, err),
+    match ending {
+        Ending::Told(status) => status,
+        Ending::Troubled(trouble) if !as_json || is_of_command(&trouble) => {
+            tell_trouble(trouble, err)
+        }
+        ending if as_json => tell_object(rt, path, ending, out, err),
+        Ending::Unread => tell_unread(rt, path, err),
+        Ending::Weak => tell_weak(path, out, err),
+        Ending::NoImage => tell(err, &"no image has a hash, as there is none", REFUSED),
+        Ending::Stopped(fault) => {
+            let fault = RequestFault::Stopped(fault);
+            tell(err, &fault, status_of(&fault))
+        }
+        Ending::Troubled(trouble) => tell_trouble(trouble, err),
+    }
+}
+
+// Returns whether a trouble is of the command line, of memory or of the output, and so is reported
+// on standard error, though JSON is requested.
+fn is_of_command(trouble: &Trouble) -> bool {
+    matches!(
+        trouble,
+        Trouble::IsImage(_) | Trouble::OutOfMemory | Trouble::CannotPrint(_) | Trouble::Closed
+    )
+}
+
+// Reports an end as a JSON object.
+fn tell_object<R: Files + AllocGlobal, W: Write, V: Write>(
+    rt: &R,
+    path: &str,
+    ending: Ending,
+    out: &mut W,
+    err: &mut V,
+) -> u8 {
+    let mut names = Names::new(rt.alloc());
+    let answer = answer_of_ending(rt, path, ending, &mut names);
+    match object_text(rt.alloc(), path.as_bytes(), &answer) {
+        Ok(text) => put_object(text.as_slice(), answer.status(), out, err),
+        Err(_) => tell(err, &RequestFault::OutOfMemory, FAILED),
     }
 }
 
@@ -101,32 +158,17 @@ fn tell_weak<W: Write, V: Write>(path: &str, out: &mut W, err: &mut V) -> u8 {
     let told = writeln!(out, "{}: weak crc32", Printed(path.as_bytes()));
     match told.and_then(|()| out.flush()) {
         Ok(()) => REFUSED,
-        Err(error) => tell_trouble(Trouble::from(error), err),
+        Err(error) => tell_unprinted(error, err),
     }
-}
-
-fn tell_ended<V: Write>(ended: Ended, err: &mut V) -> u8 {
-    match ended {
-        Ended::Kept => DONE,
-        Ended::Refused => REFUSED,
-        Ended::NoImage => tell(err, &"no image has a hash, as there is none", REFUSED),
-        Ended::Stopped(fault) => tell_stopped(Fault::from(fault), err),
-        Ended::Troubled(trouble) => tell_trouble(trouble, err),
-    }
-}
-
-fn tell_stopped<V: Write>(fault: Fault, err: &mut V) -> u8 {
-    let fault = RequestFault::Stopped(fault);
-    tell(err, &fault, status_of(&fault))
 }
 
 fn tell_trouble<V: Write>(trouble: Trouble, err: &mut V) -> u8 {
     match trouble {
         Trouble::Closed => FAILED,
         Trouble::IsImage(_) | Trouble::RemovesImage(_) => tell(err, &trouble, WRONG_LINE),
-        Trouble::NoName | Trouble::TooManyFiles(_) | Trouble::TooManyBytes(_) => {
-            tell(err, &trouble, REFUSED)
+        trouble => {
+            let status = status_of_trouble(&trouble);
+            tell(err, &trouble, status)
         }
-        _ => tell(err, &trouble, FAILED),
     }
 }

@@ -1,2 +1,3 @@
 pub mod FileNames
 pub mod Lines
+pub mod Plan

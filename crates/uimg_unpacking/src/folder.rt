@@ -107,8 +107,8 @@ impl<'a> Folder<'a> {
                 Ok(_) => fs::remove_file(rt, path.as_str()),
                 Err(_) => continue,
             };
-            if removed.is_err() {
-                return Err(Trouble::CannotRemove(path));
+            if let Err(reason) = removed {
+                return Err(Trouble::CannotRemove(path, reason));
             }
             writeln!(out, ".uimg-new{number}: removed")?;
             out.flush()?;

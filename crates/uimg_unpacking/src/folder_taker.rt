@@ -6,9 +6,11 @@ use crate::folder::{Folder, is_there};
 use crate::limits::Claimed;
 use crate::lines::Line;
 use crate::names::Names;
-use crate::new_file::NewFile;
+use crate::new_file::{ErrorCode, NewFile};
+use crate::objects::told;
+use crate::plan::gives_names;
 use crate::staging::Staging;
-use crate::trouble::Trouble;
+use crate::trouble::{Trouble, kept};
 use crate::unpacking::Unpacking;
 use std::fs;
 use std::io::Write;
@@ -19,14 +21,15 @@ use uimg_fit_checking::{NodeName, Refusal, Taker, Vouched};
 /// A taker that writes payloads to a folder. Their files get their names at the end: all of them,
 /// or, if one is refused, none or only the good ones.
 #[derive(Drop)]
-pub(crate) struct FolderTaker<'a, R: Files + AllocGlobal, W: Write + Drop> {
+pub(crate) struct FolderTaker<'a, 'c, R: Files + AllocGlobal, W: Write + Drop> {
     rt: &'a R,
     folder: Folder<'a>,
     keeps_good: bool,
+    json: Option<&'a str>,
     out: W,
-    staging: Staging<'a, R>,
+    staging: Staging<'a, 'c, R>,
     // The lines to print once the files have their names, or if none gets one.
-    lines: String,
+    lines: Vec<u8>,
     has_refused: bool,
     // The names of refused payloads, whose old files are removed if good payloads are kept.
     outdated: Vec<String>,
@@ -37,16 +40,23 @@ pub(crate) struct FolderTaker<'a, R: Files + AllocGlobal, W: Write + Drop> {
     trouble: Option<Trouble>,
 }
 
-impl<'a, R: Files + AllocGlobal, W: Write + Drop> FolderTaker<'a, R, W> {
-    /// Returns a taker for a folder, which writes its lines to `out`.
-    pub(crate) fn new(rt: &'a R, asked: &Unpacking<'a>, out: W) -> FolderTaker<'a, R, W> {
+impl<'a, 'c, R: Files + AllocGlobal, W: Write + Drop> FolderTaker<'a, 'c, R, W> {
+    /// Returns a taker for a folder, which writes its lines to `out`. Failed writes are noted in
+    /// `code`.
+    pub(crate) fn new(
+        rt: &'a R,
+        asked: &Unpacking<'a>,
+        out: W,
+        code: &'c ErrorCode,
+    ) -> FolderTaker<'a, 'c, R, W> {
         FolderTaker {
             rt,
             folder: asked.folder,
             keeps_good: asked.keeps_good,
+            json: asked.json,
             out,
-            staging: Staging::new(rt, asked.folder),
-            lines: String::new(rt.alloc()),
+            staging: Staging::new(rt, asked.folder, code),
+            lines: Vec::new(rt.alloc()),
             has_refused: false,
             outdated: Vec::new(rt.alloc()),
             looked: Names::new(rt.alloc()),
@@ -67,6 +77,7 @@ impl<'a, R: Files + AllocGlobal, W: Write + Drop> FolderTaker<'a, R, W> {
             rt: _rt,
             folder: _folder,
             keeps_good: _keeps_good,
+            json: _json,
             out,
             staging,
             lines: _lines,
@@ -83,7 +94,7 @@ impl<'a, R: Files + AllocGlobal, W: Write + Drop> FolderTaker<'a, R, W> {
 
     // Gives the files their names, and prints the lines of those that have one and of refused ones.
     fn name(&mut self, is_whole: bool) -> Result<(), Trouble> {
-        let names = self.keeps_good || is_whole && !self.has_refused;
+        let names = gives_names(self.keeps_good, is_whole, self.has_refused);
         if names {
             self.staging.name_all()?;
             for name in &self.outdated {
@@ -91,7 +102,7 @@ impl<'a, R: Files + AllocGlobal, W: Write + Drop> FolderTaker<'a, R, W> {
             }
         }
         if names || self.has_refused {
-            self.out.write_all(self.lines.as_bytes())?;
+            self.out.write_all(self.lines.as_slice())?;
             self.out.flush()?;
         }
         Ok(())
@@ -111,7 +122,7 @@ impl<'a, R: Files + AllocGlobal, W: Write + Drop> FolderTaker<'a, R, W> {
     }
 
     // Creates the file of a payload, which gets its name later.
-    fn begin(&mut self, name: &NodeName) -> Result<NewFile<R>, Trouble> {
+    fn begin(&mut self, name: &NodeName) -> Result<NewFile<'c, R>, Trouble> {
         match self.taken.next(name)? {
             Some(name) => self.staging.begin(name),
             None => Err(Trouble::NoName),
@@ -122,7 +133,7 @@ impl<'a, R: Files + AllocGlobal, W: Write + Drop> FolderTaker<'a, R, W> {
     fn finish(
         &mut self,
         name: &NodeName,
-        file: NewFile<R>,
+        file: NewFile<'c, R>,
         vouched: Option<Vouched>,
     ) -> Result<(), Trouble> {
         let size = self.staging.complete(file)?;
@@ -136,8 +147,13 @@ impl<'a, R: Files + AllocGlobal, W: Write + Drop> FolderTaker<'a, R, W> {
             size,
             vouched,
         };
-        let line = format!(in self.rt.alloc(); "{line}\n")?;
-        self.lines.push_str(line.as_str())?;
+        self.add(&line)
+    }
+
+    // Adds a line.
+    fn add(&mut self, line: &Line<'_>) -> Result<(), Trouble> {
+        let line = told(self.rt.alloc(), self.json, line)?;
+        self.lines.extend_from_slice(line.as_slice())?;
         Ok(())
     }
 
@@ -150,20 +166,7 @@ impl<'a, R: Files + AllocGlobal, W: Write + Drop> FolderTaker<'a, R, W> {
             self.lines.clear();
         }
         self.has_refused = true;
-        let line = format!(in self.rt.alloc(); "{}\n", Line::Refused(name, refusal))?;
-        self.lines.push_str(line.as_str())?;
-        Ok(())
-    }
-
-    // Keeps a trouble, and returns it as a fault.
-    fn kept<X>(&mut self, done: Result<X, Trouble>) -> Result<X, PutFault> {
-        match done {
-            Ok(done) => Ok(done),
-            Err(trouble) => {
-                self.trouble = Some(trouble);
-                Err(PutFault)
-            }
-        }
+        self.add(&Line::Refused(name, refusal))
     }
 }
 
@@ -175,45 +178,45 @@ fn remove_old<R: Files + AllocGlobal>(
 ) -> Result<(), Trouble> {
     let whole = folder.path_of(rt, name)?;
     let is_old = folder.is_forced && is_there(rt, whole.as_str());
-    if is_old && fs::remove_file(rt, whole.as_str()).is_err() {
-        return Err(Trouble::CannotRemove(whole));
+    if is_old && let Err(reason) = fs::remove_file(rt, whole.as_str()) {
+        return Err(Trouble::CannotRemove(whole, reason));
     }
     Ok(())
 }
 
-impl<'a, R: Files + AllocGlobal, W: Write + Drop> Taker for FolderTaker<'a, R, W> {
-    type Shelf = NewFile<R>;
+impl<'a, 'c, R: Files + AllocGlobal, W: Write + Drop> Taker for FolderTaker<'a, 'c, R, W> {
+    type Shelf = NewFile<'c, R>;
 
     ghost takes = { λ _. [] };
 
     fn claim(&mut self, name: &NodeName, length: u64) -> Result<(), PutFault> {
         let looked = self.look(name, length);
-        self.kept(looked)
+        kept(looked, &mut self.trouble)
     }
 
-    fn shelf(&mut self, name: &NodeName) -> Result<NewFile<R>, PutFault> {
+    fn shelf(&mut self, name: &NodeName) -> Result<NewFile<'c, R>, PutFault> {
         let begun = self.begin(name);
-        self.kept(begun)
+        kept(begun, &mut self.trouble)
     }
 
     fn keep(
         &mut self,
         name: &NodeName,
-        shelf: NewFile<R>,
+        shelf: NewFile<'c, R>,
         vouched: Option<Vouched>,
     ) -> Result<(), PutFault> {
         let finished = self.finish(name, shelf, vouched);
-        self.kept(finished)
+        kept(finished, &mut self.trouble)
     }
 
     fn refuse(
         &mut self,
         name: &NodeName,
-        shelf: NewFile<R>,
+        shelf: NewFile<'c, R>,
         refusal: Refusal,
     ) -> Result<(), PutFault> {
         drop(shelf);
         let thrown = self.throw_away(name, refusal);
-        self.kept(thrown)
+        kept(thrown, &mut self.trouble)
     }
 }

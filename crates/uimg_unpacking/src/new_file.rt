@@ -6,28 +6,42 @@ ghost use Rattle.std.specs.Io.Buffered.{writer_buffer, writer_contents};
 ghost use Rattle.std.specs.Io.KnownBytes.{Keeps, WriteAppends};
 
 use std::alloc::Global;
+use std::cell::Cell;
 use std::fs::OpenFile;
 use std::io::{BufWriter, ErrorKind, Write};
 use std::rt::Files;
 use std::{fs, io};
 
-/// A file without its name, and its length in bytes. Writes are buffered.
+/// The code of the system's error of a failed write, if it had one.
+pub(crate) type ErrorCode = Cell<Option<i32>>;
+
+/// A file without its name, and its length in bytes. Writes are buffered; the error of one that
+/// fails is noted.
 #[derive(Drop)]
-pub struct NewFile<R: Files + AllocGlobal> {
+pub struct NewFile<'a, R: Files + AllocGlobal> {
     file: BufWriter<R::File, Global>,
     size: u64,
+    code: &'a ErrorCode,
 }
 
-impl<R: Files + AllocGlobal> NewFile<R> {
-    /// Returns a file to which nothing was written.
-    pub(crate) fn new(file: BufWriter<R::File, Global>) -> NewFile<R> {
-        NewFile { file, size: 0 }
+impl<'a, R: Files + AllocGlobal> NewFile<'a, R> {
+    /// Returns a file to which nothing was written, and which notes its errors here.
+    pub(crate) fn new(file: BufWriter<R::File, Global>, code: &'a ErrorCode) -> NewFile<'a, R> {
+        NewFile {
+            file,
+            size: 0,
+            code,
+        }
     }
 
     /// Writes what is buffered, to the disk too if `is_synced`, and closes the file. Returns its
     /// length in bytes.
     pub(crate) fn close(self, is_synced: bool) -> io::Result<u64> {
-        let NewFile { mut file, size } = self;
+        let NewFile {
+            mut file,
+            size,
+            code: _,
+        } = self;
         file.flush()?;
         if is_synced {
             file.get_ref().sync_all()?;
@@ -37,7 +51,7 @@ impl<R: Files + AllocGlobal> NewFile<R> {
     }
 }
 
-impl<R: Files + AllocGlobal> Write for NewFile<R> {
+impl<'a, R: Files + AllocGlobal> Write for NewFile<'a, R> {
     ghost contents = { λ s. writer_contents R.File.contents s.file };
 
     fn write(&mut self, buf: &[u8]) -> io::Result<usize>
@@ -45,9 +59,12 @@ impl<R: Files + AllocGlobal> Write for NewFile<R> {
         ensures bytes { WriteAppends (writer_contents R.File.contents self.old.file)
             (writer_contents R.File.contents self.new.file) result buf.now }
     {
-        let count = self.file.write(buf)?;
-        self.size = self.size.saturating_add(count as u64);
-        Ok(count)
+        let written = self.file.write(buf);
+        match &written {
+            Ok(count) => self.size = self.size.saturating_add(*count as u64),
+            Err(error) => self.code.set(error.raw_os_error()),
+        }
+        written
     }
 
     fn flush(&mut self) -> io::Result<()>
@@ -55,7 +72,11 @@ impl<R: Files + AllocGlobal> Write for NewFile<R> {
             (writer_contents R.File.contents self.new.file) }
         ensures written { OnOk result (writer_buffer self.new.file ≡ []) }
     {
-        self.file.flush()
+        let flushed = self.file.flush();
+        if let Err(error) = &flushed {
+            self.code.set(error.raw_os_error());
+        }
+        flushed
     }
 }
 

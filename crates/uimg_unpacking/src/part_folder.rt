@@ -5,9 +5,10 @@ ghost use Rattle.std.specs.Prelude.{[]};
 use crate::folder::Folder;
 use crate::limits::Claimed;
 use crate::lines::Line;
-use crate::new_file::NewFile;
+use crate::new_file::{ErrorCode, NewFile};
+use crate::objects::told;
 use crate::staging::Staging;
-use crate::trouble::Trouble;
+use crate::trouble::{Trouble, kept};
 use crate::unpacking::Unpacking;
 use std::io::Write;
 use std::rt::Files;
@@ -16,25 +17,33 @@ use uimg_legacy::PartTaker;
 
 /// A taker that writes parts to a folder. Their files get their names when all are kept.
 #[derive(Drop)]
-pub(crate) struct PartFolder<'a, R: Files + AllocGlobal, W: Write + Drop> {
+pub(crate) struct PartFolder<'a, 'c, R: Files + AllocGlobal, W: Write + Drop> {
     rt: &'a R,
     folder: Folder<'a>,
+    json: Option<&'a str>,
     out: W,
-    staging: Staging<'a, R>,
+    staging: Staging<'a, 'c, R>,
     // The number of each complete part, and its length in bytes.
     parts: Vec<(u32, u64)>,
     claimed: Claimed,
     trouble: Option<Trouble>,
 }
 
-impl<'a, R: Files + AllocGlobal, W: Write + Drop> PartFolder<'a, R, W> {
-    /// Returns a taker for a folder, which writes its lines to `out`.
-    pub(crate) fn new(rt: &'a R, asked: &Unpacking<'a>, out: W) -> PartFolder<'a, R, W> {
+impl<'a, 'c, R: Files + AllocGlobal, W: Write + Drop> PartFolder<'a, 'c, R, W> {
+    /// Returns a taker for a folder, which writes its lines to `out`. Failed writes are noted in
+    /// `code`.
+    pub(crate) fn new(
+        rt: &'a R,
+        asked: &Unpacking<'a>,
+        out: W,
+        code: &'c ErrorCode,
+    ) -> PartFolder<'a, 'c, R, W> {
         PartFolder {
             rt,
             folder: asked.folder,
+            json: asked.json,
             out,
-            staging: Staging::new(rt, asked.folder),
+            staging: Staging::new(rt, asked.folder, code),
             parts: Vec::new(rt.alloc()),
             claimed: Claimed::new(asked.limits),
             trouble: None,
@@ -47,6 +56,7 @@ impl<'a, R: Files + AllocGlobal, W: Write + Drop> PartFolder<'a, R, W> {
         let PartFolder {
             rt: _rt,
             folder: _folder,
+            json: _json,
             out: _out,
             staging,
             parts: _parts,
@@ -73,13 +83,13 @@ impl<'a, R: Files + AllocGlobal, W: Write + Drop> PartFolder<'a, R, W> {
     }
 
     // Creates the file of a part, which gets its name later.
-    fn begin(&mut self, number: u32) -> Result<NewFile<R>, Trouble> {
+    fn begin(&mut self, number: u32) -> Result<NewFile<'c, R>, Trouble> {
         let name = self.name_of(number)?;
         self.staging.begin(name)
     }
 
     // Completes the file of a part.
-    fn complete(&mut self, number: u32, file: NewFile<R>) -> Result<(), Trouble> {
+    fn complete(&mut self, number: u32, file: NewFile<'c, R>) -> Result<(), Trouble> {
         let size = self.staging.complete(file)?;
         self.parts.push((number, size))?;
         Ok(())
@@ -94,26 +104,16 @@ impl<'a, R: Files + AllocGlobal, W: Write + Drop> PartFolder<'a, R, W> {
                 size: *size,
                 dcrc,
             };
-            writeln!(self.out, "{line}")?;
+            let line = told(self.rt.alloc(), self.json, &line)?;
+            self.out.write_all(line.as_slice())?;
         }
         self.out.flush()?;
         Ok(())
     }
-
-    // Keeps a trouble, and returns it as a fault.
-    fn kept<X>(&mut self, done: Result<X, Trouble>) -> Result<X, PutFault> {
-        match done {
-            Ok(done) => Ok(done),
-            Err(trouble) => {
-                self.trouble = Some(trouble);
-                Err(PutFault)
-            }
-        }
-    }
 }
 
-impl<'a, R: Files + AllocGlobal, W: Write + Drop> PartTaker for PartFolder<'a, R, W> {
-    type Shelf = NewFile<R>;
+impl<'a, 'c, R: Files + AllocGlobal, W: Write + Drop> PartTaker for PartFolder<'a, 'c, R, W> {
+    type Shelf = NewFile<'c, R>;
 
     ghost held = { λ _. [] };
 
@@ -121,22 +121,22 @@ impl<'a, R: Files + AllocGlobal, W: Write + Drop> PartTaker for PartFolder<'a, R
 
     fn claim(&mut self, number: u32) -> Result<(), PutFault> {
         let looked = self.look(number);
-        self.kept(looked)
+        kept(looked, &mut self.trouble)
     }
 
-    fn shelf(&mut self, number: u32) -> Result<NewFile<R>, PutFault> {
+    fn shelf(&mut self, number: u32) -> Result<NewFile<'c, R>, PutFault> {
         let begun = self.begin(number);
-        self.kept(begun)
+        kept(begun, &mut self.trouble)
     }
 
-    fn hold(&mut self, number: u32, shelf: NewFile<R>) -> Result<(), PutFault> {
+    fn hold(&mut self, number: u32, shelf: NewFile<'c, R>) -> Result<(), PutFault> {
         let completed = self.complete(number, shelf);
-        self.kept(completed)
+        kept(completed, &mut self.trouble)
     }
 
     fn keep(&mut self, dcrc: u32) -> Result<(), PutFault> {
         let finished = self.finish(dcrc);
-        self.kept(finished)
+        kept(finished, &mut self.trouble)
     }
 
     fn refuse(&mut self) -> Result<(), PutFault> {

@@ -1,13 +1,16 @@
 //! Unpacks a legacy image into a folder.
 
+use crate::new_file::ErrorCode;
 use crate::part_folder::PartFolder;
 use crate::trouble::Trouble;
 use crate::unpacking::Unpacking;
-use std::alloc::Global;
 use std::io::Write;
 use std::rt::Files;
-use uimg_base::{Algo, Room, Source, Span};
-use uimg_legacy::{Fault, LegacyFault, PartsFault, locate_parts, read_header};
+use uimg_base::{Algo, MULTI, Room, SCRIPT, Source, SourceFault};
+use uimg_legacy::{Fault, LegacyFault, read_header};
+
+/// The offset of the table of sizes: the length of the header.
+const TABLE: u64 = 64;
 
 /// How the unpacking of a legacy image ended.
 #[derive(Debug, Drop)]
@@ -48,14 +51,14 @@ pub fn unpack_parts<R: Files + AllocGlobal, S: Source, W: Write + Drop>(
     let mut room = Room::new(rt.alloc());
     let only = asked.only.map(number_of);
     if let Some(most) = asked.limits.bytes {
-        match bytes_of(rt.alloc(), only, source, &mut room) {
+        match bytes_of(only, source) {
             Ok(bytes) if bytes > most => return PartsEnded::Troubled(Trouble::TooManyBytes(most)),
             Ok(_) => {}
-            Err(PartsFault::OutOfMemory) => return PartsEnded::Troubled(Trouble::OutOfMemory),
-            Err(PartsFault::Stopped(fault)) => return PartsEnded::Stopped(fault),
+            Err(fault) => return PartsEnded::Stopped(fault),
         }
     }
-    let mut taker = PartFolder::new(rt, asked, out);
+    let code = ErrorCode::new(None);
+    let mut taker = PartFolder::new(rt, asked, out, &code);
     let unpacked = uimg_legacy::unpack(only, source, &mut room, &mut taker);
     let trouble = taker.end();
     match unpacked {
@@ -66,34 +69,47 @@ pub fn unpack_parts<R: Files + AllocGlobal, S: Source, W: Write + Drop>(
     }
 }
 
-// Returns how many bytes the requested parts have together.
-fn bytes_of<S: Source>(
-    alloc: Global,
-    only: Option<u32>,
-    source: &mut S,
-    room: &mut Room<Global>,
-) -> Result<u64, PartsFault> {
-    let header = match read_header(source) {
-        Ok(header) => header,
-        Err(fault) => return Err(PartsFault::Stopped(fault)),
-    };
-    let parts = locate_parts(alloc, source, room, &header)?;
-    Ok(sum_of(parts.as_slice(), only))
+// Returns how many bytes the requested parts have together, by the header or the table of sizes.
+fn bytes_of<S: Source>(only: Option<u32>, source: &mut S) -> Result<u64, Fault> {
+    let header = read_header(source)?;
+    if header.kind != MULTI && header.kind != SCRIPT {
+        return Ok(if takes(only, 0) {
+            header.size as u64
+        } else {
+            0
+        });
+    }
+    let mut sum: u64 = 0;
+    for number in 0..header.size / 4 {
+        let size = size_at(source, number)?;
+        if size == 0 {
+            break;
+        }
+        if takes(only, number) {
+            sum = sum.saturating_add(size as u64);
+        }
+    }
+    Ok(sum)
 }
 
-// Returns the sum of the lengths of all parts, or the length of the one of a number.
-fn sum_of(parts: &[Span], only: Option<u32>) -> u64 {
-    let Some(number) = only else {
-        let mut sum: u64 = 0;
-        for part in parts {
-            sum = sum.saturating_add(part.length);
-        }
-        return sum;
-    };
-    match parts.get(number as usize) {
-        Some(part) => part.length,
-        None => 0,
+// Returns whether the part of a number is requested.
+fn takes(only: Option<u32>, number: u32) -> bool {
+    match only {
+        Some(one) => one == number,
+        None => true,
     }
+}
+
+// Returns the size of a number in the table, or 0 if the file is too short.
+fn size_at<S: Source>(source: &mut S, number: u32) -> Result<u32, SourceFault> {
+    let at = TABLE + 4 * number as u64;
+    let end = source.size()?;
+    if end < at || end - at < 4 {
+        return Ok(0);
+    }
+    let mut word = [0; 4];
+    source.fill_at(at, &mut word)?;
+    Ok(u32::from_be_bytes(word))
 }
 
 // Returns whether CRC-32 is strong enough.

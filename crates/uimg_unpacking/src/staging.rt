@@ -1,15 +1,15 @@
 //! Files that are written in a folder of their own, and get their names together.
 
 use crate::folder::{Folder, is_there};
-use crate::new_file::{NewFile, give_name};
+use crate::new_file::{ErrorCode, NewFile, give_name};
 use crate::trouble::Trouble;
-use std::io::BufWriter;
+use std::io::{BufWriter, ErrorKind};
 use std::rt::Files;
 use std::{fs, io};
 
 /// New files for a folder. Until they get their names, they are in a temporary folder within it.
 #[derive(Drop)]
-pub(crate) struct Staging<'a, R: Files + AllocGlobal> {
+pub(crate) struct Staging<'a, 'c, R: Files + AllocGlobal> {
     rt: &'a R,
     folder: Folder<'a>,
     // The path of the temporary folder, once it is created.
@@ -19,6 +19,8 @@ pub(crate) struct Staging<'a, R: Files + AllocGlobal> {
     names: Vec<String>,
     // Whether the last file is not complete.
     is_writing: bool,
+    // The code of the error of its failed write.
+    code: &'c ErrorCode,
 }
 
 // The paths of a file: while it is written, of what it replaces then, and with its name.
@@ -29,20 +31,21 @@ struct Paths {
     whole: String,
 }
 
-impl<'a, R: Files + AllocGlobal> Staging<'a, R> {
-    /// Returns that nothing was written for a folder.
-    pub(crate) fn new(rt: &'a R, folder: Folder<'a>) -> Staging<'a, R> {
+impl<'a, 'c, R: Files + AllocGlobal> Staging<'a, 'c, R> {
+    /// Returns that nothing was written for a folder. Failed writes are noted in `code`.
+    pub(crate) fn new(rt: &'a R, folder: Folder<'a>, code: &'c ErrorCode) -> Staging<'a, 'c, R> {
         Staging {
             rt,
             folder,
             made: None,
             names: Vec::new(rt.alloc()),
             is_writing: false,
+            code,
         }
     }
 
     /// Creates the file that gets a name later.
-    pub(crate) fn begin(&mut self, name: String) -> Result<NewFile<R>, Trouble> {
+    pub(crate) fn begin(&mut self, name: String) -> Result<NewFile<'c, R>, Trouble> {
         let whole = self.folder.path_of(self.rt, name.as_str())?;
         if self.made.is_none() {
             match self.folder.new_folder(self.rt)? {
@@ -57,17 +60,20 @@ impl<'a, R: Files + AllocGlobal> Staging<'a, R> {
         };
         self.names.push(name)?;
         self.is_writing = true;
-        Ok(NewFile::new(file))
+        Ok(NewFile::new(file, self.code))
     }
 
     /// Completes the file that was begun last. Returns its length in bytes.
-    pub(crate) fn complete(&mut self, file: NewFile<R>) -> Result<u64, Trouble> {
+    pub(crate) fn complete(&mut self, file: NewFile<'c, R>) -> Result<u64, Trouble> {
         match file.close(self.folder.is_synced) {
             Ok(size) => {
                 self.is_writing = false;
                 Ok(size)
             }
-            Err(_) => Err(self.unwritten().unwrap_or(Trouble::NoName)),
+            Err(error) => {
+                self.code.set(error.raw_os_error());
+                Err(self.unwritten().unwrap_or(Trouble::NoName))
+            }
         }
     }
 
@@ -80,7 +86,7 @@ impl<'a, R: Files + AllocGlobal> Staging<'a, R> {
         let path = self.path_of("new", self.names.len())?;
         match fs::remove_file(self.rt, path.as_str()) {
             Ok(()) => Ok(name),
-            Err(_) => Err(Trouble::CannotRemove(path)),
+            Err(reason) => Err(Trouble::CannotRemove(path, reason)),
         }
     }
 
@@ -99,13 +105,21 @@ impl<'a, R: Files + AllocGlobal> Staging<'a, R> {
             return None;
         }
         match self.folder.path_of(self.rt, name.as_str()) {
-            Ok(whole) => Some(Trouble::CannotWrite(whole)),
+            Ok(whole) => Some(Trouble::CannotWrite(whole, self.reason())),
             Err(error) => Some(Trouble::from(error)),
         }
     }
 
-    /// Gives all files their names. If one cannot get its name, none does, and what they were to
-    /// replace is there again.
+    // Returns why the last file was not written.
+    fn reason(&self) -> io::Error {
+        match self.code.get() {
+            Some(code) => io::Error::from_raw_os_error(code),
+            None => io::Error::from(ErrorKind::WriteZero),
+        }
+    }
+
+    /// Gives all files their names. If one cannot get its name, or the names cannot be written to
+    /// the disk, none does, and what they were to replace is there again.
     pub(crate) fn name_all(&mut self) -> Result<(), Trouble> {
         if self.is_writing {
             self.drop_last()?;
@@ -117,15 +131,24 @@ impl<'a, R: Files + AllocGlobal> Staging<'a, R> {
                 return Err(trouble);
             }
         }
+        if let Err(reason) = self.sync() {
+            self.take_back(&paths, paths.len());
+            let path = String::from_str(self.rt.alloc(), self.folder.path)?;
+            return Err(Trouble::CannotSync(path, reason));
+        }
         for its in &paths {
             let _ = fs::remove_file(self.rt, its.old.as_str());
         }
-        if self.folder.is_synced
-            && let Ok(folder) = fs::open(self.rt, self.folder.path)
-        {
-            let _ = fs::OpenFile::sync_all(&folder);
-        }
         Ok(())
+    }
+
+    // Waits until the names in the folder are on the disk, if that is requested.
+    fn sync(&self) -> io::Result<()> {
+        if !self.folder.is_synced {
+            return Ok(());
+        }
+        let folder = fs::open(self.rt, self.folder.path)?;
+        fs::OpenFile::sync_all(&folder)
     }
 
     /// Removes the files that have no name, and their folder.

@@ -4,6 +4,7 @@ use std::alloc::{AllocError, AllocFailed};
 use std::io;
 use std::io::ErrorKind;
 use thiserror::Error;
+use uimg_base::PutFault;
 
 /// Why a payload was not written to a folder. Its text is the line to print; `Closed` needs none.
 #[derive(Debug, Drop, Error)]
@@ -32,17 +33,21 @@ pub enum Trouble {
     #[error("more than {0} bytes; --max-bytes allows more")]
     TooManyBytes(u64),
 
-    /// A file without a name cannot be removed.
-    #[error("cannot remove {0}")]
-    CannotRemove(String),
+    /// A file cannot be removed, for this reason.
+    #[error("cannot remove {0}: {1}")]
+    CannotRemove(String, io::Error),
 
     /// A file cannot be created or given its name, for this reason.
     #[error("cannot create {0}: {1}")]
     CannotCreate(String, io::Error),
 
-    /// A file cannot be written.
-    #[error("cannot write {0}")]
-    CannotWrite(String),
+    /// The names in a folder cannot be written to the disk, for this reason.
+    #[error("cannot sync {0}: {1}")]
+    CannotSync(String, io::Error),
+
+    /// A file cannot be written, for this reason.
+    #[error("cannot write {0}: {1}")]
+    CannotWrite(String, io::Error),
 
     /// No name was found for a file.
     #[error("no name for a file")]
@@ -52,13 +57,31 @@ pub enum Trouble {
     #[error("out of memory")]
     OutOfMemory,
 
-    /// A line could not be written.
+    /// A write failed.
     #[error("write failed")]
     Put,
+
+    /// A line could not be printed, for this reason.
+    #[error("write failed: {0}")]
+    CannotPrint(io::Error),
 
     /// The reader has closed the output.
     #[error("closed")]
     Closed,
+}
+
+/// Notes a trouble, and returns it as a fault.
+pub(crate) fn kept<X>(
+    done: Result<X, Trouble>,
+    trouble: &mut Option<Trouble>,
+) -> Result<X, PutFault> {
+    match done {
+        Ok(done) => Ok(done),
+        Err(found) => {
+            *trouble = Some(found);
+            Err(PutFault)
+        }
+    }
 }
 
 impl From<AllocError> for Trouble {
@@ -72,7 +95,7 @@ impl From<io::Error> for Trouble {
         match error.kind() {
             ErrorKind::OutOfMemory => Trouble::OutOfMemory,
             ErrorKind::BrokenPipe => Trouble::Closed,
-            _ => Trouble::Put,
+            _ => Trouble::CannotPrint(error),
         }
     }
 }

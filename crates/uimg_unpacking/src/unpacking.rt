@@ -4,7 +4,10 @@ use crate::folder::Folder;
 use crate::folder_taker::FolderTaker;
 use crate::limits::Limits;
 use crate::lines::Line;
+use crate::new_file::ErrorCode;
+use crate::objects::told;
 use crate::trouble::Trouble;
+use std::alloc::Global;
 use std::io::Write;
 use std::rt::Files;
 use uimg_base::{Algo, Room, Source};
@@ -28,6 +31,9 @@ pub struct Unpacking<'a> {
 
     /// Whether good payloads are kept if another one is refused.
     pub keeps_good: bool,
+
+    /// The path of the image for JSON objects, if they are printed instead of lines.
+    pub json: Option<&'a str>,
 }
 
 /// How the unpacking of a FIT image ended.
@@ -71,14 +77,15 @@ pub fn unpack<R: Files + AllocGlobal, S: Source, W: Write + Drop>(
         return Ended::Stopped(Fault::Fit(FitFault::NoSuchImage));
     };
     let mut room = Room::new(rt.alloc());
-    let mut taker = FolderTaker::new(rt, asked, out);
+    let code = ErrorCode::new(None);
+    let mut taker = FolderTaker::new(rt, asked, out, &code);
     let unpacked = uimg_fit_checking::unpack(only, asked.need, source, &mut room, &mut taker);
     let is_whole = matches!(unpacked, Ok(Unpacked::Taken(true)));
     let (out, count, trouble) = taker.end(is_whole);
     match (unpacked, trouble) {
         (Ok(Unpacked::Taken(_)), Some(trouble)) => Ended::Troubled(trouble),
         (Ok(Unpacked::Taken(all)), None) => taken(asked, all, count),
-        (Ok(Unpacked::Overlapping(name)), _) => overlapping(out, &name),
+        (Ok(Unpacked::Overlapping(name)), _) => overlapping(rt.alloc(), asked.json, out, &name),
         (Err(Fault::Put), trouble) => Ended::Troubled(trouble.unwrap_or(Trouble::Put)),
         (Err(fault), _) => Ended::Stopped(fault),
     }
@@ -106,9 +113,16 @@ fn taken(asked: &Unpacking<'_>, all: bool, count: usize) -> Ended {
     if all { Ended::Kept } else { Ended::Refused }
 }
 
-fn overlapping<W: Write + Drop>(mut out: W, name: &NodeName) -> Ended {
-    let told = writeln!(out, "{}", Line::Overlapping(name)).and_then(|()| out.flush());
-    match told {
+fn overlapping<W: Write + Drop>(
+    alloc: Global,
+    json: Option<&str>,
+    mut out: W,
+    name: &NodeName,
+) -> Ended {
+    let Ok(line) = told(alloc, json, &Line::Overlapping(name)) else {
+        return Ended::Troubled(Trouble::OutOfMemory);
+    };
+    match out.write_all(line.as_slice()).and_then(|()| out.flush()) {
         Ok(()) => Ended::Refused,
         Err(error) => Ended::Troubled(Trouble::from(error)),
     }

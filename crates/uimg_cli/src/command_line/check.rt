@@ -1,7 +1,7 @@
 //! The words of `check`.
 
 use super::help_notes::CHECK_NOTES;
-use super::{WordsFault, flag, switch};
+use super::{WordsFault, flag, need_of, switch};
 use clap::{Arg, ArgAction, ArgMatches};
 use std::alloc::{AllocError, Global};
 use uimg_base::Algo;
@@ -84,10 +84,9 @@ pub(super) fn request<'a>(
     matches: &ArgMatches<'a>,
 ) -> Result<CheckRequest<'a>, WordsFault> {
     let is_strict = matches.get_flag("strict");
-    let need = match matches.get_str("need") {
-        Some(name) => Some(Algo::named(name.as_bytes()).ok_or(WordsFault::UnknownName)?),
+    let need = match need_of(alloc, matches)? {
         None if is_strict => Some(Algo::Crc32),
-        None => None,
+        need => need,
     };
     let images = Vec::from_slice(alloc, matches.get_strs("image").unwrap_or(&[]))?;
     let files_from = matches.get_str("files-from");

@@ -140,6 +140,9 @@ control characters, \\, spaces, colons and commas are printed as \\xNN.
 Signatures and the hashes of configurations are not checked. Of an image with
 more files or bytes than allowed nothing is written. --clean removes what stopped
 commands left, .uimg-new1 to .uimg-new10000; no other command may be at work there.
+--json prints path, status and verdict (ok for a kept payload, or a word as above),
+and depending on it format, image, file, size, algo, digest, data-crc, hash, fault,
+message and offset.
 
 All parts of a legacy image, or its data if it has no parts, are kept if the
 checksum of the data is right:

@@ -1,7 +1,7 @@
 //! The words of `map`.
 
 use super::help_notes::MAP_NOTES;
-use super::{image, switch};
+use super::{WordsFault, image, switch};
 use clap::{Arg, ArgAction, ArgMatches};
 use std::alloc::{AllocError, Global};
 
@@ -33,10 +33,14 @@ pub(super) fn command<'a>(alloc: Global) -> Result<clap::Command<'a>, AllocError
         .arg(image(alloc, "The image"))
 }
 
-pub(super) fn request<'a>(matches: &ArgMatches<'a>) -> MapRequest<'a> {
-    MapRequest {
-        picture: matches.get_str("svg"),
+pub(super) fn request<'a>(matches: &ArgMatches<'a>) -> Result<MapRequest<'a>, WordsFault> {
+    let picture = matches.get_str("svg");
+    if picture == Some("-") {
+        return Err(WordsFault::PictureToOutput);
+    }
+    Ok(MapRequest {
+        picture,
         is_forced: matches.get_flag("force"),
         image: matches.get_str("image").unwrap_or(""),
-    }
+    })
 }

@@ -1,7 +1,7 @@
 //! The words of `unpack`.
 
 use super::help_notes::UNPACK_NOTES;
-use super::{WordsFault, switch, value};
+use super::{WordsFault, need_of, switch, value};
 use clap::{Arg, ArgAction, ArgMatches};
 use std::alloc::{AllocError, Global};
 use uimg_base::Algo;
@@ -27,6 +27,9 @@ pub struct UnpackRequest<'a> {
     /// Whether files are written to the disk before they get their names.
     pub is_synced: bool,
 
+    /// Whether to print a JSON object for each payload instead of a line of text.
+    pub as_json: bool,
+
     /// Whether the temporary files of commands that were stopped are removed from the folder.
     pub cleans: bool,
 
@@ -47,7 +50,7 @@ pub(super) fn command<'a>(alloc: Global) -> Result<clap::Command<'a>, AllocError
     clap::Command::new(alloc, "unpack")
         .about("Write the payloads of an image to a folder, if their hashes are right")
         .after_help(UNPACK_NOTES)
-        .arg(value(alloc, "folder", 'C', "Write the files to this folder"))?
+        .arg(value(alloc, "folder", 'C', FOLDER))?
         .arg(only(alloc))?
         .arg(need(alloc)?)?
         .arg(switch(alloc, "force", "Replace files that exist"))?
@@ -55,11 +58,16 @@ pub(super) fn command<'a>(alloc: Global) -> Result<clap::Command<'a>, AllocError
         .arg(switch(alloc, "no-sync", NO_SYNC))?
         .arg(number(alloc, "max-files", MAX_FILES))?
         .arg(number(alloc, "max-bytes", MAX_BYTES))?
+        .arg(switch(alloc, "json", JSON))?
         .arg(switch(alloc, "clean", CLEAN))?
         .arg(Arg::new(alloc, "image").help("The image"))
 }
 
 // The helps of options.
+const FOLDER: &str = "Write the files to this folder, which has to exist";
+
+const JSON: &str = "Print a JSON object for each payload or part";
+
 const KEEP_GOOD: &str = "Keep the good payloads if another one is refused";
 
 const NO_SYNC: &str = "Do not wait until the files are on the disk";
@@ -99,24 +107,26 @@ fn number<'a>(alloc: Global, id: &'a str, help: &'a str) -> Arg<'a> {
 }
 
 // Returns the number of an option, if it was given: decimal digits, below 2^64.
-fn number_of(text: Option<&str>) -> Result<Option<u64>, WordsFault> {
-    let Some(text) = text else {
+fn number_of(
+    alloc: Global,
+    matches: &ArgMatches<'_>,
+    id: &'static str,
+) -> Result<Option<u64>, WordsFault> {
+    let Some(text) = matches.get_str(id) else {
         return Ok(None);
     };
-    if !text.bytes().all(|digit| digit.is_ascii_digit()) {
-        return Err(WordsFault::BadNumber);
-    }
+    let has_digits = text.bytes().all(|digit| digit.is_ascii_digit());
     match text.parse() {
-        Ok(number) => Ok(Some(number)),
-        Err(_) => Err(WordsFault::BadNumber),
+        Ok(number) if has_digits => Ok(Some(number)),
+        _ => Err(WordsFault::NotNumber(id, String::from_str(alloc, text)?)),
     }
 }
 
-pub(super) fn request<'a>(matches: &ArgMatches<'a>) -> Result<UnpackRequest<'a>, WordsFault> {
-    let need = match matches.get_str("need") {
-        Some(name) => Some(Algo::named(name.as_bytes()).ok_or(WordsFault::UnknownName)?),
-        None => None,
-    };
+pub(super) fn request<'a>(
+    alloc: Global,
+    matches: &ArgMatches<'a>,
+) -> Result<UnpackRequest<'a>, WordsFault> {
+    let need = need_of(alloc, matches)?;
     let folder = matches.get_str("folder").unwrap_or(".");
     if folder.is_empty() {
         return Err(WordsFault::NoFolder);
@@ -125,6 +135,10 @@ pub(super) fn request<'a>(matches: &ArgMatches<'a>) -> Result<UnpackRequest<'a>,
     if image.is_none() & !cleans {
         return Err(WordsFault::NoImages);
     }
+    let as_json = matches.get_flag("json");
+    if as_json & cleans {
+        return Err(WordsFault::CleansWithJson);
+    }
     Ok(UnpackRequest {
         folder,
         only: matches.get_str("only"),
@@ -132,9 +146,10 @@ pub(super) fn request<'a>(matches: &ArgMatches<'a>) -> Result<UnpackRequest<'a>,
         is_forced: matches.get_flag("force"),
         keeps_good: matches.get_flag("keep-good"),
         is_synced: !matches.get_flag("no-sync"),
+        as_json,
         cleans,
-        most_files: number_of(matches.get_str("max-files"))?.unwrap_or(MOST_FILES),
-        most_bytes: number_of(matches.get_str("max-bytes"))?,
+        most_files: number_of(alloc, matches, "max-files")?.unwrap_or(MOST_FILES),
+        most_bytes: number_of(alloc, matches, "max-bytes")?,
         image,
     })
 }

@@ -1,0 +1,81 @@
+//! Turns the end of an unpacking into the result that a check would have.
+
+use crate::check_answers::{Names, answer_of_fault, answer_of_line, answer_of_unread};
+use crate::main_program::{DONE, FAILED, REFUSED};
+use std::rt::Files;
+use uimg_checks::{Answer, Checked};
+use uimg_engine::Fault;
+use uimg_fit_checking::Finding;
+use uimg_unpacking::{Ended, PartsEnded, Trouble};
+
+/// How the unpacking of an image ended.
+#[derive(Drop)]
+pub(crate) enum Ending {
+    /// All is told by lines; this is the status.
+    Told(u8),
+
+    /// The image could not be opened.
+    Unread,
+
+    /// A legacy image has no stronger checksum than CRC-32, but one is needed.
+    Weak,
+
+    /// There is no image, but a strength is needed.
+    NoImage,
+
+    /// The image is refused, or a read of it failed.
+    Stopped(Fault),
+
+    /// A file or a line could not be written.
+    Troubled(Trouble),
+}
+
+impl From<Ended> for Ending {
+    fn from(ended: Ended) -> Ending {
+        match ended {
+            Ended::Kept => Ending::Told(DONE),
+            Ended::Refused => Ending::Told(REFUSED),
+            Ended::NoImage => Ending::NoImage,
+            Ended::Stopped(fault) => Ending::Stopped(Fault::from(fault)),
+            Ended::Troubled(trouble) => Ending::Troubled(trouble),
+        }
+    }
+}
+
+impl From<PartsEnded> for Ending {
+    fn from(ended: PartsEnded) -> Ending {
+        match ended {
+            PartsEnded::Kept => Ending::Told(DONE),
+            PartsEnded::Weak => Ending::Weak,
+            PartsEnded::Stopped(fault) => Ending::Stopped(Fault::from(fault)),
+            PartsEnded::Troubled(trouble) => Ending::Troubled(trouble),
+        }
+    }
+}
+
+/// Returns the result for an end that no line tells.
+pub(crate) fn answer_of_ending<'a, R: Files + AllocGlobal>(
+    rt: &R,
+    path: &str,
+    ending: Ending,
+    names: &'a mut Names,
+) -> Answer<'a> {
+    match ending {
+        Ending::Told(_) | Ending::Unread => answer_of_unread(rt, path, names),
+        Ending::Weak => Answer::Found(Checked::Weak, None),
+        Ending::NoImage => Answer::Found(Checked::Fit(Finding::NoImage), None),
+        Ending::Stopped(fault) => answer_of_fault(fault, names),
+        Ending::Troubled(trouble) => {
+            let is_refused = status_of_trouble(&trouble) == REFUSED;
+            answer_of_line(&trouble, is_refused, names)
+        }
+    }
+}
+
+/// Returns the exit status for a trouble with the files of an image.
+pub(crate) fn status_of_trouble(trouble: &Trouble) -> u8 {
+    match trouble {
+        Trouble::NoName | Trouble::TooManyFiles(_) | Trouble::TooManyBytes(_) => REFUSED,
+        _ => FAILED,
+    }
+}
