@@ -64,15 +64,6 @@ AGREES |= {it: {**{command: (it,) for command in COMMANDS}, "unpack": (it, "over
 # verify reports on the checksums alone.
 AGREES |= {it: {**{command: (it,) for command in COMMANDS}, "verify": ("ok", "bad")} for it in ("L3", "L6", "L7")}
 
-# Contradictions with a known cause.
-KNOWN = {
-    "check F2, info ok": "info lists a FIT that has an image without a payload",
-    "check F3, info ok": "info lists a FIT whose payload ends outside the file",
-    **{f"check ok, {command} {it}": "check does not read the table of parts" for command in ("info", "map", "unpack") for it in ("L6", "L7")},
-    **{f"check bad, {command} L3": "check says bad checksum of a wrong header" for command in ("info", "map", "unpack")},
-}
-
-
 class Maker(strict.Maker):
     """Images from a source of chance; one thing in `rate` is odd."""
 
@@ -336,9 +327,9 @@ def main():
     uimg, count = os.path.abspath(sys.argv[1]), int(sys.argv[2]) if len(sys.argv) > 2 else COUNT
     os.chdir(TOP)
     os.environ["SOURCE_DATE_EPOCH"] = "1700000000"
-    causes, unknown, number = collections.Counter(), [], 0
-    print("| Hostile images | Number | Check says ok | Findings | Of a known cause |")
-    print("|---|---|---|---|---|")
+    unknown, number = [], 0
+    print("| Hostile images | Number | Check says ok | Findings |")
+    print("|---|---|---|---|")
     with tempfile.TemporaryDirectory() as room:
         reader = Reader(uimg, room)
         for kind, images in kinds_of(uimg, count):
@@ -347,12 +338,9 @@ def main():
                 ok, some = reader.batch(images[begin : begin + BATCH], number + begin)
                 right, found = right + ok, found + some
             number += len(images)
-            known = [it for it in found if it[0] in KNOWN]
-            causes.update(KNOWN[it[0]] for it in known)
-            unknown += [it for it in found if it[0] not in KNOWN]
-            print(f"| {kind} | {len(images)} | {right} | {len(found) - len(known)} | {len(known)} |", flush=True)
+            unknown += found
+            print(f"| {kind} | {len(images)} | {right} | {len(found)} |", flush=True)
     print("\n--strict: " + ", ".join(f"{word} {times}" for word, times in sorted(reader.words.items())))
-    print("".join(f"\n{times} times: {cause}" for cause, times in causes.most_common()))
     if unknown:
         keep(unknown)
     return 1 if unknown else 0
