@@ -32,7 +32,7 @@ complete -c uimg -n '__fish_seen_subcommand_from check' -l quiet -d 'Print no li
 complete -c uimg -n '__fish_seen_subcommand_from check' -l allow-empty -d 'Accept a file of paths that has none'
 complete -c uimg -n '__fish_seen_subcommand_from check' -s h -l help -d 'Print help'
 complete -c uimg -n __fish_use_subcommand -f -a unpack -d 'Write the payloads of an image to a folder, if their hashes are right'
-complete -c uimg -n '__fish_seen_subcommand_from unpack' -s C -x -a '(__fish_complete_directories)' -d 'Write the files to this folder'
+complete -c uimg -n '__fish_seen_subcommand_from unpack' -s C -x -a '(__fish_complete_directories)' -d 'Write the files to this folder, which has to exist'
 complete -c uimg -n '__fish_seen_subcommand_from unpack' -l only -x -d 'Unpack only the payload of the image of this name, or one part: image-0'
 complete -c uimg -n '__fish_seen_subcommand_from unpack' -l need -x -a 'crc32 md5 sha1 sha256 sha384 sha512' -d 'Require a hash by this algorithm or a stronger one'
 complete -c uimg -n '__fish_seen_subcommand_from unpack' -l force -d 'Replace files that exist'
