@@ -391,6 +391,10 @@ two nodes or properties of a name, and compares no hash of a node with uboot-ign
   k.itb: ok 1 payload, 1 hash
   k.itb: doubled-property a
   [1]
+  $ tree "description = \"d\"; description = \"e\"; images { a { data = \"abc\"; $hash }; };"
+  k.itb: ok 1 payload, 1 hash
+  k.itb: doubled-property /
+  [1]
   $ fit 'a { data = "abc"; hash-1 { algo = "sha256"; uboot-ignore = <1>; }; };' && strict
   k.itb: ok 1 payload, 1 hash
   k.itb: ignored-hash hash-1

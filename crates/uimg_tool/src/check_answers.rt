@@ -158,7 +158,8 @@ pub(crate) fn answer_of_missing<'a, S: Source>(
     }
 }
 
-/// Returns the result for what a strict check refuses of a FIT image.
+/// Returns the result for what a strict check refuses of a FIT image. The root, whose name is empty,
+/// is told as `/`.
 pub(crate) fn answer_of_loose<'a>(loose: Loose, names: &'a mut Names) -> Answer<'a> {
     let Loose { why, node } = loose;
     let Some(name) = node else {
@@ -169,10 +170,11 @@ pub(crate) fn answer_of_loose<'a>(loose: Loose, names: &'a mut Names) -> Answer<
         };
     };
     names.missing = name;
+    let node = names.missing.as_slice();
     Answer::Loose {
         format: Format::Fit,
         why,
-        node: Some(names.missing.as_slice()),
+        node: Some(if node.is_empty() { b"/" } else { node }),
     }
 }
 

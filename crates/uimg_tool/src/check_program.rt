@@ -13,6 +13,7 @@ use uimg_base::{FileSource, Room};
 use uimg_checks::{Answer, Checked, check, line_text, object_text};
 use uimg_cli::{CheckRequest, WordsFault};
 use uimg_fit_checking::Finding;
+use uimg_printing::Printed;
 
 /// The path of standard input as a file.
 const STANDARD_INPUT: &str = "/dev/stdin";
@@ -51,7 +52,10 @@ pub(crate) fn check_images<R: Files + AllocGlobal, W: Write, V: Write>(
             tell(err, &WordsFault::NoImages, WRONG_LINE)
         }
         Ok(()) => greatest,
-        Err(Stop::NoNames(path, reason)) => tell(err, &RequestFault::Unread(path, reason), FAILED),
+        Err(Stop::NoNames(path, reason)) => {
+            let path = Printed(path.as_bytes());
+            tell(err, &RequestFault::Unread(path, reason), FAILED)
+        }
         Err(Stop::NoMemory) => tell(err, &RequestFault::OutOfMemory, FAILED),
         Err(Stop::Put(error)) => tell_unprinted(error, err),
     }

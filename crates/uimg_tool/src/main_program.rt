@@ -21,6 +21,7 @@ use uimg_cli::{Asked, Request, WordsFault, read_words};
 use uimg_engine::{Fault, is_same_file, run_by};
 use uimg_fit_base::FitFault;
 use uimg_its::FaultKind;
+use uimg_printing::Printed;
 use uimg_requests::{MakeRequest, RunRequest};
 
 /// All is done.
@@ -43,14 +44,14 @@ pub(crate) enum RequestFault<'a> {
 
     // The same, by the new commands.
     #[error("cannot read {0}: {1}")]
-    Unread(&'a str, io::Error),
+    Unread(Printed<'a>, io::Error),
 
     #[error("cannot write {0}")]
     CannotWrite(&'a str, io::Error),
 
     // The same, by the new commands.
     #[error("cannot write {0}: {1}")]
-    Unwritten(&'a str, io::Error),
+    Unwritten(Printed<'a>, io::Error),
 
     // Bytes of the outfile, at this path.
     #[error("write failed")]
@@ -65,10 +66,14 @@ pub(crate) enum RequestFault<'a> {
     Unprinted(io::Error),
 
     #[error("{0} exists; use --force to replace it")]
-    Exists(&'a str),
+    Exists(Printed<'a>),
 
     #[error("{0} would be written while it is read")]
     WritesWhatIsRead(&'a str),
+
+    // The same, by the new commands.
+    #[error("{0} would be written while it is read")]
+    DrawsOverWhatIsRead(Printed<'a>),
 
     #[error("-x: {0} does not begin with 64 bytes 0xff, which the header replaces")]
     NoRoom(&'a str),
@@ -190,16 +195,18 @@ pub(crate) fn tell_unprinted<V: Write>(error: io::Error, err: &mut V) -> u8 {
 
 /// Reports a file that could not be opened, with the reason if there is one. Returns the status.
 pub(crate) fn tell_unread<R: Files, V: Write>(rt: &R, path: &str, err: &mut V) -> u8 {
-    match reason_unread(rt, path) {
+    let reason = reason_unread(rt, path);
+    let path = Printed(path.as_bytes());
+    match reason {
         Some(reason) => tell(err, &RequestFault::Unread(path, reason), FAILED),
-        None => tell(err, &RequestFault::CannotRead(path), FAILED),
+        None => tell(err, &format_args!("cannot read {path}"), FAILED),
     }
 }
 
 /// Returns the exit status of a request that was not carried out.
 pub(crate) fn status_of(fault: &RequestFault<'_>) -> u8 {
     match fault {
-        RequestFault::WritesWhatIsRead(_) => WRONG_LINE,
+        RequestFault::WritesWhatIsRead(_) | RequestFault::DrawsOverWhatIsRead(_) => WRONG_LINE,
         RequestFault::NoRoom(_) => REFUSED,
         RequestFault::Stopped(Fault::Legacy(_)) => REFUSED,
         RequestFault::Stopped(Fault::Blob(fault, _)) if *fault != BlobFault::OutOfMemory => REFUSED,

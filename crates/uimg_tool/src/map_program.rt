@@ -36,10 +36,11 @@ pub(crate) fn map_image<R: Files + AllocGlobal, W: Write, V: Write>(
     };
     let ended = match request.picture {
         Some(path) if is_same_file(rt, path, request.image) => {
-            return tell(err, &RequestFault::WritesWhatIsRead(path), WRONG_LINE);
+            let path = Printed(path.as_bytes());
+            return tell(err, &RequestFault::DrawsOverWhatIsRead(path), WRONG_LINE);
         }
         Some(path) if !request.is_forced && is_taken(rt, path) => {
-            return tell(err, &RequestFault::Exists(path), FAILED);
+            return tell(err, &RequestFault::Exists(Printed(path.as_bytes())), FAILED);
         }
         Some(path) => draw(rt, request, path, &mut source, &map),
         None => print(rt, &mut source, &map, out),
@@ -74,6 +75,7 @@ fn tell_ended<V: Write>(ended: Result<(), Stop<'_>>, fault: Option<MapFault>, er
         (Ok(()), None) => DONE,
         (Ok(()), Some(fault)) => tell(err, &fault, REFUSED),
         (Err(Stop::CannotWrite(path, reason)), _) => {
+            let path = Printed(path.as_bytes());
             tell(err, &RequestFault::Unwritten(path, reason), FAILED)
         }
         (Err(Stop::CannotPrint(error)), _) => tell_unprinted(error, err),

@@ -19,6 +19,7 @@ use uimg_cli::Request;
 use uimg_compat::{OldFault, OldRequest, Show, read_dumpimage, read_mkimage, title_of};
 use uimg_engine::Fault;
 use uimg_names::Field;
+use uimg_printing::Printed;
 use uimg_requests::{MakeRequest, RunRequest, VERSION};
 
 /// Takes the words of a command line, the program's name first, as this tool of U-Boot 2023.01
@@ -225,6 +226,7 @@ fn tell_end<R: Files, V: Write>(
         Ok(Status::Done) => DONE,
         Ok(Status::NotRight) => REFUSED,
         Err(RequestFault::Stopped(fault)) => {
+            let path = Printed(path.as_bytes());
             let _ = writeln!(err, "{}: {path}: {fault}", tool.name());
             status_of(&RequestFault::Stopped(*fault))
         }
@@ -240,12 +242,11 @@ fn tell_end<R: Files, V: Write>(
 /// Reports a file that could not be opened, with the operating system's reason, from another look
 /// at it.
 pub(crate) fn tell_unread<R: Files, V: Write>(rt: &R, tool: Tool, path: &str, err: &mut V) -> u8 {
-    match reason_unread(rt, path) {
-        Some(reason) => {
-            let _ = writeln!(err, "{}: cannot read {path}: {reason}", tool.name());
-            FAILED
-        }
-        None => tell(tool, err, &RequestFault::CannotRead(path), FAILED),
+    let reason = reason_unread(rt, path);
+    let path = Printed(path.as_bytes());
+    match reason {
+        Some(reason) => tell(tool, err, &RequestFault::Unread(path, reason), FAILED),
+        None => tell(tool, err, &format_args!("cannot read {path}"), FAILED),
     }
 }
 
@@ -256,6 +257,7 @@ pub(crate) fn tell_unwritten<V: Write>(
     reason: &io::Error,
     err: &mut V,
 ) -> u8 {
+    let path = Printed(path.as_bytes());
     let _ = writeln!(err, "{}: cannot write {path}: {reason}", tool.name());
     FAILED
 }

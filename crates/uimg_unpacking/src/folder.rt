@@ -1,6 +1,6 @@
 //! The folder for payloads and parts, and the paths of their files.
 
-use crate::trouble::Trouble;
+use crate::trouble::{ShownPath, Trouble};
 use std::alloc::AllocError;
 use std::io::{ErrorKind, Write};
 use std::os::unix::fs::MetadataExt;
@@ -58,11 +58,11 @@ impl<'a> Folder<'a> {
     pub(crate) fn allows<R: Files>(&self, rt: &R, path: String) -> Result<String, Trouble> {
         let found = FileId::of(rt, path.as_str());
         if found.is_some() & (found == self.image) {
-            return Err(Trouble::IsImage(path));
+            return Err(Trouble::IsImage(ShownPath(path)));
         }
         match fs::symlink_metadata(rt, path.as_str()) {
-            Ok(found) if found.is_dir() => Err(Trouble::IsFolder(path)),
-            Ok(_) if !self.is_forced => Err(Trouble::Exists(path)),
+            Ok(found) if found.is_dir() => Err(Trouble::IsFolder(ShownPath(path))),
+            Ok(_) if !self.is_forced => Err(Trouble::Exists(ShownPath(path))),
             _ => Ok(path),
         }
     }
@@ -100,7 +100,7 @@ impl<'a> Folder<'a> {
         for number in 1..=TRIED {
             let path = self.unnamed(rt, number)?;
             if is_or_has(rt, path.as_str(), image) {
-                return Err(Trouble::RemovesImage(path));
+                return Err(Trouble::RemovesImage(ShownPath(path)));
             }
             let removed = match fs::symlink_metadata(rt, path.as_str()) {
                 Ok(found) if found.is_dir() => fs::remove_dir_all(rt, path.as_str()),
@@ -108,7 +108,7 @@ impl<'a> Folder<'a> {
                 Err(_) => continue,
             };
             if let Err(reason) = removed {
-                return Err(Trouble::CannotRemove(path, reason));
+                return Err(Trouble::CannotRemove(ShownPath(path), reason));
             }
             writeln!(out, ".uimg-new{number}: removed")?;
             out.flush()?;

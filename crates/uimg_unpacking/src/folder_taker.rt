@@ -10,7 +10,7 @@ use crate::new_file::{ErrorCode, NewFile};
 use crate::objects::told;
 use crate::plan::gives_names;
 use crate::staging::Staging;
-use crate::trouble::{Trouble, kept};
+use crate::trouble::{ShownPath, Trouble, kept};
 use crate::unpacking::Unpacking;
 use std::fs;
 use std::io::Write;
@@ -179,7 +179,7 @@ fn remove_old<R: Files + AllocGlobal>(
     let whole = folder.path_of(rt, name)?;
     let is_old = folder.is_forced && is_there(rt, whole.as_str());
     if is_old && let Err(reason) = fs::remove_file(rt, whole.as_str()) {
-        return Err(Trouble::CannotRemove(whole, reason));
+        return Err(Trouble::CannotRemove(ShownPath(whole), reason));
     }
     Ok(())
 }

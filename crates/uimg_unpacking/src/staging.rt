@@ -1,8 +1,10 @@
 //! Files that are written in a folder of their own, and get their names together.
 
+ghost use Rattle.std.specs.Prelude.{◌≡◌, None, length, IfOk};
+
 use crate::folder::{Folder, is_there};
 use crate::new_file::{ErrorCode, NewFile, give_name};
-use crate::trouble::Trouble;
+use crate::trouble::{ShownPath, Trouble};
 use std::io::{BufWriter, ErrorKind};
 use std::rt::Files;
 use std::{fs, io};
@@ -50,13 +52,13 @@ impl<'a, 'c, R: Files + AllocGlobal> Staging<'a, 'c, R> {
         if self.made.is_none() {
             match self.folder.new_folder(self.rt)? {
                 Ok(made) => self.made = Some(made),
-                Err(reason) => return Err(Trouble::CannotCreate(whole, reason)),
+                Err(reason) => return Err(Trouble::CannotCreate(ShownPath(whole), reason)),
             }
         }
         let path = self.path_of("new", self.names.len())?;
         let file = match fs::File::create_new(self.rt, path.as_str()) {
             Ok(file) => BufWriter::new(self.rt.alloc(), file)?,
-            Err(reason) => return Err(Trouble::CannotCreate(whole, reason)),
+            Err(reason) => return Err(Trouble::CannotCreate(ShownPath(whole), reason)),
         };
         self.names.push(name)?;
         self.is_writing = true;
@@ -86,7 +88,7 @@ impl<'a, 'c, R: Files + AllocGlobal> Staging<'a, 'c, R> {
         let path = self.path_of("new", self.names.len())?;
         match fs::remove_file(self.rt, path.as_str()) {
             Ok(()) => Ok(name),
-            Err(reason) => Err(Trouble::CannotRemove(path, reason)),
+            Err(reason) => Err(Trouble::CannotRemove(ShownPath(path), reason)),
         }
     }
 
@@ -105,7 +107,7 @@ impl<'a, 'c, R: Files + AllocGlobal> Staging<'a, 'c, R> {
             return None;
         }
         match self.folder.path_of(self.rt, name.as_str()) {
-            Ok(whole) => Some(Trouble::CannotWrite(whole, self.reason())),
+            Ok(whole) => Some(Trouble::CannotWrite(ShownPath(whole), self.reason())),
             Err(error) => Some(Trouble::from(error)),
         }
     }
@@ -125,16 +127,14 @@ impl<'a, 'c, R: Files + AllocGlobal> Staging<'a, 'c, R> {
             self.drop_last()?;
         }
         let paths = self.all_paths()?;
-        for (number, its) in paths.iter().enumerate() {
-            if let Err(trouble) = self.name(its) {
-                self.take_back(&paths, number);
-                return Err(trouble);
-            }
+        if let (named, Some(trouble)) = self.name_each(&paths) {
+            self.take_back(&paths, named);
+            return Err(trouble);
         }
         if let Err(reason) = self.sync() {
             self.take_back(&paths, paths.len());
             let path = String::from_str(self.rt.alloc(), self.folder.path)?;
-            return Err(Trouble::CannotSync(path, reason));
+            return Err(Trouble::CannotSync(ShownPath(path), reason));
         }
         for its in &paths {
             let _ = fs::remove_file(self.rt, its.old.as_str());
@@ -164,7 +164,9 @@ impl<'a, 'c, R: Files + AllocGlobal> Staging<'a, 'c, R> {
     }
 
     // Returns the paths of all files, so that taking names back needs no memory.
-    fn all_paths(&self) -> Result<Vec<Paths>, Trouble> {
+    fn all_paths(&self) -> Result<Vec<Paths>, Trouble>
+        ensures { IfOk result (λ paths. length paths.items ≡ length self.now.names.items) }
+    {
         let mut paths = Vec::new(self.rt.alloc());
         for number in 0..self.names.len() {
             paths.push(Paths {
@@ -176,17 +178,32 @@ impl<'a, 'c, R: Files + AllocGlobal> Staging<'a, 'c, R> {
         Ok(paths)
     }
 
+    // Gives files their names, up to one that cannot get it. Returns how many have it, and why the
+    // next one has not: none if all have it.
+    fn name_each(&self, paths: &[Paths]) -> (usize, Option<Trouble>)
+        ensures { result.1 ≡ None → result.0 ≡ length paths.now }
+    {
+        let mut named = 0;
+        for its in paths {
+            if let Err(trouble) = self.name(its) {
+                return (named, Some(trouble));
+            }
+            named += 1;
+        }
+        (named, None)
+    }
+
     // Gives a file its name. What it replaces is kept under another.
     fn name(&self, paths: &Paths) -> Result<(), Trouble> {
         let whole = String::from_str(self.rt.alloc(), paths.whole.as_str())?;
         let whole = self.folder.allows(self.rt, whole)?;
         let replaces = self.folder.is_forced && is_there(self.rt, whole.as_str());
         if replaces && let Err(reason) = keep_as(self.rt, whole.as_str(), paths.old.as_str()) {
-            return Err(Trouble::CannotCreate(whole, reason));
+            return Err(Trouble::CannotCreate(ShownPath(whole), reason));
         }
         match give_name(self.rt, paths.new.as_str(), whole.as_str(), replaces) {
             Ok(()) => Ok(()),
-            Err(reason) => Err(Trouble::CannotCreate(whole, reason)),
+            Err(reason) => Err(Trouble::CannotCreate(ShownPath(whole), reason)),
         }
     }
 

@@ -1,29 +1,41 @@
 //! Why payloads are not written to a folder.
 
 use std::alloc::{AllocError, AllocFailed};
-use std::io;
+use std::fmt::{Display, Formatter, Write};
 use std::io::ErrorKind;
+use std::{fmt, io};
 use thiserror::Error;
 use uimg_base::PutFault;
+use uimg_printing::Printed;
+
+/// A path in a line, where hidden characters are escaped as `Printed` does.
+#[derive(Debug, Drop)]
+pub struct ShownPath(pub(crate) String);
+
+impl Display for ShownPath {
+    fn fmt<W: Write>(&self, f: &mut Formatter<W>) -> fmt::Result {
+        Printed(self.0.as_bytes()).fmt(f)
+    }
+}
 
 /// Why a payload was not written to a folder. Its text is the line to print; `Closed` needs none.
 #[derive(Debug, Drop, Error)]
 pub enum Trouble {
     /// Something exists at the path of a file to write.
     #[error("{0} exists; use --force to replace it")]
-    Exists(String),
+    Exists(ShownPath),
 
     /// A folder exists at the path of a file to write.
     #[error("{0} is a folder, which is never replaced")]
-    IsFolder(String),
+    IsFolder(ShownPath),
 
     /// A file to write is the image.
     #[error("{0} would be written while it is read")]
-    IsImage(String),
+    IsImage(ShownPath),
 
     /// A file or folder to remove is the image, or has it.
     #[error("{0} would be removed while it is read")]
-    RemovesImage(String),
+    RemovesImage(ShownPath),
 
     /// The image has more files than this.
     #[error("more than {0} files; --max-files allows more")]
@@ -35,19 +47,19 @@ pub enum Trouble {
 
     /// A file cannot be removed, for this reason.
     #[error("cannot remove {0}: {1}")]
-    CannotRemove(String, io::Error),
+    CannotRemove(ShownPath, io::Error),
 
     /// A file cannot be created or given its name, for this reason.
     #[error("cannot create {0}: {1}")]
-    CannotCreate(String, io::Error),
+    CannotCreate(ShownPath, io::Error),
 
     /// The names in a folder cannot be written to the disk, for this reason.
     #[error("cannot sync {0}: {1}")]
-    CannotSync(String, io::Error),
+    CannotSync(ShownPath, io::Error),
 
     /// A file cannot be written, for this reason.
     #[error("cannot write {0}: {1}")]
-    CannotWrite(String, io::Error),
+    CannotWrite(ShownPath, io::Error),
 
     /// No name was found for a file.
     #[error("no name for a file")]
