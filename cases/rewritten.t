@@ -34,7 +34,7 @@ Where a payload is a mixture, or a hash of the other image was read, nothing in 
   > open("k.itb", "wb").write(images[0])
   > os.mkdir("out")
   > open("out/kernel", "w").write("old")
-  > writer = threading.Thread(target=rewrite)
+  > writer = threading.Thread(target=rewrite, daemon=True)
   > writer.start()
   > for count in range(40):
   >     before = {name: open(f"out/{name}", "rb").read() for name in os.listdir("out")}

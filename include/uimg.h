@@ -101,8 +101,8 @@ uint32_t uimg_check(const uint8_t *image, size_t image_size, uint32_t need, uimg
    searches a FIT more loosely than a check: by a name up to an @, or by the first of two properties. So it may take
    other bytes than those whose hashes are right. If this call returns 0, U-Boot 2023.01 finds in a FIT exactly the
    images that were checked, each with the payload whose hashes are right, and compares no others; a legacy image has
-   data, a type, an architecture, a system and a compression that image.h names, and a right table of parts. Anything
-   else is refused by a fault with the letter S, whose line has the word of `uimg check --strict`, as "S3
+   data, and a type, an architecture, a system and a compression that image.h names. What uimg_check takes and this call
+   does not is refused by a fault with the letter S, whose line has the word of `uimg check --strict`, as "S3
    unit-address". Unlike the program it does not look whether the images that a configuration names exist. Takes memory
    for the names in one node, which peak does not count. */
 uint32_t uimg_check_strict(const uint8_t *image, size_t image_size, uint32_t need, uimg_report *report);

@@ -327,6 +327,8 @@ def main():
     uimg, count = os.path.abspath(sys.argv[1]), int(sys.argv[2]) if len(sys.argv) > 2 else COUNT
     os.chdir(TOP)
     os.environ["SOURCE_DATE_EPOCH"] = "1700000000"
+    if os.path.exists("/tmp/uimg-hostile"):
+        sys.exit("/tmp/uimg-hostile exists, which some images name")
     unknown, number = [], 0
     print("| Hostile images | Number | Check says ok | Findings |")
     print("|---|---|---|---|")

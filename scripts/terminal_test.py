@@ -1,7 +1,7 @@
 #!/usr/bin/env python3
 """terminal_test.py PROGRAM: what the program shows on a terminal while it works for more than two
 seconds. It is stopped for so long in the middle of a large file, or tried again if it was too fast
-or too slow for that. The last line counts."""
+for that. The last line counts."""
 import os
 import pty
 import re
@@ -27,17 +27,28 @@ CASES = [
     (SHOWN, "a legacy image that is listed", ["uimg-dumpimage", "-l", "big.img"]),
     (re.compile(b""), "nothing with --quiet", ["uimg", "check", "--quiet", "big.itb"]),
     (re.compile(b""), "nothing with -q", ["uimg-mkimage", "-q", "-E", "-f", "big.its", "made.itb"]),
+    (re.compile(b""), "nothing on a dumb terminal", ["uimg", "check", "big.itb"]),
 ]
 
 
-def shown(folder, words, pause):
+def read_by(process):
+    """Returns how many bytes a process has read."""
+    try:
+        with open(f"/proc/{process}/io", encoding="ascii") as file:
+            return int(re.search(r"^rchar: (\d+)", file.read(), re.M)[1])
+    except (OSError, TypeError):
+        return SIZE
+
+
+def shown(folder, words, term="xterm"):
     """Runs the program with standard error on a terminal, and stops it for more than two seconds
-    after a pause. Returns its status, and what the terminal got."""
+    once it has read some of its file. Returns its status, and what the terminal got."""
     leader, terminal = pty.openpty()
     how = {"cwd": folder, "stdin": subprocess.DEVNULL, "stdout": subprocess.DEVNULL, "stderr": terminal}
-    running = subprocess.Popen(words, executable=PROGRAM, **how)
+    running = subprocess.Popen(words, executable=PROGRAM, env={**os.environ, "TERM": term}, **how)
     os.close(terminal)
-    time.sleep(pause)
+    while read_by(running.pid) < SIZE // 32 and running.poll() is None:
+        pass
     running.send_signal(signal.SIGSTOP)
     time.sleep(2.1)
     running.send_signal(signal.SIGCONT)
@@ -68,11 +79,11 @@ def make_files(folder):
         os.truncate(path, length)
 
 
-def is_right(folder, wanted, words):
-    """Tries a command a few times, by other pauses. Returns whether it showed what is wanted, and
-    what it did last."""
-    for pause in (0.05, 0.02, 0.1, 0.01, 0.2):
-        status, told = shown(folder, words, pause)
+def is_right(folder, wanted, name, words):
+    """Tries a command a few times. Returns whether it showed what is wanted, and what it did
+    last."""
+    for _ in range(5):
+        status, told = shown(folder, words, "dumb" if "dumb" in name else "xterm")
         if status == 0 and wanted.fullmatch(told):
             return True, ""
     return False, f"{status}, {told!r}"
@@ -83,7 +94,7 @@ def main():
     with tempfile.TemporaryDirectory() as folder:
         make_files(folder)
         for wanted, name, words in CASES:
-            right, told = is_right(folder, wanted, words)
+            right, told = is_right(folder, wanted, name, words)
             failed += not right
             if not right:
                 print(f"{name}: {told}")

@@ -40,7 +40,7 @@ static uint32_t check(const uint8_t *image, size_t size)
     if (report.fault)
         tell(report.fault, report.place);
     else if (status != UIMG_DONE)
-        fprintf(stderr, "unpack: %s\n", status == UIMG_NO_MEMORY ? "out of memory" : "a hash is wrong, or too weak");
+        fprintf(stderr, "unpack: %s\n", status == UIMG_NO_MEMORY ? "out of memory" : "not right, or without a strong hash");
     return status;
 }
 

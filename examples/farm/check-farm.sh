@@ -53,6 +53,7 @@ folder=$(cd "$folder" && pwd) || exit 2
 # before. A status of 1 is a result: only 3, of an image that failed or of the job itself, is a
 # failure, after which the next run repeats the batch.
 cat > "$folder/job.new" << END
+# $(sha256sum < "$(realpath "$uimg")")
 cd $(quoted "$PWD") && farm=$(quoted "$folder") && part="\$farm/parts/\$1.\$(uname -n).\$\$" || exit 3
 cat "\$farm/states/\$1" > "\$part" || exit 3
 $check "\$farm/batches/\$1" >> "\$part"

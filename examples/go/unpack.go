@@ -56,7 +56,7 @@ func check(image []byte) int {
 	} else if status == failed {
 		fmt.Fprintln(os.Stderr, "unpack: out of memory")
 	} else if status != done {
-		fmt.Fprintln(os.Stderr, "unpack: a hash is wrong, or too weak")
+		fmt.Fprintln(os.Stderr, "unpack: not right, or without a strong hash")
 	}
 	return int(status)
 }

@@ -249,7 +249,7 @@ def _unpack(path, position):
     image = _mapped(path)
     report = check_strict(image, "sha256")
     if report.status != DONE:
-        print(f"uimg.py: {report.fault or ('out of memory' if report.status == FAILED else 'a hash is wrong, or too weak')}", file=sys.stderr)
+        print(f"uimg.py: {report.fault or ('out of memory' if report.status == FAILED else 'not right, or without a strong hash')}", file=sys.stderr)
         return report.status
     try:
         found = payload(image, position)

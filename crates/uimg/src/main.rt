@@ -6,7 +6,7 @@
 use std::io::IsTerminal;
 use std::process::ExitCode;
 use std::{env, io};
-use uimg_tool::{Cleared, Meter, WatchedFiles, epoch, now, program};
+use uimg_tool::{Cleared, Meter, WatchedFiles, can_erase, epoch, now, program};
 
 fn main(rt: HostRuntime) -> ExitCode {
     match run(&rt) {
@@ -30,7 +30,7 @@ fn run(rt: &HostRuntime) -> io::Result<u8> {
     }
     let epoch = epoch(rt)?;
     let now = now(rt).unwrap_or(0);
-    let is_shown = rt.stderr().is_terminal() && !is_quiet(&words);
+    let is_shown = rt.stderr().is_terminal() && can_erase(rt) && !is_quiet(&words);
     let meter = Meter::new(rt, rt.alloc(), rt.stderr(), is_shown);
     let status = program(
         &WatchedFiles::new(rt, &meter),

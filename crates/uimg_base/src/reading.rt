@@ -1,6 +1,6 @@
 //! Reads of a file at any offset; small ones, and those that follow one another, are read ahead.
 
-ghost use Rattle.std.specs.Prelude.{◌≡◌, ◌≤◌, ◌+◌, length, is_err, Option, Some, IfOk, IfSome, IsTrue, OnOk};
+ghost use Rattle.std.specs.Prelude.{◌≡◌, ◌≤◌, ◌+◌, ◌-◌, [], length, is_err, Option, Some, IfOk, IfSome, IsTrue, OnOk};
 ghost use Rattle.uimg_base.specs.Device.{RisesIf, asked_more};
 ghost use Rattle.uimg_base.specs.Ahead.{AreAhead, IsPieceAhead, HasPiece};
 ghost use Rattle.uimg_base.specs.Streams.{Stream, StandsAt, SameBytes, HoldsFrom, HasLength, ReadsOn};
@@ -68,6 +68,7 @@ impl Reading {
         ensures asked { self.new.asked ≡ asked_more self.old.asked (length to.old) }
         ensures failures { RisesIf (is_err result) self.old.failures self.new.failures }
         ensures counted { self.new.failures ≤ self.old.failures + 1 }
+        ensures freed { self.old.length - at ≤ length to.old → self.new.piece.bytes.items ≡ [] }
     {
         if !self.hold(file, at, to.len()) {
             return self.fill_beside(file, at, to);
@@ -103,6 +104,7 @@ impl Reading {
         ensures same { self.new ≡ record self.old { piece = self.new.piece } }
         ensures piece { (s : Option Stream) → IsPieceAhead self.old.piece s →
             IsPieceAhead self.new.piece s }
+        ensures freed { self.old.length - at ≤ len → self.new.piece.bytes.items ≡ [] }
     {
         let left = self.length.saturating_sub(at);
         self.piece.free_at_end(left, len);
@@ -129,7 +131,9 @@ impl Reading {
         ensures asked { self.new.asked ≡ self.old.asked }
         ensures failures { RisesIf (is_err result) self.old.failures self.new.failures }
         ensures counted { self.new.failures ≤ self.old.failures + 1 }
+        ensures freed { self.old.length - at ≤ length to.old → self.new.piece.bytes.items ≡ [] }
     {
+        self.free_at_end(at, to.len());
         if to.len() < AHEAD {
             let left = self.length.saturating_sub(at);
             let most = u64::min(AHEAD as u64, left) as usize;

@@ -4,7 +4,8 @@
 //! payload are those of the outcome. Output is truncated to the caller's memory; with status 3
 //! nothing is written, and a report says nothing. A payload or a name ends inside the image, and
 //! has no bytes if none was found. The reported memory is at most 8192 bytes and 128 for each node;
-//! tests show that it is not less than what was taken.
+//! tests show that it is not less than what was taken, other than by a strict check, which takes
+//! memory for the names in one node, too.
 
 ghost use Rattle.std.specs.Prelude.{◌≡◌, ◌≢◌, ◌≤◌, true, false};
 ghost use Rattle.uimg_requests.specs.declared.command.Action.TheVariants as action;

@@ -25,7 +25,7 @@ mod watched_files;
 mod xip_files;
 
 pub use main_program::program;
-pub use moments::{epoch, now};
+pub use moments::{can_erase, epoch, now};
 pub use progress::{Cleared, Meter};
 pub use uimg_engine::{Action, Command, DiskFiles, Fault, Form, MakeCommand, make, run};
 pub use watched_files::WatchedFiles;

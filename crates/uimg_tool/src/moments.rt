@@ -1,4 +1,4 @@
-//! The time of an image: SOURCE_DATE_EPOCH, or else the clock.
+//! The time of an image, SOURCE_DATE_EPOCH or else the clock; and the terminal.
 
 use std::alloc::Alloc;
 use std::env::{Env, VarError};
@@ -13,6 +13,14 @@ pub fn epoch<R: Env + Alloc>(rt: &R) -> io::Result<Option<String<R::A>>> {
         Err(VarError::NotPresent) => Ok(None),
         Err(VarError::NotUnicode) => Ok(Some(String::new(rt.alloc()))),
         Err(VarError::OutOfMemory) => Err(io::Error::from(io::ErrorKind::OutOfMemory)),
+    }
+}
+
+/// Returns whether a terminal can erase a line: the variable TERM is set, and not to `dumb`.
+pub fn can_erase<R: Env + Alloc>(rt: &R) -> bool {
+    match env::var(rt, "TERM") {
+        Ok(text) => text.as_str() != "dumb" && !text.is_empty(),
+        Err(_) => false,
     }
 }
 

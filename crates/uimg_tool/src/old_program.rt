@@ -163,6 +163,10 @@ fn make_beside<'a, R: Files + AllocGlobal, W: Write, V: Write>(
     } else {
         carry_out_apart(rt, &request, Some(file), out)
     };
+    if let (Err(RequestFault::Stopped(Fault::Put)), Err(error)) = (&end, &printed) {
+        let _ = fs::remove_file(rt, path.new.as_str());
+        return tell_unprinted(called.tool, error, err);
+    }
     let about = match &end {
         Err(RequestFault::Stopped(Fault::Its(_))) => source,
         _ => outfile,

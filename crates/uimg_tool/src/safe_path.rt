@@ -54,6 +54,7 @@ pub(crate) fn writing_of<R: Files + AllocGlobal>(
         Ok(found) if !found.is_file() => return Ok(Writing::InPlace),
         Ok(_) => match fs::canonicalize(rt, path) {
             Ok(canonical) => String::from_str(rt.alloc(), canonical.as_str())?,
+            Err(_) if is_link(rt, path) => return Ok(Writing::InPlace),
             Err(_) => String::from_str(rt.alloc(), path)?,
         },
         Err(_) if fs::symlink_metadata(rt, path).is_ok() => return Ok(Writing::InPlace),
@@ -63,6 +64,11 @@ pub(crate) fn writing_of<R: Files + AllocGlobal>(
         Ok(NewBeside { file, path: new }) => Ok(Writing::Beside(file, SafePath { new, whole })),
         Err(error) => Ok(Writing::Nowhere(error)),
     }
+}
+
+// Returns whether a symbolic link is at a path.
+fn is_link<R: Files>(rt: &R, path: &str) -> bool {
+    fs::symlink_metadata(rt, path).is_ok_and(|found| found.file_type().is_symlink())
 }
 
 /// Creates a file beside a path, under the first free name. Returns why it cannot be created; fails

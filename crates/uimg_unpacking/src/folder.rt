@@ -117,18 +117,24 @@ impl<'a> Folder<'a> {
     }
 }
 
-// Returns whether the file of an image is at a path, or in a folder there.
+// Returns whether the file of an image is at a path, or in a folder there, or may be: below a folder
+// whose name is not UTF-8, nothing tells.
 fn is_or_has<R: Files + AllocGlobal>(rt: &R, path: &str, image: Option<&str>) -> bool {
     let Some(image) = image else {
         return false;
     };
     let (Ok(path), Ok(image)) = (fs::canonicalize(rt, path), fs::canonicalize(rt, image)) else {
-        return false;
+        return is_no_link(rt, path) && is_there(rt, image);
     };
     match image.as_str().strip_prefix(path.as_str()) {
         Some(rest) => rest.is_empty() || rest.starts_with('/'),
         None => false,
     }
+}
+
+// Returns whether something exists at a path that is not a symbolic link.
+fn is_no_link<R: Files>(rt: &R, path: &str) -> bool {
+    fs::symlink_metadata(rt, path).is_ok_and(|found| !found.file_type().is_symlink())
 }
 
 /// Returns whether anything exists at a path, even a symbolic link without a target.

@@ -97,15 +97,28 @@ impl<'a, 'c, R: Files + AllocGlobal, W: Write + Drop> FolderTaker<'a, 'c, R, W> 
         let names = gives_names(self.keeps_good, is_whole, self.has_refused);
         if names {
             self.staging.name_all()?;
-            for name in &self.outdated {
-                remove_old(self.rt, &self.folder, name.as_str())?;
-            }
         }
+        let removed = if names {
+            self.remove_outdated()
+        } else {
+            Ok(())
+        };
         if names || self.has_refused {
             self.out.write_all(self.lines.as_slice())?;
             self.out.flush()?;
         }
-        Ok(())
+        removed
+    }
+
+    // Removes the files that refused payloads were to replace.
+    fn remove_outdated(&self) -> Result<(), Trouble> {
+        for name in &self.outdated {
+            remove_old(self.rt, &self.folder, name.as_str())?;
+        }
+        if self.outdated.is_empty() {
+            return Ok(());
+        }
+        self.staging.sync()
     }
 
     // Checks, before any payload is written, whether the file of this one may be.

@@ -9,6 +9,9 @@ use std::io::{BufWriter, ErrorKind};
 use std::rt::Files;
 use std::{fs, io};
 
+/// The error of a file system that cannot wait for a folder (`EINVAL`).
+const INVALID: i32 = 22;
+
 /// New files for a folder. Until they get their names, they are in a temporary folder within it.
 #[derive(Drop)]
 pub(crate) struct Staging<'a, 'c, R: Files + AllocGlobal> {
@@ -128,13 +131,10 @@ impl<'a, 'c, R: Files + AllocGlobal> Staging<'a, 'c, R> {
         }
         let paths = self.all_paths()?;
         if let (named, Some(trouble)) = self.name_each(&paths) {
-            self.take_back(&paths, named);
-            return Err(trouble);
+            return Err(self.taken_back(&paths, named, trouble));
         }
-        if let Err(reason) = self.sync() {
-            self.take_back(&paths, paths.len());
-            let path = String::from_str(self.rt.alloc(), self.folder.path)?;
-            return Err(Trouble::CannotSync(ShownPath(path), reason));
+        if let Err(trouble) = self.sync() {
+            return Err(self.taken_back(&paths, paths.len(), trouble));
         }
         for its in &paths {
             let _ = fs::remove_file(self.rt, its.old.as_str());
@@ -142,11 +142,22 @@ impl<'a, 'c, R: Files + AllocGlobal> Staging<'a, 'c, R> {
         Ok(())
     }
 
-    // Waits until the names in the folder are on the disk, if that is requested.
-    fn sync(&self) -> io::Result<()> {
-        if !self.folder.is_synced {
+    /// Waits until the names in the folder are on the disk, if that is requested and there are any.
+    /// A file system that never waits for a folder is none to wait for.
+    pub(crate) fn sync(&self) -> Result<(), Trouble> {
+        if !self.folder.is_synced || self.names.is_empty() {
             return Ok(());
         }
+        match self.sync_folder() {
+            Err(reason) if reason.raw_os_error() != Some(INVALID) => {
+                let path = String::from_str(self.rt.alloc(), self.folder.path)?;
+                Err(Trouble::CannotSync(ShownPath(path), reason))
+            }
+            _ => Ok(()),
+        }
+    }
+
+    fn sync_folder(&self) -> io::Result<()> {
         let folder = fs::open(self.rt, self.folder.path)?;
         fs::OpenFile::sync_all(&folder)
     }
@@ -208,17 +219,22 @@ impl<'a, 'c, R: Files + AllocGlobal> Staging<'a, 'c, R> {
     }
 
     // Takes the names of the files before a number away, and puts back what they, and the file of
-    // this number, were to replace.
-    fn take_back(&self, paths: &[Paths], number: usize) {
+    // this number, were to replace. Returns the trouble to tell: this one, or that old files are not
+    // in their place.
+    fn taken_back(&self, paths: &[Paths], number: usize, trouble: Trouble) -> Trouble {
+        let mut is_back = true;
         for (before, its) in paths.iter().enumerate() {
-            if before <= number {
-                put_back(
-                    self.rt,
-                    its.whole.as_str(),
-                    its.old.as_str(),
-                    before < number,
-                );
+            let (whole, old) = (its.whole.as_str(), its.old.as_str());
+            if before <= number && !put_back(self.rt, whole, old, before < number) {
+                is_back = false;
             }
+        }
+        match &self.made {
+            Some(made) if !is_back => match String::from_str(self.rt.alloc(), made.as_str()) {
+                Ok(made) => Trouble::NotPutBack(ShownPath(made)),
+                Err(_) => trouble,
+            },
+            _ => trouble,
         }
     }
 
@@ -248,13 +264,15 @@ fn keep_as<R: Files>(rt: &R, whole: &str, old: &str) -> io::Result<()> {
 }
 
 // Puts back what was kept under another name; if there is nothing, removes what got the name.
-fn put_back<R: Files>(rt: &R, whole: &str, old: &str, has_name: bool) {
-    if is_there(rt, old) {
-        // Two links to one file are left by a rename.
-        if fs::rename(rt, old, whole).is_ok() {
-            let _ = fs::remove_file(rt, old);
-        }
-    } else if has_name {
-        let _ = fs::remove_file(rt, whole);
+// Returns whether that is done.
+fn put_back<R: Files>(rt: &R, whole: &str, old: &str, has_name: bool) -> bool {
+    if !is_there(rt, old) {
+        return !has_name || fs::remove_file(rt, whole).is_ok();
     }
+    if fs::rename(rt, old, whole).is_err() {
+        return false;
+    }
+    // Two links to one file are left by a rename.
+    let _ = fs::remove_file(rt, old);
+    true
 }

@@ -57,6 +57,10 @@ pub enum Trouble {
     #[error("cannot sync {0}: {1}")]
     CannotSync(ShownPath, io::Error),
 
+    /// Old files could not be put back after another trouble, and are in this folder.
+    #[error("old files cannot be put back: they are in {0}, old-0 and so on")]
+    NotPutBack(ShownPath),
+
     /// A file cannot be written, for this reason.
     #[error("cannot write {0}: {1}")]
     CannotWrite(ShownPath, io::Error),
