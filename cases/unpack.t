@@ -532,7 +532,7 @@ At most 4096 files, or as many as are allowed, and as many bytes as are allowed;
   uimg: more than 11 bytes; --max-bytes allows more
   [1]
   $ uimg unpack --max-bytes 1 -C out part-outside.img
-  uimg: more than 1 bytes; --max-bytes allows more
+  uimg: L7 part outside
   [1]
   $ uimg unpack --max-bytes 1000 -C out part-outside.img
   uimg: L7 part outside
@@ -628,3 +628,18 @@ More sizes than fit into the window, read again a window at a time:
   image-2999: 3 bytes, data crc
   3000
   JJJ
+
+Nothing is written for an image without the one that is asked for, or without any, so no folder is needed:
+
+  $ cp "$TESTDIR/../examples/kernel.itb" k.itb && uimg unpack --only none -C nowhere k.itb
+  uimg: F4 no such image
+  [1]
+  $ echo '/dts-v1/; / { description = "d"; images { }; };' > e.its && uimg mkimage -f e.its e.itb > e.txt && uimg unpack -C nowhere e.itb
+
+Below a folder whose name is not UTF-8 nothing tells whether a file is the image, so it is not removed:
+
+  $ folder=$(printf 'nu\377') && mkdir "$folder" "$folder/.uimg-new1" && cp k.itb "$folder/.uimg-new1/new-0"
+  $ (cd "$folder" && uimg unpack --clean .uimg-new1/new-0)
+  uimg: ./.uimg-new1 would be removed while it is read
+  [2]
+  $ cmp k.itb "$folder/.uimg-new1/new-0"
