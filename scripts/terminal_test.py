@@ -16,7 +16,7 @@ SIZE = 128 << 20
 # The line, drawn in its place, and erased at the end.
 SHOWN = re.compile(rb"(\r\d+ of 128 MiB\x1b\[K)+\r\x1b\[K")
 SOURCE = """/dts-v1/;
-/ { description = "d"; images { kernel { description = "k"; data = /incbin/("payload");
+/ { description = "d"; #address-cells = <1>; images { kernel { description = "k"; data = /incbin/("payload");
     type = "kernel"; arch = "arm64"; os = "linux"; compression = "none"; load = <0>; entry = <0>;
     hash-1 { algo = "sha256"; }; }; }; };
 """
