@@ -8,7 +8,7 @@ use std::alloc::Global;
 use std::io::Write;
 use std::rt::Files;
 use uimg_base::{Algo, MULTI, Room, SCRIPT, Source, SourceFault};
-use uimg_legacy::{Fault, LegacyFault, PartsFault, locate_parts, read_header};
+use uimg_legacy::{Fault, LegacyFault, read_header};
 
 /// The offset of the table of sizes: the length of the header.
 const TABLE: u64 = 64;
@@ -45,14 +45,14 @@ pub fn unpack_parts<R: Files + AllocGlobal, S: Source, W: Write + Drop>(
 ) -> PartsEnded {
     let mut room = Room::new(rt.alloc());
     if !stands_by_crc32(asked.need) {
-        return unless_refused(rt.alloc(), source, &mut room, PartsEnded::Weak);
+        return unless_refused(source, &mut room, PartsEnded::Weak);
     }
     let only = asked.only.map(number_of);
     if let Some(most) = asked.limits.bytes {
         match bytes_of(only, source) {
             Ok(bytes) if bytes > most => {
                 let end = PartsEnded::Troubled(Trouble::TooManyBytes(most));
-                return unless_refused(rt.alloc(), source, &mut room, end);
+                return unless_refused(source, &mut room, end);
             }
             Ok(_) => {}
             Err(fault) => return PartsEnded::Stopped(fault),
@@ -72,19 +72,13 @@ pub fn unpack_parts<R: Files + AllocGlobal, S: Source, W: Write + Drop>(
 
 // Returns an end, unless the image's header or its table of parts is refused.
 fn unless_refused<S: Source>(
-    alloc: Global,
     source: &mut S,
     room: &mut Room<Global>,
     end: PartsEnded,
 ) -> PartsEnded {
-    let located = match read_header(source) {
-        Ok(header) => locate_parts(alloc, source, room, &header),
-        Err(fault) => Err(PartsFault::Stopped(fault)),
-    };
-    match located {
+    match uimg_legacy::check(source, room) {
         Ok(_) => end,
-        Err(PartsFault::Stopped(fault)) => PartsEnded::Stopped(fault),
-        Err(PartsFault::OutOfMemory) => PartsEnded::Troubled(Trouble::OutOfMemory),
+        Err(fault) => PartsEnded::Stopped(fault),
     }
 }
 
