@@ -36,3 +36,11 @@ A path with characters that a terminal obeys is printed without them:
   $ head -c 70 k.img > "$path" && dumpimage -l "$path"
   dumpimage: a\x1b[31mb: L4 truncated
   [1]
+
+A path that is not UTF-8 cannot be read, but a symbolic link to the file can:
+
+  $ cp k.img "$(printf 'a\377')" && ln -s "$(printf 'a\377')" link.img && printf 'a\377\n' > names
+  $ uimg check --files-from names link.img
+  link.img: ok 2 checksums
+  a\xff: failed cannot read: the path is not UTF-8
+  [3]
