@@ -6,9 +6,9 @@ use Rattle.std.proofs.{lemmas.Option.{slice_get-map, slice_get_past}, Math.ListN
 use Rattle.uimg_blob_reading.specs.declared.{keys.Key.Key, roles.Role.Role, nodes.Blob.Blob}
 use Rattle.uimg_blob_reading.specs.{Tokens.Property, Grammar.{Siblings, none, node}, Keys.name_of}
 use Rattle.uimg_blob_reading.specs.{Rows.{Row, size, first_of, rows, table}, LookUps.first}
-use Rattle.uimg_blob_reading.specs.{Spots.spot_of, declared.roles.Role.TheVariants.Hash}
+use Rattle.uimg_blob_reading.specs.{Spots.spot_of, declared.roles.Role.TheVariants.{Hash, Signature}}
 use Rattle.uimg_blob_reading.specs.Indexed.{IsIndexed, IsRow, property_span, value_span, value_of}
-use Rattle.uimg_blob_reading.specs.Roles.{Level, top, role_at, level_in, level_after, keys_of, is_hash_role}
+use Rattle.uimg_blob_reading.specs.Roles.{Level, top, role_at, level_in, level_after, keys_of, is_hash_role, is_signature_role}
 use Rattle.uimg_blob_reading.specs.Kept.{Kept, kept, kept_of, entry_of, slot, value_word, span_word, number_word, property_named, LiesIn, entry_under}
 use Rattle.uimg_base.specs.declared.spans.Span.{Span}
 use Rattle.uimg_blob_reading.proofs.{SoFarLaws.length_kept, KeepLaws.length_words}
@@ -278,3 +278,6 @@ is_kept row key role i same place = grind (arith, first_spots, to_spot)
 
 pub not_hash : (role : Role) → (role ≡ Hash → ⊥) → false ≡ is_hash_role role
 not_hash role h = grind arith
+
+pub not_signature : (role : Role) → (role ≡ Signature → ⊥) → false ≡ is_signature_role role
+not_signature role h = grind arith

@@ -2,10 +2,10 @@
 use Rattle.std.proofs.Common.{◌≡◌, ◌+◌, ℕ, suc, List, [], ◌∷◌, ◌++◌, length, Option, Some, None, Bool, true, false, ◌||◌, if◌then◌else◌, ap, sym, ◌∙◌, arith}
 use Rattle.std.specs.{Option.{is_some, option_or}, Prelude.codes}
 use Rattle.std.proofs.lemmas.Slice.Eq.{bytes_eq-Decides}
-use Rattle.uimg_blob_reading.specs.declared.roles.Role.{Role, TheVariants.{Hash, Other}}
+use Rattle.uimg_blob_reading.specs.declared.roles.Role.{Role}
 use Rattle.uimg_blob_reading.specs.{Grammar.none, Kept.{Kept, number_of_role}, Walk.{Open, opened}}
 use Rattle.uimg_blob_reading.specs.SoFar.{next_level, level_past, so_far}
-use Rattle.uimg_blob_reading.specs.Roles.{Level, in_root, role_at, root_child, level_after, is_images, is_configurations, is_images_role, is_configurations_role}
+use Rattle.uimg_blob_reading.specs.Roles.{Level, in_root, role_at, root_child, sum_role, level_after, is_images, is_configurations, is_images_role, is_configurations_role}
 use Rattle.uimg_blob_reading.specs.Passes.{root_level, child_level, noted_images, noted_configurations}
 use Rattle.uimg_blob_reading.proofs.{SoFarLaws.{Seam, begin_row}, KeyLaws.none_from}
 use Rattle.uimg_blob_reading.proofs.PhaseLaws.{true_false}
@@ -53,25 +53,25 @@ fresh_root_images a b c d h = grind (arith, true_false)
 fresh_root_configurations : (a b c d : Bool) → is_configurations_role (root_child a b c d) ≡ true → b ≡ false
 fresh_root_configurations a b c d h = grind (arith, true_false)
 
-pub hash_images : (b : Bool) → is_images_role (if b then Hash else Other) ≡ false
-hash_images b = grind arith
+pub sum_images : (a b : Bool) → is_images_role (sum_role a b) ≡ false
+sum_images a b = grind arith
 
-pub hash_configurations : (b : Bool) → is_configurations_role (if b then Hash else Other) ≡ false
-hash_configurations b = grind arith
+pub sum_configurations : (a b : Bool) → is_configurations_role (sum_role a b) ≡ false
+sum_configurations a b = grind arith
 
 -- only children of the root are `images` or `configurations`
 never_images : (r : Role) (hi hc : Bool) (name : List ℕ) → is_root r ≡ false → is_images_role (role_at (child_level r hi hc) name) ≡ false
-never_images r hi hc name h = grind (arith, hash_images, true_false)
+never_images r hi hc name h = grind (arith, sum_images, true_false)
 
 never_configurations : (r : Role) (hi hc : Bool) (name : List ℕ) → is_root r ≡ false → is_configurations_role (role_at (child_level r hi hc) name) ≡ false
-never_configurations r hi hc name h = grind (arith, hash_configurations, true_false)
+never_configurations r hi hc name h = grind (arith, sum_configurations, true_false)
 
 fresh_images_in : (r : Role) (hi hc : Bool) (name : List ℕ) → is_images_role (role_at (child_level r hi hc) name) ≡ true → hi ≡ false
-fresh_images_in r hi hc name h = grind (arith, fresh_root_images, hash_images, true_false)
+fresh_images_in r hi hc name h = grind (arith, fresh_root_images, sum_images, true_false)
 
 fresh_configurations_in : (r : Role) (hi hc : Bool) (name : List ℕ) → is_configurations_role (role_at (child_level r hi hc) name) ≡ true → hc ≡ false
 fresh_configurations_in r hi hc name h =
-    grind (arith, fresh_root_configurations, hash_configurations, true_false)
+    grind (arith, fresh_root_configurations, sum_configurations, true_false)
 
 -- the first of its role, by what the root had
 fresh_images : (ls : List Open) (name : List ℕ) (hi hc : Bool) → root_level ls ≡ in_root hi hc → is_images_role (role_at (next_level ls) name) ≡ true → hi ≡ false

@@ -2,13 +2,13 @@
 use Rattle.std.proofs.Common.{◌≡◌, ◌+◌, ℕ, suc, List, [], ◌∷◌, ◌++◌, length, Option, Some, None, Bool, true, false, ◌||◌, if◌then◌else◌, refl, ap, sym, ◌∙◌, arith}
 use Rattle.std.specs.{Option.option_or, Prelude.{not, codes}}
 use Rattle.std.proofs.lemmas.Slice.Eq.{bytes_eq-Decides}
-use Rattle.uimg_blob_reading.specs.declared.roles.Role.{Role, TheVariants.{Root, Hash, Other}}
+use Rattle.uimg_blob_reading.specs.declared.roles.Role.{Role, TheVariants.{Root}}
 use Rattle.uimg_blob_reading.specs.{Grammar.{Siblings, none, node}, Walk.{Open, as_node}}
 use Rattle.uimg_blob_reading.specs.Rows.{size, number_named, child_number}
 use Rattle.uimg_blob_reading.specs.Kept.{Kept, kept, kept_of, number_of_role}
-use Rattle.uimg_blob_reading.specs.Roles.{Level, top, in_root, in_images, in_image, in_configurations, elsewhere, role_at, root_child, level_in, level_after, is_images, is_configurations, is_images_role, is_configurations_role}
+use Rattle.uimg_blob_reading.specs.Roles.{Level, top, in_root, in_images, in_image, in_configurations, elsewhere, role_at, root_child, sum_role, level_in, level_after, is_images, is_configurations, is_images_role, is_configurations_role}
 use Rattle.uimg_blob_reading.proofs.{SoFarLaws.length_kept, PhaseLaws.{true_false, by_bool}}
-use Rattle.uimg_blob_reading.proofs.NoteLaws.{first_or, hash_images, hash_configurations}
+use Rattle.uimg_blob_reading.proofs.NoteLaws.{first_or, sum_images, sum_configurations}
 
 number_append : (is_it : Role → Bool) (j : ℕ) (a b : List Kept) → number_of_role is_it j (a ++ b) ≡ option_or (number_of_role is_it j a) (number_of_role is_it (j + length a) b)
 number_append is_it j [] b = let e : j ≡ j + 0 = omega arith in ap (λ (n : ℕ). number_of_role is_it n b) e
@@ -100,31 +100,31 @@ in_child_images hi hc a b = grind arith
 in_child_configurations : (hi hc a b : Bool) → gives_configurations (level_in (root_child hi hc a b)) ≡ false
 in_child_configurations hi hc a b = grind arith
 
-hash_in_images : (b : Bool) → gives_images (level_in (if b then Hash else Other)) ≡ false
-hash_in_images b = grind arith
+sum_in_images : (a b : Bool) → gives_images (level_in (sum_role a b)) ≡ false
+sum_in_images a b = grind arith
 
-hash_in_configurations : (b : Bool) → gives_configurations (level_in (if b then Hash else Other)) ≡ false
-hash_in_configurations b = grind arith
+sum_in_configurations : (a b : Bool) → gives_configurations (level_in (sum_role a b)) ≡ false
+sum_in_configurations a b = grind arith
 
 still_had : (a b : Bool) → not a ≡ false → not (a || b) ≡ false
 still_had a b h = grind (arith, true_false)
 
 images_here : (level : Level) (name : List ℕ) → gives_images level ≡ false → is_images_role (role_at level name) ≡ false
-images_here level name h = grind (arith, hash_images, root_other_images, true_false)
+images_here level name h = grind (arith, sum_images, root_other_images, true_false)
 
 images_below : (level : Level) (name : List ℕ) → gives_images level ≡ false → gives_images (level_in (role_at level name)) ≡ false
-images_below level name h = grind (arith, hash_in_images, in_child_images, true_false)
+images_below level name h = grind (arith, sum_in_images, in_child_images, true_false)
 
 images_past : (level : Level) (name : List ℕ) → gives_images level ≡ false → gives_images (level_after level name) ≡ false
 images_past level name h = grind (arith, still_had, true_false)
 
 configurations_here : (level : Level) (name : List ℕ) → gives_configurations level ≡ false → is_configurations_role (role_at level name) ≡ false
 configurations_here level name h =
-    grind (arith, hash_configurations, root_other_configurations, true_false)
+    grind (arith, sum_configurations, root_other_configurations, true_false)
 
 configurations_below : (level : Level) (name : List ℕ) → gives_configurations level ≡ false → gives_configurations (level_in (role_at level name)) ≡ false
 configurations_below level name h =
-    grind (arith, hash_in_configurations, in_child_configurations, true_false)
+    grind (arith, sum_in_configurations, in_child_configurations, true_false)
 
 configurations_past : (level : Level) (name : List ℕ) → gives_configurations level ≡ false → gives_configurations (level_after level name) ≡ false
 configurations_past level name h = grind (arith, still_had, true_false)

@@ -5,8 +5,8 @@ use Rattle.std.proofs.Math.Seq.{get_or-append_seam}
 use Rattle.uimg_blob_reading.specs.{declared.roles.Role.Role, Tokens.Property, Walk.{Open, opened}}
 use Rattle.uimg_blob_reading.specs.{Grammar.{Siblings, none, node}, Kept.{Kept, kept, entry_of}}
 use Rattle.uimg_blob_reading.specs.Passes.{root_level, child_level}
-use Rattle.uimg_blob_reading.specs.declared.roles.Role.TheVariants.{Root, Images, Image, Hash, Configurations, Configuration, Other}
-use Rattle.uimg_blob_reading.specs.Roles.{Level, top, in_root, in_images, in_image, in_configurations, elsewhere, role_at, root_child, level_in, level_after}
+use Rattle.uimg_blob_reading.specs.declared.roles.Role.TheVariants.{Root, Images, Image, Hash, Signature, Configurations, Configuration, Other}
+use Rattle.uimg_blob_reading.specs.Roles.{Level, top, in_root, in_images, in_image, in_configurations, elsewhere, role_at, root_child, sum_role, level_in, level_after}
 use Rattle.uimg_blob_reading.specs.SoFar.{next_number, level_past, next_level, open_row, so_far, entries_so_far}
 use Rattle.uimg_blob_reading.proofs.{SoFarLaws.length_so_far, EntryLaws.length_entries}
 use Rattle.uimg_blob_reading.proofs.PhaseLaws.{true_false}
@@ -37,6 +37,7 @@ is_root Root = true
 is_root Images = false
 is_root Image = false
 is_root Hash = false
+is_root Signature = false
 is_root Configurations = false
 is_root Configuration = false
 is_root Other = false
@@ -55,11 +56,11 @@ in_not_top r = grind arith
 root_child_not : (a b c d : Bool) → is_root (root_child a b c d) ≡ false
 root_child_not a b c d = grind arith
 
-hash_not : (b : Bool) → is_root (if b then Hash else Other) ≡ false
-hash_not b = grind arith
+sum_not : (a b : Bool) → is_root (sum_role a b) ≡ false
+sum_not a b = grind arith
 
 role_not_root : (l : Level) (name : List ℕ) → is_top l ≡ false → is_root (role_at l name) ≡ false
-role_not_root l name h = grind (arith, hash_not, root_child_not, true_false)
+role_not_root l name h = grind (arith, sum_not, root_child_not, true_false)
 
 past_same : (l : Level) (b : Siblings) → ((name : List ℕ) → level_after l name ≡ l) → level_past l b ≡ l
 unfolding level_past

@@ -3,7 +3,8 @@ use Rattle.std.specs.{List.AllByRecursion, Option.option_map, Str.bytes_eq}
 use Rattle.std.specs.Prelude.{◌≡◌, ℕ, suc, ◌<◌, ◌≤◌, Bool, if◌then◌else◌, ◌+◌, ◌*◌, ◌-◌, ◌^◌, List}
 use Rattle.std.specs.Prelude.{[], ◌∷◌, ◌++◌, length, map, replicate, Option, Some, None, IfSome}
 use Rattle.std.specs.Prelude.{find, get_or, ◌==◌}
-use Rattle.uimg_blob_reading.specs.declared.{keys.Key.Key, roles.Role.{Role, TheVariants.Other}}
+use Rattle.uimg_blob_reading.specs.declared.keys.Key.{Key}
+use Rattle.uimg_blob_reading.specs.declared.roles.Role.{Role, TheVariants.{Signature, Other}}
 use Rattle.uimg_blob_reading.specs.declared.roles.Role.TheVariants.{Root, Images, Image, Hash}
 use Rattle.uimg_blob_reading.specs.declared.roles.Role.TheVariants.{Configurations, Configuration}
 use Rattle.uimg_blob_reading.specs.{Tokens.Property, Grammar.{Siblings, none, node}, Keys.name_of}
@@ -76,6 +77,7 @@ role_word Hash = 3
 role_word Configurations = 4
 role_word Configuration = 5
 role_word Other = 6
+role_word Signature = 7
 
 -- the words of the first property of each key, padded with zeros to eleven
 abbrev pub value_words : List Key → List Property → List ℕ

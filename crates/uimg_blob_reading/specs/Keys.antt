@@ -8,7 +8,8 @@ use Rattle.uimg_blob_reading.specs.declared.keys.Key.TheVariants.{Kind, Arch, Os
 use Rattle.uimg_blob_reading.specs.declared.keys.Key.TheVariants.{Entry, DataSize, DataOffset}
 use Rattle.uimg_blob_reading.specs.declared.keys.Key.TheVariants.{Default, Kernel, Ramdisk, Fdt}
 use Rattle.uimg_blob_reading.specs.declared.keys.Key.TheVariants.{Loadables, Firmware, Fpga, Setup}
-use Rattle.uimg_blob_reading.specs.declared.keys.Key.TheVariants.{Standalone, Script}
+use Rattle.uimg_blob_reading.specs.declared.keys.Key.TheVariants.{Standalone, Script, KeyName}
+use Rattle.uimg_blob_reading.specs.declared.keys.Key.TheVariants.{Required, Padding}
 
 -- the name of a key's property
 abbrev pub name_of : Key → List ℕ
@@ -36,6 +37,9 @@ name_of Fpga = codes "fpga"
 name_of Setup = codes "setup"
 name_of Standalone = codes "standalone"
 name_of Script = codes "script"
+name_of KeyName = codes "key-name-hint"
+name_of Required = codes "required"
+name_of Padding = codes "padding"
 
 -- all keys
 abbrev pub all_keys : List Key
@@ -43,7 +47,7 @@ all_keys =
     Description ∷ Timestamp ∷ Data ∷ Kind ∷ Arch ∷ Os ∷ Compression
     ∷ Load ∷ Entry ∷ DataSize ∷ DataOffset ∷ DataPosition ∷ Algo ∷ Value
     ∷ Default ∷ Kernel ∷ Ramdisk ∷ Fdt ∷ Loadables
-    ∷ Firmware ∷ Fpga ∷ Setup ∷ Standalone ∷ Script ∷ []
+    ∷ Firmware ∷ Fpga ∷ Setup ∷ Standalone ∷ Script ∷ KeyName ∷ Required ∷ Padding ∷ []
 
 -- a name and its key
 pub record KeyRow : Type 0 where
@@ -67,7 +71,8 @@ abbrev pub text_names : List (List ℕ)
 text_names =
     codes "description" ∷ codes "type" ∷ codes "arch" ∷ codes "os" ∷ codes "compression"
     ∷ codes "algo" ∷ codes "value"
-    ∷ codes "default" ∷ codes "kernel" ∷ codes "ramdisk" ∷ codes "fdt" ∷ codes "loadables" ∷ []
+    ∷ codes "default" ∷ codes "kernel" ∷ codes "ramdisk" ∷ codes "fdt" ∷ codes "loadables"
+    ∷ codes "firmware" ∷ codes "fpga" ∷ codes "key-name-hint" ∷ codes "padding" ∷ []
 
 -- whether a property's name is one of these
 abbrev pub is_text : List ℕ → Bool

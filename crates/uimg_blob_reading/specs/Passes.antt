@@ -12,7 +12,7 @@ use Rattle.uimg_blob_reading.specs.{Faults.refuses_memory, Rows.child_number, So
 use Rattle.uimg_blob_reading.specs.Roles.{Level, in_root, in_images, in_image, in_configurations}
 use Rattle.uimg_blob_reading.specs.Roles.{elsewhere, level_after, is_images, is_configurations}
 use Rattle.uimg_blob_reading.specs.Roles.{is_images_role, is_configurations_role}
-use Rattle.uimg_blob_reading.specs.declared.roles.Role.{Role, TheVariants.Other}
+use Rattle.uimg_blob_reading.specs.declared.roles.Role.{Role, TheVariants.{Signature, Other}}
 use Rattle.uimg_blob_reading.specs.declared.roles.Role.TheVariants.{Root, Images, Image, Hash}
 use Rattle.uimg_blob_reading.specs.declared.roles.Role.TheVariants.{Configurations, Configuration}
 use Rattle.uimg_blob_reading.specs.Walk.{Open, opened, close, as_node, walk, begun, finished}
@@ -146,8 +146,9 @@ child_level Root had_images had_configurations = in_root had_images had_configur
 child_level Images had_images had_configurations = in_images
 child_level Image had_images had_configurations = in_image
 child_level Hash had_images had_configurations = elsewhere
+child_level Signature had_images had_configurations = elsewhere
 child_level Configurations had_images had_configurations = in_configurations
-child_level Configuration had_images had_configurations = elsewhere
+child_level Configuration had_images had_configurations = in_image
 child_level Other had_images had_configurations = elsewhere
 
 -- the number of `images` after one more node
@@ -156,6 +157,7 @@ noted_images Root n found = found
 noted_images Images n found = Some n
 noted_images Image n found = found
 noted_images Hash n found = found
+noted_images Signature n found = found
 noted_images Configurations n found = found
 noted_images Configuration n found = found
 noted_images Other n found = found
@@ -166,6 +168,7 @@ noted_configurations Root n found = found
 noted_configurations Images n found = found
 noted_configurations Image n found = found
 noted_configurations Hash n found = found
+noted_configurations Signature n found = found
 noted_configurations Configurations n found = Some n
 noted_configurations Configuration n found = found
 noted_configurations Other n found = found

@@ -1,5 +1,6 @@
 -- What a node is by its place in the tree (Flattened Image Tree format, "Root node", "'/images'
--- node", "'/configurations' node", "Hash nodes").
+-- node", "'/configurations' node", "Hash nodes", "Image-signature nodes", "Configuration-signature
+-- nodes").
 use Rattle.std.specs.Prelude.{ℕ, ◌==◌, ◌||◌, List, [], ◌∷◌, Bool, true, false, codes, if◌then◌else◌}
 use Rattle.std.specs.{List.starts_with, Str.bytes_eq}
 use Rattle.uimg_blob_reading.specs.declared.keys.Key.{Key, TheVariants.{DataPosition, Algo, Value}}
@@ -8,13 +9,15 @@ use Rattle.uimg_blob_reading.specs.declared.keys.Key.TheVariants.{Kind, Arch, Os
 use Rattle.uimg_blob_reading.specs.declared.keys.Key.TheVariants.{Entry, DataSize, DataOffset}
 use Rattle.uimg_blob_reading.specs.declared.keys.Key.TheVariants.{Default, Kernel, Ramdisk, Fdt}
 use Rattle.uimg_blob_reading.specs.declared.keys.Key.TheVariants.{Loadables, Firmware, Fpga, Setup}
-use Rattle.uimg_blob_reading.specs.declared.keys.Key.TheVariants.{Standalone, Script}
-use Rattle.uimg_blob_reading.specs.declared.roles.Role.{Role, TheVariants.Other}
+use Rattle.uimg_blob_reading.specs.declared.keys.Key.TheVariants.{Standalone, Script, KeyName}
+use Rattle.uimg_blob_reading.specs.declared.keys.Key.TheVariants.{Required, Padding}
+use Rattle.uimg_blob_reading.specs.declared.roles.Role.{Role, TheVariants.{Signature, Other}}
 use Rattle.uimg_blob_reading.specs.declared.roles.Role.TheVariants.{Root, Images, Image, Hash}
 use Rattle.uimg_blob_reading.specs.declared.roles.Role.TheVariants.{Configurations, Configuration}
 
 -- The level of siblings: the root alone, the root's children (and whether an `images` and a
--- `configurations` come before), the children of these two, those of an image, and all others.
+-- `configurations` come before), the children of these two, those of an image or a configuration,
+-- and all others.
 pub data Level : Type 0 where
   top : Level
   in_root : Bool → Bool → Level
@@ -33,6 +36,10 @@ is_configurations name = bytes_eq name (codes "configurations")
 abbrev pub is_hash : List ℕ → Bool
 is_hash name = starts_with (λ a b. a == b) name (codes "hash")
 
+-- the name is that of a signature node
+abbrev pub is_signature : List ℕ → Bool
+is_signature name = starts_with (λ a b. a == b) name (codes "signature")
+
 -- only the root's first `images` and first `configurations` have a role
 abbrev pub root_child : Bool → Bool → Bool → Bool → Role
 root_child had_images had_configurations true named_configurations =
@@ -41,13 +48,18 @@ root_child had_images had_configurations false true =
     if had_configurations then Other else Configurations
 root_child had_images had_configurations false false = Other
 
+-- the role of a child of an image or a configuration
+abbrev pub sum_role : Bool → Bool → Role
+sum_role named_hash named_signature =
+    if named_hash then Hash else if named_signature then Signature else Other
+
 -- the role of a node with this name
 abbrev pub role_at : Level → List ℕ → Role
 role_at top name = Root
 role_at (in_root had_images had_configurations) name =
     root_child had_images had_configurations (is_images name) (is_configurations name)
 role_at in_images name = Image
-role_at in_image name = if is_hash name then Hash else Other
+role_at in_image name = sum_role (is_hash name) (is_signature name)
 role_at in_configurations name = Configuration
 role_at elsewhere name = Other
 
@@ -57,8 +69,9 @@ level_in Root = in_root false false
 level_in Images = in_images
 level_in Image = in_image
 level_in Hash = elsewhere
+level_in Signature = elsewhere
 level_in Configurations = in_configurations
-level_in Configuration = elsewhere
+level_in Configuration = in_image
 level_in Other = elsewhere
 
 -- the level of the nodes after a node with this name
@@ -79,6 +92,7 @@ keys_of Image =
     Description ∷ Data ∷ Kind ∷ Arch ∷ Os ∷ Compression ∷ Load ∷ Entry ∷ DataSize ∷ DataOffset
     ∷ DataPosition ∷ []
 keys_of Hash = Algo ∷ Value ∷ []
+keys_of Signature = Algo ∷ Value ∷ KeyName ∷ Required ∷ Padding ∷ Timestamp ∷ []
 keys_of Configurations = Default ∷ []
 keys_of Configuration =
     Description ∷ Kernel ∷ Ramdisk ∷ Fdt ∷ Loadables ∷ Firmware ∷ Fpga ∷ Setup ∷ Standalone ∷ Script
@@ -90,6 +104,7 @@ is_images_role Root = false
 is_images_role Images = true
 is_images_role Image = false
 is_images_role Hash = false
+is_images_role Signature = false
 is_images_role Configurations = false
 is_images_role Configuration = false
 is_images_role Other = false
@@ -99,6 +114,7 @@ is_configurations_role Root = false
 is_configurations_role Images = false
 is_configurations_role Image = false
 is_configurations_role Hash = false
+is_configurations_role Signature = false
 is_configurations_role Configurations = true
 is_configurations_role Configuration = false
 is_configurations_role Other = false
@@ -108,6 +124,17 @@ is_hash_role Root = false
 is_hash_role Images = false
 is_hash_role Image = false
 is_hash_role Hash = true
+is_hash_role Signature = false
 is_hash_role Configurations = false
 is_hash_role Configuration = false
 is_hash_role Other = false
+
+abbrev pub is_signature_role : Role → Bool
+is_signature_role Root = false
+is_signature_role Images = false
+is_signature_role Image = false
+is_signature_role Hash = false
+is_signature_role Signature = true
+is_signature_role Configurations = false
+is_signature_role Configuration = false
+is_signature_role Other = false

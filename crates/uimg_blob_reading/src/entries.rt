@@ -52,6 +52,7 @@ fn role_word(role: Role) -> u64
         Role::Configurations => 4,
         Role::Configuration => 5,
         Role::Other => 6,
+        Role::Signature => 7,
     }
 }
 
@@ -77,6 +78,7 @@ pub(crate) fn role_in(word: u64) -> Role
         3 => Role::Hash,
         4 => Role::Configurations,
         5 => Role::Configuration,
+        7 => Role::Signature,
         _ => Role::Other,
     }
 }

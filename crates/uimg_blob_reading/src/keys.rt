@@ -54,10 +54,16 @@ pub enum Key {
     Standalone,
     /// `script`: the name of an image.
     Script,
+    /// `key-name-hint`: the name of a key.
+    KeyName,
+    /// `required`: what a key has to sign.
+    Required,
+    /// `padding`: the name of a padding.
+    Padding,
 }
 
 // The names of the properties to which FIT gives a meaning.
-const NAMES: [(&str, Key); 24] = [
+const NAMES: [(&str, Key); 27] = [
     ("description", Key::Description),
     ("timestamp", Key::Timestamp),
     ("data", Key::Data),
@@ -82,6 +88,9 @@ const NAMES: [(&str, Key); 24] = [
     ("setup", Key::Setup),
     ("standalone", Key::Standalone),
     ("script", Key::Script),
+    ("key-name-hint", Key::KeyName),
+    ("required", Key::Required),
+    ("padding", Key::Padding),
 ];
 
 // Looks up the key in the first row with this name.

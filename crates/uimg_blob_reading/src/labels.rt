@@ -12,6 +12,8 @@ pub(crate) enum Label {
     Configurations,
     /// A name that begins with `hash`.
     Hash,
+    /// A name that begins with `signature`.
+    Signature,
     /// Any other name.
     Other,
 }
@@ -26,6 +28,8 @@ pub(crate) fn label_of(name: &[u8]) -> Label
         Label::Configurations
     } else if name.starts_with(b"hash") {
         Label::Hash
+    } else if name.starts_with(b"signature") {
+        Label::Signature
     } else {
         Label::Other
     }

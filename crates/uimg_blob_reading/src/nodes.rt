@@ -2,7 +2,7 @@
 
 ghost use Rattle.std.specs.Prelude.{◌≡◌, ℕ, ◌+◌, ◌^◌, ◌<◌, ◌≤◌, length, Option, IfSome};
 ghost use Rattle.std.specs.{List.slice_get, Option.option_map};
-ghost use Rattle.uimg_blob_reading.specs.{Tokens.Property, Roles.is_hash_role};
+ghost use Rattle.uimg_blob_reading.specs.{Tokens.Property, Roles.{is_hash_role, is_signature_role}};
 ghost use Rattle.uimg_blob_reading.specs.Kept.{span_word, value_word, entry_under};
 ghost use Rattle.uimg_blob_reading.specs.Indexed.{OfRow, WhereIndexed, name_span, property_span, value_span, value_of};
 
@@ -102,13 +102,26 @@ impl Blob {
         node_under(room, entry[END] as usize, entry[PARENT])
     }
 
-    /// Returns whether a node is a hash node: a child of an image whose name begins with `hash`.
+    /// Returns whether a node is a hash node: a child of an image or a configuration whose name
+    /// begins with `hash`.
     pub fn is_hash<A: Allocator>(&self, room: &Room<A>, node: usize) -> bool
         requires { node < length room.now.entries }
         ensures { OfRow self.now room.now.entries node (λ row. result ≡ is_hash_role row.role) }
     {
         match role_in(room.entry(node)[ROLE]) {
             Role::Hash => true,
+            _ => false,
+        }
+    }
+
+    /// Returns whether a node is a signature node: a child of an image or a configuration whose
+    /// name begins with `signature`.
+    pub fn is_signature<A: Allocator>(&self, room: &Room<A>, node: usize) -> bool
+        requires { node < length room.now.entries }
+        ensures { OfRow self.now room.now.entries node (λ row. result ≡ is_signature_role row.role) }
+    {
+        match role_in(room.entry(node)[ROLE]) {
+            Role::Signature => true,
             _ => false,
         }
     }
@@ -127,9 +140,9 @@ impl Blob {
     /// blob. Returns `None` if the node has no such property, or its role keeps no value of that
     /// key. The root keeps `Description` and `Timestamp`; an image `Description`, `Data`, `Kind`,
     /// `Arch`, `Os`, `Compression`, `Load`, `Entry`, `DataSize`, `DataOffset` and `DataPosition`; a
-    /// hash node `Algo` and `Value`; the node `configurations` `Default`; a configuration
-    /// `Description`, `Kernel`, `Ramdisk`, `Fdt`, `Loadables`, `Firmware`, `Fpga`, `Setup`,
-    /// `Standalone` and `Script`.
+    /// hash node `Algo` and `Value`; a signature node these, `KeyName`, `Required`, `Padding` and
+    /// `Timestamp`; the node `configurations` `Default`; a configuration `Description`, `Kernel`,
+    /// `Ramdisk`, `Fdt`, `Loadables`, `Firmware`, `Fpga`, `Setup`, `Standalone` and `Script`.
     pub fn value<A: Allocator>(&self, room: &Room<A>, node: usize, key: Key) -> Option<Span>
         requires { node < length room.now.entries }
         ensures value { OfRow self.now room.now.entries node

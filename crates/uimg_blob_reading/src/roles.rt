@@ -7,6 +7,7 @@ pub(crate) enum Role {
     Images,
     Image,
     Hash,
+    Signature,
     Configurations,
     Configuration,
     Other,

@@ -13,6 +13,7 @@ pub(crate) fn slot_of(role: Role, key: Key) -> Option<usize>
         Role::Root => root_slot(key),
         Role::Image => image_slot(key),
         Role::Hash => hash_slot(key),
+        Role::Signature => signature_slot(key),
         Role::Configurations => configurations_slot(key),
         Role::Configuration => configuration_slot(key),
         Role::Images | Role::Other => None,
@@ -54,6 +55,20 @@ fn hash_slot(key: Key) -> Option<usize>
     match key {
         Key::Algo => Some(0),
         Key::Value => Some(1),
+        _ => None,
+    }
+}
+
+fn signature_slot(key: Key) -> Option<usize>
+    ensures { IsSlot Role.Signature key result }
+{
+    match key {
+        Key::Algo => Some(0),
+        Key::Value => Some(1),
+        Key::KeyName => Some(2),
+        Key::Required => Some(3),
+        Key::Padding => Some(4),
+        Key::Timestamp => Some(5),
         _ => None,
     }
 }

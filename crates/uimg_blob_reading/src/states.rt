@@ -1,7 +1,8 @@
 //! The state of a pass, and what each token does to it.
 
 ghost use Rattle.std.specs.Prelude.{◌≡◌, ◌+◌, ◌-◌, ◌^◌, ◌<◌, ℕ, List, length, IfSome};
-ghost use Rattle.uimg_blob_reading.specs.{Tokens.Token, Labels.label_of, Roles.role_at};
+ghost use Rattle.uimg_blob_reading.specs.{Tokens.Token, Labels.label_of};
+ghost use Rattle.uimg_blob_reading.specs.Roles.{role_at, sum_role, is_hash, is_signature};
 ghost use Rattle.uimg_blob_reading.specs.{SoFar.next_level, ReadTokens.{IsReadAs, Stands, IsSound}};
 ghost use Rattle.uimg_blob_reading.specs.Acting.{Suits, Does};
 ghost use Rattle.uimg_blob_reading.specs.Passes.{Phase, InPhase, stack, is_done, bare, is_after, child_level, noted_images, noted_configurations};
@@ -26,6 +27,18 @@ pub(crate) struct State {
     pub(crate) configurations: Option<usize>,
 }
 
+// Returns the role of a child of an image or a configuration from its label.
+fn sum_role(label: Label) -> Role
+    ensures { (name : List ℕ) → label ≡ label_of name →
+        result ≡ sum_role (is_hash name) (is_signature name) }
+{
+    match label {
+        Label::Hash => Role::Hash,
+        Label::Signature => Role::Signature,
+        _ => Role::Other,
+    }
+}
+
 // Returns a child's role from its parent's, its label, and which of these children the root had.
 fn child_role(parent: Role, label: Label, had_images: bool, had_configurations: bool) -> Role
     ensures { (name : List ℕ) → label ≡ label_of name →
@@ -38,12 +51,10 @@ fn child_role(parent: Role, label: Label, had_images: bool, had_configurations: 
             _ => Role::Other,
         },
         Role::Images => Role::Image,
-        Role::Image => match label {
-            Label::Hash => Role::Hash,
-            _ => Role::Other,
-        },
+        Role::Image => sum_role(label),
         Role::Configurations => Role::Configuration,
-        Role::Hash | Role::Configuration | Role::Other => Role::Other,
+        Role::Configuration => sum_role(label),
+        Role::Hash | Role::Signature | Role::Other => Role::Other,
     }
 }
 

@@ -4,14 +4,59 @@ use Rattle.std.specs.List.{filter}
 use Rattle.uimg_blob_reading.specs.{declared.nodes.Blob.Blob, Grammar.Siblings, Rows.Row}
 use Rattle.uimg_blob_reading.specs.{Indexed.{IsIndexed, IsRow}, LookUps.{NodeOf, listed, hashes}}
 use Rattle.uimg_blob_reading.{specs.Spots.Spot, proofs.PhaseLaws.by_bool}
-use Rattle.uimg_blob_reading.specs.Roles.{in_image, in_images, is_hash, is_hash_role, role_at, level_after, Level}
+use Rattle.uimg_blob_reading.specs.Roles.{in_image, in_images, is_hash, is_hash_role, is_signature, is_signature_role, role_at, level_after, Level}
+use Rattle.uimg_fit_reading.specs.{declared.nodes.Sum.TheVariants.{Hash, Signature}, Rows.sum_named}
 use Rattle.uimg_fit_reading.specs.Nodes.{AreFrom, IsNode, HashesFrom, HashAt, FirstHash}
 use Rattle.uimg_fit_reading.proofs.ImageLaws.{Front, front, none_left, children_of}
 use Rattle.uimg_fit_reading.proofs.NodeLaws.{node_row}
 
 -- whether a child of an image is a hash node, by its role
 role_of : (name : List ℕ) → is_hash_role (role_at in_image name) ≡ is_hash name
-role_of name = by_bool (is_hash name) (λ is. rw is refl) (λ differs. rw differs refl)
+role_of name = by_bool (is_hash name)
+    (λ is. rw is refl)
+    (λ differs. by_bool (is_signature name) (λ is. rw (differs, is) refl) (λ neither. rw (differs, neither) refl))
+
+-- whether it is a signature node
+signature_of : (name : List ℕ) → is_hash name ≡ false → is_signature_role (role_at in_image name) ≡ is_signature name
+signature_of name differs = by_bool (is_signature name) (λ is. rw (differs, is) refl) (λ neither. rw (differs, neither) refl)
+
+-- what a child says of its role
+is_hash_here : (t : Siblings) (blob : Blob) (es : List (List ℕ)) (i : ℕ) (found : NodeOf Spot) (answer : Bool) → IsIndexed t blob es → IsNode t in_image i found
+    → ((row : Row) → IsRow blob es i row → answer ≡ is_hash_role row.role) → answer ≡ is_hash found.name
+is_hash_here t blob es i found answer indexed n answers =
+    let r = node_row t in_image i found n in
+    answers r.row (record { nodes = t; indexed = indexed; is = r.is }) ∙ ap is_hash_role r.role ∙ role_of found.name
+
+is_signature_here : (t : Siblings) (blob : Blob) (es : List (List ℕ)) (i : ℕ) (found : NodeOf Spot) (answer : Bool) → IsIndexed t blob es → IsNode t in_image i found
+    → is_hash found.name ≡ false → ((row : Row) → IsRow blob es i row → answer ≡ is_signature_role row.role) → answer ≡ is_signature found.name
+is_signature_here t blob es i found answer indexed n differs answers =
+    let r = node_row t in_image i found n in
+    answers r.row (record { nodes = t; indexed = indexed; is = r.is }) ∙ ap is_signature_role r.role ∙ signature_of found.name differs
+
+-- what a child is, by what it says
+pub sum_is_hash : (t : Siblings) (blob : Blob) (es : List (List ℕ)) (i : ℕ) (found : NodeOf Spot) → IsIndexed t blob es → IsNode t in_image i found
+    → ((row : Row) → IsRow blob es i row → true ≡ is_hash_role row.role) → Some Hash ≡ sum_named found.name
+sum_is_hash t blob es i found indexed n answers =
+    let is : is_hash found.name ≡ true = sym (is_hash_here t blob es i found true indexed n answers) in
+    rw is refl
+
+no_hash : (t : Siblings) (blob : Blob) (es : List (List ℕ)) (i : ℕ) (found : NodeOf Spot) → IsIndexed t blob es → IsNode t in_image i found
+    → ((row : Row) → IsRow blob es i row → false ≡ is_hash_role row.role) → is_hash found.name ≡ false
+no_hash t blob es i found indexed n answers = sym (is_hash_here t blob es i found false indexed n answers)
+
+pub sum_is_signature : (t : Siblings) (blob : Blob) (es : List (List ℕ)) (i : ℕ) (found : NodeOf Spot) → IsIndexed t blob es → IsNode t in_image i found
+    → ((row : Row) → IsRow blob es i row → false ≡ is_hash_role row.role) → ((row : Row) → IsRow blob es i row → true ≡ is_signature_role row.role) → Some Signature ≡ sum_named found.name
+sum_is_signature t blob es i found indexed n answers others =
+    let differs = no_hash t blob es i found indexed n answers in
+    let is : is_signature found.name ≡ true = sym (is_signature_here t blob es i found true indexed n differs others) in
+    rw (differs, is) refl
+
+pub sum_is_none : (t : Siblings) (blob : Blob) (es : List (List ℕ)) (i : ℕ) (found : NodeOf Spot) → IsIndexed t blob es → IsNode t in_image i found
+    → ((row : Row) → IsRow blob es i row → false ≡ is_hash_role row.role) → ((row : Row) → IsRow blob es i row → false ≡ is_signature_role row.role) → None ≡ sum_named found.name
+sum_is_none t blob es i found indexed n answers others =
+    let differs = no_hash t blob es i found indexed n answers in
+    let neither : is_signature found.name ≡ false = sym (is_signature_here t blob es i found false indexed n differs others) in
+    rw (differs, neither) refl
 
 -- what the front of some children says of the first of them
 front_named : (t : Siblings) (blob : Blob) (es : List (List ℕ)) (i : ℕ) (cs : List (NodeOf Spot)) (answer : Bool) → IsIndexed t blob es → (f : Front t in_image i cs)

@@ -16,8 +16,8 @@ head_is root time description is are = rw (sym are, is) refl
 
 -- what stands after the head lines
 pub body_is : (naming : Naming) (file : List ℕ) (t : NodesOf Spot) (time : Option ℕ) (found : List (NodeOf Spot)) → time ≡ cell (root_own t) (codes "timestamp")
-    → numbered_lines (image_lines naming file time) 0 found ++ configurations_lines (configurations t) ≡ numbered_lines (image_lines naming file (time_of (root_own t))) 0 found ++ configurations_lines (configurations t)
-body_is naming file t time found is = ap (λ (o : Option ℕ). numbered_lines (image_lines naming file o) 0 found ++ configurations_lines (configurations t)) is
+    → numbered_lines (image_lines naming file time) 0 found ++ configurations_lines naming (configurations t) ≡ numbered_lines (image_lines naming file (time_of (root_own t))) 0 found ++ configurations_lines naming (configurations t)
+body_is naming file t time found is = ap (λ (o : Option ℕ). numbered_lines (image_lines naming file o) 0 found ++ configurations_lines naming (configurations t)) is
 
 -- the listing of a file whose tree is known
 pub list_is : (naming : Naming) (file : List ℕ) (t : Siblings) → tree file ≡ Ok t → list_of naming file ≡ after (head_lines (root_own (spots t))) (lists naming file (spots t) (images (spots t)))

@@ -80,4 +80,4 @@ none_after (Some j) count size le within = absurd (omega (arith, le, within.0, w
 
 pub same_level : (kind : Listed) (name : List ℕ) → level_after (level_of kind) name ≡ level_of kind
 same_level (Image naming time) name = refl
-same_level Configuration name = refl
+same_level (Configuration naming) name = refl

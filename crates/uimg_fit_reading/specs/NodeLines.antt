@@ -14,12 +14,12 @@ use Rattle.uimg_fit_reading.specs.{Nodes.{OfNode, OfNodes}, OpenFits.{file_of, I
 -- the level of the nodes of a kind
 abbrev pub level_of : Listed → Level
 level_of (Image naming time) = in_images
-level_of Configuration = in_configurations
+level_of (Configuration naming) = in_configurations
 
 -- the lines of a node of a kind
 abbrev pub node_lines : List ℕ → Listed → ℕ → NodeOf Spot → List ℕ
 node_lines file (Image naming time) = image_lines naming file time
-node_lines file Configuration = configuration_lines
+node_lines file (Configuration naming) = configuration_lines naming
 
 -- The lines of a node of a kind were written.
 abbrev pub ListsNode : {S A X : Type 0} → Listed → Numbered → Result X MoveFault → (S → Device)

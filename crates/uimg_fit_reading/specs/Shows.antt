@@ -4,7 +4,8 @@ use Rattle.std.specs.{List.flat_map, Option.option_map_or}
 use Rattle.hex.specs.Hex.{encode_lower}
 use Rattle.uimg_texts.specs.{Nul.text, Sizes.size_text, Times.time_text}
 use Rattle.uimg_base.specs.Outcome.{line}
-use Rattle.uimg_names.specs.{declared.{field.Field.Field, naming.Naming.Naming}, Naming.name_text}
+use Rattle.uimg_names.specs.declared.field.Field.{Field, TheVariants.Compression}
+use Rattle.uimg_names.specs.{declared.naming.Naming.Naming, Naming.{name_text, unknown}}
 use Rattle.uimg_fit_reading.specs.{declared.listing.shows.Show.Show, Values.{address_text, pieces}}
 use Rattle.uimg_fit_reading.specs.declared.listing.shows.Show.TheVariants as show
 
@@ -29,9 +30,27 @@ value_lines show.List label value = lines_of label (pieces value)
 abbrev pub shown : Show → List ℕ → Option (List ℕ) → List ℕ
 shown how label value = option_map_or (value_lines how label) value []
 
+-- the name that is printed of a missing code: an image is compressed only if it says so
+abbrev pub missing_name : Field → List ℕ
+missing_name Compression = codes "uncompressed"
+missing_name field = unknown field
+
+-- what is printed of a value that is missing, but has a line
+abbrev pub missing : Show → List ℕ
+missing (show.Name naming field) = missing_name field
+missing how = codes "unavailable"
+
+-- the lines of a value that may be missing, and has a line then
+abbrev pub wanted : Show → List ℕ → Option (List ℕ) → List ℕ
+wanted how label value = option_map_or (value_lines how label) value (line (label ++ missing how))
+
 -- the line of a time, if there is one
 abbrev pub time_line : List ℕ → Option ℕ → List ℕ
 time_line label time = option_map_or (λ t. line (label ++ time_text t)) time []
+
+-- the line of a time, or that it is unavailable
+abbrev pub moment_line : List ℕ → Option ℕ → List ℕ
+moment_line label time = line (label ++ option_map_or time_text time (codes "unavailable"))
 
 -- the line of a size, or that it is unavailable
 abbrev pub size_line : List ℕ → Option ℕ → List ℕ
@@ -48,3 +67,7 @@ value_cost show.List n = n
 -- the same for a value that may be missing
 abbrev pub show_weight : Show → Option (List ℕ) → ℕ
 show_weight how value = option_map_or (λ v. value_cost how (length v)) value 0
+
+-- the most bytes requested of a text that may be missing
+abbrev pub text_weight : Option (List ℕ) → ℕ
+text_weight = show_weight show.Text

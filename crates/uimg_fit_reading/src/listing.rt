@@ -19,6 +19,9 @@ mod lists;
 mod names;
 mod rows;
 mod shows;
+mod signing;
+mod sums;
+mod times;
 mod titles;
 
 use crate::images::first_image;
@@ -38,13 +41,14 @@ use uimg_names::Naming;
 // Writes the lines of the configurations, if there are any.
 fn put_configurations<S: Source, A: Allocator, W: Write>(
     fit: &mut OpenFit<'_, S, A>,
+    naming: Naming,
     out: &mut Out<W>,
 ) -> Result<(), MoveFault>
     requires { InFile (length (file_of S.device fit.old)) fit.old.blob fit.old.room.now.entries }
     ensures leaves { Leaves result S.device fit out }
     ensures told { (t : Siblings) → InFit S.device fit.old Opened t →
         Lists (configurations_allowance (configurations (spots t))) result S.device fit out
-        (configurations_lines (configurations (spots t))) }
+        (configurations_lines naming (configurations (spots t))) }
 {
     let Some(node) = configurations_of(&fit.blob, fit.room) else {
         return Ok(());
@@ -52,7 +56,7 @@ fn put_configurations<S: Source, A: Allocator, W: Write>(
     let default = value_of(&fit.blob, fit.room, node, Key::Default);
     put_default(fit.source, fit.room, default, out)?;
     let first = child_of(&fit.blob, fit.room, node);
-    put_listed_nodes(fit, Listed::Configuration, first, out)
+    put_listed_nodes(fit, Listed::Configuration(naming), first, out)
 }
 
 // Writes the lines of the images, from the first one on, and of the configurations.
@@ -69,10 +73,10 @@ fn put_body<S: Source, A: Allocator, W: Write>(
         (found : List (NodeOf Spot)) → AreFrom t in_images first found →
         Lists (body_allowance (spots t) (Some found)) result S.device fit out
         (numbered_lines (image_lines naming (file_of S.device fit.old) time) 0 found
-        ++ configurations_lines (configurations (spots t))) }
+        ++ configurations_lines naming (configurations (spots t))) }
 {
     put_listed_nodes(fit, Listed::Image(naming, time), first, out)?;
-    put_configurations(fit, out)
+    put_configurations(fit, naming, out)
 }
 
 // Writes the lines after the head lines, or returns `NoImages`.

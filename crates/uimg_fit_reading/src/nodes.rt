@@ -4,10 +4,10 @@ ghost use Rattle.std.specs.Option.{option_map};
 ghost use Rattle.uimg_blob_reading.specs.{Grammar.Siblings, Indexed.{IsIndexed, keeps, value_span}};
 ghost use Rattle.uimg_blob_reading.specs.{Keys.name_of, LookUps.{NodeOf, first, hashes, listed}};
 ghost use Rattle.uimg_blob_reading.specs.Spots.{Spot, spots};
-ghost use Rattle.uimg_blob_reading.specs.Roles.{Level, role_at, level_in, level_after, top, in_images};
+ghost use Rattle.uimg_blob_reading.specs.Roles.{Level, role_at, level_in, level_after, top, in_images, in_image};
 ghost use Rattle.uimg_fit_base.specs.Files.{value_bytes, bytes_in, root_own};
 ghost use Rattle.uimg_fit_reading.specs.Nodes.{Indexed, IsRead, IsNode, AtNode, InTree, AreFrom, HashesFrom, HashAt, HashesAt, TellsConfigurations, IsEntry, IsEntryOrNone, InAnyFile};
-ghost use Rattle.uimg_fit_reading.specs.{Values.in_span, PayloadPlaces.Ends};
+ghost use Rattle.uimg_fit_reading.specs.{Values.in_span, PayloadPlaces.Ends, Rows.sum_named};
 
 use std::alloc::Allocator;
 use uimg_base::{Room, Span};
@@ -81,6 +81,30 @@ pub fn next_of<A: Allocator>(blob: &Blob, room: &Room<A>, node: usize) -> Option
         AreFrom t level (Some node) (found ∷ more) → AreFrom t (level_after level found.name) result more }
 {
     blob.next_sibling(room, node)
+}
+
+/// What a child of an image or a configuration is.
+#[derive(Clone, Copy, Debug, PartialEq, Eq)]
+pub(crate) enum Sum {
+    /// A hash node.
+    Hash,
+    /// A signature node.
+    Signature,
+}
+
+/// Returns what a child of an image or a configuration is, if it is one of these.
+pub(crate) fn sum_of<A: Allocator>(blob: &Blob, room: &Room<A>, node: usize) -> Option<Sum>
+    requires { node < length room.now.entries }
+    ensures { (t : Siblings) → IsIndexed t blob.now room.now.entries → (found : NodeOf Spot) →
+        IsNode t in_image node found → result ≡ sum_named found.name }
+{
+    if blob.is_hash(room, node) {
+        Some(Sum::Hash)
+    } else if blob.is_signature(room, node) {
+        Some(Sum::Signature)
+    } else {
+        None
+    }
 }
 
 // Returns the number of the first hash node from a child of an image on, if there is one.

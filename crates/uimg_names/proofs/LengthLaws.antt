@@ -52,7 +52,7 @@ all_short System = refl
 all_short Kind = refl
 all_short Compression = refl
 
-none_named : (naming : Naming) (field : Field) (name : List ℕ) → 31 < length name → code_named naming field name ≡ None
+pub none_named : (naming : Naming) (field : Field) (name : List ℕ) → 31 < length name → code_named naming field name ≡ None
 none_named Profile field name long = none_longer (profile_rows field) name (profile_short field) long
 none_named All field name long = none_longer_in_any_case (all_rows field) name (all_short field) long
 

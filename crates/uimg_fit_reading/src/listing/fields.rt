@@ -8,7 +8,7 @@ ghost use Rattle.uimg_fit_reading.specs.{Nodes.{HasNode, OfAnyNode}, OpenFits.In
 ghost use Rattle.uimg_fit_reading.specs.{Puts.{Leaves, Puts, PutsOwn}, Values.in_span};
 ghost use Rattle.uimg_fit_reading.specs.Rows.{keeps_row, row_cost, row_lines, rows_lines};
 ghost use Rattle.uimg_fit_reading.specs.PayloadPlaces.{Ends};
-ghost use Rattle.uimg_fit_reading.specs.Shows.{value_lines, value_cost, shown, time_line, size_line};
+ghost use Rattle.uimg_fit_reading.specs.Shows.{value_lines, value_cost, shown, missing, missing_name, wanted, size_line};
 
 use crate::listing::addresses::put_address_line;
 use crate::listing::hexadecimal::put_hexadecimal_line;
@@ -16,13 +16,16 @@ use crate::listing::lists::put_list_lines;
 use crate::listing::names::put_name_line;
 use crate::listing::rows::{Facts, Row};
 use crate::listing::shows::Show;
+use crate::listing::signing::put_signing;
+use crate::listing::times::{put_moment_line, put_time_line};
 use crate::nodes::value_of;
 use crate::open_fit::OpenFit;
 use crate::puts::{put, put_line};
 use std::alloc::Allocator;
 use std::io::Write;
-use uimg_base::{MoveFault, Out, Room, Source, Span, size_text, time_text};
+use uimg_base::{MoveFault, Out, Room, Source, Span, size_text};
 use uimg_blob_reading::put_text;
+use uimg_names::Field;
 
 // Writes a line of a label and the text of a value.
 pub(crate) fn put_text_line<S: Source, A: Allocator, W: Write>(
@@ -83,17 +86,42 @@ fn put_property<S: Source, A: Allocator, W: Write>(
     }
 }
 
-// Writes the line of a time, if there is one.
-fn put_time_line<W: Write>(
-    out: &mut Out<W>,
-    label: &[u8],
-    time: Option<u32>,
-) -> Result<(), MoveFault>
-    ensures { PutsOwn result out.old out.new (time_line label.now time) }
+// Returns the name that is printed of a missing code.
+fn missing_name(field: Field) -> &'static str
+    ensures { result.now ≡ missing_name field }
 {
-    match time {
-        Some(seconds) => put_line(out, label, &time_text(seconds)),
-        None => Ok(()),
+    match field {
+        Field::Compression => "uncompressed",
+        Field::Architecture | Field::System | Field::Kind => field.unknown(),
+    }
+}
+
+// Returns what is printed of a missing value.
+fn missing(show: Show) -> &'static str
+    ensures { result.now ≡ missing show }
+{
+    match show {
+        Show::Name(_, field) => missing_name(field),
+        Show::Text | Show::Address | Show::Hexadecimal | Show::List => "unavailable",
+    }
+}
+
+// Writes the lines of a property, or that it is unavailable.
+fn put_wanted<S: Source, A: Allocator, W: Write>(
+    source: &mut S,
+    room: &mut Room<A>,
+    label: &[u8],
+    show: Show,
+    value: Option<Span>,
+    out: &mut Out<W>,
+) -> Result<(), MoveFault>
+    requires { Ends (length (S.device source.old).bytes) value }
+    ensures { Puts (option_map_or (λ s. value_cost show s.length) value 0)
+        result S.device source room out (λ file. wanted show label.now (bytes_in file value)) }
+{
+    match value {
+        Some(span) => put_value(source, room, label, show, span, out),
+        None => put_line(out, label, missing(show).as_bytes()),
     }
 }
 
@@ -141,8 +169,16 @@ fn put_row<S: Source, A: Allocator, W: Write>(
             let value = value_of(&fit.blob, fit.room, node, key);
             put_property(fit.source, fit.room, &label, show, value, out)
         }
+        Row::Wanted(key, label, show) => {
+            let value = value_of(&fit.blob, fit.room, node, key);
+            put_wanted(fit.source, fit.room, &label, show, value, out)
+        }
         Row::Time(label) => put_time_line(out, &label, facts.time),
+        Row::Created(label) => put_moment_line(out, &label, facts.time),
         Row::Size(label) => put_size_line(out, &label, facts.size),
+        Row::Signing(part) => put_signing(fit, node, part, out),
+        Row::Unsupported(label) => put_line(out, &label, b"invalid/unsupported"),
+        Row::Nothing => Ok(()),
     }
 }
 

@@ -7,10 +7,11 @@ ghost use Rattle.uimg_fit_reading.specs.Heads.{span_size, description_line, crea
 ghost use Rattle.uimg_fit_reading.specs.{Puts.{Puts, PutsOwn}, Values.in_span, PayloadPlaces.Ends};
 
 use crate::listing::fields::put_text_line;
+use crate::listing::times::put_moment_line;
 use crate::puts::{put, put_line};
 use std::alloc::Allocator;
 use std::io::Write;
-use uimg_base::{MoveFault, Out, Room, Source, Span, time_text};
+use uimg_base::{MoveFault, Out, Room, Source, Span};
 use uimg_blob_reading::put_text;
 
 // Writes the line of the image's description.
@@ -34,10 +35,7 @@ fn put_description<S: Source, A: Allocator, W: Write>(
 fn put_created<W: Write>(out: &mut Out<W>, time: Option<u32>) -> Result<(), MoveFault>
     ensures { PutsOwn result out.old out.new (created_line time) }
 {
-    match time {
-        Some(seconds) => put_line(out, b"Created:         ", &time_text(seconds)),
-        None => put_line(out, b"Created:         ", b"unavailable"),
-    }
+    put_moment_line(out, b"Created:         ", time)
 }
 
 // Writes the two head lines.

@@ -1,22 +1,26 @@
 //! The lines of images and configurations.
-ghost use Rattle.std.specs.Prelude.{◌≡◌, ◌<◌, ◌+◌, ◌*◌, ◌^◌, ◌++◌, codes, true, IfOk};
+ghost use Rattle.std.specs.Prelude.{◌≡◌, ◌<◌, ◌+◌, ◌*◌, ◌^◌, ◌++◌, codes, IfOk};
 ghost use Rattle.std.specs.List.{flat_map, sum_by};
-ghost use Rattle.uimg_blob_reading.specs.{LookUps.hashes, Roles.{in_images, in_image, is_hash}};
+ghost use Rattle.uimg_blob_reading.specs.{LookUps.listed, Roles.in_images};
 ghost use Rattle.uimg_fit_reading.specs.{Allowances.{text_sizes, node_allowance}, OpenFits.InFit};
-ghost use Rattle.uimg_fit_reading.specs.Listing.{hash_node_lines, size_in};
+ghost use Rattle.uimg_fit_reading.specs.Listing.{size_in, sum_lines};
 ghost use Rattle.uimg_fit_reading.specs.NodeLines.{ListsNode, ListsNodes};
 ghost use Rattle.uimg_fit_reading.specs.{Rows.{image_rows, rows_lines, title}, Telling.Lists};
-ghost use Rattle.uimg_fit_reading.specs.{Nodes.{HasNode, HasNodes, OfHashes, OfNode}, Puts.Leaves};
+ghost use Rattle.uimg_fit_reading.specs.{Nodes.{HasNode, HasNodes, OfNode}, Puts.Leaves};
 
-use crate::listing::fields::put_rows;
-use crate::listing::rows::{CONFIGURATION, Facts, HASH, NO_FACTS, image_rows};
+use crate::listing::names::kind_in;
+use crate::listing::rows::{
+    ALL_CONFIGURATION, CONFIGURATION, Facts, IMAGE, NO_FACTS, all_image_rows,
+};
+use crate::listing::sums::put_sums;
 use crate::listing::titles::{Numbered, put_node};
-use crate::nodes::{first_hash, next_hash, next_of};
+use crate::nodes::{child_of, next_of, value_of};
 use crate::open_fit::OpenFit;
 use crate::places::find_place;
 use std::alloc::Allocator;
 use std::io::Write;
 use uimg_base::{MoveFault, Out, Source, Span};
+use uimg_blob_reading::Key;
 use uimg_fit_base::FitFault;
 use uimg_names::Naming;
 
@@ -25,42 +29,8 @@ use uimg_names::Naming;
 pub(crate) enum Listed {
     /// An image, with a set of names and the root's time, if it has one.
     Image(Naming, Option<u32>),
-    /// A configuration.
-    Configuration,
-}
-
-// Writes the lines of a hash node.
-fn put_hash<S: Source, A: Allocator, W: Write>(
-    fit: &mut OpenFit<'_, S, A>,
-    hash: usize,
-    out: &mut Out<W>,
-) -> Result<(), MoveFault>
-    requires { InFit S.device fit.old HasNode hash }
-    ensures leaves { Leaves result S.device fit out }
-    ensures told { InFit S.device fit.old OfNode in_image hash
-        (λ found. is_hash found.name ≡ true →
-        Lists (node_allowance found) result S.device fit out (hash_node_lines found)) }
-{
-    put_rows(fit, hash, NO_FACTS, &HASH, out)
-}
-
-// Writes the lines of the hash nodes from one on.
-fn put_hashes<S: Source, A: Allocator, W: Write>(
-    fit: &mut OpenFit<'_, S, A>,
-    first: Option<usize>,
-    out: &mut Out<W>,
-) -> Result<(), MoveFault>
-    requires { InFit S.device fit.old HasNodes first }
-    ensures leaves { Leaves result S.device fit out }
-    ensures told { InFit S.device fit.old OfHashes first (λ hs.
-        Lists (sum_by node_allowance hs) result S.device fit out (flat_map hash_node_lines hs)) }
-{
-    let mut next = first;
-    while let Some(hash) = next {
-        put_hash(fit, hash, out)?;
-        next = next_hash(&fit.blob, fit.room, hash);
-    }
-    Ok(())
+    /// A configuration, with a set of names.
+    Configuration(Naming),
 }
 
 // Returns the size of a payload, if its place is known.
@@ -74,6 +44,31 @@ fn size_in(place: Result<Span, FitFault>) -> Option<u32>
     }
 }
 
+// Writes the title and the rows of an image, whose time and size are known.
+fn put_image_rows<S: Source, A: Allocator, W: Write>(
+    fit: &mut OpenFit<'_, S, A>,
+    naming: Naming,
+    facts: Facts,
+    image: Numbered,
+    out: &mut Out<W>,
+) -> Result<(), MoveFault>
+    requires { InFit S.device fit.old HasNode image.node }
+    ensures leaves { Leaves result S.device fit out }
+    ensures told { InFit S.device fit.old OfNode in_images image.node
+        (λ found. Lists (748 + 4 * text_sizes found.own) result S.device fit out
+        (title (codes " Image ") image.number found.name
+        ++ rows_lines facts found.own (image_rows naming found.own))) }
+{
+    match naming {
+        Naming::Profile => put_node(fit, b" Image ", image, facts, &IMAGE, out),
+        Naming::All => {
+            let value = value_of(&fit.blob, fit.room, image.node, Key::Kind);
+            let kind = kind_in(fit.source, value)?;
+            put_node(fit, b" Image ", image, facts, &all_image_rows(kind), out)
+        }
+    }
+}
+
 // Writes the lines of an image, whose time and size are known.
 fn put_known_image<S: Source, A: Allocator, W: Write>(
     fit: &mut OpenFit<'_, S, A>,
@@ -84,15 +79,15 @@ fn put_known_image<S: Source, A: Allocator, W: Write>(
 ) -> Result<(), MoveFault>
     requires { InFit S.device fit.old HasNode image.node }
     ensures leaves { Leaves result S.device fit out }
-    ensures told { InFit S.device fit.old OfNode in_images image.node
-        (λ found. Lists (748 + 4 * text_sizes found.own + sum_by node_allowance (hashes found))
+    ensures told { InFit S.device fit.old OfNode in_images image.node (λ found.
+        Lists (748 + 4 * text_sizes found.own + sum_by node_allowance (listed found.below))
         result S.device fit out (title (codes " Image ") image.number found.name
-        ++ (rows_lines facts found.own (image_rows naming) ++ flat_map hash_node_lines (hashes found)))) }
+        ++ (rows_lines facts found.own (image_rows naming found.own)
+        ++ flat_map (sum_lines naming) (listed found.below)))) }
 {
-    let rows = image_rows(naming);
-    put_node(fit, b" Image ", image, facts, &rows, out)?;
-    let first = first_hash(&fit.blob, fit.room, image.node);
-    put_hashes(fit, first, out)
+    put_image_rows(fit, naming, facts, image, out)?;
+    let first = child_of(&fit.blob, fit.room, image.node);
+    put_sums(fit, naming, first, out)
 }
 
 // Writes the lines of an image.
@@ -117,24 +112,40 @@ fn put_image<S: Source, A: Allocator, W: Write>(
     }
 }
 
+// Writes the lines of a configuration, by the names of image.h.
+fn put_any_configuration<S: Source, A: Allocator, W: Write>(
+    fit: &mut OpenFit<'_, S, A>,
+    at: Numbered,
+    out: &mut Out<W>,
+) -> Result<(), MoveFault>
+    requires { InFit S.device fit.old HasNode at.node }
+    ensures leaves { Leaves result S.device fit out }
+    ensures told { ListsNode (Listed.Configuration Naming.All) at result S.device fit out }
+{
+    let title = b" Configuration ";
+    put_node(fit, title, at, NO_FACTS, &ALL_CONFIGURATION, out)?;
+    let first = child_of(&fit.blob, fit.room, at.node);
+    put_sums(fit, Naming::All, first, out)
+}
+
 // Writes the lines of a configuration.
 fn put_configuration<S: Source, A: Allocator, W: Write>(
     fit: &mut OpenFit<'_, S, A>,
-    configuration: Numbered,
+    naming: Naming,
+    at: Numbered,
     out: &mut Out<W>,
 ) -> Result<(), MoveFault>
-    requires { InFit S.device fit.old HasNode configuration.node }
+    requires { InFit S.device fit.old HasNode at.node }
     ensures leaves { Leaves result S.device fit out }
-    ensures told { ListsNode Listed.Configuration configuration result S.device fit out }
+    ensures told { ListsNode (Listed.Configuration naming) at result S.device fit out }
 {
-    put_node(
-        fit,
-        b" Configuration ",
-        configuration,
-        NO_FACTS,
-        &CONFIGURATION,
-        out,
-    )
+    match naming {
+        Naming::Profile => {
+            let title = b" Configuration ";
+            put_node(fit, title, at, NO_FACTS, &CONFIGURATION, out)
+        }
+        Naming::All => put_any_configuration(fit, at, out),
+    }
 }
 
 // Writes the lines of a node.
@@ -150,7 +161,7 @@ fn put_listed<S: Source, A: Allocator, W: Write>(
 {
     match kind {
         Listed::Image(naming, time) => put_image(fit, naming, time, at, out),
-        Listed::Configuration => put_configuration(fit, at, out),
+        Listed::Configuration(naming) => put_configuration(fit, naming, at, out),
     }
 }
 

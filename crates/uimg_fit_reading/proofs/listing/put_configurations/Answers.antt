@@ -23,10 +23,10 @@ returns-in_err-put_default-clause-told g c = λ t o.
     let size = value_size h.found.own (codes "default") _ (c.value_of-default.ensures.span t o.read.indexed h.level h.found h.node h.keeps) in
     let few = one_text h.found.own (codes "default") refl in
     let told = subst (λ (v : Option (List ℕ)). Written true c.args.out.now c.put_default.new.out (default_line v)) (sym value) (c.in_err-put_default.ensures.told o.honest) in
-    rw failed (subst (λ (o : Option (NodeOf Spot)). ListsBetween true (configurations_allowance o) d m c.args.out.now c.put_default.new.out (configurations_lines o)) (sym h.is)
+    rw failed (subst (λ (o : Option (NodeOf Spot)). ListsBetween true (configurations_allowance o) d m c.args.out.now c.put_default.new.out (configurations_lines c.args.naming o)) (sym h.is)
     (record {
       asked = omega (arith, c.put_default.ensures.uses.asked, size, few);
-      written = cut c.args.out.now c.put_default.new.out (default_line (value_bytes h.found.own (codes "default"))) (numbered_lines configuration_lines 0 (listed h.found.below)) told;
+      written = cut c.args.out.now c.put_default.new.out (default_line (value_bytes h.found.own (codes "default"))) (numbered_lines (configuration_lines c.args.naming) 0 (listed h.found.below)) told;
     }))
 
 pub returns-clause-told : goal.returns-clause-told
@@ -46,10 +46,10 @@ returns-clause-told g c = λ t o.
     record { asked = omega (arith, c.put_default.ensures.uses.asked, size, few); written = told } in
     let from = subst (λ (l : Level). AreFrom t l c.child_of-first.result (listed h.found.below)) h.children (c.child_of-first.ensures.children t here.read.indexed h.level h.found h.node) in
     let tail = c.put_listed_nodes.ensures.told t here (listed h.found.below) from in
-    subst (λ (o : Option (NodeOf Spot)). ListsBetween e (configurations_allowance o) d f c.args.out.now c.put_listed_nodes.new.out (configurations_lines o)) (sym h.is)
+    subst (λ (o : Option (NodeOf Spot)). ListsBetween e (configurations_allowance o) d f c.args.out.now c.put_listed_nodes.new.out (configurations_lines c.args.naming o)) (sym h.is)
     (more_lists e _ (node_allowance h.found) d f c.args.out.now c.put_listed_nodes.new.out _ (omega (arith, children_allowed h.found))
     (then_lists e (760 + 4 * text_sizes h.found.own) (sum_by node_allowance (listed h.found.below)) d m f c.args.out.now c.put_default.new.out c.put_listed_nodes.new.out
-    (default_line (value_bytes h.found.own (codes "default"))) (numbered_lines configuration_lines 0 (listed h.found.below)) head tail))
+    (default_line (value_bytes h.found.own (codes "default"))) (numbered_lines (configuration_lines c.args.naming) 0 (listed h.found.below)) head tail))
 
 pub returns-in_err-put_default-clause-leaves : goal.returns-in_err-put_default-clause-leaves
 returns-in_err-put_default-clause-leaves g c = leaves_stops _ _ c.from_residual.ensures.1 (puts_leave (record { source = refl; blob = refl; room = refl }) c.in_err-put_default.ensures)

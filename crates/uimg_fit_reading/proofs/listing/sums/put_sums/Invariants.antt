@@ -1,20 +1,20 @@
 use Rattle.std.{proofs.Common.{◌-◌, ◌<◌, List, length, IfSome, Ok}, specs.List.flat_map}
 use Rattle.std.specs.Option.{option_map_or}
-use Rattle.uimg_blob_reading.specs.{Grammar.Siblings, LookUps.NodeOf, Spots.Spot}
-use Rattle.uimg_fit_reading.specs.{Listing.hash_node_lines, Nodes.{HashesAt, Opened}}
+use Rattle.uimg_blob_reading.specs.{Grammar.Siblings, LookUps.NodeOf, Roles.in_image, Spots.Spot}
+use Rattle.uimg_fit_reading.specs.{Listing.sum_lines, Nodes.{AreFrom, Opened}}
 use Rattle.uimg_fit_reading.specs.{OpenFits.InFit, Puts.LeavesBetween}
 use Rattle.uimg_fit_reading.proofs.TellingLaws.{Left}
-use Rattle.uimg_fit_reading.proofs.listing.listed_nodes.put_hashes.Given as goal
+use Rattle.uimg_fit_reading.proofs.listing.sums.put_sums.Given as goal
 
--- the hash nodes before the next one are told
+-- the children before the next one are told
 abbrev pub invariant-loop-next : goal.invariant-loop-next
 invariant-loop-next g l =
     let device = g.S.Source.device in
     record {
       within : IfSome l.next (λ i. i < length l.fit.room.now.entries);
       leaves : LeavesBetween {X = Unit} (Ok tt) device l.fn.fit l.fit l.fn.out l.out;
-      left : (t : Siblings) → InFit device l.fn.fit Opened t → (hs : List (NodeOf Spot)) → HashesAt t l.fn.first hs
-          → Left (HashesAt t) (λ i ns. flat_map hash_node_lines ns) 0 l.next (device l.fn.fit.source.now) (device l.fit.source.now) l.fn.out l.out hs;
+      left : (t : Siblings) → InFit device l.fn.fit Opened t → (all : List (NodeOf Spot)) → AreFrom t in_image l.fn.first all
+          → Left (AreFrom t in_image) (λ i ns. flat_map (sum_lines l.naming) ns) 0 l.next (device l.fn.fit.source.now) (device l.fit.source.now) l.fn.out l.out all;
     }
 
 abbrev pub decreases-loop-next : goal.decreases-loop-next
