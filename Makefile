@@ -4,7 +4,7 @@ PREFIX ?= /usr/local
 IMAGE ?= examples/abc-kernel.img
 export RT
 
-.PHONY: all demo try check test gate wrong-bodies definitions contracts lib lib-test json-test farm-test install deb release arm64-test peers bench clean help
+.PHONY: all demo try check test gate wrong-bodies definitions contracts lib lib-test json-test farm-test install deb release arm64-test peers uboot-tests bench clean help
 .NOTPARALLEL:
 
 ## make          proves the program and all crates below it, and builds bin/uimg
@@ -90,7 +90,8 @@ farm-test: bin/uimg
 	@python3 scripts/farm_test.py bin/uimg
 
 ## make install  installs the program, its manual pages and completions below PREFIX (/usr/local),
-##               with OLD_NAMES=1 also as mkimage and dumpimage; and the library, if it was built
+##               with OLD_NAMES=1 also as mkimage and dumpimage, and the wrappers of these names, which
+##               leave signing to u-boot-tools; and the library, if it was built
 install: bin/uimg
 	install -D -m 755 bin/uimg $(DESTDIR)$(PREFIX)/bin/uimg
 	for name in uimg-mkimage uimg-dumpimage $(if $(OLD_NAMES),mkimage dumpimage); do \
@@ -99,6 +100,7 @@ install: bin/uimg
 	install -d $(DESTDIR)$(PREFIX)/share/man/man1
 	install -m 644 docs/uimg.1 docs/uimg-mkimage.1 docs/uimg-dumpimage.1 $(DESTDIR)$(PREFIX)/share/man/man1
 	scripts/install_completions.sh $(DESTDIR)$(PREFIX)/share $(if $(OLD_NAMES),mkimage dumpimage)
+	test -z "$(OLD_NAMES)" || scripts/install_wrappers.sh "$(DESTDIR)$(PREFIX)"
 	test ! -f lib/libuimg.a || scripts/install_lib.sh "$(DESTDIR)" "$(PREFIX)"
 
 ## make deb      packs both, with documents and examples, as Debian packages in out/
@@ -123,6 +125,12 @@ peers: bin/uimg bin/uimg_peers
 	python3 peers/peers.py bin/uimg bin/uimg_peers
 	python3 peers/strict.py bin/uimg
 	python3 peers/hostile.py bin/uimg
+
+## make uboot-tests   runs U-Boot's own tests with its tools, with the program by their names, and with
+##               the wrappers; fetches and compiles U-Boot of Debian's source package, in out/uboot
+uboot-tests: bin/uimg
+	@scripts/needs.sh python3 apt-get dpkg-source make gcc bison flex swig dtc
+	python3 peers/uboot_tests.py bin/uimg out/uboot
 
 ## make bench    times the program, and those of release/, beside dumpimage, mkimage, cat and cp; draws
 ##               bench/chart.svg with python3-matplotlib

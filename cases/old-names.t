@@ -13,9 +13,12 @@ error lines, which are uimg's own.
 The name is what follows the last slash:
 
   $ mkimage -V && dumpimage -V && uimg-mkimage -V && ./uimg-dumpimage --
-  mkimage version 2023.01 (uimg 0.1.0)
-  dumpimage version 2023.01 (uimg 0.1.0)
-  mkimage version 2023.01 (uimg 0.1.0)
+  mkimage version 2023.01
+  uimg 0.1.0
+  dumpimage version 2023.01
+  uimg 0.1.0
+  mkimage version 2023.01
+  uimg 0.1.0
   dumpimage: no image given
   [2]
   $ uimg --version
@@ -324,12 +327,6 @@ Requests that fail:
   $ mkimage -E -B 80000000 -f kernel.its out
   mkimage: out: F7 too large
   [1]
-  $ mkimage -D '-@' -f kernel.its out
-  mkimage: -D: only -I dts, -O dtb, -q and -p with a number are supported; use mkimage of u-boot-tools
-  [2]
-  $ mkimage -D -I -f kernel.its out
-  mkimage: -D: only -I dts, -O dtb, -q and -p with a number are supported; use mkimage of u-boot-tools
-  [2]
   $ mkimage -T flat_dt -d d out
   mkimage: -T flat_dt needs -f
   [2]

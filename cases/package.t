@@ -64,7 +64,19 @@ The names of mkimage and dumpimage have completions of their own:
   $ tail -n 1 share/bash-completion/completions/mkimage
   complete -F _uimg_mkimage mkimage
   $ grep -c '^complete -c mkimage ' share/fish/vendor_completions.d/mkimage.fish
-  20
+  21
+
+The wrappers find the program that is installed with them:
+
+  $ mkdir -p root/bin && ln -s "$(command -v uimg)" root/bin/uimg-mkimage && ln -s "$(command -v uimg)" root/bin/uimg-dumpimage
+  $ here=$PWD; (cd "$top" && scripts/install_wrappers.sh "$here/root") && find root/lib -type f | sort
+  root/lib/uimg/wrappers/common.sh
+  root/lib/uimg/wrappers/dumpimage
+  root/lib/uimg/wrappers/mkimage
+  $ root/lib/uimg/wrappers/dumpimage -V 2> own && PATH=$PWD/root/lib/uimg/wrappers:$PATH mkimage -V 2>> own && uniq own
+  dumpimage version 2023.01
+  mkimage version 2023.01
+  uimg 0.1.0
 
 The manual page and the package have the program's version:
 

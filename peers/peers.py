@@ -27,6 +27,7 @@ import fit
 import fit_builds
 import its
 import old_names
+import signed
 from counting import Count, output
 
 SINGLE = ["standalone", "kernel", "ramdisk", "firmware", "filesystem", "kernel_noload"]
@@ -296,6 +297,17 @@ def print_lines(uimg):
     return count.differences
 
 
+def print_signed(uimg):
+    """Prints the table of images that the wrapper signs."""
+    if shutil.which("openssl") is None or shutil.which("dtc") is None:
+        print("\npeers: openssl or dtc is not installed; no signed image was compared")
+        return []
+    count = signed.compare(uimg)
+    print("\n| FIT images signed by the wrapper | Differences |\n|---|---|")
+    print(f"| {count.images} | {len(count.differences)} |", flush=True)
+    return count.differences
+
+
 def main():
     uimg, own = (os.path.abspath(path) for path in sys.argv[1:3])
     if shutil.which("mkimage") is None:
@@ -312,6 +324,7 @@ def main():
     differences += print_fits(uimg)
     differences += print_sources(own)
     differences += print_lines(uimg)
+    differences += print_signed(uimg)
     for what, here, there in differences[:10]:
         print(f"\n{what}\n  uimg: {str(here)[:400]}\n  peer: {str(there)[:400]}")
     sys.exit(1 if differences else 0)

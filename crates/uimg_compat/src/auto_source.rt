@@ -30,6 +30,9 @@ pub struct AutoSource<'a> {
     /// The path of the RAM disk.
     pub ramdisk: Option<&'a str>,
 
+    /// The key's name and the algorithm of the signatures that images have in place of checksums.
+    pub(crate) signature: Option<(&'a str, &'a str)>,
+
     /// The words after mkimage's name. Those of -b are the paths of the device trees.
     pub(crate) words: &'a [&'a str],
 }
@@ -71,7 +74,7 @@ impl<'a> AutoSource<'a> {
             f,
             "load = <{load}>; entry = <{entry}>; data = /incbin/({data});\n"
         )?;
-        f.write_str("hash-1 { algo = \"crc32\"; }; };\n")
+        self.put_hash(f)
     }
 
     fn put_tree<W: Write>(&self, number: u32, path: &str, f: &mut Formatter<W>) -> fmt::Result {
@@ -86,7 +89,7 @@ impl<'a> AutoSource<'a> {
             f,
             "type = \"flat_dt\"; arch = \"{arch}\"; compression = \"none\";\n"
         )?;
-        f.write_str("hash-1 { algo = \"crc32\"; }; };\n")
+        self.put_hash(f)
     }
 
     fn put_trees<W: Write>(&self, f: &mut Formatter<W>) -> fmt::Result {
@@ -107,9 +110,19 @@ impl<'a> AutoSource<'a> {
             f,
             "ramdisk-1 {{ type = \"ramdisk\"; os = \"{os}\"; arch = \"{arch}\";\n"
         )?;
+        write!(f, "data = /incbin/({data});\n")?;
+        self.put_hash(f)
+    }
+
+    // Writes the end of an image: its checksum, or the signature that a key is to make.
+    fn put_hash<W: Write>(&self, f: &mut Formatter<W>) -> fmt::Result {
+        let Some((key, algo)) = self.signature else {
+            return f.write_str("hash-1 { algo = \"crc32\"; }; };\n");
+        };
+        let (key, algo) = (Quoted(key.as_bytes()), Quoted(algo.as_bytes()));
         write!(
             f,
-            "data = /incbin/({data}); hash-1 {{ algo = \"crc32\"; }}; }};\n"
+            "signature-1 {{ algo = {algo}; key-name-hint = {key}; }}; }};\n"
         )
     }
 

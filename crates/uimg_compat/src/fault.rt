@@ -92,12 +92,25 @@ pub enum OldFault<'a> {
     #[error("-x: not supported for several parts")]
     XipOfParts,
 
-    /// The option is not supported.
-    #[error("-{letter}: {what}; use mkimage of u-boot-tools")]
-    NotDone {
-        letter: char,
-        what: &'static str,
-    },
+    /// With this word dtc makes another image or none, or a shell reads it otherwise.
+    #[error("-D: '{0}' is not supported; use mkimage of u-boot-tools")]
+    DtcWord(&'a str),
+
+    /// The last option for dtc has no value.
+    #[error("-D: the last option needs a value")]
+    DtcEnd,
+
+    /// dtc refuses both options together.
+    #[error("-D: -p is given with -S")]
+    DtcPadAndSpace,
+
+    /// The labels of the source would be in the image.
+    #[error("-D: -@ is not supported for a source with labels; use mkimage of u-boot-tools")]
+    DtcSymbols,
+
+    /// A key for signatures of -f auto has no algorithm.
+    #[error("-f auto with -g needs -o")]
+    NoAlgorithm,
 
     /// Memory ran out.
     #[error("out of memory")]

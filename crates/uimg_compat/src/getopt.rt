@@ -166,8 +166,8 @@ fn option_by_letter<'a>(rows: &[OptionRow], letters: &'a str) -> Option<(char, b
     None
 }
 
-// Returns the option of a long name, and whether it has a value.
-fn option_by_name(rows: &[OptionRow], name: &str) -> Option<(char, bool)> {
+/// Returns the option of a long name, and whether it has a value.
+pub(crate) fn option_by_name(rows: &[OptionRow], name: &str) -> Option<(char, bool)> {
     for row in rows {
         if row.1 == name && !name.is_empty() {
             return Some((row.0, row.2));

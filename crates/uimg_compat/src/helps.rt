@@ -7,7 +7,7 @@ pub(crate) const MKIMAGE_HELP: &str =
 Usage: mkimage -l [-T type] image
        mkimage -d file[:file...] [-A arch] [-O os] [-T type] [-C comp]
                [-a address] [-e address] [-n name] image
-       mkimage -f source.its [-E] [-p position] [-B bytes] image
+       mkimage -f source.its [-E] [-p position] [-B bytes] [-D words] image
        mkimage -f auto -d file [-b tree].. [-i ramdisk] [as above] image
 
   -l  --list            list the image instead of making one
@@ -22,20 +22,23 @@ Usage: mkimage -l [-T type] image
   -s  --no-copy         make the image without data
   -x  --xip             put the header in place of the 64 bytes 0xff that the data
                         begin with, and the entry point after it
-  -f  --fit             the image-tree source of a FIT image; auto makes one of the
-                        files of -d, -b and -i, with the options -A to -n
+  -f  --fit             the image-tree source of a FIT image, - for standard input;
+                        auto makes one of the files of -d, -b and -i, with the
+                        options -A to -n
   -b  --device-tree     with -f auto: a device tree; may be repeated
   -i  --initramfs       with -f auto: the RAM disk
   -E  --external        with -f: place the data after the blob
   -p  --position        with -E: place the data at this offset, hexadecimal
   -B  --alignment       with -E: pad the blob and each payload to a multiple of this
                         many bytes, hexadecimal, a multiple of 4 itself [4]
+  -D  --dtcopts         with -f: options of dtc, as -i and a folder to look for files
+                        that are not in the folder of the source
   -q  --quiet           print no listing
   -h  --help            print this help
   -V  --version         print the version
 
-Accepted without effect: -v, -t, -c comment, -R name, and -D with options of dtc
-that change nothing. Signing is refused (-F -g -G -k -K -N -o -r).
+Accepted without effect: -v, -t, -r, -c comment, -R name, and without a key -g name
+and -o algorithm. Signing is refused (-F -G -k -K -N).
 The image is written to a temporary file, which is renamed when it is complete.
 See uimg-mkimage(1).
 ";

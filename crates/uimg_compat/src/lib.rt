@@ -4,11 +4,13 @@
 
 mod auto_source;
 mod c_numbers;
+mod dtc_checks;
 mod dtc_words;
 mod dumpimage;
 mod fault;
 mod getopt;
 mod helps;
+mod labels;
 mod mkimage;
 mod mkimage_options;
 mod names;
@@ -19,11 +21,13 @@ mod warnings;
 
 pub use auto_source::{AutoSource, TreePaths};
 pub use c_numbers::{long_prefix, low_half, unsigned_long};
+pub use dtc_words::{DtcWords, Silenced};
 pub use dumpimage::read_dumpimage;
 pub use fault::OldFault;
 pub use getopt::{Given, Misuse, OptionRow, Words};
+pub use labels::has_labels;
 pub use mkimage::read_mkimage;
 pub use names::title_of;
 pub use quoted::{Escaped, Quoted};
-pub use request::{AutoRequest, OldRequest, Show};
+pub use request::{AutoRequest, FitRequest, OldRequest, Show};
 pub use warnings::warn;

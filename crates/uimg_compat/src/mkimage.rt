@@ -2,13 +2,13 @@
 
 use crate::auto_source::AutoSource;
 use crate::c_numbers::{long_prefix, low_half, unsigned_long};
-use crate::dtc_words::change_nothing;
+use crate::dtc_words::read_dtc_words;
 use crate::fault::OldFault;
 use crate::getopt::{Given, Words};
 use crate::helps::MKIMAGE_HELP;
 use crate::mkimage_options::MKIMAGE_OPTIONS;
 use crate::names::{Named, check_made, format_of, name_of};
-use crate::request::{AutoRequest, OldRequest, Show};
+use crate::request::{AutoRequest, FitRequest, OldRequest, Show};
 use std::alloc::Global;
 use uimg_base::{FLAT_DT, MULTI, SCRIPT};
 use uimg_fit_base::{Placement, WORD_ALIGNMENT};
@@ -43,6 +43,10 @@ struct Settings<'a> {
     position: u32,
     alignment: u32,
     alignment_word: &'a str,
+    dtc_words: &'a str,
+    key_name: Option<&'a str>,
+    algorithm: Option<&'a str>,
+    signing: Option<char>,
     is_external: bool,
     is_list: bool,
     is_quiet: bool,
@@ -74,6 +78,10 @@ pub fn read_mkimage<'a>(
         position: 0,
         alignment: 0,
         alignment_word: "",
+        dtc_words: "",
+        key_name: None,
+        algorithm: None,
+        signing: None,
         is_external: false,
         is_list: false,
         is_quiet: false,
@@ -112,7 +120,7 @@ impl<'a> Settings<'a> {
             'l' => self.is_list = true,
             'q' => self.is_quiet = true,
             's' => self.has_no_data = true,
-            'F' | 'r' => return Err(OldFault::Signs(option)),
+            'F' => return Err(OldFault::Signs(option)),
             'x' => self.is_xip = true,
             _ => {}
         }
@@ -141,8 +149,10 @@ impl<'a> Settings<'a> {
                 self.alignment = address('B', value)?;
                 self.alignment_word = value;
             }
-            'D' => check_dtc_words(value)?,
-            'g' | 'G' | 'k' | 'K' | 'N' | 'o' => return Err(OldFault::Signs(option)),
+            'D' => self.dtc_words = value,
+            'g' => self.key_name = Some(value),
+            'o' => self.algorithm = Some(value),
+            'G' | 'k' | 'K' | 'N' => self.signing = Some(option),
             _ => {}
         }
         Ok(None)
@@ -188,18 +198,14 @@ impl<'a> Settings<'a> {
             Some(text) => long_prefix(text).ok_or(OldFault::BadEpoch)?,
             None => now,
         };
-        let is_quiet = self.is_quiet;
-        if self.source == Some(AUTO) {
-            return Ok(OldRequest::MakeAuto(AutoRequest {
-                source: self.auto_source(words)?,
-                placement: self.placement(),
-                manner: self.manner(time)?,
-                outfile: image,
-                is_quiet,
-            }));
+        match (self.data, self.source) {
+            (_, Some(AUTO)) => self.making_of_auto(words, time, image),
+            (None, None) => Err(OldFault::NothingToMake),
+            (Some(_), Some(_)) => Err(OldFault::DataWithSource),
+            (None, Some(source)) => self.making_of_source(alloc, source, time, image),
+            (Some(_), None) if self.kind == Some(FLAT_DT) => Err(OldFault::NoSource),
+            (Some(data), None) => self.making_of_parts(alloc, data, time, image),
         }
-        let request = self.making(alloc, image, time)?;
-        Ok(OldRequest::Make { request, is_quiet })
     }
 
     fn listing(self, image: &'a str) -> Result<OldRequest<'a>, OldFault<'a>> {
@@ -222,27 +228,47 @@ impl<'a> Settings<'a> {
         })
     }
 
-    fn making(
+    fn making_of_auto(
+        self,
+        words: &'a [&'a str],
+        time: u32,
+        image: &'a str,
+    ) -> Result<OldRequest<'a>, OldFault<'a>> {
+        self.check_signing()?;
+        Ok(OldRequest::MakeAuto(AutoRequest {
+            source: self.auto_source(words)?,
+            placement: self.placement(),
+            manner: self.manner(time)?,
+            outfile: image,
+            key: self.key_name,
+            is_quiet: self.is_quiet,
+        }))
+    }
+
+    fn making_of_source(
         self,
         alloc: Global,
-        image: &'a str,
+        source: &'a str,
         time: u32,
-    ) -> Result<MakeRequest<'a>, OldFault<'a>> {
-        match (self.data, self.source) {
-            (None, None) => Err(OldFault::NothingToMake),
-            (Some(_), Some(_)) => Err(OldFault::DataWithSource),
-            (None, Some(source)) => {
-                let manner = self.manner(time)?;
-                let placement = self.placement();
-                let mut request = MakeRequest::of_source(alloc, source, placement, time, image)?;
-                request.manner = manner;
-                Ok(request)
-            }
-            (Some(_), None) if self.kind == Some(FLAT_DT) => Err(OldFault::NoSource),
-            (Some(data), None) => {
-                check_made(self.kind.unwrap_or(0), self.kind_name)?;
-                self.making_of_parts(alloc, data, time, image)
-            }
+        image: &'a str,
+    ) -> Result<OldRequest<'a>, OldFault<'a>> {
+        self.check_signing()?;
+        Ok(OldRequest::MakeFit(FitRequest {
+            source,
+            placement: self.placement(),
+            manner: self.manner(time)?,
+            outfile: image,
+            dtc: read_dtc_words(alloc, self.dtc_words)?,
+            key: self.key_name,
+            is_quiet: self.is_quiet,
+        }))
+    }
+
+    // Refuses the options of keys, which only legacy images ignore.
+    fn check_signing(&self) -> Result<(), OldFault<'a>> {
+        match self.signing {
+            Some(option) => Err(OldFault::Signs(option)),
+            None => Ok(()),
         }
     }
 
@@ -252,7 +278,8 @@ impl<'a> Settings<'a> {
         data: &'a str,
         time: u32,
         image: &'a str,
-    ) -> Result<MakeRequest<'a>, OldFault<'a>> {
+    ) -> Result<OldRequest<'a>, OldFault<'a>> {
+        check_made(self.kind.unwrap_or(0), self.kind_name)?;
         let options = self.options();
         if self.is_xip && has_parts(options.kind) {
             return Err(OldFault::XipOfParts);
@@ -264,7 +291,10 @@ impl<'a> Settings<'a> {
             ..request.manner
         };
         request.is_xip = self.is_xip && !self.has_no_data;
-        Ok(request)
+        Ok(OldRequest::Make {
+            request,
+            is_quiet: self.is_quiet,
+        })
     }
 
     fn auto_source(&self, words: &'a [&'a str]) -> Result<AutoSource<'a>, OldFault<'a>> {
@@ -276,8 +306,18 @@ impl<'a> Settings<'a> {
             name: self.name,
             data,
             ramdisk: self.ramdisk,
+            signature: self.signature()?,
             words,
         })
+    }
+
+    // Returns the key's name and the algorithm of the signatures of -f auto.
+    fn signature(&self) -> Result<Option<(&'a str, &'a str)>, OldFault<'a>> {
+        match (self.key_name, self.algorithm) {
+            (None, _) => Ok(None),
+            (Some(key), Some(algorithm)) => Ok(Some((key, algorithm))),
+            (Some(_), None) => Err(OldFault::NoAlgorithm),
+        }
     }
 
     // Returns where the payloads go.
@@ -354,14 +394,4 @@ fn address(letter: char, word: &str) -> Result<u32, OldFault<'_>> {
             word,
         }),
     }
-}
-
-fn check_dtc_words(words: &str) -> Result<(), OldFault<'_>> {
-    if change_nothing(words) {
-        return Ok(());
-    }
-    Err(OldFault::NotDone {
-        letter: 'D',
-        what: "only -I dts, -O dtb, -q and -p with a number are supported",
-    })
 }

@@ -1,6 +1,7 @@
 //! What a command line requests.
 
 use crate::auto_source::AutoSource;
+use crate::dtc_words::DtcWords;
 use uimg_fit_base::Placement;
 use uimg_names::Field;
 use uimg_requests::{MakeRequest, Manner, RunRequest};
@@ -14,17 +15,45 @@ pub enum OldRequest<'a> {
         is_quiet: bool,
     },
 
-    /// The making of an image, whose listing may be suppressed.
+    /// The making of a legacy image, whose listing may be suppressed.
     Make {
         request: MakeRequest<'a>,
         is_quiet: bool,
     },
+
+    /// The making of a FIT image from a source.
+    MakeFit(FitRequest<'a>),
 
     /// The making of a FIT image from the source that mkimage makes itself.
     MakeAuto(AutoRequest<'a>),
 
     /// A text.
     Show(Show),
+}
+
+/// The making of a FIT image from a source.
+#[derive(Drop)]
+pub struct FitRequest<'a> {
+    /// The path of the source, or `-` for standard input.
+    pub source: &'a str,
+
+    /// Where the payloads are placed.
+    pub placement: Placement,
+
+    /// How it is made.
+    pub manner: Manner,
+
+    /// The path of the image.
+    pub outfile: &'a str,
+
+    /// What the words for dtc change.
+    pub dtc: DtcWords<'a>,
+
+    /// The path of a key that mkimage signs with, if such a file exists.
+    pub key: Option<&'a str>,
+
+    /// Whether the listing is suppressed.
+    pub is_quiet: bool,
 }
 
 /// The making of a FIT image from the source that mkimage makes itself.
@@ -41,6 +70,9 @@ pub struct AutoRequest<'a> {
 
     /// The path of the image.
     pub outfile: &'a str,
+
+    /// The path of a key that mkimage signs with, if such a file exists.
+    pub key: Option<&'a str>,
 
     /// Whether the listing is suppressed.
     pub is_quiet: bool,

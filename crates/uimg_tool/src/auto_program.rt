@@ -1,6 +1,7 @@
 //! Makes a FIT image from the source that mkimage makes itself.
 
-use crate::main_program::FAILED;
+use crate::fit_program::is_key;
+use crate::main_program::{FAILED, WRONG_LINE};
 use crate::old_program::{make_image, tell, tell_unread, tell_unwritten};
 use crate::old_tools::{Called, Tool};
 use crate::safe_path::{NewBeside, new_beside};
@@ -19,6 +20,9 @@ pub(crate) fn make_auto<R: Files + AllocGlobal, W: Write, V: Write>(
     out: &mut W,
     err: &mut V,
 ) -> u8 {
+    if is_key(rt, request.key) {
+        return tell(tool, err, &OldFault::Signs('g'), WRONG_LINE);
+    }
     if let Some(path) = unread_file(rt, &request.source) {
         return tell_unread(rt, tool, path, err);
     }
@@ -55,8 +59,7 @@ fn make_of_text<R: Files + AllocGlobal, W: Write, V: Write>(
     match made {
         Ok(mut making) => {
             making.manner = request.manner;
-            let is_quiet = request.is_quiet;
-            make_image(rt, Called { tool, is_quiet }, making, out, err)
+            make_image(rt, Called::new(tool, request.is_quiet), making, out, err)
         }
         Err(_) => tell(tool, err, &OldFault::OutOfMemory, FAILED),
     }

@@ -140,7 +140,7 @@ fn carry_out_one<'a, R: Files + AllocGlobal, W: Write, V: Write>(
     out: &mut W,
     err: &mut V,
 ) -> u8 {
-    let end = carry_out(rt, request, None, out);
+    let end = carry_out(rt, request, Way::to(None), out);
     if matches!(request, Request::Show(_)) && is_unread(&end) {
         return FAILED;
     }
@@ -230,16 +230,32 @@ fn status_of_source(kind: FaultKind) -> u8 {
     }
 }
 
-/// Carries out a request, and buffers what it prints. What it writes goes to the file that is given,
-/// if one is. If the flush at the end fails, returns `NotPrinted` instead of the end, because the text
+/// Where a request's files are.
+#[derive(Drop)]
+pub(crate) struct Way<'a, R: Files> {
+    /// What is written goes to this file if there is one, and not to one at a path.
+    pub(crate) file: Option<R::File>,
+
+    /// Files of a source that are not in its folder are looked for in these.
+    pub(crate) folders: &'a [&'a str],
+}
+
+impl<'a, R: Files> Way<'a, R> {
+    /// Returns the way to a file, with no other folders.
+    pub(crate) fn to(file: Option<R::File>) -> Way<'a, R> {
+        Way { file, folders: &[] }
+    }
+}
+
+/// Carries out a request, and buffers what it prints. If the flush at the end fails, returns `NotPrinted` instead of the end, because the text
 /// comes before what ended the request.
 pub(crate) fn carry_out<'a, R: Files + AllocGlobal, W: Write>(
     rt: &'a R,
     request: &'a Request<'a>,
-    file: Option<R::File>,
+    way: Way<'a, R>,
     out: &mut W,
 ) -> Result<Status, RequestFault<'a>> {
-    match carry_out_apart(rt, request, file, out) {
+    match carry_out_apart(rt, request, way, out) {
         (end, Ok(())) => end,
         (_, Err(error)) => Err(RequestFault::NotPrinted(error)),
     }
@@ -250,15 +266,15 @@ pub(crate) fn carry_out<'a, R: Files + AllocGlobal, W: Write>(
 pub(crate) fn carry_out_apart<'a, R: Files + AllocGlobal, W: Write>(
     rt: &'a R,
     request: &'a Request<'a>,
-    file: Option<R::File>,
+    way: Way<'a, R>,
     out: &mut W,
 ) -> (Result<Status, RequestFault<'a>>, io::Result<()>) {
     let Ok(mut gathered) = BufWriter::new(rt.alloc(), out) else {
         return (Err(RequestFault::OutOfMemory), Ok(()));
     };
     let end = match request {
-        Request::Run(request) => run_command(rt, request, file, &mut gathered),
-        Request::Make(request) => make_command(rt, request, file, &mut gathered),
+        Request::Run(request) => run_command(rt, request, way.file, &mut gathered),
+        Request::Make(request) => make_command(rt, request, way, &mut gathered),
         Request::Show(text) => show(text, &mut gathered),
     };
     let written = gathered.flush();
@@ -342,19 +358,20 @@ fn outfile_at<'a, R: Files>(
 fn make_command<'a, R: Files + AllocGlobal, W: Write>(
     rt: &'a R,
     request: &'a MakeRequest<'a>,
-    file: Option<R::File>,
+    way: Way<'a, R>,
     out: &mut W,
 ) -> Result<Status, RequestFault<'a>> {
     let path = request.written;
     let code = Cell::new(None);
+    let Way { file, folders } = way;
     let made = match file {
         Some(file) => match NewShelf::new(rt, path, file) {
-            Ok(shelf) => make_image(rt, request, Watched::new(shelf, &code), out),
+            Ok(shelf) => make_image(rt, request, folders, Watched::new(shelf, &code), out),
             Err(_) => Err(RequestFault::OutOfMemory),
         },
         None => {
             let shelf = Watched::new(FileShelf::new(rt, path), &code);
-            make_image(rt, request, shelf, out)
+            make_image(rt, request, folders, shelf, out)
         }
     };
     match (made, code.get()) {

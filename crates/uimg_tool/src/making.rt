@@ -1,6 +1,7 @@
 //! Makes an image on a disk.
 
 use crate::main_program::RequestFault;
+use crate::searched_files::SearchedFiles;
 use crate::xip_files::XipFiles;
 use std::io::Write;
 use std::rt;
@@ -8,17 +9,20 @@ use uimg_base::{Files, Out, Room, Shelf, Status};
 use uimg_engine::{DiskFiles, Fault, make_by};
 use uimg_requests::{MakeCommand, MakeRequest};
 
-/// Makes the requested image on a shelf.
+/// Makes the requested image on a shelf. Files that are not in the folder of the request are looked
+/// for in the others.
 pub(crate) fn make_image<'a, R: rt::Files + AllocGlobal, H: Shelf, W: Write>(
     rt: &'a R,
     request: &'a MakeRequest<'a>,
+    others: &'a [&'a str],
     shelf: H,
     out: &mut W,
 ) -> Result<Status, RequestFault<'a>> {
-    let mut files = DiskFiles::without(rt, request.folder, request.outfile);
     if request.is_xip {
+        let files = DiskFiles::without(rt, request.folder, request.outfile);
         return make_xip(rt, request, files, shelf, out);
     }
+    let mut files = SearchedFiles::new(rt, request.folder, others, request.outfile);
     let made = make_over(rt, request, &mut files, shelf, out);
     end_of(request, made, files.has_met_left_out())
 }

@@ -1,14 +1,14 @@
 //! The program with the names of mkimage and dumpimage.
 
 use crate::auto_program::make_auto;
+use crate::fit_program::make_fit;
 use crate::main_program::{
-    DONE, FAILED, REFUSED, RequestFault, WRONG_LINE, carry_out, carry_out_apart, is_closed,
+    DONE, FAILED, REFUSED, RequestFault, WRONG_LINE, Way, carry_out, carry_out_apart, is_closed,
     status_of,
 };
 use crate::old_tools::{Called, Tool};
 use crate::reasons::reason_unread;
 use crate::safe_path::{SafePath, Writing, writing_of};
-use crate::source_warnings::warn_of_source;
 use std::alloc::Global;
 use std::fmt::Display;
 use std::io::Write;
@@ -50,12 +50,12 @@ pub(crate) fn carry_out_old<R: Files + AllocGlobal, W: Write, V: Write>(
 ) -> u8 {
     match asked {
         Ok(OldRequest::Run { request, is_quiet }) => {
-            run_command(rt, Called { tool, is_quiet }, request, out, err)
+            run_command(rt, Called::new(tool, is_quiet), request, out, err)
         }
         Ok(OldRequest::Make { request, is_quiet }) => {
-            warn_of_source(rt, &request, err);
-            make_image(rt, Called { tool, is_quiet }, request, out, err)
+            make_image(rt, Called::new(tool, is_quiet), request, out, err)
         }
+        Ok(OldRequest::MakeFit(request)) => make_fit(rt, tool, &request, out, err),
         Ok(OldRequest::MakeAuto(request)) => make_auto(rt, tool, &request, out, err),
         Ok(OldRequest::Show(show)) => show_text(tool, show, out, err),
         Err(OldFault::OutOfMemory) => tell(tool, err, &OldFault::OutOfMemory, FAILED),
@@ -67,7 +67,7 @@ pub(crate) fn carry_out_old<R: Files + AllocGlobal, W: Write, V: Write>(
 // is complete.
 fn run_command<R: Files + AllocGlobal, W: Write, V: Write>(
     rt: &R,
-    called: Called,
+    called: Called<'_>,
     request: RunRequest<'_>,
     out: &mut W,
     err: &mut V,
@@ -88,14 +88,14 @@ fn run_command<R: Files + AllocGlobal, W: Write, V: Write>(
 
 fn run_in_place<R: Files + AllocGlobal, W: Write, V: Write>(
     rt: &R,
-    called: Called,
+    called: Called<'_>,
     request: RunRequest<'_>,
     out: &mut W,
     err: &mut V,
 ) -> u8 {
     let image = request.image;
     let request = Request::Run(request);
-    let end = carry_out_by(rt, &request, called.is_quiet, out);
+    let end = carry_out_by(rt, &request, called, out);
     tell_end(rt, called.tool, &end, image, err)
 }
 
@@ -116,14 +116,14 @@ fn run_beside<'a, R: Files + AllocGlobal, W: Write, V: Write>(
     let image = request.image;
     let request = Request::Run(request);
     let Begun { file, path } = begun;
-    let end = carry_out(rt, &request, Some(file), out);
+    let end = carry_out(rt, &request, Way::to(Some(file)), out);
     tell_written(rt, tool, path, &end, image, err)
 }
 
 /// Makes an image beside its name, which it gets when it is complete.
 pub(crate) fn make_image<R: Files + AllocGlobal, W: Write, V: Write>(
     rt: &R,
-    called: Called,
+    called: Called<'_>,
     request: MakeRequest<'_>,
     out: &mut W,
     err: &mut V,
@@ -133,7 +133,7 @@ pub(crate) fn make_image<R: Files + AllocGlobal, W: Write, V: Write>(
         Ok(Writing::InPlace) => {
             let outfile = request.outfile;
             let request = Request::Make(request);
-            let end = carry_out_by(rt, &request, called.is_quiet, out);
+            let end = carry_out_by(rt, &request, called, out);
             tell_end(rt, tool, &end, outfile, err)
         }
         Ok(Writing::Beside(file, path)) => {
@@ -148,7 +148,7 @@ pub(crate) fn make_image<R: Files + AllocGlobal, W: Write, V: Write>(
 // Makes an image at one path, and moves it to another, even if its listing could not be printed.
 fn make_beside<'a, R: Files + AllocGlobal, W: Write, V: Write>(
     rt: &'a R,
-    called: Called,
+    called: Called<'a>,
     mut request: MakeRequest<'a>,
     begun: Begun<'a, R>,
     out: &mut W,
@@ -158,10 +158,14 @@ fn make_beside<'a, R: Files + AllocGlobal, W: Write, V: Write>(
     let Begun { file, path } = begun;
     request.written = path.new.as_str();
     let request = Request::Make(request);
+    let way = Way {
+        file: Some(file),
+        folders: called.folders,
+    };
     let (end, printed) = if called.is_quiet {
-        carry_out_apart(rt, &request, Some(file), &mut io::sink())
+        carry_out_apart(rt, &request, way, &mut io::sink())
     } else {
-        carry_out_apart(rt, &request, Some(file), out)
+        carry_out_apart(rt, &request, way, out)
     };
     if let (Err(RequestFault::Stopped(Fault::Put)), Err(error)) = (&end, &printed) {
         let _ = fs::remove_file(rt, path.new.as_str());
@@ -208,13 +212,17 @@ fn tell_written<R: Files, V: Write>(
 fn carry_out_by<'a, R: Files + AllocGlobal, W: Write>(
     rt: &'a R,
     request: &'a Request<'a>,
-    is_quiet: bool,
+    called: Called<'a>,
     out: &mut W,
 ) -> Result<Status, RequestFault<'a>> {
-    if is_quiet {
-        carry_out(rt, request, None, &mut io::sink())
+    let way = Way {
+        file: None,
+        folders: called.folders,
+    };
+    if called.is_quiet {
+        carry_out(rt, request, way, &mut io::sink())
     } else {
-        carry_out(rt, request, None, out)
+        carry_out(rt, request, way, out)
     }
 }
 
@@ -284,7 +292,7 @@ pub(crate) fn tell<V: Write, D: Display>(tool: Tool, err: &mut V, fault: &D, sta
 fn show_text<W: Write, V: Write>(tool: Tool, show: Show, out: &mut W, err: &mut V) -> u8 {
     let written = match show {
         Show::Help(text) => write!(out, "{text}"),
-        Show::Version => writeln!(out, "{} version 2023.01 (uimg {VERSION})", tool.name()),
+        Show::Version => put_version(tool, out, err),
         Show::Names(field) => put_names(field, err),
     };
     match (written, show) {
@@ -292,6 +300,13 @@ fn show_text<W: Write, V: Write>(tool: Tool, show: Show, out: &mut W, err: &mut 
         (Ok(()), Show::Names(field)) if field != Field::Kind => WRONG_LINE,
         (Ok(()), _) => DONE,
     }
+}
+
+// Prints the version, whose last word others take, and that of uimg to standard error.
+fn put_version<W: Write, V: Write>(tool: Tool, out: &mut W, err: &mut V) -> io::Result<()> {
+    writeln!(out, "{} version 2023.01", tool.name())?;
+    let _ = writeln!(err, "uimg {VERSION}");
+    Ok(())
 }
 
 // Prints the names of a field's codes, a line each. The originals leave out `ppc`, which is another

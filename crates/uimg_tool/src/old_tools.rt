@@ -7,11 +7,24 @@ pub(crate) enum Tool {
     Dumpimage,
 }
 
-/// A tool whose command line is carried out, and whether it prints nothing.
+/// A tool whose command line is carried out, whether it prints nothing, and the folders where it
+/// looks for files that are not in the folder of a source.
 #[derive(Clone, Copy, Debug, PartialEq, Eq)]
-pub(crate) struct Called {
+pub(crate) struct Called<'a> {
     pub(crate) tool: Tool,
     pub(crate) is_quiet: bool,
+    pub(crate) folders: &'a [&'a str],
+}
+
+impl<'a> Called<'a> {
+    /// Returns a tool that looks for files in no other folder.
+    pub(crate) fn new(tool: Tool, is_quiet: bool) -> Called<'a> {
+        Called {
+            tool,
+            is_quiet,
+            folders: &[],
+        }
+    }
 }
 
 impl Tool {

@@ -1,5 +1,6 @@
 //! The whole source.
 
+use crate::dtc_words::Silenced;
 use crate::warnings::configurations::tell_of_configurations;
 use crate::warnings::equal_names::tell_equal_names;
 use crate::warnings::images::tell_of_images;
@@ -15,12 +16,13 @@ use uimg_blob_writing::{Node, Tree};
 /// further ones: a description that the root, an image or a configuration lacks, and the root's
 /// `#address-cells`; a name in a configuration without an image, and a default without a
 /// configuration; a type, architecture, operating system or compression that is no name of image.h;
-/// and equal names of nodes or properties in one node, down to the child nodes of images.
+/// and equal names of nodes or properties in one node, down to the child nodes of images. Silenced
+/// warnings are not counted.
 ///
 /// Takes memory for the names of one node and those of the images; if that is refused, the rest is
 /// not checked. Failed writes are ignored.
-pub fn warn<W: Write>(alloc: Global, tree: &Tree<Global>, err: &mut W) {
-    let mut teller = Teller::new(err);
+pub fn warn<W: Write>(alloc: Global, tree: &Tree<Global>, silenced: Silenced, err: &mut W) {
+    let mut teller = Teller::new(silenced, err);
     let _ = tell_of_root(alloc, &tree.root, &mut teller);
     teller.end();
 }

@@ -1,5 +1,6 @@
 //! The lines of warnings.
 
+use crate::dtc_words::Silenced;
 use crate::warnings::node_paths::NodePath;
 use crate::warnings::warning::Warning;
 use std::io::Write;
@@ -11,17 +12,27 @@ const MOST_LINES: u64 = 20;
 #[derive(Drop)]
 pub(crate) struct Teller<'a, W: Write> {
     err: &'a mut W,
+    silenced: Silenced,
     count: u64,
 }
 
 impl<'a, W: Write> Teller<'a, W> {
     /// Returns a teller without warnings.
-    pub(crate) fn new(err: &'a mut W) -> Teller<'a, W> {
-        Teller { err, count: 0 }
+    pub(crate) fn new(silenced: Silenced, err: &'a mut W) -> Teller<'a, W> {
+        Teller {
+            err,
+            silenced,
+            count: 0,
+        }
     }
 
-    /// Writes a warning about a node.
+    /// Writes a warning about a node, unless it is silenced.
     pub(crate) fn tell(&mut self, path: NodePath<'_>, warning: Warning<'_>) {
+        match warning {
+            Warning::EqualNodes(_) if self.silenced.equal_nodes => return,
+            Warning::EqualProperties(_) if self.silenced.equal_properties => return,
+            _ => {}
+        }
         if self.count < MOST_LINES {
             let _ = writeln!(self.err, "mkimage: warning: {path}: {warning}");
         }

@@ -1,0 +1,168 @@
+//! Makes a FIT image from a source, as mkimage does.
+
+use crate::main_program::{FAILED, WRONG_LINE};
+use crate::old_program::{make_image, tell, tell_unread, tell_unwritten};
+use crate::old_tools::{Called, Tool};
+use crate::safe_path::{NewBeside, new_beside};
+use crate::source_warnings::{source_has_labels, warn_of_source};
+use std::alloc::AllocError;
+use std::io::{Read, Write};
+use std::path::{Path, PathBuf};
+use std::rt::Files;
+use std::{fs, io};
+use uimg_base::FileSource;
+use uimg_compat::{FitRequest, OldFault};
+use uimg_requests::MakeRequest;
+
+/// The name of standard input as a source, and its path.
+const INPUT_NAME: &str = "-";
+
+const INPUT: &str = "/dev/stdin";
+
+/// Makes the requested image. A source from standard input is beside the image meanwhile.
+pub(crate) fn make_fit<R: Files + AllocGlobal, W: Write, V: Write>(
+    rt: &R,
+    tool: Tool,
+    request: &FitRequest<'_>,
+    out: &mut W,
+    err: &mut V,
+) -> u8 {
+    if is_key(rt, request.key) {
+        return tell(tool, err, &OldFault::Signs('g'), WRONG_LINE);
+    }
+    if request.source == INPUT_NAME {
+        return make_of_input(rt, tool, request, out, err);
+    }
+    if FileSource::open(rt, request.source).is_ok() {
+        return make_of_path(rt, tool, request, request.source, out, err);
+    }
+    match path_in_folders(rt, request) {
+        Ok(Some(path)) => make_of_path(rt, tool, request, path.as_str(), out, err),
+        Ok(None) => tell_unread(rt, tool, request.source, err),
+        Err(_) => tell(tool, err, &OldFault::OutOfMemory, FAILED),
+    }
+}
+
+/// Returns whether a file is at a path of a key, if there is one.
+pub(crate) fn is_key<R: Files>(rt: &R, key: Option<&str>) -> bool {
+    match key {
+        Some(path) => fs::metadata(rt, path).is_ok(),
+        None => false,
+    }
+}
+
+// Returns the path of the source in the first folder for dtc that has it.
+fn path_in_folders<R: Files + AllocGlobal>(
+    rt: &R,
+    request: &FitRequest<'_>,
+) -> Result<Option<PathBuf<R::A>>, AllocError> {
+    for folder in request.dtc.folders.as_slice() {
+        let Ok(path) = Path::new(folder).join(rt.alloc(), request.source) else {
+            return Err(AllocError);
+        };
+        if FileSource::open(rt, path.as_str()).is_ok() {
+            return Ok(Some(path));
+        }
+    }
+    Ok(None)
+}
+
+fn make_of_path<R: Files + AllocGlobal, W: Write, V: Write>(
+    rt: &R,
+    tool: Tool,
+    request: &FitRequest<'_>,
+    path: &str,
+    out: &mut W,
+    err: &mut V,
+) -> u8 {
+    let made = MakeRequest::of_source(
+        rt.alloc(),
+        path,
+        request.placement,
+        request.manner.time,
+        request.outfile,
+    );
+    match made {
+        Ok(making) => warn_and_make(rt, tool, request, making, out, err),
+        Err(_) => tell(tool, err, &OldFault::OutOfMemory, FAILED),
+    }
+}
+
+// Makes the image of standard input, which is copied to a new file first.
+fn make_of_input<R: Files + AllocGlobal, W: Write, V: Write>(
+    rt: &R,
+    tool: Tool,
+    request: &FitRequest<'_>,
+    out: &mut W,
+    err: &mut V,
+) -> u8 {
+    let Ok(text) = read_input(rt) else {
+        return tell_unread(rt, tool, INPUT, err);
+    };
+    match new_beside(rt, request.outfile) {
+        Ok(Ok(NewBeside { mut file, path })) => {
+            let status = match file.write_all(&text) {
+                Ok(()) => make_of_copy(rt, tool, request, path.as_str(), out, err),
+                Err(reason) => tell_unwritten(tool, request.outfile, &reason, err),
+            };
+            drop(file);
+            let _ = fs::remove_file(rt, path.as_str());
+            status
+        }
+        Ok(Err(reason)) => tell_unwritten(tool, request.outfile, &reason, err),
+        Err(_) => tell(tool, err, &OldFault::OutOfMemory, FAILED),
+    }
+}
+
+fn make_of_copy<R: Files + AllocGlobal, W: Write, V: Write>(
+    rt: &R,
+    tool: Tool,
+    request: &FitRequest<'_>,
+    path: &str,
+    out: &mut W,
+    err: &mut V,
+) -> u8 {
+    let made = MakeRequest::of_source_here(
+        rt.alloc(),
+        path,
+        request.placement,
+        request.manner.time,
+        request.outfile,
+    );
+    match made {
+        Ok(mut making) => {
+            making.source = INPUT_NAME;
+            warn_and_make(rt, tool, request, making, out, err)
+        }
+        Err(_) => tell(tool, err, &OldFault::OutOfMemory, FAILED),
+    }
+}
+
+// Reads standard input to its end.
+fn read_input<R: Files + AllocGlobal>(rt: &R) -> io::Result<Vec<u8>> {
+    let mut text = Vec::new(rt.alloc());
+    let mut input = fs::File::open(rt, INPUT)?;
+    input.read_to_end(&mut text)?;
+    Ok(text)
+}
+
+fn warn_and_make<R: Files + AllocGlobal, W: Write, V: Write>(
+    rt: &R,
+    tool: Tool,
+    request: &FitRequest<'_>,
+    mut making: MakeRequest<'_>,
+    out: &mut W,
+    err: &mut V,
+) -> u8 {
+    if request.dtc.has_symbols && source_has_labels(rt, &making, &request.dtc) {
+        return tell(tool, err, &OldFault::DtcSymbols, WRONG_LINE);
+    }
+    making.manner = request.manner;
+    let called = Called {
+        tool,
+        is_quiet: request.is_quiet,
+        folders: request.dtc.folders.as_slice(),
+    };
+    warn_of_source(rt, &making, &request.dtc, err);
+    make_image(rt, called, making, out, err)
+}
