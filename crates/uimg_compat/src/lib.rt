@@ -25,5 +25,5 @@ pub use getopt::{Given, Misuse, OptionRow, Words};
 pub use mkimage::read_mkimage;
 pub use names::title_of;
 pub use quoted::{Escaped, Quoted};
-pub use request::{AutoRequest, OldRequest, Show};
+pub use request::{AutoRequest, OldRequest, Show, UpdateRequest};
 pub use warnings::warn;

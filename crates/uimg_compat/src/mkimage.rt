@@ -8,7 +8,7 @@ use crate::getopt::{Given, Words};
 use crate::helps::MKIMAGE_HELP;
 use crate::mkimage_options::MKIMAGE_OPTIONS;
 use crate::names::{Named, check_made, format_of, name_of};
-use crate::request::{AutoRequest, OldRequest, Show};
+use crate::request::{AutoRequest, OldRequest, Show, UpdateRequest};
 use std::alloc::Global;
 use uimg_base::{FLAT_DT, MULTI, SCRIPT};
 use uimg_fit_base::{Placement, WORD_ALIGNMENT};
@@ -47,6 +47,8 @@ struct Settings<'a> {
     is_list: bool,
     is_quiet: bool,
     is_xip: bool,
+    is_update: bool,
+    sets_time: bool,
     has_no_data: bool,
 }
 
@@ -78,6 +80,8 @@ pub fn read_mkimage<'a>(
         is_list: false,
         is_quiet: false,
         is_xip: false,
+        is_update: false,
+        sets_time: false,
         has_no_data: false,
     };
     let mut unread = Words::new(words);
@@ -112,7 +116,9 @@ impl<'a> Settings<'a> {
             'l' => self.is_list = true,
             'q' => self.is_quiet = true,
             's' => self.has_no_data = true,
-            'F' | 'r' => return Err(OldFault::Signs(option)),
+            'F' => self.is_update = true,
+            't' => self.sets_time = true,
+            'r' => return Err(OldFault::Signs(option)),
             'x' => self.is_xip = true,
             _ => {}
         }
@@ -198,11 +204,31 @@ impl<'a> Settings<'a> {
                 is_quiet,
             }));
         }
+        if self.is_update && self.source.is_none() {
+            return self.update(image, time);
+        }
         let request = self.making(alloc, image, time)?;
         Ok(OldRequest::Make { request, is_quiet })
     }
 
+    // Returns the request of an update.
+    fn update(self, image: &'a str, time: u32) -> Result<OldRequest<'a>, OldFault<'a>> {
+        if self.data.is_some() {
+            return Err(OldFault::DataWithUpdate);
+        }
+        Ok(OldRequest::Update(UpdateRequest {
+            image,
+            placement: self.placement(),
+            manner: self.manner(time)?,
+            sets_time: self.sets_time,
+            is_quiet: self.is_quiet,
+        }))
+    }
+
     fn listing(self, image: &'a str) -> Result<OldRequest<'a>, OldFault<'a>> {
+        if self.is_update {
+            return Err(OldFault::ListWithUpdate);
+        }
         if self.source.is_some() {
             return Err(OldFault::ListWithSource);
         }
