@@ -28,11 +28,11 @@ payload_after totalsize own =
 
 -- properties with a payload as their first `data`, if there is one
 abbrev pub with_payload : List ℕ → Option Span → List (NamedOf Content) → List (NamedOf Content)
-with_payload file None own = own
-with_payload file (Some s) own = with (codes "data") (bytes (slice file s.place s.length)) own
+with_payload from None own = own
+with_payload from (Some s) own = with (codes "data") (bytes (slice from s.place s.length)) own
 
 -- an image of a file with its payload in its node
 abbrev pub imported : List ℕ → ℕ → NodeOf Content → NodeOf Content
-imported file totalsize image = record image {
-  own = with_payload file (payload_after totalsize image.own) image.own;
+imported from totalsize image = record image {
+  own = with_payload from (payload_after totalsize image.own) image.own;
 }

@@ -36,13 +36,16 @@ FromAnyLevel d blob room first P =
     (t : Siblings) → Opened d blob room t → (level : Level) (found : List (NodeOf Spot))
     → AreFrom t level first found → P found
 
--- The nodes are those of the tree of a file, with all properties in order.
-pub record IsHeld (file : List ℕ) (nodes : Unread) : Type 0 where
-  pub tree : Siblings
-  pub read : Blob.tree file ≡ Ok tree
-  pub held : nodes ≡ Reading.held (spots tree)
-
 -- The reservation block of a file is the pair of zeros that ends it (Devicetree Specification,
 -- section 5.3).
 abbrev pub ReservesNothing : List ℕ → Type 0
 ReservesNothing file = slice file (be32 file 16) 16 ≡ replicate 16 0
+
+-- The nodes are those of the tree of a file, with all properties in order, and the blob has this
+-- size.
+pub record IsHeld (file : List ℕ) (nodes : Unread) (totalsize : ℕ) : Type 0 where
+  pub found : Siblings
+  pub read : tree file ≡ Ok found
+  pub is : nodes ≡ held (spots found)
+  pub size : totalsize ≡ be32 file 4
+  pub reserves : ReservesNothing file

@@ -1,9 +1,10 @@
 //! Payloads after the blob, taken into the tree.
 
-ghost use Rattle.std.specs.Prelude.{◌≡◌, ◌+◌, ◌≤◌, length, map, codes, OnOk};
+ghost use Rattle.std.specs.{Prelude.{◌≡◌, codes, not, OnOk, IfOk}, List.prefix_len, Str.bytes_eq};
 ghost use Rattle.uimg_base.specs.{Device.SameDevice, Honest.HonestSource};
 ghost use Rattle.uimg_fit_base.specs.Files as files;
-ghost use Rattle.uimg_blob_writing.specs.Trees.{siblings, node_of};
+ghost use Rattle.uimg_blob_reading.specs.Plain.{AllValues};
+ghost use Rattle.uimg_blob_writing.specs.{Content.IsBytes, Trees.{siblings, node_of}};
 ghost use Rattle.uimg_fit_building.specs.{Behind.entry, Filling.{each, in_first, with_images}};
 ghost use Rattle.uimg_fit_updating.specs.Importing.{cell_in, payload_after, imported};
 
@@ -61,13 +62,15 @@ fn import_image<S: Source, A: Allocator>(
     image: &mut Node<Global>,
 ) -> Result<u64, UpdateFault>
     ensures same { SameDevice (S.device source.old) (S.device source.new) }
+    ensures in_memory { OnOk result (AllValues IsBytes (node_of image.old) → AllValues IsBytes (node_of image.new)) }
     ensures told { HonestSource S.device source → OnOk result (
         entry image.new ≡ imported (S.device source.old).bytes totalsize (entry image.old)) }
 {
     let Some(span) = payload_after(&image.props, totalsize) else {
         return Ok(left);
     };
-    if source.size()? < span.place + span.length {
+    let size = source.size()?;
+    if size < span.place || size - span.place < span.length {
         return Err(UpdateFault::Fit(Fault::Fit(FitFault::DataOutside)));
     }
     if left < span.length {
@@ -88,6 +91,7 @@ fn import_images<S: Source, A: Allocator>(
     images: &mut [Node<Global>],
 ) -> Result<(), UpdateFault>
     ensures same { SameDevice (S.device source.old) (S.device source.new) }
+    ensures in_memory { OnOk result (AllValues IsBytes (siblings images.old) → AllValues IsBytes (siblings images.new)) }
     ensures told { HonestSource S.device source → OnOk result (siblings images.new
         ≡ each (imported (S.device source.old).bytes totalsize) (siblings images.old)) }
 {
@@ -107,6 +111,7 @@ fn import_parent<S: Source, A: Allocator>(
     parent: &mut Node<Global>,
 ) -> Result<(), UpdateFault>
     ensures same { SameDevice (S.device source.old) (S.device source.new) }
+    ensures in_memory { OnOk result (AllValues IsBytes (node_of parent.old) → AllValues IsBytes (node_of parent.new)) }
     ensures told { HonestSource S.device source → OnOk result (parent.new
         ≡ record parent.old { children = each
             (imported (S.device source.old).bytes totalsize) parent.old.children }) }
@@ -118,6 +123,13 @@ fn import_parent<S: Source, A: Allocator>(
     answer
 }
 
+// Counts the nodes before the first that is named `images`.
+fn before_images(nodes: &[Node<Global>]) -> usize
+    ensures { result ≡ prefix_len (λ n. not (bytes_eq (codes "images") n.name)) nodes.now }
+{
+    nodes.iter().take_while(|node| !is_images(node)).count()
+}
+
 // Takes the payloads of the images below a root with these children into their nodes.
 fn import_below<S: Source, A: Allocator>(
     alloc: Global,
@@ -127,11 +139,12 @@ fn import_below<S: Source, A: Allocator>(
     nodes: &mut [Node<Global>],
 ) -> Result<(), UpdateFault>
     ensures same { SameDevice (S.device source.old) (S.device source.new) }
+    ensures in_memory { OnOk result (AllValues IsBytes (siblings nodes.old) → AllValues IsBytes (siblings nodes.new)) }
     ensures told { HonestSource S.device source → OnOk result (siblings nodes.new
         ≡ in_first (codes "images") (each (imported (S.device source.old).bytes totalsize))
             (siblings nodes.old)) }
 {
-    let at = nodes.iter().take_while(|node| !is_images(node)).count();
+    let at = before_images(nodes);
     if at >= nodes.len() {
         return Err(UpdateFault::Fit(Fault::Fit(FitFault::NoImages)));
     }
@@ -153,6 +166,10 @@ pub(crate) fn import<S: Source, A: Allocator>(
     tree: Tree<Global>,
 ) -> Result<Tree<Global>, UpdateFault>
     ensures same { SameDevice (S.device source.old) (S.device source.new) }
+    ensures in_memory { IfOk result (λ taken.
+        AllValues IsBytes (node_of tree.root) → AllValues IsBytes (node_of taken.root)) }
+    ensures told { HonestSource S.device source → IfOk result (λ taken. node_of taken.root
+        ≡ with_images (each (imported (S.device source.old).bytes totalsize)) (node_of tree.root)) }
 {
     let Tree { root } = tree;
     let Node {

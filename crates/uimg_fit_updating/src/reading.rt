@@ -1,10 +1,13 @@
 //! Reads a FIT image to a tree in memory.
 
-ghost use Rattle.std.specs.Prelude.{◌≤◌, length, IfOk};
+ghost use Rattle.std.specs.Prelude.{◌≡◌, ◌≤◌, length, IfOk};
 ghost use Rattle.uimg_base.specs.Device.{SameDevice};
 ghost use Rattle.uimg_base.specs.Honest.{HonestSource};
-ghost use Rattle.uimg_blob_writing.specs.Trees.{node_of};
-ghost use Rattle.uimg_fit_updating.specs.Reading.{IsHeld};
+ghost use Rattle.uimg_blob_reading.specs.Plain.{AllValues};
+ghost use Rattle.uimg_blob_writing.specs.{Content.IsBytes, Trees.node_of};
+ghost use Rattle.uimg_fit_reading.specs.Nodes.{InFile, Opened};
+ghost use Rattle.uimg_blob_reading.specs.{Grammar.Siblings, Spots.spots};
+ghost use Rattle.uimg_fit_updating.specs.Reading.{held, IsHeld};
 
 mod nodes;
 mod reservations;
@@ -41,9 +44,17 @@ fn read_indexed<S: Source, A: Allocator>(
     source: &mut S,
     blob: &Blob,
     room: &mut Room<A>,
-) -> Result<Tree<Global>, UpdateFault> {
-    let first = if room.count() == 0 { None } else { Some(0) };
-    let nodes = read_nodes(alloc, source, blob, room, first, MOST_LEVELS)?;
+) -> Result<Tree<Global>, UpdateFault>
+    requires { InFile (length (S.device source.old).bytes) blob.now room.old.entries }
+    ensures same { SameDevice (S.device source.old) (S.device source.new) }
+    ensures in_memory { IfOk result (λ tree. AllValues IsBytes (node_of tree.root)) }
+    ensures told { (t : Siblings) → Opened (S.device source.old) blob.now room.old t →
+        IfOk result (λ tree. node_of tree.root ≡ held (spots t)) }
+{
+    if room.count() == 0 {
+        return Err(UpdateFault::Changed);
+    }
+    let nodes = read_nodes(alloc, source, blob, room, Some(0), MOST_LEVELS)?;
     tree_of(nodes)
 }
 
@@ -59,8 +70,9 @@ pub fn read_fit<S: Source, A: Allocator>(
     room: &mut Room<A>,
 ) -> Result<(Tree<Global>, u32), UpdateFault>
     ensures same { SameDevice (S.device source.old) (S.device source.new) }
+    ensures in_memory { IfOk result (λ read. AllValues IsBytes (node_of read.0.root)) }
     ensures told { HonestSource S.device source → IfOk result (λ read.
-        IsHeld (S.device source.old).bytes (node_of read.0.root)) }
+        IsHeld (S.device source.old).bytes (node_of read.0.root) read.1) }
 {
     let blob = read_tree(source, room)?;
     if reserves(source)? {

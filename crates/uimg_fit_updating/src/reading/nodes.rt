@@ -3,6 +3,8 @@
 ghost use Rattle.std.specs.Prelude.{◌≡◌, map, IfOk};
 ghost use Rattle.uimg_base.specs.Device.{SameDevice};
 ghost use Rattle.uimg_blob_reading.specs.LookUps.{listed};
+ghost use Rattle.uimg_blob_reading.specs.Plain.{AllValues};
+ghost use Rattle.uimg_blob_writing.specs.{Content.IsBytes, Trees.node_of};
 ghost use Rattle.uimg_fit_building.specs.Behind.{entry};
 ghost use Rattle.uimg_fit_reading.specs.Nodes.{HasNode, HasNodes, OfAnyNode};
 ghost use Rattle.uimg_fit_updating.specs.Reading.{held_node, FromAnyLevel};
@@ -28,6 +30,7 @@ fn read_node<S: Source, A: Allocator>(
     requires { HasNode (S.device source.old) blob.now room.old node }
     ensures same { SameDevice (S.device source.old) (S.device source.new) }
     ensures room { room.new ≡ room.old }
+    ensures in_memory { IfOk result (λ made. AllValues IsBytes (node_of made)) }
     ensures told { OfAnyNode (S.device source.old) blob.now room.old node (λ level found.
         IfOk result (λ made. entry made ≡ held_node found)) }
 {
@@ -55,6 +58,7 @@ pub(crate) fn read_nodes<S: Source, A: Allocator>(
     requires { HasNodes (S.device source.old) blob.now room.old first }
     ensures same { SameDevice (S.device source.old) (S.device source.new) }
     ensures room { room.new ≡ room.old }
+    ensures in_memory { IfOk result (AllValues IsBytes) }
     ensures told { FromAnyLevel (S.device source.old) blob.now room.old first (λ found.
         IfOk result (λ nodes. listed nodes ≡ map held_node found)) }
 {

@@ -1,11 +1,11 @@
 //! Names and properties, read to memory.
 
 ghost use Rattle.std.specs.Prelude.{◌≡◌, ◌+◌, ◌≤◌, ◌<◌, length, map, IfOk};
+ghost use Rattle.std.specs.List.{All, AllByRecursion};
 ghost use Rattle.uimg_texts.specs.Slices.{slice};
 ghost use Rattle.uimg_base.specs.{Device.SameDevice, Honest.HonestSource};
 ghost use Rattle.uimg_blob_reading.specs.Places.{EndsBy};
-ghost use Rattle.uimg_blob_reading.specs.Properties.{LieInside};
-ghost use Rattle.uimg_blob_writing.specs.Properties.{property};
+ghost use Rattle.uimg_blob_writing.specs.{Content.IsBytes, Properties.property};
 ghost use Rattle.uimg_fit_reading.specs.Nodes.{HasNode, OfAnyNode};
 ghost use Rattle.uimg_fit_updating.specs.Reading.{read_property, held_property};
 
@@ -43,6 +43,7 @@ fn read_property<S: Source, A: Allocator>(
     requires { EndsBy (length (S.device source.old).bytes) place.now }
     ensures same { SameDevice (S.device source.old) (S.device source.new) }
     ensures room { room.new ≡ room.old }
+    ensures in_memory { IfOk result (λ prop. IsBytes (property prop).value) }
     ensures told { HonestSource S.device source → IfOk result (λ prop.
         property prop ≡ read_property (S.device source.old).bytes place.now) }
 {
@@ -59,12 +60,12 @@ fn read_listed<S: Source, A: Allocator>(
     alloc: Global,
     source: &mut S,
     room: &mut Room<A>,
-    totalsize: u32,
     places: &[PropertyPlace],
 ) -> Result<Props<Global>, UpdateFault>
-    requires { LieInside totalsize (length (S.device source.old).bytes) places.now }
+    requires { All (EndsBy (length (S.device source.old).bytes)) places.now }
     ensures same { SameDevice (S.device source.old) (S.device source.new) }
     ensures room { room.new ≡ room.old }
+    ensures in_memory { IfOk result (AllByRecursion (λ p. IsBytes p.value)) }
     ensures told { HonestSource S.device source → IfOk result (λ props.
         props ≡ map (read_property (S.device source.old).bytes) places.now) }
 {
@@ -89,9 +90,10 @@ pub(crate) fn read_properties<S: Source, A: Allocator>(
     requires { HasNode (S.device source.old) blob.now room.old node }
     ensures same { SameDevice (S.device source.old) (S.device source.new) }
     ensures room { room.new ≡ room.old }
+    ensures in_memory { IfOk result (AllByRecursion (λ p. IsBytes p.value)) }
     ensures told { OfAnyNode (S.device source.old) blob.now room.old node (λ level found.
         IfOk result (λ props. props ≡ map held_property found.own)) }
 {
     let places = properties_of(alloc, source, blob, room, node)?;
-    read_listed(alloc, source, room, blob.totalsize(), &places)
+    read_listed(alloc, source, room, &places)
 }
