@@ -9,6 +9,7 @@ Usage: mkimage -l [-T type] image
                [-a address] [-e address] [-n name] image
        mkimage -f source.its [-E] [-p position] [-B bytes] image
        mkimage -f auto -d file [-b tree].. [-i ramdisk] [as above] image
+       mkimage -F [-t] [-E] [-p position] [-B bytes] image
 
   -l  --list            list the image instead of making one
   -d  --image           the file with the data; several for multi and script
@@ -26,7 +27,9 @@ Usage: mkimage -l [-T type] image
                         files of -d, -b and -i, with the options -A to -n
   -b  --device-tree     with -f auto: a device tree; may be repeated
   -i  --initramfs       with -f auto: the RAM disk
-  -E  --external        with -f: place the data after the blob
+  -F  --update          set the hashes of the FIT image that is there
+  -t  --touch           with -F: set its timestamp too
+  -E  --external        with -f and -F: place the data after the blob
   -p  --position        with -E: place the data at this offset, hexadecimal
   -B  --alignment       with -E: pad the blob and each payload to a multiple of this
                         many bytes, hexadecimal, a multiple of 4 itself [4]
@@ -34,8 +37,8 @@ Usage: mkimage -l [-T type] image
   -h  --help            print this help
   -V  --version         print the version
 
-Accepted without effect: -v, -t, -c comment, -R name, and -D with options of dtc
-that change nothing. Signing is refused (-F -g -G -k -K -N -o -r).
+Accepted without effect: -v, -c comment, -R name, and -D with options of dtc that
+change nothing. Signing is refused (-g -G -k -K -N -o -r).
 The image is written to a temporary file, which is renamed when it is complete.
 See uimg-mkimage(1).
 ";

@@ -44,7 +44,7 @@ pub fn make_tree<F: Files, H: Shelf, W: Write, A: Allocator + Copy, B: Allocator
 ) -> Result<H::Kept, Fault>
     ensures made { IsTrue H.honest → H.contents shelf ≡ Some [] →
         IfInFull F.map files (node_of tree.now.root) (λ t.
-            IfOk result (λ kept. MakesOfTree t manner.placement (H.Kept.device kept))) }
+        IfOk result (λ kept. MakesOfTree t manner.placement (H.Kept.device kept))) }
     ensures listed { IfOk result (ListsTree H.Kept.device manner.naming out) }
     ensures kept_reads { IfOk result (λ kept. (H.Kept.device kept).failures ≡ 0) }
 {

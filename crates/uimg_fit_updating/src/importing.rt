@@ -113,8 +113,10 @@ fn import_parent<S: Source, A: Allocator>(
     ensures same { SameDevice (S.device source.old) (S.device source.new) }
     ensures in_memory { OnOk result (AllValues IsBytes (node_of parent.old) → AllValues IsBytes (node_of parent.new)) }
     ensures told { HonestSource S.device source → OnOk result (parent.new
-        ≡ record parent.old { children = each
-            (imported (S.device source.old).bytes totalsize) parent.old.children }) }
+        ≡ record parent.old {
+          children = each
+              (imported (S.device source.old).bytes totalsize) parent.old.children;
+        }) }
 {
     let nodes = mem::replace(&mut parent.children, Nodes::of(Vec::new(alloc)));
     let mut images = nodes.into_vec();
@@ -142,7 +144,7 @@ fn import_below<S: Source, A: Allocator>(
     ensures in_memory { OnOk result (AllValues IsBytes (siblings nodes.old) → AllValues IsBytes (siblings nodes.new)) }
     ensures told { HonestSource S.device source → OnOk result (siblings nodes.new
         ≡ in_first (codes "images") (each (imported (S.device source.old).bytes totalsize))
-            (siblings nodes.old)) }
+        (siblings nodes.old)) }
 {
     let at = before_images(nodes);
     if at >= nodes.len() {

@@ -13,8 +13,6 @@ mod nodes;
 mod reservations;
 mod values;
 
-pub(crate) use values::read_span;
-
 use crate::fault::UpdateFault;
 use crate::reading::nodes::read_nodes;
 use crate::reading::reservations::reserves;
@@ -23,6 +21,7 @@ use uimg_base::{Room, Source};
 use uimg_blob_reading::Blob;
 use uimg_blob_writing::{Nodes, Tree};
 use uimg_fit_reading::read_tree;
+pub(crate) use values::read_span;
 
 /// The most levels of nodes that are read; the root is at the first.
 const MOST_LEVELS: u8 = 64;

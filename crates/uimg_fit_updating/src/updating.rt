@@ -17,11 +17,7 @@ use uimg_fit_base::FitFault;
 use uimg_fit_building::fill;
 
 // Fills a tree without files.
-fn fill_in_memory(
-    alloc: Global,
-    tree: Tree<Global>,
-    time: u32,
-) -> Result<Tree<Global>, FitFault>
+fn fill_in_memory(alloc: Global, tree: Tree<Global>, time: u32) -> Result<Tree<Global>, FitFault>
     requires { AllValues IsBytes (node_of tree.root) }
     ensures { IfOk result (λ filled.
         node_of filled.root ≡ filled_unread no_files time (node_of tree.root)) }

@@ -56,7 +56,11 @@ fn tell_fault<R: Files, V: Write>(
         }
         UpdateFault::OutOfMemory => tell(tool, err, &OldFault::OutOfMemory, FAILED),
         fault => {
-            let status = if fault == UpdateFault::Changed { FAILED } else { REFUSED };
+            let status = if fault == UpdateFault::Changed {
+                FAILED
+            } else {
+                REFUSED
+            };
             let path = Printed(image.as_bytes());
             tell(tool, err, &format_args!("{path}: {fault}"), status)
         }
