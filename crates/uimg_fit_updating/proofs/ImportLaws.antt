@@ -1,24 +1,41 @@
 -- What taking payloads into nodes keeps.
-use Rattle.std.proofs.Common.{◌≡◌, ℕ, zero, suc, List, [], ◌∷◌, get_or, set, ◌<◌, Bool, if◌then◌else◌, length, refl, arith}
+use Rattle.std.proofs.Common.{◌≡◌, ℕ, zero, suc, ◌+◌, ◌<◌, ◌≤◌, List, [], ◌∷◌, ◌++◌, get_or, set, map, take, drop, Bool, if◌then◌else◌, length, refl, ap, sym, ◌∙◌, arith}
+use Rattle.std.proofs.lemmas.List.{set_split, take_all, drop_all, map-append}
 use Rattle.std.specs.List.{AllByRecursion}
 use Rattle.std.specs.Str.{bytes_eq}
 use Rattle.uimg_blob_reading.specs.Plain.{NamedOf, no_node, a_node, AllValues}
 use Rattle.uimg_blob_writing.specs.Content.{Content, Unread, bytes, IsBytes}
 use Rattle.uimg_blob_writing.specs.{declared.tree.Node.Node, Trees.{siblings, node_of}}
-use Rattle.uimg_fit_building.specs.Filling.{with}
+use Rattle.uimg_blob_writing.specs.{declared.props.Prop.Prop, Properties.property}
+use Rattle.uimg_fit_updating.specs.Importing.{replaced, IsReplacedAt}
 
-with_one : (b : Bool) (key value : List ℕ) (p : NamedOf Content) (own more : List (NamedOf Content))
-    → IsBytes p.value → AllByRecursion (λ q. IsBytes q.value) own → AllByRecursion (λ q. IsBytes q.value) more
-    → AllByRecursion (λ q. IsBytes q.value) (if b then record { name = key; value = bytes value } ∷ own else p ∷ more)
-with_one Bool.true key value p own more here rest after = (tt, rest)
-with_one Bool.false key value p own more here rest after = (here, after)
+one_replaced : (b : Bool) (q p : NamedOf Content) (own more : List (NamedOf Content))
+    → IsBytes q.value → IsBytes p.value → AllByRecursion (λ r. IsBytes r.value) own → AllByRecursion (λ r. IsBytes r.value) more
+    → AllByRecursion (λ r. IsBytes r.value) (if b then q ∷ own else p ∷ more)
+one_replaced Bool.true q p own more new here rest after = (new, rest)
+one_replaced Bool.false q p own more new here rest after = (here, after)
 
--- bytes as the value of a property
-pub bytes_with : (key value : List ℕ) (own : List (NamedOf Content)) → AllByRecursion (λ q. IsBytes q.value) own
-    → AllByRecursion (λ q. IsBytes q.value) (with key (bytes value) own)
-unfolding with
-bytes_with key value [] h = (tt, tt)
-bytes_with key value (p ∷ own) h = with_one (bytes_eq key p.name) key value p own (with key (bytes value) own) h.0 h.1 (bytes_with key value own h.1)
+-- bytes in place of a property
+pub bytes_replaced : (key : List ℕ) (q : NamedOf Content) (own : List (NamedOf Content)) → IsBytes q.value → AllByRecursion (λ r. IsBytes r.value) own
+    → AllByRecursion (λ r. IsBytes r.value) (replaced key q own)
+unfolding replaced
+bytes_replaced key q [] new h = (new, tt)
+bytes_replaced key q (p ∷ own) new h = one_replaced (bytes_eq key p.name) q p own (replaced key q own) new h.0 h.1 (bytes_replaced key q own new h.1)
+
+-- the properties with another at a place
+pub replaced_at : {A : Type 0} (key : List ℕ) (ps : List (Prop A)) (i : ℕ) (p : Prop A) → IsReplacedAt key ps i → i < length ps → map property (set ps i p) ≡ replaced key (property p) (map property ps)
+replaced_at key ps i p is within =
+    let next : suc i ≡ i + 1 = omega arith in
+    ap (map property) (set_split ps i p within ∙ ap (λ (n : ℕ). take i ps ++ p ∷ drop n ps) next) ∙ map-append property (take i ps) (p ∷ drop (i + 1) ps)
+    ∙ sym (is (property p))
+
+-- the properties with one more
+pub replaced_none : {A : Type 0} (key : List ℕ) (ps : List (Prop A)) (i : ℕ) (p : Prop A) → IsReplacedAt key ps i → length ps ≤ i → map property (ps ++ p ∷ []) ≡ replaced key (property p) (map property ps)
+replaced_none key ps i p is past =
+    map-append property ps (p ∷ [])
+    ∙ ap (λ (l : List (NamedOf Content)). l ++ property p ∷ []) (ap (map property) (sym (take_all i ps past)))
+    ∙ ap (λ (l : List (NamedOf Content)). map property (take i ps) ++ property p ∷ l) (ap (map property) (sym (drop_all (i + 1) ps (omega (arith, past)))))
+    ∙ sym (is (property p))
 
 -- one of some nodes
 pub bytes_at : {A : Type 0} (ns : List (Node A)) (i : ℕ) (d : Node A) → AllValues IsBytes (siblings ns) → i < length ns → AllValues IsBytes (node_of (get_or ns i d))

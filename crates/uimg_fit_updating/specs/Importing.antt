@@ -1,12 +1,13 @@
 -- Payloads after a blob, in the tree.
-use Rattle.std.specs.Prelude.{ℕ, ◌+◌, List, Option, Some, None, codes}
-use Rattle.std.specs.Option.{option_and_then, option_map}
+use Rattle.std.specs.Prelude.{◌≡◌, ℕ, ◌+◌, List, [], ◌∷◌, ◌++◌, map, take, drop, Option, Some, None, codes, if◌then◌else◌}
+use Rattle.std.specs.Str.{bytes_eq}
+use Rattle.std.specs.Option.{option_and_then, option_map, is_some}
 use Rattle.uimg_texts.specs.{Numbers.up4, Slices.slice}
 use Rattle.uimg_base.specs.declared.spans.Span.{Span}
 use Rattle.uimg_blob_reading.specs.{LookUps.{NodeOf, first}, Plain.NamedOf}
 use Rattle.uimg_blob_writing.specs.Content.{Content, bytes, file}
+use Rattle.uimg_blob_writing.specs.{declared.props.Prop.Prop, Properties.property}
 use Rattle.uimg_fit_base.specs.Files.{number}
-use Rattle.uimg_fit_building.specs.Filling.{with}
 
 -- the number of a value in memory
 abbrev pub number_of : Content → Option ℕ
@@ -26,10 +27,30 @@ payload_after totalsize own =
       length = size;
     }) (cell_in own (codes "data-size"))) (cell_in own (codes "data-offset"))
 
--- properties with a payload as their first `data`, if there is one
+-- properties, with another in place of the first of a name, or with one more
+unfoldable pub replaced : List ℕ → NamedOf Content → List (NamedOf Content) → List (NamedOf Content)
+replaced key q [] = q ∷ []
+replaced key q (p ∷ own) = if bytes_eq key p.name then q ∷ own else p ∷ replaced key q own
+
+-- What is put in place of the first property of a name gets this index.
+abbrev pub IsReplacedAt : {A : Type 0} → List ℕ → List (Prop A) → ℕ → Type 0
+IsReplacedAt key ps i =
+    (q : NamedOf Content) → replaced key q (map property ps)
+    ≡ map property (take i ps) ++ q ∷ map property (drop (i + 1) ps)
+
+-- the name of the property that a payload replaces: `data`, or else `data-offset`
+abbrev pub replaced_name : List (NamedOf Content) → List ℕ
+replaced_name own =
+    if is_some (first own (codes "data")) then codes "data" else codes "data-offset"
+
+-- properties with a payload as their `data`, if there is one
 abbrev pub with_payload : List ℕ → Option Span → List (NamedOf Content) → List (NamedOf Content)
 with_payload from None own = own
-with_payload from (Some s) own = with (codes "data") (bytes (slice from s.place s.length)) own
+with_payload from (Some s) own =
+    replaced (replaced_name own) (record {
+      name = codes "data";
+      value = bytes (slice from s.place s.length);
+    }) own
 
 -- an image of a file with its payload in its node
 abbrev pub imported : List ℕ → ℕ → NodeOf Content → NodeOf Content

@@ -1,21 +1,23 @@
 //! Payloads after the blob, taken into the tree.
 
-ghost use Rattle.std.specs.{Prelude.{◌≡◌, codes, not, OnOk, IfOk}, List.prefix_len, Str.bytes_eq};
+ghost use Rattle.std.specs.Prelude.{◌≡◌, ◌≤◌, codes, length, not, OnOk, IfOk};
+ghost use Rattle.std.specs.{List.prefix_len, Str.bytes_eq};
 ghost use Rattle.uimg_base.specs.{Device.SameDevice, Honest.HonestSource};
 ghost use Rattle.uimg_fit_base.specs.Files as files;
 ghost use Rattle.uimg_blob_reading.specs.Plain.{AllValues};
 ghost use Rattle.uimg_blob_writing.specs.{Content.IsBytes, Trees.{siblings, node_of}};
 ghost use Rattle.uimg_fit_building.specs.{Behind.entry, Filling.{each, in_first, with_images}};
-ghost use Rattle.uimg_fit_updating.specs.Importing.{cell_in, payload_after, imported};
+ghost use Rattle.uimg_blob_writing.specs.Properties.{property};
+ghost use Rattle.uimg_fit_updating.specs.Importing.{cell_in, payload_after, replaced_name, replaced, IsReplacedAt, imported};
 
 use crate::fault::UpdateFault;
 use crate::reading::read_span;
 use std::alloc::{Allocator, Global};
 use std::mem;
 use uimg_base::{Room, Source, Span, be32_at, up4};
-use uimg_blob_writing::{Node, Nodes, Props, Tree, Value};
+use uimg_blob_writing::{Node, Nodes, Prop, Props, Tree, Value, copy_bytes};
 use uimg_fit_base::{Fault, FitFault};
-use uimg_fit_building::{first_value, is_images, with_value};
+use uimg_fit_building::{first_value, is_images};
 
 // Returns the number in a value of 4 bytes.
 fn number(bytes: &[u8]) -> Option<u32>
@@ -51,6 +53,50 @@ fn payload_after(props: &Props<Global>, totalsize: u32) -> Option<Span>
     })
 }
 
+// Returns the name of the property that a payload replaces: `data`, or else `data-offset`.
+fn replaced_name(props: &Props<Global>) -> &'static [u8]
+    ensures { result.now ≡ replaced_name props.now }
+{
+    match first_value(props, b"data") {
+        Some(_) => b"data",
+        None => b"data-offset",
+    }
+}
+
+// Returns the index of the first property of a name, or the number of properties if none has it.
+#[tactic(auto, unfolding(crate::specs::Importing::replaced))]
+fn place_of(props: &[Prop<Global>], key: &[u8]) -> usize
+    ensures within { result ≤ length props.now }
+    ensures set { IsReplacedAt key.now props.now result }
+{
+    for (i, prop) in props.iter().enumerate() {
+        if key == prop.name.items() {
+            return i;
+        }
+    }
+    props.len()
+}
+
+// Returns properties with another in place of the first of a name, or with one more.
+fn replaced(
+    props: Props<Global>,
+    key: &[u8],
+    prop: Prop<Global>,
+) -> Result<Props<Global>, UpdateFault>
+    ensures { IfOk result (λ own. own ≡ replaced key.now (property prop) props) }
+{
+    let mut list = props.into_vec();
+    let at = place_of(list.as_slice(), key);
+    if at < list.len() {
+        list[at] = prop;
+        return Ok(Props::of(list));
+    }
+    match list.push(prop) {
+        Ok(()) => Ok(Props::of(list)),
+        Err(_) => Err(UpdateFault::OutOfMemory),
+    }
+}
+
 // Takes the payload of an image into its node. Of all payloads at most `left` bytes are taken.
 // Returns how many are left.
 fn import_image<S: Source, A: Allocator>(
@@ -76,9 +122,13 @@ fn import_image<S: Source, A: Allocator>(
     if left < span.length {
         return Err(UpdateFault::Fit(Fault::Fit(FitFault::TooLarge)));
     }
-    let payload = read_span(alloc, source, room, span)?;
+    let payload = Prop {
+        name: copy_bytes(alloc, b"data")?,
+        value: Value::Bytes(read_span(alloc, source, room, span)?),
+    };
+    let key = replaced_name(&image.props);
     let props = mem::replace(&mut image.props, Props::of(Vec::new(alloc)));
-    image.props = with_value(alloc, props, b"data", Value::Bytes(payload))?;
+    image.props = replaced(props, key, payload)?;
     Ok(left - span.length)
 }
 
@@ -154,8 +204,8 @@ fn import_below<S: Source, A: Allocator>(
 }
 
 /// Takes the payloads that are after a blob of a size into the tree: an image with `data-offset` and
-/// `data-size` gets the bytes there as its `data`, in place of the first that it has, or behind its
-/// other properties. The offset counts from the blob's end, rounded up to a multiple of 4 (Flattened
+/// `data-size` gets the bytes there as its `data`, in place of the first that it has, or of its
+/// `data-offset`. The offset counts from the blob's end, rounded up to a multiple of 4 (Flattened
 /// Image Tree format, "External data").
 ///
 /// Returns `NoImages` if the root has no child `images`, `DataOutside` if a payload ends after the
