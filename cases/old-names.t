@@ -303,8 +303,8 @@ Requests that fail:
   $ mkimage -k keys -f kernel.its out
   mkimage: -k: uimg does not sign; mkimage -F of u-boot-tools signs an existing image
   [2]
-  $ mkimage -F inside
-  mkimage: -F: uimg does not sign; mkimage -F of u-boot-tools signs an existing image
+  $ mkimage -F -k keys inside
+  mkimage: -k: uimg does not sign; mkimage -F of u-boot-tools signs an existing image
   [2]
   $ mkimage -f auto out
   mkimage: -f auto needs -d

@@ -64,6 +64,14 @@ pub enum OldFault<'a> {
     #[error("-d is given with -f")]
     DataWithSource,
 
+    /// Data are named for an image that is updated.
+    #[error("-d is given with -F")]
+    DataWithUpdate,
+
+    /// -l was given with -F.
+    #[error("-l is given with -F")]
+    ListWithUpdate,
+
     /// -l was given with a source.
     #[error("-l is given with -f")]
     ListWithSource,

@@ -9,6 +9,7 @@ Usage: mkimage -l [-T type] image
                [-a address] [-e address] [-n name] image
        mkimage -f source.its [-E] [-p position] [-B bytes] [-D words] image
        mkimage -f auto -d file [-b tree].. [-i ramdisk] [as above] image
+       mkimage -F [-t] [-E] [-p position] [-B bytes] image
 
   -l  --list            list the image instead of making one
   -d  --image           the file with the data; several for multi and script
@@ -27,7 +28,9 @@ Usage: mkimage -l [-T type] image
                         options -A to -n
   -b  --device-tree     with -f auto: a device tree; may be repeated
   -i  --initramfs       with -f auto: the RAM disk
-  -E  --external        with -f: place the data after the blob
+  -F  --update          set the hashes of the FIT image that is there
+  -t  --touch           with -F: set its timestamp too
+  -E  --external        with -f and -F: place the data after the blob
   -p  --position        with -E: place the data at this offset, hexadecimal
   -B  --alignment       with -E: pad the blob and each payload to a multiple of this
                         many bytes, hexadecimal, a multiple of 4 itself [4]
@@ -37,8 +40,8 @@ Usage: mkimage -l [-T type] image
   -h  --help            print this help
   -V  --version         print the version
 
-Accepted without effect: -v, -t, -r, -c comment, -R name, and without a key -g name
-and -o algorithm. Signing is refused (-F -G -k -K -N).
+Accepted without effect: -v, -c comment, -R name, and without a key -r, -g name and
+-o algorithm. Signing is refused (-G -k -K -N).
 The image is written to a temporary file, which is renamed when it is complete.
 See uimg-mkimage(1).
 ";

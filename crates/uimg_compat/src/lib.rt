@@ -29,5 +29,5 @@ pub use labels::has_labels;
 pub use mkimage::read_mkimage;
 pub use names::title_of;
 pub use quoted::{Escaped, Quoted};
-pub use request::{AutoRequest, FitRequest, OldRequest, Show};
+pub use request::{AutoRequest, FitRequest, OldRequest, Show, UpdateRequest};
 pub use warnings::warn;

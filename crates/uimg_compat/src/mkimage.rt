@@ -8,7 +8,7 @@ use crate::getopt::{Given, Words};
 use crate::helps::MKIMAGE_HELP;
 use crate::mkimage_options::MKIMAGE_OPTIONS;
 use crate::names::{Named, check_made, format_of, name_of};
-use crate::request::{AutoRequest, FitRequest, OldRequest, Show};
+use crate::request::{AutoRequest, FitRequest, OldRequest, Show, UpdateRequest};
 use std::alloc::Global;
 use uimg_base::{FLAT_DT, MULTI, SCRIPT};
 use uimg_fit_base::{Placement, WORD_ALIGNMENT};
@@ -51,6 +51,8 @@ struct Settings<'a> {
     is_list: bool,
     is_quiet: bool,
     is_xip: bool,
+    is_update: bool,
+    sets_time: bool,
     has_no_data: bool,
 }
 
@@ -86,6 +88,8 @@ pub fn read_mkimage<'a>(
         is_list: false,
         is_quiet: false,
         is_xip: false,
+        is_update: false,
+        sets_time: false,
         has_no_data: false,
     };
     let mut unread = Words::new(words);
@@ -120,7 +124,8 @@ impl<'a> Settings<'a> {
             'l' => self.is_list = true,
             'q' => self.is_quiet = true,
             's' => self.has_no_data = true,
-            'F' => return Err(OldFault::Signs(option)),
+            'F' => self.is_update = true,
+            't' => self.sets_time = true,
             'x' => self.is_xip = true,
             _ => {}
         }
@@ -198,6 +203,9 @@ impl<'a> Settings<'a> {
             Some(text) => long_prefix(text).ok_or(OldFault::BadEpoch)?,
             None => now,
         };
+        if self.is_update && self.source.is_none() {
+            return self.update(image, time);
+        }
         match (self.data, self.source) {
             (_, Some(AUTO)) => self.making_of_auto(words, time, image),
             (None, None) => Err(OldFault::NothingToMake),
@@ -208,7 +216,25 @@ impl<'a> Settings<'a> {
         }
     }
 
+    // Returns the request of an update.
+    fn update(self, image: &'a str, time: u32) -> Result<OldRequest<'a>, OldFault<'a>> {
+        self.check_signing()?;
+        if self.data.is_some() {
+            return Err(OldFault::DataWithUpdate);
+        }
+        Ok(OldRequest::Update(UpdateRequest {
+            image,
+            placement: self.placement(),
+            manner: self.manner(time)?,
+            sets_time: self.sets_time,
+            is_quiet: self.is_quiet,
+        }))
+    }
+
     fn listing(self, image: &'a str) -> Result<OldRequest<'a>, OldFault<'a>> {
+        if self.is_update {
+            return Err(OldFault::ListWithUpdate);
+        }
         if self.source.is_some() {
             return Err(OldFault::ListWithSource);
         }

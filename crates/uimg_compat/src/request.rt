@@ -27,6 +27,9 @@ pub enum OldRequest<'a> {
     /// The making of a FIT image from the source that mkimage makes itself.
     MakeAuto(AutoRequest<'a>),
 
+    /// The update of a FIT image.
+    Update(UpdateRequest<'a>),
+
     /// A text.
     Show(Show),
 }
@@ -73,6 +76,25 @@ pub struct AutoRequest<'a> {
 
     /// The path of a key that mkimage signs with, if such a file exists.
     pub key: Option<&'a str>,
+
+    /// Whether the listing is suppressed.
+    pub is_quiet: bool,
+}
+
+/// The update of a FIT image: its hashes are set, and its timestamp.
+#[derive(Clone, Copy, Debug)]
+pub struct UpdateRequest<'a> {
+    /// The path of the image.
+    pub image: &'a str,
+
+    /// Where the payloads are placed.
+    pub placement: Placement,
+
+    /// How it is made.
+    pub manner: Manner,
+
+    /// Whether the timestamp is set.
+    pub sets_time: bool,
 
     /// Whether the listing is suppressed.
     pub is_quiet: bool,

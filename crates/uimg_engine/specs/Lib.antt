@@ -3,4 +3,5 @@ pub mod Headline
 pub mod Locating
 pub mod Making
 pub mod MakingTrees
+pub mod MakingOfTrees
 pub mod Commands

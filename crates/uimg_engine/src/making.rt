@@ -72,7 +72,7 @@ pub fn build_image<F: Files, W: Write, A: Allocator + Copy>(
 }
 
 // Returns the shelf after all that was written to it is flushed.
-fn write_out<H: Shelf>(image: Out<H>) -> Result<H, Fault>
+pub(crate) fn write_out<H: Shelf>(image: Out<H>) -> Result<H, Fault>
     ensures written { IfOk result (λ shelf. Keeps image.contents (H.contents shelf)) }
     ensures fault { IfErr result (λ fault. fault ≡ Fault.Put) }
 {
@@ -84,7 +84,7 @@ fn write_out<H: Shelf>(image: Out<H>) -> Result<H, Fault>
 }
 
 // Reopens what was written to a shelf.
-fn keep<H: Shelf>(shelf: H) -> Result<H::Kept, Fault>
+pub(crate) fn keep<H: Shelf>(shelf: H) -> Result<H::Kept, Fault>
     ensures kept { IsTrue H.honest → IfOk result (KeepsBytes H.Kept.device (H.contents shelf)) }
     ensures fault { IfErr result (λ fault. fault ≡ Fault.Keep) }
     ensures steady { IsTrue H.steady → IsOk result }

@@ -14,3 +14,5 @@ mod setting;
 
 pub use building::{build, build_by};
 pub use filling::fill;
+pub use payloads::is_images;
+pub use setting::{first_value, with_value};

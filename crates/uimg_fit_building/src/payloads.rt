@@ -16,8 +16,8 @@ pub(crate) fn is_data<A: Allocator>(prop: &Prop<A>) -> bool
     b"data".as_slice() == prop.name.items()
 }
 
-// Returns whether a node is named `images`.
-pub(crate) fn is_images<A: Allocator>(node: &Node<A>) -> bool
+/// Returns whether a node is named `images`.
+pub fn is_images<A: Allocator>(node: &Node<A>) -> bool
     ensures { result ≡ bytes_eq (codes "images") node.now.name }
 {
     b"images".as_slice() == node.name.items()

@@ -22,7 +22,7 @@ pub(crate) fn copied<A: Allocator>(alloc: A, bytes: &[u8]) -> Result<ByteList<A>
 }
 
 /// Returns the value of the first property of a name.
-pub(crate) fn first_value<'a, A: Allocator>(props: &'a Props<A>, key: &[u8]) -> Option<&'a Value<A>>
+pub fn first_value<'a, A: Allocator>(props: &'a Props<A>, key: &[u8]) -> Option<&'a Value<A>>
     ensures { option_map (λ v. content v.now) result ≡ first props.now key.now }
 {
     for prop in props.items() {
@@ -73,7 +73,7 @@ fn set_first<A: Allocator>(list: &mut Vec<Prop<A>, A>, prop: Prop<A>) -> Result<
 }
 
 /// Sets the first property of a name among properties, or adds one.
-pub(crate) fn with_value<A: Allocator + Copy>(
+pub fn with_value<A: Allocator + Copy>(
     alloc: A,
     props: Props<A>,
     key: &[u8],

@@ -23,6 +23,7 @@ mod source_warnings;
 mod strict_answers;
 mod unpack_answers;
 mod unpack_program;
+mod update_program;
 mod watched_files;
 mod xip_files;
 

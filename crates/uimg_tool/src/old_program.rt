@@ -9,6 +9,7 @@ use crate::main_program::{
 use crate::old_tools::{Called, Tool};
 use crate::reasons::reason_unread;
 use crate::safe_path::{SafePath, Writing, writing_of};
+use crate::update_program::update_image;
 use std::alloc::Global;
 use std::fmt::Display;
 use std::io::Write;
@@ -57,6 +58,7 @@ pub(crate) fn carry_out_old<R: Files + AllocGlobal, W: Write, V: Write>(
         }
         Ok(OldRequest::MakeFit(request)) => make_fit(rt, tool, &request, out, err),
         Ok(OldRequest::MakeAuto(request)) => make_auto(rt, tool, &request, out, err),
+        Ok(OldRequest::Update(request)) => update_image(rt, tool, &request, out, err),
         Ok(OldRequest::Show(show)) => show_text(tool, show, out, err),
         Err(OldFault::OutOfMemory) => tell(tool, err, &OldFault::OutOfMemory, FAILED),
         Err(fault) => tell(tool, err, &fault, WRONG_LINE),
@@ -99,10 +101,10 @@ fn run_in_place<R: Files + AllocGlobal, W: Write, V: Write>(
     tell_end(rt, called.tool, &end, image, err)
 }
 
-// A file that is written beside its name, and its paths.
-struct Begun<'a, R: Files> {
-    file: R::File,
-    path: &'a SafePath,
+/// A file that is written beside its name, and its paths.
+pub(crate) struct Begun<'a, R: Files> {
+    pub(crate) file: R::File,
+    pub(crate) path: &'a SafePath,
 }
 
 fn run_beside<'a, R: Files + AllocGlobal, W: Write, V: Write>(
@@ -184,8 +186,8 @@ fn make_beside<'a, R: Files + AllocGlobal, W: Write, V: Write>(
     }
 }
 
-// Gives the written file its name or removes it; reports the end and the path that it is about.
-fn tell_written<R: Files, V: Write>(
+/// Gives the written file its name or removes it; reports the end and the path that it is about.
+pub(crate) fn tell_written<R: Files, V: Write>(
     rt: &R,
     tool: Tool,
     path: &SafePath,
@@ -226,8 +228,8 @@ fn carry_out_by<'a, R: Files + AllocGlobal, W: Write>(
     }
 }
 
-// Returns the status of an end, and reports its fault with the path that it is about.
-fn tell_end<R: Files, V: Write>(
+/// Returns the status of an end, and reports its fault with the path that it is about.
+pub(crate) fn tell_end<R: Files, V: Write>(
     rt: &R,
     tool: Tool,
     end: &Result<Status, RequestFault<'_>>,
@@ -274,8 +276,8 @@ pub(crate) fn tell_unwritten<V: Write>(
     FAILED
 }
 
-// Reports a text that could not be printed, unless nobody reads any more.
-fn tell_unprinted<V: Write>(tool: Tool, error: &io::Error, err: &mut V) -> u8 {
+/// Reports a text that could not be printed, unless nobody reads any more.
+pub(crate) fn tell_unprinted<V: Write>(tool: Tool, error: &io::Error, err: &mut V) -> u8 {
     if !is_closed(error) {
         let _ = writeln!(err, "{}: write failed: {error}", tool.name());
     }

@@ -9,3 +9,4 @@ mod read_rows;
 mod survey_rows;
 mod tree_rows;
 mod unpack_rows;
+mod update_rows;

@@ -1,0 +1,25 @@
+-- What an update makes of a FIT image.
+use Rattle.std.specs.Prelude.{◌≡◌, ℕ, List, Option, Some, None, Ok}
+use Rattle.uimg_texts.specs.Numbers.{be32}
+use Rattle.uimg_blob_reading.specs.{Blob.tree, Grammar.Siblings, Spots.spots}
+use Rattle.uimg_blob_writing.specs.Content.{Unread, bytes}
+use Rattle.uimg_fit_building.specs.Filling.{each, with_images, filled_image_by}
+use Rattle.uimg_fit_building.specs.{PayloadSums.{no_files, in_memory}, UnreadTrees.filled_unread}
+use Rattle.uimg_fit_updating.specs.{Importing.imported, Reading.{held, ReservesNothing}}
+
+-- a tree with its images' digests, and with a timestamp if there is a time
+abbrev pub refilled : Option ℕ → Unread → Unread
+refilled None t = with_images (each (filled_image_by in_memory bytes)) t
+refilled (Some time) t = filled_unread no_files time t
+
+-- the tree of a file with its payloads in it, filled again
+abbrev pub updated : List ℕ → Option ℕ → Siblings → Unread
+updated file time t =
+    refilled time (with_images (each (imported file (be32 file 4))) (held (spots t)))
+
+-- The nodes are those of a file's tree, updated; its reservation block has no entry.
+pub record IsUpdated (file : List ℕ) (time : Option ℕ) (nodes : Unread) : Type 0 where
+  pub found : Siblings
+  pub read : tree file ≡ Ok found
+  pub reserves : ReservesNothing file
+  pub is : nodes ≡ updated file time found

@@ -1,0 +1,82 @@
+//! Reads a FIT image to a tree in memory.
+
+ghost use Rattle.std.specs.Prelude.{◌≡◌, ◌≤◌, length, IfOk};
+ghost use Rattle.uimg_base.specs.Device.{SameDevice};
+ghost use Rattle.uimg_base.specs.Honest.{HonestSource};
+ghost use Rattle.uimg_blob_reading.specs.Plain.{AllValues};
+ghost use Rattle.uimg_blob_writing.specs.{Content.IsBytes, Trees.node_of};
+ghost use Rattle.uimg_fit_reading.specs.Nodes.{InFile, Opened};
+ghost use Rattle.uimg_blob_reading.specs.{Grammar.Siblings, Spots.spots};
+ghost use Rattle.uimg_fit_updating.specs.Reading.{held, IsHeld};
+
+mod nodes;
+mod reservations;
+mod values;
+
+use crate::fault::UpdateFault;
+use crate::reading::nodes::read_nodes;
+use crate::reading::reservations::reserves;
+use std::alloc::{Allocator, Global};
+use uimg_base::{Room, Source};
+use uimg_blob_reading::Blob;
+use uimg_blob_writing::{Nodes, Tree};
+use uimg_fit_reading::read_tree;
+pub(crate) use values::read_span;
+
+/// The most levels of nodes that are read; the root is at the first.
+const MOST_LEVELS: u8 = 64;
+
+// Returns the tree of a list of one node.
+fn tree_of(nodes: Nodes<Global>) -> Result<Tree<Global>, UpdateFault>
+    ensures { IfOk result (λ tree. node_of tree.root ≡ nodes) }
+{
+    let mut list = nodes.into_vec();
+    match list.pop() {
+        Some(root) if list.is_empty() => Ok(Tree { root }),
+        _ => Err(UpdateFault::Changed),
+    }
+}
+
+// Reads the tree of an indexed blob.
+fn read_indexed<S: Source, A: Allocator>(
+    alloc: Global,
+    source: &mut S,
+    blob: &Blob,
+    room: &mut Room<A>,
+) -> Result<Tree<Global>, UpdateFault>
+    requires { InFile (length (S.device source.old).bytes) blob.now room.old.entries }
+    ensures same { SameDevice (S.device source.old) (S.device source.new) }
+    ensures in_memory { IfOk result (λ tree. AllValues IsBytes (node_of tree.root)) }
+    ensures told { (t : Siblings) → Opened (S.device source.old) blob.now room.old t →
+        IfOk result (λ tree. node_of tree.root ≡ held (spots t)) }
+{
+    if room.count() == 0 {
+        return Err(UpdateFault::Changed);
+    }
+    let nodes = read_nodes(alloc, source, blob, room, Some(0), MOST_LEVELS)?;
+    tree_of(nodes)
+}
+
+/// Reads the blob that a FIT image begins with to a tree in memory: all nodes and properties in
+/// order (Devicetree Specification, chapter 5). Returns its size, too. What is after the blob is
+/// not read.
+///
+/// Returns the faults of the blob as `index` does, and `TooDeep` if it has more than 64 levels.
+/// Memory is taken for all names and values.
+pub fn read_fit<S: Source, A: Allocator>(
+    alloc: Global,
+    source: &mut S,
+    room: &mut Room<A>,
+) -> Result<(Tree<Global>, u32), UpdateFault>
+    ensures same { SameDevice (S.device source.old) (S.device source.new) }
+    ensures in_memory { IfOk result (λ read. AllValues IsBytes (node_of read.0.root)) }
+    ensures told { HonestSource S.device source → IfOk result (λ read.
+        IsHeld (S.device source.old).bytes (node_of read.0.root) read.1) }
+{
+    let blob = read_tree(source, room)?;
+    if reserves(source)? {
+        return Err(UpdateFault::Reserves);
+    }
+    let tree = read_indexed(alloc, source, &blob, room)?;
+    Ok((tree, blob.totalsize()))
+}

@@ -1,0 +1,88 @@
+//! Updates a FIT image: its tree with its payloads in it, filled again.
+
+ghost use Rattle.std.specs.Prelude.{◌≡◌, None, IfOk};
+ghost use Rattle.uimg_base.specs.{Device.SameDevice, Honest.HonestSource};
+ghost use Rattle.uimg_blob_reading.specs.Plain.{AllValues};
+ghost use Rattle.uimg_blob_writing.specs.{Content.IsBytes, Trees.node_of};
+ghost use Rattle.uimg_fit_building.specs.{PayloadSums.no_files, UnreadTrees.filled_unread};
+ghost use Rattle.uimg_fit_updating.specs.Updating.{refilled, IsUpdated};
+
+use crate::fault::UpdateFault;
+use crate::importing::import;
+use crate::reading::read_fit;
+use std::alloc::{Allocator, Global};
+use uimg_base::{MemFiles, Room, Source};
+use uimg_blob_writing::{Node, Tree, copy_properties};
+use uimg_fit_base::FitFault;
+use uimg_fit_building::fill;
+
+// Fills a tree without files.
+fn fill_in_memory(alloc: Global, tree: Tree<Global>, time: u32) -> Result<Tree<Global>, FitFault>
+    requires { AllValues IsBytes (node_of tree.root) }
+    ensures { IfOk result (λ filled.
+        node_of filled.root ≡ filled_unread no_files time (node_of tree.root)) }
+{
+    let mut files = MemFiles::new(&[]);
+    fill(alloc, tree, time, &mut files)
+}
+
+// Fills a tree without files, and leaves the root's properties as they are.
+fn fill_images(alloc: Global, tree: Tree<Global>) -> Result<Tree<Global>, UpdateFault>
+    requires { AllValues IsBytes (node_of tree.root) }
+    ensures { IfOk result (λ filled.
+        node_of filled.root ≡ refilled None (node_of tree.root)) }
+{
+    let props = copy_properties(alloc, &tree.root.props)?;
+    let filled = fill_in_memory(alloc, tree, 0)?;
+    let Tree { root } = filled;
+    let Node {
+        name,
+        props: _,
+        children,
+    } = root;
+    Ok(Tree {
+        root: Node {
+            name,
+            props,
+            children,
+        },
+    })
+}
+
+// Fills a tree without files. Without a time the root's properties are as they were.
+fn fill_again(
+    alloc: Global,
+    tree: Tree<Global>,
+    time: Option<u32>,
+) -> Result<Tree<Global>, UpdateFault>
+    requires { AllValues IsBytes (node_of tree.root) }
+    ensures { IfOk result (λ filled.
+        node_of filled.root ≡ refilled time (node_of tree.root)) }
+{
+    match time {
+        Some(time) => Ok(fill_in_memory(alloc, tree, time)?),
+        None => fill_images(alloc, tree),
+    }
+}
+
+/// Reads a FIT image to a tree, takes the payloads that are after its blob into it, and fills it:
+/// the `value` of each hash node is set, and the root's `timestamp` if there is a time, in seconds
+/// since 1970. An existing property is replaced in its place, a new one is appended; all other nodes
+/// and properties stay, but for `data-offset`, `data-size` and `data-position` of images.
+///
+/// Returns the faults of `read_fit`, of payloads outside the file (`DataOutside`) or of more bytes
+/// than it (`TooLarge`), and of `uimg_fit::fill`.
+pub fn update<S: Source, A: Allocator>(
+    alloc: Global,
+    source: &mut S,
+    room: &mut Room<A>,
+    time: Option<u32>,
+) -> Result<Tree<Global>, UpdateFault>
+    ensures same { SameDevice (S.device source.old) (S.device source.new) }
+    ensures told { HonestSource S.device source → IfOk result (λ tree.
+        IsUpdated (S.device source.old).bytes time (node_of tree.root)) }
+{
+    let (tree, totalsize) = read_fit(alloc, source, room)?;
+    let tree = import(alloc, source, room, totalsize, tree)?;
+    fill_again(alloc, tree, time)
+}
