@@ -248,7 +248,7 @@ The source that mkimage makes itself, as a file and as the image made from it:
   >     };
   > };
   > END
-  $ uimg mkimage -f auto.its -E by-hand > listing
+  $ uimg mkimage -f auto.its -E by-hand > /dev/null && mkimage -l by-hand > listing
   $ auto() { mkimage -f auto -A arm -T firmware -C none -O u-boot -a 87800000 -n 'U-Boot "2023.01"' "$@"; }
   $ mkdir made && auto -E -b ./my.board.dtb -b abc.bin -i ram -d d made/out | cmp - listing && cmp made/out by-hand; ls made
   out

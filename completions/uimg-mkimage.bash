@@ -13,7 +13,7 @@ _uimg_mkimage() {
         -B|--alignment) return ;;
         -D|--dtcopts) return ;;
     esac
-    test "${current#-}" = "$current" || { COMPREPLY=($(compgen -W '-l --list -d --image -A --architecture -O --os -T --type -C --compression -a --load-address -e --entry-point -n --config -s --no-copy -x --xip -f --fit -b --device-tree -i --initramfs -E --external -p --position -B --alignment -D --dtcopts -q --quiet -h --help -V --version' -- "$current")); return; }
+    test "${current#-}" = "$current" || { COMPREPLY=($(compgen -W '-l --list -d --image -A --architecture -O --os -T --type -C --compression -a --load-address -e --entry-point -n --config -s --no-copy -x --xip -f --fit -b --device-tree -i --initramfs -F --update -t --touch -E --external -p --position -B --alignment -D --dtcopts -q --quiet -h --help -V --version' -- "$current")); return; }
     compopt -o default
 }
 complete -F _uimg_mkimage uimg-mkimage
