@@ -64,7 +64,7 @@ The names of mkimage and dumpimage have completions of their own:
   $ tail -n 1 share/bash-completion/completions/mkimage
   complete -F _uimg_mkimage mkimage
   $ grep -c '^complete -c mkimage ' share/fish/vendor_completions.d/mkimage.fish
-  21
+  23
 
 The wrappers find the program that is installed with them:
 
