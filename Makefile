@@ -129,7 +129,7 @@ peers: bin/uimg bin/uimg_peers
 ## make uboot-tests   runs U-Boot's own tests with its tools, with the program by their names, and with
 ##               the wrappers; fetches and compiles U-Boot of Debian's source package, in out/uboot
 uboot-tests: bin/uimg
-	@scripts/needs.sh python3 apt-get dpkg-source make gcc bison flex swig dtc
+	@scripts/needs.sh python3
 	python3 peers/uboot_tests.py bin/uimg out/uboot
 
 ## make bench    times the program, and those of release/, beside dumpimage, mkimage, cat and cp; draws

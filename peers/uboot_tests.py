@@ -177,8 +177,9 @@ class Suites:
             os.makedirs(f"{here}/{name}")
         write(f"{here}/input/fit.its", SOURCE.replace("DATA", f"{here}/input/data"))
         write(f"{here}/input/data", "data")
-        for name, keys in (("without keys", ""), ("with keys", 'keydir = "none"')):
+        for name, keys in (("without keys", ""), ("with keys", f'keydir = "{here}/none"')):
             write(f"{here}/config", f'image test.itb {{ fit {{ its = "fit.its" {keys} }} }}\n')
+            shutil.rmtree(f"{here}/tmp", ignore_errors=True)
             folders = [f"--{it}path={here}/{it}" for it in ("input", "root", "tmp", "output")]
             words = ["genimage", f"--config={here}/config", *folders]
             done = self.call(words, f"genimage-{WAYS[way]}", here, **self.more(way, self.ways[way]))

@@ -130,12 +130,16 @@ fn make_of_copy<R: Files + AllocGlobal, W: Write, V: Write>(
         request.outfile,
     );
     match made {
-        Ok(mut making) => {
-            making.source = INPUT_NAME;
-            warn_and_make(rt, tool, request, making, out, err)
-        }
+        Ok(making) => warn_and_make(rt, tool, request, named_input(making), out, err),
         Err(_) => tell(tool, err, &OldFault::OutOfMemory, FAILED),
     }
+}
+
+// Returns a request whose source is reported as standard input.
+fn named_input<'a>(making: MakeRequest<'a>) -> MakeRequest<'a> {
+    let mut named = making;
+    named.source = INPUT_NAME;
+    named
 }
 
 // Reads standard input to its end.

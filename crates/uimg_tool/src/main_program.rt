@@ -269,12 +269,13 @@ pub(crate) fn carry_out_apart<'a, R: Files + AllocGlobal, W: Write>(
     way: Way<'a, R>,
     out: &mut W,
 ) -> (Result<Status, RequestFault<'a>>, io::Result<()>) {
-    let Ok(mut gathered) = BufWriter::new(rt.alloc(), out) else {
+    let Way { file, folders } = way;
+    let Ok(mut gathered) = BufWriter::new(rt.alloc(), &mut *out) else {
         return (Err(RequestFault::OutOfMemory), Ok(()));
     };
     let end = match request {
-        Request::Run(request) => run_command(rt, request, way.file, &mut gathered),
-        Request::Make(request) => make_command(rt, request, way, &mut gathered),
+        Request::Run(request) => run_command(rt, request, file, &mut gathered),
+        Request::Make(request) => make_command(rt, request, file, folders, &mut gathered),
         Request::Show(text) => show(text, &mut gathered),
     };
     let written = gathered.flush();
@@ -358,12 +359,12 @@ fn outfile_at<'a, R: Files>(
 fn make_command<'a, R: Files + AllocGlobal, W: Write>(
     rt: &'a R,
     request: &'a MakeRequest<'a>,
-    way: Way<'a, R>,
+    file: Option<R::File>,
+    folders: &'a [&'a str],
     out: &mut W,
 ) -> Result<Status, RequestFault<'a>> {
     let path = request.written;
     let code = Cell::new(None);
-    let Way { file, folders } = way;
     let made = match file {
         Some(file) => match NewShelf::new(rt, path, file) {
             Ok(shelf) => make_image(rt, request, folders, Watched::new(shelf, &code), out),
