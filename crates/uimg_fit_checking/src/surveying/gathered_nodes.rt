@@ -2,7 +2,7 @@
 
 ghost use Rattle.std.specs.Prelude.{◌≡◌, ◌<◌, length, IfOk, true};
 ghost use Rattle.uimg_blob_reading.specs.LookUps.{hashes};
-ghost use Rattle.uimg_blob_reading.specs.Roles.{in_image, in_images, in_configurations, elsewhere, is_hash};
+ghost use Rattle.uimg_blob_reading.specs.Roles.{in_image, in_images, in_configurations, is_hash};
 ghost use Rattle.uimg_fit_reading.specs.Nodes.{AtLevel, IsEntry, IsEntryOrNone, InAnyFile, FromNode, FromHash};
 ghost use Rattle.uimg_fit_checking.specs.Survey.{hash_said, image_said, configuration_said, name_of_node, read_name, read_hash, read_image, read_configuration, Say};
 ghost use Rattle.uimg_fit_checking.specs.SurveyParts.{NameInside, HashInside, ImageInside, ConfigurationInside, AllInside};
@@ -104,7 +104,7 @@ fn gather_names<A: Allocator>(
 ) -> Result<Vec<Span>, AllocError>
     requires { IsEntryOrNone blob.now room.now first }
     ensures inside { InAnyFile blob.now room.now (AllInside NameInside result) }
-    ensures said { FromNode blob.now room.now elsewhere first (Say read_name name_of_node result) }
+    ensures said { FromNode blob.now room.now in_image first (Say read_name name_of_node result) }
 {
     let mut names = Vec::new(alloc);
     let mut next = first;

@@ -4,7 +4,7 @@ use Rattle.std.specs.Option.{option_map_or}
 use Rattle.uimg_base.specs.declared.spans.Span.{Span}
 use Rattle.uimg_blob_reading.specs.Grammar.{Siblings}
 use Rattle.uimg_blob_reading.specs.LookUps.{NodeOf}
-use Rattle.uimg_blob_reading.specs.Roles.{elsewhere}
+use Rattle.uimg_blob_reading.specs.Roles.{in_image}
 use Rattle.uimg_blob_reading.specs.Spots.{Spot}
 use Rattle.uimg_fit_reading.specs.Nodes.{InFile, IsRead, AreFrom}
 use Rattle.uimg_fit_checking.specs.Survey.{name_of_node, read_name}
@@ -17,8 +17,8 @@ abbrev pub invariant-loop-next : goal.invariant-loop-next
 invariant-loop-next g l = record {
   within : IfSome l.next (λ i. i < length l.room.entries);
   inside : (size : ℕ) → InFile size l.blob l.room.entries → All (NameInside size) l.names.items;
-  left : (file : List ℕ) (t : Siblings) → IsRead file l.blob l.room.entries t → (all : List (NodeOf Spot)) → AreFrom t elsewhere l.fn.first all
-      → Gathered Span (List ℕ) (AreFrom t elsewhere) (read_name file) name_of_node l.names.items l.next all;
+  left : (file : List ℕ) (t : Siblings) → IsRead file l.blob l.room.entries t → (all : List (NodeOf Spot)) → AreFrom t in_image l.fn.first all
+      → Gathered Span (List ℕ) (AreFrom t in_image) (read_name file) name_of_node l.names.items l.next all;
 }
 
 abbrev pub decreases-loop-next : goal.decreases-loop-next
