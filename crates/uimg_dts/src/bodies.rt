@@ -1,0 +1,200 @@
+//! The bodies of nodes, by recursion.
+
+use crate::fault::DtsKind;
+use crate::maker::Maker;
+use crate::reading::{begins, behind, expect, left_at, unexpected, word_at};
+use crate::stop::{Stop, at};
+use crate::table::Owner;
+use crate::tokens::{Piece, Token, Word};
+use crate::values::assigned;
+use std::alloc::Allocator;
+use uimg_base::Files;
+
+/// What an item of a body is.
+#[derive(Clone, Copy, Debug, PartialEq, Eq)]
+enum Item {
+    Property,
+    Child,
+    /// The end of the body.
+    End,
+}
+
+// Returns how many labels and words `/omit-if-no-ref/` the words begin with.
+fn prefix_length(tokens: &[Token]) -> usize {
+    tokens
+        .iter()
+        .take_while(|t| matches!(t.word, Word::Label(_) | Word::OmitIfNoReference))
+        .count()
+}
+
+// Returns whether a prefix has the word `/omit-if-no-ref/`.
+fn is_optional(prefix: &[Token]) -> bool {
+    prefix
+        .iter()
+        .any(|t| matches!(t.word, Word::OmitIfNoReference))
+}
+
+// Adds the labels of a prefix to what they name.
+fn add_labels<F: Files, A: Allocator + Copy>(
+    maker: &mut Maker<'_, '_, F, A>,
+    prefix: &[Token],
+    owner: Owner,
+) -> Result<(), Stop> {
+    let first = maker.table.labels.len();
+    for token in prefix {
+        if let Word::Label(name) = token.word {
+            maker.table.add_label(first, name, owner, token.left)?;
+        }
+    }
+    Ok(())
+}
+
+// Reads a name.
+fn name_in(tokens: &[Token]) -> Result<Piece, Stop> {
+    match word_at(tokens) {
+        Some(Word::Name(name)) => Ok(name),
+        _ => Err(unexpected(tokens)),
+    }
+}
+
+// Adds a property with a name, whose labels are a prefix. Returns its place.
+fn add_property<F: Files, A: Allocator + Copy>(
+    maker: &mut Maker<'_, '_, F, A>,
+    node: usize,
+    prefix: &[Token],
+    name: Piece,
+    left: usize,
+) -> Result<usize, Stop> {
+    let place = maker.table.add_property(name, left)?;
+    maker.table.append_property(node, place);
+    add_labels(maker, prefix, Owner::Property(place))?;
+    Ok(place)
+}
+
+// Adds a child with a name, whose labels are a prefix. Returns its place.
+fn add_child<F: Files, A: Allocator + Copy>(
+    maker: &mut Maker<'_, '_, F, A>,
+    parent: usize,
+    prefix: &[Token],
+    name: Piece,
+    left: usize,
+) -> Result<usize, Stop> {
+    let level = maker.table.level_of(parent).saturating_add(1);
+    let place = maker.table.add_node(name, level, left)?;
+    maker.table.append_child(parent, place);
+    if let Some(node) = maker.table.nodes.get_mut(place) {
+        node.is_optional = is_optional(prefix);
+    }
+    add_labels(maker, prefix, Owner::Node(place))?;
+    Ok(place)
+}
+
+// Reads the deletion of a property or a node, from the word after its directive on.
+fn deletion<'a, F: Files, A: Allocator + Copy>(
+    maker: &mut Maker<'_, '_, F, A>,
+    parent: usize,
+    prefix: &[Token],
+    item: Item,
+    tokens: &'a [Token],
+) -> Result<(Item, &'a [Token]), Stop> {
+    let name = name_in(tokens)?;
+    let rest = expect(b';', behind(tokens))?;
+    let left = left_at(tokens);
+    if item == Item::Property {
+        let place = add_property(maker, parent, prefix, name, left)?;
+        if let Some(property) = maker.table.properties.get_mut(place) {
+            property.is_deleted = true;
+        }
+    } else {
+        let place = add_child(maker, parent, prefix, name, left)?;
+        if let Some(node) = maker.table.nodes.get_mut(place) {
+            node.is_deleted = true;
+        }
+    }
+    Ok((item, rest))
+}
+
+// Reads a property after its labels.
+fn property<'a, F: Files, A: Allocator + Copy>(
+    maker: &mut Maker<'_, '_, F, A>,
+    node: usize,
+    prefix: &[Token],
+    tokens: &'a [Token],
+) -> Result<(Item, &'a [Token]), Stop> {
+    let name = name_in(tokens)?;
+    let place = add_property(maker, node, prefix, name, left_at(tokens))?;
+    let next = behind(tokens);
+    let rest = if begins(b'=', next) {
+        assigned(maker, place, name, behind(next))?
+    } else {
+        expect(b';', next)?
+    };
+    Ok((Item::Property, rest))
+}
+
+// Reads a child after its labels, with at most `levels` levels.
+#[cycle(bodies)]
+fn child<'a, F: Files, A: Allocator + Copy>(
+    maker: &mut Maker<'_, '_, F, A>,
+    levels: u8,
+    parent: usize,
+    prefix: &[Token],
+    tokens: &'a [Token],
+) -> Result<(Item, &'a [Token]), Stop> {
+    let name = name_in(tokens)?;
+    let opening = behind(tokens);
+    let inner = expect(b'{', opening)?;
+    if levels == 0 {
+        return Err(at(DtsKind::Depth, left_at(opening)));
+    }
+    let place = add_child(maker, parent, prefix, name, left_at(tokens))?;
+    let rest = body(maker, levels - 1, place, inner)?;
+    Ok((Item::Child, rest))
+}
+
+// Reads an item of a body.
+#[cycle(bodies)]
+fn item<'a, F: Files, A: Allocator + Copy>(
+    maker: &mut Maker<'_, '_, F, A>,
+    levels: u8,
+    node: usize,
+    tokens: &'a [Token],
+) -> Result<(Item, &'a [Token]), Stop> {
+    let count = prefix_length(tokens);
+    let prefix = tokens.get(..count).unwrap_or(&[]);
+    let rest = tokens.get(count..).unwrap_or(&[]);
+    match word_at(rest) {
+        Some(Word::Single(b'}')) if count == 0 => Ok((Item::End, expect(b';', behind(rest))?)),
+        Some(Word::DeleteNode) => deletion(maker, node, prefix, Item::Child, behind(rest)),
+        Some(Word::Name(_)) if begins(b'{', behind(rest)) => child(
+            maker, levels, node, prefix, rest,
+        ),
+        _ if is_optional(prefix) => Err(unexpected(rest)),
+        Some(Word::DeleteProperty) => deletion(maker, node, prefix, Item::Property, behind(rest)),
+        _ => property(maker, node, prefix, rest),
+    }
+}
+
+/// Reads the body of a node after its opening brace, with at most `levels` levels below it. Returns
+/// the words after its semicolon.
+#[cycle(bodies)]
+pub(crate) fn body<'a, F: Files, A: Allocator + Copy>(
+    maker: &mut Maker<'_, '_, F, A>,
+    levels: u8,
+    node: usize,
+    tokens: &'a [Token],
+) -> Result<&'a [Token], Stop> {
+    let mut rest = tokens;
+    let mut has_children = false;
+    for _ in 0..tokens.len() {
+        let (found, after) = item(maker, levels, node, rest)?;
+        match found {
+            Item::End => return Ok(after),
+            Item::Property if has_children => return Err(unexpected(rest)),
+            Item::Property => {}
+            Item::Child => has_children = true,
+        }
+        rest = after;
+    }
+    Err(unexpected(rest))
+}

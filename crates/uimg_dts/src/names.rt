@@ -1,0 +1,183 @@
+//! What the names of a tree must be.
+
+use crate::bytes::after;
+use crate::fault::DtsKind;
+use crate::stop::{Stop, at};
+use crate::table::{MarkKind, Table};
+use crate::tokens::Piece;
+use std::alloc::Allocator;
+
+// Returns how many bytes of a node's name are before its unit address.
+fn base_length(name: &[u8]) -> usize {
+    name.iter().take_while(|b| **b != b'@').count()
+}
+
+// Returns whether bytes are one string: a NUL ends them, and they have no other.
+fn is_string(bytes: &[u8]) -> bool {
+    let length = bytes.iter().take_while(|b| **b != 0).count();
+    !bytes.is_empty() && length.saturating_add(1) == bytes.len()
+}
+
+impl<'t, A: Allocator + Copy> Table<'t, A> {
+    // Returns whether a later child of the same parent, deleted or not, has a child's name.
+    fn has_later_child(&self, child: usize, name: Piece) -> Option<bool> {
+        let mut place = self.node(child)?.next;
+        for _ in 0..self.nodes.len() {
+            let Some(node) = self.node(place) else {
+                return Some(false);
+            };
+            if self.same(node.name, name) {
+                return Some(true);
+            }
+            place = node.next;
+        }
+        Some(false)
+    }
+
+    // Returns whether a later property of the node that is not deleted has a property's name.
+    fn has_later_property(&self, property: usize, name: Piece) -> Option<bool> {
+        let mut place = self.property(property)?.next;
+        for _ in 0..self.properties.len() {
+            let Some(found) = self.property(place) else {
+                return Some(false);
+            };
+            if !found.is_deleted && self.same(found.name, name) {
+                return Some(true);
+            }
+            place = found.next;
+        }
+        Some(false)
+    }
+
+    // Refuses properties of a node that have one name or an `@` in it.
+    fn check_properties(&self, first: usize) -> Result<(), Stop> {
+        let mut place = first;
+        for _ in 0..self.properties.len() {
+            let Some(found) = self.property(place) else {
+                return Ok(());
+            };
+            let name = self.text(found.name);
+            if !found.is_deleted && self.has_later_property(place, found.name) == Some(true) {
+                return Err(at(DtsKind::Duplicate, 0));
+            }
+            if !found.is_deleted && base_length(name) < name.len() {
+                return Err(at(DtsKind::BadName, 0));
+            }
+            place = found.next;
+        }
+        Ok(())
+    }
+
+    // Refuses a node of the name of a later one, or with two unit addresses.
+    fn check_name(&self, place: usize, name: Piece) -> Result<(), Stop> {
+        if self.has_later_child(place, name) == Some(true) {
+            return Err(at(DtsKind::Duplicate, 0));
+        }
+        let text = self.text(name);
+        let unit = after(text, base_length(text).saturating_add(1));
+        if base_length(unit) < unit.len() {
+            return Err(at(DtsKind::BadName, 0));
+        }
+        Ok(())
+    }
+
+    // Deletes a property `name` that is the node's name, and refuses another. Of several the first
+    // counts, deleted or not.
+    fn check_name_property(&mut self, place: usize, name: Piece) -> Result<(), Stop> {
+        if let Some(live) = self.live_property(place, b"name") {
+            let Some(found) = self.property(live) else {
+                return Ok(());
+            };
+            if !is_string(self.value(found.value)) {
+                return Err(at(DtsKind::BadName, 0));
+            }
+        }
+        let Some(first) = self.property_named(place, b"name") else {
+            return Ok(());
+        };
+        let Some(found) = self.property(first) else {
+            return Ok(());
+        };
+        let node = self.text(name);
+        let base = node.get(..base_length(node)).unwrap_or(&[]);
+        let value = self.value(found.value);
+        if value.len() != base.len().saturating_add(1) || !value.starts_with(base) {
+            return Err(at(DtsKind::BadName, 0));
+        }
+        self.delete_property(first);
+        Ok(())
+    }
+
+    /// Refuses names that nodes or properties may not have. Deletes properties `name` that are names
+    /// of their nodes. `order` are the nodes of the tree.
+    pub(crate) fn check_names(&mut self, order: &[usize]) -> Result<(), Stop> {
+        for place in order {
+            let Some(node) = self.node(*place) else {
+                return Ok(());
+            };
+            self.check_name(*place, node.name)?;
+            self.check_properties(node.first_property)?;
+            self.check_name_property(*place, node.name)?;
+        }
+        Ok(())
+    }
+
+    // Returns whether a label or a mark has a name, among the labels before a place and the marks of
+    // properties of the tree before a place among them.
+    fn is_name_of_mark(&self, name: Piece, most: usize) -> bool {
+        let mut count = 0usize;
+        for property in self.properties.as_slice() {
+            if !property.is_deleted && self.is_live(property.node) {
+                for i in property.marks.start..property.marks.end {
+                    if self.is_label_mark(i, name) {
+                        count = count.saturating_add(1);
+                    }
+                }
+            }
+        }
+        count > most
+    }
+
+    // Returns whether a mark is a label of a name.
+    fn is_label_mark(&self, place: usize, name: Piece) -> bool {
+        match self.marks.get(place) {
+            Some(mark) => mark.kind == MarkKind::Label && self.same(mark.name, name),
+            None => false,
+        }
+    }
+
+    // Returns whether another label in the tree has the name of the one at a place.
+    fn has_other_label(&self, place: usize, name: Piece) -> bool {
+        for i in place.saturating_add(1)..self.labels.len() {
+            if let Some(label) = self.labels.get(i) {
+                if self.same(label.name, name) && self.is_live_label(*label) {
+                    return true;
+                }
+            }
+        }
+        self.is_name_of_mark(name, 0)
+    }
+
+    /// Refuses a label that names two things.
+    pub(crate) fn check_labels(&self) -> Result<(), Stop> {
+        for i in 0..self.labels.len() {
+            if let Some(label) = self.labels.get(i) {
+                if self.is_live_label(*label) && self.has_other_label(i, label.name) {
+                    return Err(at(DtsKind::Duplicate, 0));
+                }
+            }
+        }
+        for property in self.properties.as_slice() {
+            if !property.is_deleted && self.is_live(property.node) {
+                for i in property.marks.start..property.marks.end {
+                    if let Some(mark) = self.marks.get(i) {
+                        if self.is_label_mark(i, mark.name) && self.is_name_of_mark(mark.name, 1) {
+                            return Err(at(DtsKind::Duplicate, 0));
+                        }
+                    }
+                }
+            }
+        }
+        Ok(())
+    }
+}

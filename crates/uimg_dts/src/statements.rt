@@ -1,0 +1,163 @@
+//! The statements of a source.
+
+use crate::bodies::body;
+use crate::expressions::number;
+use crate::fault::DtsKind;
+use crate::finding::ROOT;
+use crate::maker::Maker;
+use crate::reading::{behind, expect, left_at, unexpected, word_at};
+use crate::stop::{Stop, at, out_of_memory};
+use crate::table::Owner;
+use crate::tokens::{NOTHING, Piece, Token, Word};
+use std::alloc::Allocator;
+use uimg_base::Files;
+
+/// The most levels of a tree; the root is at the first.
+const MOST_LEVELS: u8 = 64;
+
+/// A range of memory that is reserved.
+#[derive(Clone, Copy, Debug, PartialEq, Eq)]
+pub struct Reservation {
+    pub address: u64,
+    pub size: u64,
+}
+
+/// Reads the headers of a source. Returns the words after them.
+pub(crate) fn headers(tokens: &[Token]) -> Result<&[Token], Stop> {
+    let mut rest = tokens;
+    for _ in 0..tokens.len() {
+        let Some(Word::Version) = word_at(rest) else {
+            break;
+        };
+        rest = expect(b';', behind(rest))?;
+        if let Some(Word::Plugin) = word_at(rest) {
+            return Err(at(DtsKind::Plugin, left_at(rest)));
+        }
+    }
+    if rest.len() == tokens.len() {
+        return Err(unexpected(rest));
+    }
+    Ok(rest)
+}
+
+// Returns the words after labels.
+fn unlabelled(tokens: &[Token]) -> &[Token] {
+    let count = tokens
+        .iter()
+        .take_while(|t| matches!(t.word, Word::Label(_)))
+        .count();
+    tokens.get(count..).unwrap_or(&[])
+}
+
+/// Reads memory reservations and adds them. Returns the words after them.
+pub(crate) fn reservations<'a, A: Allocator>(
+    found: &mut Vec<Reservation, A>,
+    tokens: &'a [Token],
+) -> Result<&'a [Token], Stop> {
+    let mut rest = tokens;
+    for _ in 0..tokens.len() {
+        let named = unlabelled(rest);
+        let Some(Word::Reserve) = word_at(named) else {
+            return Ok(rest);
+        };
+        let (address, second) = number(behind(named))?;
+        let (size, end) = number(second)?;
+        rest = expect(b';', end)?;
+        if found.push(Reservation { address, size }).is_err() {
+            return Err(out_of_memory(left_at(named)));
+        }
+    }
+    Ok(rest)
+}
+
+// Returns the node of a reference, which is the next word.
+fn target<F: Files, A: Allocator + Copy>(
+    maker: &Maker<'_, '_, F, A>,
+    tokens: &[Token],
+) -> Result<usize, Stop> {
+    let Some(Word::Reference(name)) = word_at(tokens) else {
+        return Err(unexpected(tokens));
+    };
+    match maker.table.referred(name) {
+        Some(place) => Ok(place),
+        None => Err(at(DtsKind::NoNode, left_at(tokens))),
+    }
+}
+
+// Reads a definition after its opening brace, and merges it into a node. Returns the words after it.
+fn merged<'a, F: Files, A: Allocator + Copy>(
+    maker: &mut Maker<'_, '_, F, A>,
+    into: usize,
+    tokens: &'a [Token],
+) -> Result<&'a [Token], Stop> {
+    let left = left_at(tokens);
+    let new = maker.table.add_definition(NOTHING, into, left)?;
+    let levels = MOST_LEVELS.saturating_sub(maker.table.level_of(new));
+    let rest = body(maker, levels, new, tokens)?;
+    if new != ROOT {
+        maker.table.merge(into, new, left)?;
+    }
+    Ok(rest)
+}
+
+// Reads a definition of a referred node, which may get one more label. Returns the words after it.
+fn overlay<'a, F: Files, A: Allocator + Copy>(
+    maker: &mut Maker<'_, '_, F, A>,
+    label: Option<Piece>,
+    tokens: &'a [Token],
+) -> Result<&'a [Token], Stop> {
+    let into = target(maker, tokens)?;
+    if let Some(name) = label {
+        maker
+            .table
+            .add_label(0, name, Owner::Node(into), left_at(tokens))?;
+    }
+    merged(maker, into, expect(b'{', behind(tokens))?)
+}
+
+// Reads a statement that marks or deletes a referred node, from the reference on. Returns it and
+// the words after it.
+fn marked<'a, F: Files, A: Allocator + Copy>(
+    maker: &Maker<'_, '_, F, A>,
+    tokens: &'a [Token],
+) -> Result<(usize, &'a [Token]), Stop> {
+    let place = target(maker, tokens)?;
+    Ok((place, expect(b';', behind(tokens))?))
+}
+
+/// Reads the first definition of the root. Returns the words after it.
+pub(crate) fn root<'a, F: Files, A: Allocator + Copy>(
+    maker: &mut Maker<'_, '_, F, A>,
+    tokens: &'a [Token],
+) -> Result<&'a [Token], Stop> {
+    if let Some(Word::Reference(_)) = word_at(tokens) {
+        return Err(at(DtsKind::NoNode, left_at(tokens)));
+    }
+    let inner = expect(b'{', expect(b'/', tokens)?)?;
+    merged(maker, ROOT, inner)
+}
+
+/// Reads a statement after the first definition of the root. Returns the words after it.
+pub(crate) fn statement<'a, F: Files, A: Allocator + Copy>(
+    maker: &mut Maker<'_, '_, F, A>,
+    tokens: &'a [Token],
+) -> Result<&'a [Token], Stop> {
+    let next = behind(tokens);
+    match word_at(tokens) {
+        Some(Word::Single(b'/')) => merged(maker, ROOT, expect(b'{', next)?),
+        Some(Word::Label(name)) => overlay(maker, Some(name), next),
+        Some(Word::DeleteNode) => {
+            let (place, rest) = marked(maker, next)?;
+            maker.table.delete_node(place);
+            Ok(rest)
+        }
+        Some(Word::OmitIfNoReference) => {
+            let (place, rest) = marked(maker, next)?;
+            if let Some(node) = maker.table.nodes.get_mut(place) {
+                node.is_optional = true;
+            }
+            Ok(rest)
+        }
+        _ => overlay(maker, None, tokens),
+    }
+}
