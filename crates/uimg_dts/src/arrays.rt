@@ -2,10 +2,9 @@
 
 use crate::expressions::number;
 use crate::fault::DtsKind;
-use crate::maker::Maker;
 use crate::reading::{behind, expect, left_at, unexpected, word_at};
 use crate::stop::{Stop, at};
-use crate::table::MarkKind;
+use crate::table::{MarkKind, Table};
 use crate::tokens::{Token, Word};
 use std::alloc::Allocator;
 use uimg_base::Files;
@@ -31,8 +30,8 @@ fn fits(width: Width, value: u64) -> bool {
 }
 
 // Appends a number.
-fn push_number<F: Files, A: Allocator + Copy>(
-    maker: &mut Maker<'_, '_, F, A>,
+fn push_number<A: Allocator + Copy>(
+    table: &mut Table<'_, A>,
     width: Width,
     value: u64,
     left: usize,
@@ -42,10 +41,10 @@ fn push_number<F: Files, A: Allocator + Copy>(
     }
     let bytes = value.to_be_bytes();
     match width {
-        Width::Bits8 => maker.append(&bytes[7..], left),
-        Width::Bits16 => maker.append(&bytes[6..], left),
-        Width::Bits32 => maker.append(&bytes[4..], left),
-        Width::Bits64 => maker.append(&bytes, left),
+        Width::Bits8 => table.append(&bytes[7..], left),
+        Width::Bits16 => table.append(&bytes[6..], left),
+        Width::Bits32 => table.append(&bytes[4..], left),
+        Width::Bits64 => table.append(&bytes, left),
     }
 }
 
@@ -67,8 +66,8 @@ fn opened(tokens: &[Token]) -> Result<(Width, &[Token]), Stop> {
 }
 
 /// Appends an array of numbers to the value that begins at a place. Returns the words after it.
-pub(crate) fn numbers<'a, F: Files, A: Allocator + Copy>(
-    maker: &mut Maker<'_, '_, F, A>,
+pub(crate) fn numbers<'a, A: Allocator + Copy>(
+    table: &mut Table<'_, A>,
     start: usize,
     tokens: &'a [Token],
 ) -> Result<&'a [Token], Stop> {
@@ -78,18 +77,18 @@ pub(crate) fn numbers<'a, F: Files, A: Allocator + Copy>(
         match word_at(rest) {
             Some(Word::Single(b'>')) => return Ok(behind(rest)),
             Some(Word::Label(name)) => {
-                maker.add_mark(MarkKind::Label, name, start, left)?;
+                table.add_mark(MarkKind::Label, name, start, left)?;
                 rest = behind(rest);
             }
             Some(Word::Reference(name)) if width == Width::Bits32 => {
-                maker.add_mark(MarkKind::Phandle, name, start, left)?;
-                maker.append(&[255; 4], left)?;
+                table.add_mark(MarkKind::Phandle, name, start, left)?;
+                table.append(&[255; 4], left)?;
                 rest = behind(rest);
             }
             Some(Word::Reference(_)) => return Err(at(DtsKind::BadNumber, left)),
             _ => {
                 let (value, after) = number(rest)?;
-                push_number(maker, width, value, left)?;
+                push_number(table, width, value, left)?;
                 rest = after;
             }
         }
@@ -98,8 +97,8 @@ pub(crate) fn numbers<'a, F: Files, A: Allocator + Copy>(
 }
 
 /// Appends bytes after `[` to the value that begins at a place. Returns the words after `]`.
-pub(crate) fn byte_pairs<'a, F: Files, A: Allocator + Copy>(
-    maker: &mut Maker<'_, '_, F, A>,
+pub(crate) fn byte_pairs<'a, A: Allocator + Copy>(
+    table: &mut Table<'_, A>,
     start: usize,
     tokens: &'a [Token],
 ) -> Result<&'a [Token], Stop> {
@@ -108,8 +107,8 @@ pub(crate) fn byte_pairs<'a, F: Files, A: Allocator + Copy>(
         let left = left_at(rest);
         match word_at(rest) {
             Some(Word::Single(b']')) => return Ok(behind(rest)),
-            Some(Word::Label(name)) => maker.add_mark(MarkKind::Label, name, start, left)?,
-            Some(Word::Byte(b)) => maker.append(&[b], left)?,
+            Some(Word::Label(name)) => table.add_mark(MarkKind::Label, name, start, left)?,
+            Some(Word::Byte(b)) => table.append(&[b], left)?,
             _ => return Err(unexpected(rest)),
         }
         rest = behind(rest);

@@ -1,10 +1,9 @@
 //! The bodies of nodes, by recursion.
 
 use crate::fault::DtsKind;
-use crate::maker::Maker;
 use crate::reading::{begins, behind, expect, left_at, unexpected, word_at};
 use crate::stop::{Stop, at};
-use crate::table::Owner;
+use crate::table::{Owner, Table};
 use crate::tokens::{Piece, Token, Word};
 use crate::values::assigned;
 use std::alloc::Allocator;
@@ -35,15 +34,15 @@ fn is_optional(prefix: &[Token]) -> bool {
 }
 
 // Adds the labels of a prefix to what they name.
-fn add_labels<F: Files, A: Allocator + Copy>(
-    maker: &mut Maker<'_, '_, F, A>,
+fn add_labels<A: Allocator + Copy>(
+    table: &mut Table<'_, A>,
     prefix: &[Token],
     owner: Owner,
 ) -> Result<(), Stop> {
-    let first = maker.table.labels.len();
+    let first = table.labels.len();
     for token in prefix {
         if let Word::Label(name) = token.word {
-            maker.table.add_label(first, name, owner, token.left)?;
+            table.add_label(first, name, owner, token.left)?;
         }
     }
     Ok(())
@@ -58,40 +57,40 @@ fn name_in(tokens: &[Token]) -> Result<Piece, Stop> {
 }
 
 // Adds a property with a name, whose labels are a prefix. Returns its place.
-fn add_property<F: Files, A: Allocator + Copy>(
-    maker: &mut Maker<'_, '_, F, A>,
+fn add_property<A: Allocator + Copy>(
+    table: &mut Table<'_, A>,
     node: usize,
     prefix: &[Token],
     name: Piece,
     left: usize,
 ) -> Result<usize, Stop> {
-    let place = maker.table.add_property(name, left)?;
-    maker.table.append_property(node, place);
-    add_labels(maker, prefix, Owner::Property(place))?;
+    let place = table.add_property(name, left)?;
+    table.append_property(node, place);
+    add_labels(table, prefix, Owner::Property(place))?;
     Ok(place)
 }
 
 // Adds a child with a name, whose labels are a prefix. Returns its place.
-fn add_child<F: Files, A: Allocator + Copy>(
-    maker: &mut Maker<'_, '_, F, A>,
+fn add_child<A: Allocator + Copy>(
+    table: &mut Table<'_, A>,
     parent: usize,
     prefix: &[Token],
     name: Piece,
     left: usize,
 ) -> Result<usize, Stop> {
-    let level = maker.table.level_of(parent).saturating_add(1);
-    let place = maker.table.add_node(name, level, left)?;
-    maker.table.append_child(parent, place);
-    if let Some(node) = maker.table.nodes.get_mut(place) {
+    let level = table.level_of(parent).saturating_add(1);
+    let place = table.add_node(name, level, left)?;
+    table.append_child(parent, place);
+    if let Some(node) = table.nodes.get_mut(place) {
         node.is_optional = is_optional(prefix);
     }
-    add_labels(maker, prefix, Owner::Node(place))?;
+    add_labels(table, prefix, Owner::Node(place))?;
     Ok(place)
 }
 
 // Reads the deletion of a property or a node, from the word after its directive on.
-fn deletion<'a, F: Files, A: Allocator + Copy>(
-    maker: &mut Maker<'_, '_, F, A>,
+fn deletion<'a, A: Allocator + Copy>(
+    table: &mut Table<'_, A>,
     parent: usize,
     prefix: &[Token],
     item: Item,
@@ -101,13 +100,13 @@ fn deletion<'a, F: Files, A: Allocator + Copy>(
     let rest = expect(b';', behind(tokens))?;
     let left = left_at(tokens);
     if item == Item::Property {
-        let place = add_property(maker, parent, prefix, name, left)?;
-        if let Some(property) = maker.table.properties.get_mut(place) {
+        let place = add_property(table, parent, prefix, name, left)?;
+        if let Some(property) = table.properties.get_mut(place) {
             property.is_deleted = true;
         }
     } else {
-        let place = add_child(maker, parent, prefix, name, left)?;
-        if let Some(node) = maker.table.nodes.get_mut(place) {
+        let place = add_child(table, parent, prefix, name, left)?;
+        if let Some(node) = table.nodes.get_mut(place) {
             node.is_deleted = true;
         }
     }
@@ -116,16 +115,17 @@ fn deletion<'a, F: Files, A: Allocator + Copy>(
 
 // Reads a property after its labels.
 fn property<'a, F: Files, A: Allocator + Copy>(
-    maker: &mut Maker<'_, '_, F, A>,
+    files: &mut F,
+    table: &mut Table<'_, A>,
     node: usize,
     prefix: &[Token],
     tokens: &'a [Token],
 ) -> Result<(Item, &'a [Token]), Stop> {
     let name = name_in(tokens)?;
-    let place = add_property(maker, node, prefix, name, left_at(tokens))?;
+    let place = add_property(table, node, prefix, name, left_at(tokens))?;
     let next = behind(tokens);
     let rest = if begins(b'=', next) {
-        assigned(maker, place, name, behind(next))?
+        assigned(files, table, place, name, behind(next))?
     } else {
         expect(b';', next)?
     };
@@ -135,7 +135,8 @@ fn property<'a, F: Files, A: Allocator + Copy>(
 // Reads a child after its labels, with at most `levels` levels.
 #[cycle(bodies)]
 fn child<'a, F: Files, A: Allocator + Copy>(
-    maker: &mut Maker<'_, '_, F, A>,
+    files: &mut F,
+    table: &mut Table<'_, A>,
     levels: u8,
     parent: usize,
     prefix: &[Token],
@@ -147,15 +148,16 @@ fn child<'a, F: Files, A: Allocator + Copy>(
     if levels == 0 {
         return Err(at(DtsKind::Depth, left_at(opening)));
     }
-    let place = add_child(maker, parent, prefix, name, left_at(tokens))?;
-    let rest = body(maker, levels - 1, place, inner)?;
+    let place = add_child(table, parent, prefix, name, left_at(tokens))?;
+    let rest = body(files, table, levels - 1, place, inner)?;
     Ok((Item::Child, rest))
 }
 
 // Reads an item of a body.
 #[cycle(bodies)]
-fn item<'a, F: Files, A: Allocator + Copy>(
-    maker: &mut Maker<'_, '_, F, A>,
+fn read_item<'a, F: Files, A: Allocator + Copy>(
+    files: &mut F,
+    table: &mut Table<'_, A>,
     levels: u8,
     node: usize,
     tokens: &'a [Token],
@@ -165,13 +167,13 @@ fn item<'a, F: Files, A: Allocator + Copy>(
     let rest = tokens.get(count..).unwrap_or(&[]);
     match word_at(rest) {
         Some(Word::Single(b'}')) if count == 0 => Ok((Item::End, expect(b';', behind(rest))?)),
-        Some(Word::DeleteNode) => deletion(maker, node, prefix, Item::Child, behind(rest)),
+        Some(Word::DeleteNode) => deletion(table, node, prefix, Item::Child, behind(rest)),
         Some(Word::Name(_)) if begins(b'{', behind(rest)) => child(
-            maker, levels, node, prefix, rest,
+            files, table, levels, node, prefix, rest,
         ),
         _ if is_optional(prefix) => Err(unexpected(rest)),
-        Some(Word::DeleteProperty) => deletion(maker, node, prefix, Item::Property, behind(rest)),
-        _ => property(maker, node, prefix, rest),
+        Some(Word::DeleteProperty) => deletion(table, node, prefix, Item::Property, behind(rest)),
+        _ => property(files, table, node, prefix, rest),
     }
 }
 
@@ -179,7 +181,8 @@ fn item<'a, F: Files, A: Allocator + Copy>(
 /// the words after its semicolon.
 #[cycle(bodies)]
 pub(crate) fn body<'a, F: Files, A: Allocator + Copy>(
-    maker: &mut Maker<'_, '_, F, A>,
+    files: &mut F,
+    table: &mut Table<'_, A>,
     levels: u8,
     node: usize,
     tokens: &'a [Token],
@@ -187,7 +190,7 @@ pub(crate) fn body<'a, F: Files, A: Allocator + Copy>(
     let mut rest = tokens;
     let mut has_children = false;
     for _ in 0..tokens.len() {
-        let (found, after) = item(maker, levels, node, rest)?;
+        let (found, after) = read_item(files, table, levels, node, rest)?;
         match found {
             Item::End => return Ok(after),
             Item::Property if has_children => return Err(unexpected(rest)),

@@ -3,9 +3,7 @@
 use crate::fault::DtsFault;
 use crate::finding::ROOT;
 use crate::lexing::lex;
-use crate::maker::Maker;
 use crate::planting::planted;
-use crate::sheet::Sheet;
 use crate::statements::{Reservation, headers, reservations, root, statement};
 use crate::stop::{Stop, out_of_memory};
 use crate::table::Table;
@@ -51,18 +49,19 @@ fn resolve<A: Allocator + Copy>(alloc: A, table: &mut Table<'_, A>) -> Result<()
 
 // Reads all statements of a source.
 fn statements<F: Files, A: Allocator + Copy>(
-    maker: &mut Maker<'_, '_, F, A>,
+    files: &mut F,
+    table: &mut Table<'_, A>,
     found: &mut Vec<Reservation, A>,
     tokens: &[Token],
 ) -> Result<(), Stop> {
     let behind = headers(tokens)?;
     let first = reservations(found, behind)?;
-    let mut rest = root(maker, first)?;
+    let mut rest = root(files, table, first)?;
     for _ in 0..tokens.len() {
         if rest.is_empty() {
             break;
         }
-        rest = statement(maker, rest)?;
+        rest = statement(files, table, rest)?;
     }
     Ok(())
 }
@@ -71,17 +70,14 @@ fn statements<F: Files, A: Allocator + Copy>(
 fn compile_words<F: Files, A: Allocator + Copy>(
     alloc: A,
     files: &mut F,
-    sheet: &Sheet<A>,
+    bytes: &[u8],
+    tokens: &[Token],
 ) -> Result<Compiled<A>, Stop> {
     let mut found = Vec::new(alloc);
-    let mut maker = Maker {
-        alloc,
-        files,
-        table: Table::new(alloc, sheet.bytes.as_slice()),
-    };
-    statements(&mut maker, &mut found, sheet.tokens.as_slice())?;
-    resolve(alloc, &mut maker.table)?;
-    let root = planted(&mut maker)?;
+    let mut table = Table::new(alloc, bytes);
+    statements(files, &mut table, &mut found, tokens)?;
+    resolve(alloc, &mut table)?;
+    let root = planted(files, &table)?;
     Ok(Compiled {
         tree: Tree { root },
         reservations: found,
@@ -95,7 +91,12 @@ fn compile_text<F: Files, A: Allocator + Copy>(
     files: &mut F,
 ) -> Result<Compiled<A>, Stop> {
     let sheet = lex(alloc, files, text)?;
-    compile_words(alloc, files, &sheet)
+    compile_words(
+        alloc,
+        files,
+        sheet.bytes.as_slice(),
+        sheet.tokens.as_slice(),
+    )
 }
 
 // Returns the line, from 1, of the byte at which `left` bytes remain. If none remain, returns the

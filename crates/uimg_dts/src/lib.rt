@@ -13,7 +13,6 @@ mod gaps;
 mod labelling;
 mod lexing;
 mod literals;
-mod maker;
 mod merging;
 mod names;
 mod opening;

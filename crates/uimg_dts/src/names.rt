@@ -12,6 +12,13 @@ fn base_length(name: &[u8]) -> usize {
     name.iter().take_while(|b| **b != b'@').count()
 }
 
+// Returns whether a node's name may have a byte.
+fn is_node_byte(b: u8) -> bool {
+    b.is_ascii_alphabetic()
+        || b.is_ascii_digit()
+        || matches!(b, b',' | b'.' | b'_' | b'+' | b'-' | b'@')
+}
+
 // Returns whether bytes are one string: a NUL ends them, and they have no other.
 fn is_string(bytes: &[u8]) -> bool {
     let length = bytes.iter().take_while(|b| **b != 0).count();
@@ -68,14 +75,14 @@ impl<'t, A: Allocator + Copy> Table<'t, A> {
         Ok(())
     }
 
-    // Refuses a node of the name of a later one, or with two unit addresses.
+    // Refuses a node of the name of a later one, with two unit addresses, or with other bytes.
     fn check_name(&self, place: usize, name: Piece) -> Result<(), Stop> {
         if self.has_later_child(place, name) == Some(true) {
             return Err(at(DtsKind::Duplicate, 0));
         }
         let text = self.text(name);
         let unit = after(text, base_length(text).saturating_add(1));
-        if base_length(unit) < unit.len() {
+        if base_length(unit) < unit.len() || !text.iter().all(|b| is_node_byte(*b)) {
             return Err(at(DtsKind::BadName, 0));
         }
         Ok(())

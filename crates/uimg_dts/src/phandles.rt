@@ -120,28 +120,39 @@ impl<'t, A: Allocator + Copy> Table<'t, A> {
         }
     }
 
-    // Resolves a reference in a value.
+    // Resolves the reference that a mark of a value is, given where the value begins.
     fn resolve_mark(
         &mut self,
         order: &[usize],
         start: usize,
-        mark: MarkEntry,
+        place: usize,
         next: &mut u32,
     ) -> Result<(), Stop> {
+        let Some(mark) = self.marks.get(place).copied() else {
+            return Ok(());
+        };
         if mark.kind == MarkKind::Label {
             return Ok(());
         }
-        let Some(place) = self.referred(mark.name) else {
+        let Some(found) = self.referred(mark.name) else {
             return Err(at(DtsKind::NoNode, 0));
         };
-        if let Some(node) = self.nodes.get_mut(place) {
-            node.is_referenced = true;
-        }
+        self.refer(place, found);
         if mark.kind == MarkKind::Phandle {
-            let number = self.number_of(order, place, next)?;
+            let number = self.number_of(order, found, next)?;
             self.put_number(start.saturating_add(mark.offset), number);
         }
         Ok(())
+    }
+
+    // Sets the node that a mark refers to.
+    fn refer(&mut self, mark: usize, place: usize) {
+        if let Some(node) = self.nodes.get_mut(place) {
+            node.is_referenced = true;
+        }
+        if let Some(found) = self.marks.get_mut(mark) {
+            found.node = place;
+        }
     }
 
     // Resolves the references of a node.
@@ -156,9 +167,7 @@ impl<'t, A: Allocator + Copy> Table<'t, A> {
             };
             if !found.is_deleted {
                 for i in found.marks.start..found.marks.end {
-                    if let Some(mark) = self.marks.get(i).copied() {
-                        self.resolve_mark(order, found.value.start, mark, next)?;
-                    }
+                    self.resolve_mark(order, found.value.start, i, next)?;
                 }
             }
             property = found.next;

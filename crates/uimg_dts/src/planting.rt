@@ -3,7 +3,6 @@
 use crate::bytes::after;
 use crate::fault::DtsKind;
 use crate::finding::ROOT;
-use crate::maker::Maker;
 use crate::opening::{WHOLE, read_file, size_of};
 use crate::stop::{Stop, at, out_of_memory};
 use crate::table::{MarkKind, PropertyEntry, Table};
@@ -69,9 +68,7 @@ fn push_value<A: Allocator + Copy>(
                 let bytes = value.get(done..mark.offset).unwrap_or(&[]);
                 append(out, bytes)?;
                 done = mark.offset;
-                if let Some(place) = table.referred(mark.name) {
-                    push_path(table, place, out)?;
-                }
+                push_path(table, mark.node, out)?;
             }
             _ => {}
         }
@@ -81,39 +78,41 @@ fn push_value<A: Allocator + Copy>(
 
 // Returns the value of a property.
 fn value_of<F: Files, A: Allocator + Copy>(
-    maker: &mut Maker<'_, '_, F, A>,
+    files: &mut F,
+    table: &Table<'_, A>,
     property: PropertyEntry,
 ) -> Result<Value<A>, Stop> {
     if !property.is_file {
-        let mut bytes = Vec::new(maker.alloc);
-        push_value(&maker.table, property, &mut bytes)?;
+        let mut bytes = Vec::new(table.alloc);
+        push_value(table, property, &mut bytes)?;
         return Ok(Value::Bytes(ByteList::of(bytes)));
     }
-    let path = maker.table.value(property.value);
-    if maker.table.text(property.name) == b"data".as_slice() {
-        let name = copied(maker.alloc, path)?;
-        let size = size_of(maker.files, name.items(), 0)?;
+    let path = table.value(property.value);
+    if table.text(property.name) == b"data".as_slice() {
+        let name = copied(table.alloc, path)?;
+        let size = size_of(files, name.items(), 0)?;
         Ok(Value::File { name, size })
     } else {
-        let bytes = read_file(maker.alloc, maker.files, path, WHOLE, 0)?;
+        let bytes = read_file(table.alloc, files, path, WHOLE, 0)?;
         Ok(Value::Bytes(ByteList::of(bytes)))
     }
 }
 
 // Returns the properties of a node, from the first on.
 fn properties<F: Files, A: Allocator + Copy>(
-    maker: &mut Maker<'_, '_, F, A>,
+    files: &mut F,
+    table: &Table<'_, A>,
     first: usize,
 ) -> Result<Props<A>, Stop> {
-    let mut props = Vec::new(maker.alloc);
+    let mut props = Vec::new(table.alloc);
     let mut place = first;
-    for _ in 0..maker.table.properties.len() {
-        let Some(found) = maker.table.property(place) else {
+    for _ in 0..table.properties.len() {
+        let Some(found) = table.property(place) else {
             break;
         };
         if !found.is_deleted {
-            let value = value_of(maker, found)?;
-            let name = copied(maker.alloc, maker.table.text(found.name))?;
+            let value = value_of(files, table, found)?;
+            let name = copied(table.alloc, table.text(found.name))?;
             if props.push(Prop { name, value }).is_err() {
                 return Err(out_of_memory(0));
             }
@@ -126,21 +125,22 @@ fn properties<F: Files, A: Allocator + Copy>(
 // Returns the children of a node, which have at most `levels` levels.
 #[cycle(planting)]
 fn children<F: Files, A: Allocator + Copy>(
-    maker: &mut Maker<'_, '_, F, A>,
+    files: &mut F,
+    table: &Table<'_, A>,
     levels: u8,
     parent: usize,
 ) -> Result<Nodes<A>, Stop> {
-    let mut nodes = Vec::new(maker.alloc);
-    let mut next = maker.table.first_child(parent);
-    for _ in 0..maker.table.nodes.len() {
+    let mut nodes = Vec::new(table.alloc);
+    let mut next = table.first_child(parent);
+    for _ in 0..table.nodes.len() {
         let Some(place) = next else {
             break;
         };
-        let child = plant(maker, levels, place)?;
+        let child = plant(files, table, levels, place)?;
         if nodes.push(child).is_err() {
             return Err(out_of_memory(0));
         }
-        next = maker.table.next_child(place);
+        next = table.next_child(place);
     }
     Ok(Nodes::of(nodes))
 }
@@ -148,19 +148,20 @@ fn children<F: Files, A: Allocator + Copy>(
 // Returns a node with all below it, of at most `levels` levels.
 #[cycle(planting)]
 fn plant<F: Files, A: Allocator + Copy>(
-    maker: &mut Maker<'_, '_, F, A>,
+    files: &mut F,
+    table: &Table<'_, A>,
     levels: u8,
     place: usize,
 ) -> Result<Node<A>, Stop> {
     if levels == 0 {
         return Err(at(DtsKind::Depth, 0));
     }
-    let Some(node) = maker.table.node(place) else {
+    let Some(node) = table.node(place) else {
         return Err(at(DtsKind::NoRoot, 0));
     };
-    let name = copied(maker.alloc, maker.table.text(node.name))?;
-    let props = properties(maker, node.first_property)?;
-    let children = children(maker, levels - 1, place)?;
+    let name = copied(table.alloc, table.text(node.name))?;
+    let props = properties(files, table, node.first_property)?;
+    let children = children(files, table, levels - 1, place)?;
     Ok(Node {
         name,
         props,
@@ -170,10 +171,11 @@ fn plant<F: Files, A: Allocator + Copy>(
 
 /// Returns the root of the tree, with all below it.
 pub(crate) fn planted<F: Files, A: Allocator + Copy>(
-    maker: &mut Maker<'_, '_, F, A>,
+    files: &mut F,
+    table: &Table<'_, A>,
 ) -> Result<Node<A>, Stop> {
-    if !maker.table.is_live(ROOT) {
+    if !table.is_live(ROOT) {
         return Err(at(DtsKind::NoRoot, 0));
     }
-    plant(maker, MOST_LEVELS, ROOT)
+    plant(files, table, MOST_LEVELS, ROOT)
 }

@@ -4,10 +4,9 @@ use crate::bodies::body;
 use crate::expressions::number;
 use crate::fault::DtsKind;
 use crate::finding::ROOT;
-use crate::maker::Maker;
 use crate::reading::{behind, expect, left_at, unexpected, word_at};
 use crate::stop::{Stop, at, out_of_memory};
-use crate::table::Owner;
+use crate::table::{Owner, Table};
 use crate::tokens::{NOTHING, Piece, Token, Word};
 use std::alloc::Allocator;
 use uimg_base::Files;
@@ -71,14 +70,11 @@ pub(crate) fn reservations<'a, A: Allocator>(
 }
 
 // Returns the node of a reference, which is the next word.
-fn target<F: Files, A: Allocator + Copy>(
-    maker: &Maker<'_, '_, F, A>,
-    tokens: &[Token],
-) -> Result<usize, Stop> {
+fn target<A: Allocator + Copy>(table: &Table<'_, A>, tokens: &[Token]) -> Result<usize, Stop> {
     let Some(Word::Reference(name)) = word_at(tokens) else {
         return Err(unexpected(tokens));
     };
-    match maker.table.referred(name) {
+    match table.referred(name) {
         Some(place) => Ok(place),
         None => Err(at(DtsKind::NoNode, left_at(tokens))),
     }
@@ -86,78 +82,80 @@ fn target<F: Files, A: Allocator + Copy>(
 
 // Reads a definition after its opening brace, and merges it into a node. Returns the words after it.
 fn merged<'a, F: Files, A: Allocator + Copy>(
-    maker: &mut Maker<'_, '_, F, A>,
+    files: &mut F,
+    table: &mut Table<'_, A>,
     into: usize,
     tokens: &'a [Token],
 ) -> Result<&'a [Token], Stop> {
     let left = left_at(tokens);
-    let new = maker.table.add_definition(NOTHING, into, left)?;
-    let levels = MOST_LEVELS.saturating_sub(maker.table.level_of(new));
-    let rest = body(maker, levels, new, tokens)?;
+    let new = table.add_definition(NOTHING, into, left)?;
+    let levels = MOST_LEVELS.saturating_sub(table.level_of(new));
+    let rest = body(files, table, levels, new, tokens)?;
     if new != ROOT {
-        maker.table.merge(into, new, left)?;
+        table.merge(into, new, left)?;
     }
     Ok(rest)
 }
 
 // Reads a definition of a referred node, which may get one more label. Returns the words after it.
 fn overlay<'a, F: Files, A: Allocator + Copy>(
-    maker: &mut Maker<'_, '_, F, A>,
+    files: &mut F,
+    table: &mut Table<'_, A>,
     label: Option<Piece>,
     tokens: &'a [Token],
 ) -> Result<&'a [Token], Stop> {
-    let into = target(maker, tokens)?;
+    let into = target(table, tokens)?;
     if let Some(name) = label {
-        maker
-            .table
-            .add_label(0, name, Owner::Node(into), left_at(tokens))?;
+        table.add_label(0, name, Owner::Node(into), left_at(tokens))?;
     }
-    merged(maker, into, expect(b'{', behind(tokens))?)
+    merged(files, table, into, expect(b'{', behind(tokens))?)
 }
 
 // Reads a statement that marks or deletes a referred node, from the reference on. Returns it and
 // the words after it.
-fn marked<'a, F: Files, A: Allocator + Copy>(
-    maker: &Maker<'_, '_, F, A>,
+fn marked<'a, A: Allocator + Copy>(
+    table: &Table<'_, A>,
     tokens: &'a [Token],
 ) -> Result<(usize, &'a [Token]), Stop> {
-    let place = target(maker, tokens)?;
+    let place = target(table, tokens)?;
     Ok((place, expect(b';', behind(tokens))?))
 }
 
 /// Reads the first definition of the root. Returns the words after it.
 pub(crate) fn root<'a, F: Files, A: Allocator + Copy>(
-    maker: &mut Maker<'_, '_, F, A>,
+    files: &mut F,
+    table: &mut Table<'_, A>,
     tokens: &'a [Token],
 ) -> Result<&'a [Token], Stop> {
     if let Some(Word::Reference(_)) = word_at(tokens) {
         return Err(at(DtsKind::NoNode, left_at(tokens)));
     }
     let inner = expect(b'{', expect(b'/', tokens)?)?;
-    merged(maker, ROOT, inner)
+    merged(files, table, ROOT, inner)
 }
 
 /// Reads a statement after the first definition of the root. Returns the words after it.
 pub(crate) fn statement<'a, F: Files, A: Allocator + Copy>(
-    maker: &mut Maker<'_, '_, F, A>,
+    files: &mut F,
+    table: &mut Table<'_, A>,
     tokens: &'a [Token],
 ) -> Result<&'a [Token], Stop> {
     let next = behind(tokens);
     match word_at(tokens) {
-        Some(Word::Single(b'/')) => merged(maker, ROOT, expect(b'{', next)?),
-        Some(Word::Label(name)) => overlay(maker, Some(name), next),
+        Some(Word::Single(b'/')) => merged(files, table, ROOT, expect(b'{', next)?),
+        Some(Word::Label(name)) => overlay(files, table, Some(name), next),
         Some(Word::DeleteNode) => {
-            let (place, rest) = marked(maker, next)?;
-            maker.table.delete_node(place);
+            let (place, rest) = marked(table, next)?;
+            table.delete_node(place);
             Ok(rest)
         }
         Some(Word::OmitIfNoReference) => {
-            let (place, rest) = marked(maker, next)?;
-            if let Some(node) = maker.table.nodes.get_mut(place) {
+            let (place, rest) = marked(table, next)?;
+            if let Some(node) = table.nodes.get_mut(place) {
                 node.is_optional = true;
             }
             Ok(rest)
         }
-        _ => overlay(maker, None, tokens),
+        _ => overlay(files, table, None, tokens),
     }
 }

@@ -74,11 +74,14 @@ pub(crate) struct MarkEntry {
     pub(crate) kind: MarkKind,
     pub(crate) offset: usize,
     pub(crate) name: Piece,
+    /// The node that a reference means, once it is resolved.
+    pub(crate) node: usize,
 }
 
 /// All of a source. `bytes` are those of its words.
 #[derive(Drop)]
 pub(crate) struct Table<'t, A: Allocator> {
+    pub(crate) alloc: A,
     pub(crate) bytes: &'t [u8],
     pub(crate) nodes: Vec<NodeEntry, A>,
     pub(crate) properties: Vec<PropertyEntry, A>,
@@ -91,6 +94,7 @@ impl<'t, A: Allocator + Copy> Table<'t, A> {
     /// Creates empty tables.
     pub(crate) fn new(alloc: A, bytes: &'t [u8]) -> Table<'t, A> {
         Table {
+            alloc,
             bytes,
             nodes: Vec::new(alloc),
             properties: Vec::new(alloc),
@@ -128,6 +132,35 @@ impl<'t, A: Allocator + Copy> Table<'t, A> {
         match self.nodes.get(place) {
             Some(node) => !node.is_deleted,
             None => false,
+        }
+    }
+
+    /// Adds bytes to the last value.
+    pub(crate) fn append(&mut self, bytes: &[u8], left: usize) -> Result<(), Stop> {
+        match self.values.extend_from_slice(bytes) {
+            Ok(()) => Ok(()),
+            Err(_) => Err(out_of_memory(left)),
+        }
+    }
+
+    /// Adds a mark at the end of the last value, which begins at a place.
+    pub(crate) fn add_mark(
+        &mut self,
+        kind: MarkKind,
+        name: Piece,
+        start: usize,
+        left: usize,
+    ) -> Result<(), Stop> {
+        let offset = self.values.len().saturating_sub(start);
+        let mark = MarkEntry {
+            kind,
+            offset,
+            name,
+            node: NONE,
+        };
+        match self.marks.push(mark) {
+            Ok(()) => Ok(()),
+            Err(_) => Err(out_of_memory(left)),
         }
     }
 

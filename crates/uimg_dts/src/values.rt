@@ -3,11 +3,10 @@
 use crate::arrays::{byte_pairs, numbers};
 use crate::expressions::number;
 use crate::fault::DtsKind;
-use crate::maker::Maker;
 use crate::opening::{Range, WHOLE, read_file, size_of};
 use crate::reading::{begins, behind, expect, left_at, unexpected, word_at};
 use crate::stop::{Stop, at, out_of_memory};
-use crate::table::MarkKind;
+use crate::table::{MarkKind, Table};
 use crate::tokens::{Piece, Token, Word};
 use std::alloc::Allocator;
 use uimg_base::Files;
@@ -16,8 +15,8 @@ use uimg_base::Files;
 const OFFSETS: u64 = 1 << 63;
 
 // Reads labels of the value that begins at a place. Returns the words after them.
-fn labels<'a, F: Files, A: Allocator + Copy>(
-    maker: &mut Maker<'_, '_, F, A>,
+fn labels<'a, A: Allocator + Copy>(
+    table: &mut Table<'_, A>,
     start: usize,
     tokens: &'a [Token],
 ) -> Result<&'a [Token], Stop> {
@@ -26,26 +25,26 @@ fn labels<'a, F: Files, A: Allocator + Copy>(
         let Word::Label(name) = token.word else {
             return Ok(rest);
         };
-        maker.add_mark(MarkKind::Label, name, start, token.left)?;
+        table.add_mark(MarkKind::Label, name, start, token.left)?;
         rest = behind(rest);
     }
     Ok(rest)
 }
 
 // Returns the name of a file from its folder and what the source calls it.
-fn path_of<F: Files, A: Allocator + Copy>(
-    maker: &Maker<'_, '_, F, A>,
+fn path_of<A: Allocator + Copy>(
+    table: &Table<'_, A>,
     folder: Piece,
     name: Piece,
     left: usize,
 ) -> Result<Vec<u8, A>, Stop> {
-    let text = maker.table.text(name);
+    let text = table.text(name);
     let before = if text.first() == Some(&b'/') {
         &[]
     } else {
-        maker.table.text(folder)
+        table.text(folder)
     };
-    let mut path = Vec::new(maker.alloc);
+    let mut path = Vec::new(table.alloc);
     if path.extend_from_slice(before).is_err() || path.extend_from_slice(text).is_err() {
         return Err(out_of_memory(left));
     }
@@ -68,7 +67,8 @@ fn range_of(tokens: &[Token]) -> Result<(Range, &[Token]), Stop> {
 
 // Appends a part of a file, after the word `/incbin/`. Returns the words after it.
 fn file<'a, F: Files, A: Allocator + Copy>(
-    maker: &mut Maker<'_, '_, F, A>,
+    files: &mut F,
+    table: &mut Table<'_, A>,
     folder: Piece,
     left: usize,
     tokens: &'a [Token],
@@ -78,48 +78,50 @@ fn file<'a, F: Files, A: Allocator + Copy>(
         return Err(unexpected(inner));
     };
     let (range, rest) = range_of(behind(inner))?;
-    let path = path_of(maker, folder, name, left)?;
-    let bytes = read_file(maker.alloc, maker.files, &path, range, left)?;
-    maker.append(&bytes, left)?;
+    let path = path_of(table, folder, name, left)?;
+    let bytes = read_file(table.alloc, files, &path, range, left)?;
+    table.append(&bytes, left)?;
     Ok(rest)
 }
 
 // Appends a string, an array, bytes, a part of a file or the place of a path to the value that
 // begins at a place. Returns the words after it.
 fn one_value<'a, F: Files, A: Allocator + Copy>(
-    maker: &mut Maker<'_, '_, F, A>,
+    files: &mut F,
+    table: &mut Table<'_, A>,
     start: usize,
     tokens: &'a [Token],
 ) -> Result<&'a [Token], Stop> {
     let left = left_at(tokens);
     match word_at(tokens) {
         Some(Word::Text(text)) => {
-            let bytes = maker.table.text(text);
-            maker.append(bytes, left)?;
-            maker.append(&[0], left)?;
+            let bytes = table.text(text);
+            table.append(bytes, left)?;
+            table.append(&[0], left)?;
             Ok(behind(tokens))
         }
         Some(Word::Reference(name)) => {
-            maker.add_mark(MarkKind::Path, name, start, left)?;
+            table.add_mark(MarkKind::Path, name, start, left)?;
             Ok(behind(tokens))
         }
-        Some(Word::Incbin(folder)) => file(maker, folder, left, behind(tokens)),
-        Some(Word::Single(b'[')) => byte_pairs(maker, start, behind(tokens)),
-        _ => numbers(maker, start, tokens),
+        Some(Word::Incbin(folder)) => file(files, table, folder, left, behind(tokens)),
+        Some(Word::Single(b'[')) => byte_pairs(table, start, behind(tokens)),
+        _ => numbers(table, start, tokens),
     }
 }
 
 // Appends values up to the word after the last. Returns the words from there on.
 fn values<'a, F: Files, A: Allocator + Copy>(
-    maker: &mut Maker<'_, '_, F, A>,
+    files: &mut F,
+    table: &mut Table<'_, A>,
     start: usize,
     tokens: &'a [Token],
 ) -> Result<&'a [Token], Stop> {
     let mut rest = tokens;
     for _ in 0..tokens.len() {
-        let value = labels(maker, start, rest)?;
-        let behind_value = one_value(maker, start, value)?;
-        rest = labels(maker, start, behind_value)?;
+        let value = labels(table, start, rest)?;
+        let behind_value = one_value(files, table, start, value)?;
+        rest = labels(table, start, behind_value)?;
         if !begins(b',', rest) {
             return Ok(rest);
         }
@@ -131,7 +133,8 @@ fn values<'a, F: Files, A: Allocator + Copy>(
 // Appends the name of the file that is all of a value. Returns the words after the property, or
 // `None` if the value is something else.
 fn lone_file<'a, F: Files, A: Allocator + Copy>(
-    maker: &mut Maker<'_, '_, F, A>,
+    files: &mut F,
+    table: &mut Table<'_, A>,
     tokens: &'a [Token],
 ) -> Result<Option<&'a [Token]>, Stop> {
     let Some(Word::Incbin(folder)) = word_at(tokens) else {
@@ -148,42 +151,43 @@ fn lone_file<'a, F: Files, A: Allocator + Copy>(
     if !begins(b'(', opened) || !begins(b')', closed) || !begins(b';', end) {
         return Ok(None);
     }
-    let path = path_of(maker, folder, text, left)?;
-    let _ = size_of(maker.files, &path, left)?;
-    maker.append(&path, left)?;
+    let path = path_of(table, folder, text, left)?;
+    let _ = size_of(files, &path, left)?;
+    table.append(&path, left)?;
     Ok(Some(behind(end)))
 }
 
 /// Reads the value of a property after the equals sign, up to the semicolon. Returns the words after
 /// it. If the property is named `data` and its value is just one file, the value is the file's name.
 pub(crate) fn assigned<'a, F: Files, A: Allocator + Copy>(
-    maker: &mut Maker<'_, '_, F, A>,
+    files: &mut F,
+    table: &mut Table<'_, A>,
     place: usize,
     name: Piece,
     tokens: &'a [Token],
 ) -> Result<&'a [Token], Stop> {
-    let start = maker.table.values.len();
-    let marks = maker.table.marks.len();
+    let start = table.values.len();
+    let marks = table.marks.len();
     let mut is_file = false;
     let mut rest = tokens;
-    if maker.table.text(name) == b"data".as_slice() {
-        if let Some(after) = lone_file(maker, tokens)? {
+    if table.text(name) == b"data".as_slice() {
+        if let Some(after) = lone_file(files, table, tokens)? {
             is_file = true;
             rest = after;
         }
     }
     if !is_file {
-        rest = expect(b';', values(maker, start, tokens)?)?;
+        rest = expect(b';', values(files, table, start, tokens)?)?;
     }
     let value = Piece {
         start,
-        end: maker.table.values.len(),
+        end: table.values.len(),
     };
     let own = Piece {
         start: marks,
-        end: maker.table.marks.len(),
+        end: table.marks.len(),
     };
-    if let Some(property) = maker.table.properties.get_mut(place) {
+    if let Some(property) = table.properties.get_mut(place) {
         property.value = value;
         property.marks = own;
         property.is_file = is_file;

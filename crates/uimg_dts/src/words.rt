@@ -2,7 +2,7 @@
 
 use crate::bytes::{after, before, byte_at, is_name_byte, label_length, name_length, path_length};
 use crate::fault::DtsKind;
-use crate::literals::{hex_pair, literal};
+use crate::literals::{hex_pair, read_literal};
 use crate::quoted::{character_length, next_byte, string_length};
 use crate::sheet::{Mode, Sheet};
 use crate::stop::{Stop, at};
@@ -132,7 +132,7 @@ fn add_number<A: Allocator + Copy>(
     text: &[u8],
     left: usize,
 ) -> Result<usize, Stop> {
-    let found = literal(text);
+    let found = read_literal(text);
     match found.value {
         Some(value) => {
             sheet.add(Word::Number(value), left)?;
