@@ -313,7 +313,8 @@ def write(folder, text, included):
 
 def main():
     peers = os.path.abspath(sys.argv[1])
-    seed, count = (int(word) for word in [*sys.argv[2:4], "1", "5000"][: 2] if word) if len(sys.argv) > 3 else (1, 5000)
+    given = [int(word) for word in sys.argv[2:4]]
+    seed, count = given + [1, 5000][len(given) :]
     compiled, differences = 0, 0
     with tempfile.TemporaryDirectory() as folder:
         files(folder)

@@ -1,7 +1,10 @@
 //! Arrays of numbers and of bytes.
 
+ghost use Rattle.std.specs.Prelude.{◌≡◌, ◌++◌, OnOk, IsTrue};
+ghost use Rattle.uimg_dts.specs.Operators.{fits, element};
+
 use crate::expressions::number;
-use crate::fault::DtsKind;
+use crate::fault::Refusal;
 use crate::reading::{behind, expect, left_at, unexpected, word_at};
 use crate::stop::{Stop, at};
 use crate::table::{MarkKind, Table};
@@ -19,7 +22,9 @@ enum Width {
 }
 
 // Returns whether a number fits an element, as an unsigned or a negative number.
-fn fits(width: Width, value: u64) -> bool {
+fn fits(width: Width, value: u64) -> bool
+    ensures { result ≡ fits width value }
+{
     let most = match width {
         Width::Bits8 => 0xff,
         Width::Bits16 => 0xffff,
@@ -35,9 +40,13 @@ fn push_number<A: Allocator + Copy>(
     width: Width,
     value: u64,
     left: usize,
-) -> Result<(), Stop> {
+) -> Result<(), Stop>
+    ensures pushed { OnOk result (
+        table.new.values.items ≡ table.old.values.items ++ element width value) }
+    ensures fits { OnOk result (IsTrue (fits width value)) }
+{
     if !fits(width, value) {
-        return Err(at(DtsKind::BadNumber, left));
+        return Err(at(Refusal::BadNumber, left));
     }
     let bytes = value.to_be_bytes();
     match width {
@@ -59,7 +68,7 @@ fn opened(tokens: &[Token]) -> Result<(Width, &[Token]), Stop> {
         Some(Word::Number(16)) => Width::Bits16,
         Some(Word::Number(32)) => Width::Bits32,
         Some(Word::Number(64)) => Width::Bits64,
-        Some(Word::Number(_)) => return Err(at(DtsKind::BadNumber, left_at(size))),
+        Some(Word::Number(_)) => return Err(at(Refusal::BadNumber, left_at(size))),
         _ => return Err(unexpected(size)),
     };
     Ok((width, expect(b'<', behind(size))?))
@@ -85,7 +94,7 @@ pub(crate) fn numbers<'a, A: Allocator + Copy>(
                 table.append(&[255; 4], left)?;
                 rest = behind(rest);
             }
-            Some(Word::Reference(_)) => return Err(at(DtsKind::BadNumber, left)),
+            Some(Word::Reference(_)) => return Err(at(Refusal::BadNumber, left)),
             _ => {
                 let (value, after) = number(rest)?;
                 push_number(table, width, value, left)?;

@@ -1,8 +1,10 @@
 //! The bodies of nodes, by recursion.
 
-use crate::fault::DtsKind;
+ghost use Rattle.uimg_dts.specs.Answers.{OpensFiles};
+
+use crate::fault::Refusal;
 use crate::reading::{begins, behind, expect, left_at, unexpected, word_at};
-use crate::stop::{Stop, at};
+use crate::stop::{FileStop, Stop, at, refused};
 use crate::table::{Owner, Table};
 use crate::tokens::{Piece, Token, Word};
 use crate::values::assigned;
@@ -120,7 +122,9 @@ fn property<'a, F: Files, A: Allocator + Copy>(
     node: usize,
     prefix: &[Token],
     tokens: &'a [Token],
-) -> Result<(Item, &'a [Token]), Stop> {
+) -> Result<(Item, &'a [Token]), FileStop>
+    ensures opens { OpensFiles F.Opened.steady F.map result files }
+{
     let name = name_in(tokens)?;
     let place = add_property(table, node, prefix, name, left_at(tokens))?;
     let next = behind(tokens);
@@ -141,12 +145,14 @@ fn child<'a, F: Files, A: Allocator + Copy>(
     parent: usize,
     prefix: &[Token],
     tokens: &'a [Token],
-) -> Result<(Item, &'a [Token]), Stop> {
+) -> Result<(Item, &'a [Token]), FileStop>
+    ensures opens { OpensFiles F.Opened.steady F.map result files }
+{
     let name = name_in(tokens)?;
     let opening = behind(tokens);
     let inner = expect(b'{', opening)?;
     if levels == 0 {
-        return Err(at(DtsKind::Depth, left_at(opening)));
+        return refused(at(Refusal::Depth, left_at(opening)));
     }
     let place = add_child(table, parent, prefix, name, left_at(tokens))?;
     let rest = body(files, table, levels - 1, place, inner)?;
@@ -161,18 +167,22 @@ fn read_item<'a, F: Files, A: Allocator + Copy>(
     levels: u8,
     node: usize,
     tokens: &'a [Token],
-) -> Result<(Item, &'a [Token]), Stop> {
+) -> Result<(Item, &'a [Token]), FileStop>
+    ensures opens { OpensFiles F.Opened.steady F.map result files }
+{
     let count = prefix_length(tokens);
     let prefix = tokens.get(..count).unwrap_or(&[]);
     let rest = tokens.get(count..).unwrap_or(&[]);
     match word_at(rest) {
         Some(Word::Single(b'}')) if count == 0 => Ok((Item::End, expect(b';', behind(rest))?)),
-        Some(Word::DeleteNode) => deletion(table, node, prefix, Item::Child, behind(rest)),
+        Some(Word::DeleteNode) => { Ok(deletion(table, node, prefix, Item::Child, behind(rest))?) }
         Some(Word::Name(_)) if begins(b'{', behind(rest)) => child(
             files, table, levels, node, prefix, rest,
         ),
-        _ if is_optional(prefix) => Err(unexpected(rest)),
-        Some(Word::DeleteProperty) => deletion(table, node, prefix, Item::Property, behind(rest)),
+        _ if is_optional(prefix) => refused(unexpected(rest)),
+        Some(Word::DeleteProperty) => {
+            Ok(deletion(table, node, prefix, Item::Property, behind(rest))?)
+        }
         _ => property(files, table, node, prefix, rest),
     }
 }
@@ -186,18 +196,20 @@ pub(crate) fn body<'a, F: Files, A: Allocator + Copy>(
     levels: u8,
     node: usize,
     tokens: &'a [Token],
-) -> Result<&'a [Token], Stop> {
+) -> Result<&'a [Token], FileStop>
+    ensures opens { OpensFiles F.Opened.steady F.map result files }
+{
     let mut rest = tokens;
     let mut has_children = false;
     for _ in 0..tokens.len() {
         let (found, after) = read_item(files, table, levels, node, rest)?;
         match found {
             Item::End => return Ok(after),
-            Item::Property if has_children => return Err(unexpected(rest)),
+            Item::Property if has_children => return refused(unexpected(rest)),
             Item::Property => {}
             Item::Child => has_children = true,
         }
         rest = after;
     }
-    Err(unexpected(rest))
+    refused(unexpected(rest))
 }

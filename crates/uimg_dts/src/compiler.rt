@@ -1,11 +1,17 @@
 //! A whole source: `compile_all`.
 
+ghost use Rattle.std.specs.Prelude.{◌≡◌, IfOk, IsTrue, false};
+ghost use Rattle.uimg_blob_writing.specs.{Content.{AreKept, FilesAtData}, Trees.node_of};
+ghost use Rattle.uimg_blob_writing.specs.{UsingFiles.UsesFiles, LentFiles.OfHonest};
+ghost use Rattle.uimg_dts.specs.Answers.{OpensFiles, finds_no_file, is_file_unread};
+ghost use Rattle.uimg_dts.specs.FileValues.{IsSoundNode};
+
 use crate::fault::DtsFault;
 use crate::finding::ROOT;
 use crate::lexing::lex;
 use crate::planting::planted;
 use crate::statements::{Reservation, headers, reservations, root, statement};
-use crate::stop::{Stop, out_of_memory};
+use crate::stop::{FileStop, Stop, out_of_memory};
 use crate::table::Table;
 use crate::tokens::Token;
 use std::alloc::Allocator;
@@ -53,7 +59,9 @@ fn statements<F: Files, A: Allocator + Copy>(
     table: &mut Table<'_, A>,
     found: &mut Vec<Reservation, A>,
     tokens: &[Token],
-) -> Result<(), Stop> {
+) -> Result<(), FileStop>
+    ensures opens { OpensFiles F.Opened.steady F.map result files }
+{
     let behind = headers(tokens)?;
     let first = reservations(found, behind)?;
     let mut rest = root(files, table, first)?;
@@ -72,7 +80,10 @@ fn compile_words<F: Files, A: Allocator + Copy>(
     files: &mut F,
     bytes: &[u8],
     tokens: &[Token],
-) -> Result<Compiled<A>, Stop> {
+) -> Result<Compiled<A>, FileStop>
+    ensures opens { OpensFiles F.Opened.steady F.map result files }
+    ensures sound { IfOk result (λ x. IsSoundNode (F.map files.old) x.tree.root) }
+{
     let mut found = Vec::new(alloc);
     let mut table = Table::new(alloc, bytes);
     statements(files, &mut table, &mut found, tokens)?;
@@ -89,7 +100,10 @@ fn compile_text<F: Files, A: Allocator + Copy>(
     alloc: A,
     text: &[u8],
     files: &mut F,
-) -> Result<Compiled<A>, Stop> {
+) -> Result<Compiled<A>, FileStop>
+    ensures opens { OpensFiles F.Opened.steady F.map result files }
+    ensures sound { IfOk result (λ x. IsSoundNode (F.map files.old) x.tree.root) }
+{
     let sheet = lex(alloc, files, text)?;
     compile_words(
         alloc,
@@ -113,11 +127,41 @@ fn line_of(text: &[u8], left: usize) -> u64 {
 }
 
 /// Compiles a devicetree source to its tree, as dtc 1.6.1 does.
+///
+/// The text is a source in the whole language of dtc, but for `/plugin/`: roots and nodes that are
+/// given again, labels and references, expressions, `/bits/`, `/include/`, `/memreserve/`,
+/// `/delete-node/`, `/delete-property/`, `/omit-if-no-ref/`, `/incbin/` with a range, and the line
+/// markers of a preprocessor. What dtc's checks refuse is refused; what they warn of is not. A file
+/// is named from the folder of the file that names it. If `/incbin/("name")` is the whole value of
+/// a property named `data`, the file is opened only for its size and stays a
+/// [`Value::File`](uimg_blob_writing::Value); any other file is read.
+///
+/// At most 64 levels are taken of nodes, of parentheses, and of files that include one another, and
+/// at most 199 included files. A tree whose root is deleted is refused; dtc writes a blob without
+/// nodes.
+///
+/// Returns `NoFile` if and only if an open was refused, and `ReadFailed` only if a read of an opened
+/// file failed. The contract says nothing else of the text: which tree is returned, and which
+/// sources are refused, is tested against dtc. The operators of expressions, the elements of arrays
+/// and the parts of files have contracts of their own.
+///
+/// The time grows with the text and the files that are read, and with the square of the number of
+/// nodes, properties or labels. Memory is the words, the tables and the tree.
 pub fn compile_all<F: Files, A: Allocator + Copy>(
     alloc: A,
     text: &[u8],
     files: &mut F,
-) -> Result<Compiled<A>, DtsFault> {
+) -> Result<Compiled<A>, DtsFault>
+    // The files are unchanged, and `NoFile` is returned if and only if they refused an open.
+    ensures files { UsesFiles (finds_no_file result) (F.map files.old) (F.map files.new) }
+    // If opened files never fail, `ReadFailed` is never returned.
+    ensures steady { IsTrue F.Opened.steady → is_file_unread result ≡ false }
+    // Only properties named `data` are files.
+    ensures at_data { IfOk result (λ x. FilesAtData (node_of x.tree.root)) }
+    // Each of these files exists, with the stored size.
+    ensures kept { OfHonest F.map files (λ there.
+        IfOk result (λ x. AreKept there (node_of x.tree.root))) }
+{
     match compile_text(alloc, text, files) {
         Ok(compiled) => Ok(compiled),
         Err(stop) => Err(DtsFault {

@@ -1,6 +1,8 @@
 //! Expressions in parentheses, by recursion.
 
-use crate::fault::DtsKind;
+ghost use Rattle.std.specs.Prelude.{◌≤◌, IfSome};
+
+use crate::fault::Refusal;
 use crate::operators::{ABOVE_ALL, Binary, WEAKEST, binary_of, combined};
 use crate::reading::{begins, behind, expect, left_at, unexpected, word_at};
 use crate::stop::{Stop, at};
@@ -10,7 +12,9 @@ use crate::tokens::{Token, Word};
 const MOST_LEVELS: u8 = 64;
 
 // Returns the operator that the next word is, with its strength, if it is at least this strong.
-fn operator_at(least: u8, tokens: &[Token]) -> Option<(Binary, u8)> {
+fn operator_at(least: u8, tokens: &[Token]) -> Option<(Binary, u8)>
+    ensures { IfSome result (λ x. least ≤ x.1) }
+{
     match binary_of(word_at(tokens)?) {
         Some((operator, strength)) if strength >= least => Some((operator, strength)),
         _ => None,
@@ -21,7 +25,7 @@ fn operator_at(least: u8, tokens: &[Token]) -> Option<(Binary, u8)> {
 #[cycle(expressions)]
 fn enclosed(levels: u8, tokens: &[Token]) -> Result<(u64, &[Token]), Stop> {
     if levels == 0 {
-        return Err(at(DtsKind::Depth, left_at(tokens)));
+        return Err(at(Refusal::Depth, left_at(tokens)));
     }
     let (value, rest) = choice(levels - 1, tokens)?;
     Ok((value, expect(b')', rest)?))
@@ -44,7 +48,7 @@ fn unary(levels: u8, tokens: &[Token]) -> Result<(u64, &[Token]), Stop> {
         return primary(levels, tokens);
     };
     if levels == 0 {
-        return Err(at(DtsKind::Depth, left_at(tokens)));
+        return Err(at(Refusal::Depth, left_at(tokens)));
     }
     let (value, rest) = unary(levels - 1, behind(tokens))?;
     let changed = match operator {
@@ -68,7 +72,7 @@ fn sum(levels: u8, least: u8, tokens: &[Token]) -> Result<(u64, &[Token]), Stop>
         }
         let (right, after) = sum(levels, strength + 1, behind(rest))?;
         let Some(next) = combined(operator, value, right) else {
-            return Err(at(DtsKind::BadNumber, left_at(rest)));
+            return Err(at(Refusal::BadNumber, left_at(rest)));
         };
         value = next;
         rest = after;
@@ -87,7 +91,7 @@ fn choice(levels: u8, tokens: &[Token]) -> Result<(u64, &[Token]), Stop> {
             return Ok((chosen.unwrap_or(value), after));
         }
         if levels == 0 {
-            return Err(at(DtsKind::Depth, left_at(after)));
+            return Err(at(Refusal::Depth, left_at(after)));
         }
         let (first, colon) = choice(levels - 1, behind(after))?;
         if chosen.is_none() && value != 0 {

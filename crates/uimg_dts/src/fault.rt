@@ -2,9 +2,9 @@
 
 use thiserror::Error;
 
-/// Why a source is not compiled.
+/// What a source has that is not compiled, or that there is no memory for it.
 #[derive(Clone, Copy, Debug, PartialEq, Eq, Error)]
-pub enum DtsKind {
+pub enum Refusal {
     /// A byte begins no word, a comment or a string is not closed, or an escape has no digits.
     #[error("bad token")]
     BadToken,
@@ -39,15 +39,23 @@ pub enum DtsKind {
     /// The root is deleted.
     #[error("no root")]
     NoRoot,
+    /// Memory was refused.
+    #[error("out of memory")]
+    OutOfMemory,
+}
+
+/// Why a source is not compiled.
+#[derive(Clone, Copy, Debug, PartialEq, Eq, Error)]
+pub enum DtsKind {
+    /// The source is refused, or memory for it.
+    #[error("{0}")]
+    Source(Refusal),
     /// A file could not be opened.
     #[error("no file")]
     NoFile,
     /// A read of a file failed.
     #[error("read failed")]
     ReadFailed,
-    /// Memory was refused.
-    #[error("out of memory")]
-    OutOfMemory,
 }
 
 /// Why a source is not compiled, and where.

@@ -1,13 +1,15 @@
 //! The words of a text and of the files that it includes, in order.
 
+ghost use Rattle.uimg_dts.specs.Answers.{OpensFiles};
+
 use crate::bytes::{after, before, blanks_length, byte_at};
-use crate::fault::DtsKind;
+use crate::fault::Refusal;
 use crate::gaps::gap_length;
 use crate::opening::{WHOLE, read_file};
 use crate::phandles::PREFIX;
 use crate::quoted::string_length;
 use crate::sheet::Sheet;
-use crate::stop::{Stop, at};
+use crate::stop::{FileStop, at, refused};
 use crate::tokens::{NOTHING, Piece};
 use crate::words::add_word;
 use std::alloc::Allocator;
@@ -50,17 +52,19 @@ fn include<F: Files, A: Allocator + Copy>(
     origin: Origin,
     text: &[u8],
     left: usize,
-) -> Result<usize, Stop> {
+) -> Result<usize, FileStop>
+    ensures opens { OpensFiles F.Opened.steady F.map result files }
+{
     let quote = INCLUDE
         .len()
         .saturating_add(blanks_length(after(text, INCLUDE.len())));
     let quoted = after(text, quote.saturating_add(1));
     let length = match string_length(quoted) {
         Some(length) if byte_at(text, quote) == b'"' => length,
-        _ => return Err(at(DtsKind::BadToken, left)),
+        _ => return refused(at(Refusal::BadToken, left)),
     };
     if sheet.includes >= MOST_INCLUDES || origin.levels == 0 {
-        return Err(at(DtsKind::Includes, left));
+        return refused(at(Refusal::Includes, left));
     }
     sheet.includes += 1;
     let path = sheet.keep_path(
@@ -91,7 +95,9 @@ fn lex_text<F: Files, A: Allocator + Copy>(
     sheet: &mut Sheet<A>,
     origin: Origin,
     text: &[u8],
-) -> Result<(), Stop> {
+) -> Result<(), FileStop>
+    ensures opens { OpensFiles F.Opened.steady F.map result files }
+{
     let mut place = 0usize;
     for _ in 0..text.len() {
         let rest = after(text, place);
@@ -115,7 +121,9 @@ pub(crate) fn lex<F: Files, A: Allocator + Copy>(
     alloc: A,
     files: &mut F,
     text: &[u8],
-) -> Result<Sheet<A>, Stop> {
+) -> Result<Sheet<A>, FileStop>
+    ensures opens { OpensFiles F.Opened.steady F.map result files }
+{
     let mut sheet = Sheet::new(alloc);
     sheet.keep(PREFIX, text.len())?;
     let origin = Origin {

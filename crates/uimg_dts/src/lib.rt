@@ -1,5 +1,9 @@
 //! Devicetree source, the whole language of dtc 1.6.1 but for plugins, compiled to its tree.
-//! `compile_all` is the one call.
+//! `compile_all` is the one call; its documentation says what is proved and what is tested.
+//!
+//! A text goes through `lexing.rt` to words (`gaps.rt`, `words.rt`), and through `statements.rt` and
+//! `bodies.rt` to tables (`table.rt`). `names.rt` and `phandles.rt` check them and resolve
+//! references; `planting.rt` makes the tree.
 #![tactic(auto)]
 
 mod arrays;
@@ -30,5 +34,5 @@ mod values;
 mod words;
 
 pub use compiler::{Compiled, compile_all};
-pub use fault::{DtsFault, DtsKind};
+pub use fault::{DtsFault, DtsKind, Refusal};
 pub use statements::Reservation;

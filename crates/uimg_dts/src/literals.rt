@@ -1,5 +1,7 @@
 //! Numbers.
 
+ghost use Rattle.std.specs.Prelude.{◌≤◌};
+
 use crate::bytes::{after, before, byte_at, digits_length, hex_length};
 
 // Returns how many bytes of a number's suffix the text begins with: U, L, UL, LL or ULL.
@@ -19,7 +21,10 @@ fn suffix_length(text: &[u8]) -> usize {
 }
 
 // Returns the number with these digits, or `None` if one is no digit or 64 bits overflow.
-fn number(base: u32, digits: &[u8]) -> Option<u64> {
+fn number(base: u32, digits: &[u8]) -> Option<u64>
+    requires low { 2 ≤ base }
+    requires high { base ≤ 16 }
+{
     let mut value = 0u64;
     for b in digits {
         let digit = char::from(*b).to_digit(base)?;

@@ -1,8 +1,8 @@
 //! What the names of a tree must be.
 
 use crate::bytes::after;
-use crate::fault::DtsKind;
-use crate::stop::{Stop, at};
+use crate::fault::Refusal;
+use crate::stop::{Stop, at, out_of_memory};
 use crate::table::{MarkKind, Table};
 use crate::tokens::Piece;
 use std::alloc::Allocator;
@@ -17,6 +17,14 @@ fn is_node_byte(b: u8) -> bool {
     b.is_ascii_alphabetic()
         || b.is_ascii_digit()
         || matches!(b, b',' | b'.' | b'_' | b'+' | b'-' | b'@')
+}
+
+// Adds a name.
+fn add_name<A: Allocator>(names: &mut Vec<Piece, A>, name: Piece) -> Result<(), Stop> {
+    match names.push(name) {
+        Ok(()) => Ok(()),
+        Err(_) => Err(out_of_memory(0)),
+    }
 }
 
 // Returns whether bytes are one string: a NUL ends them, and they have no other.
@@ -65,10 +73,10 @@ impl<'t, A: Allocator + Copy> Table<'t, A> {
             };
             let name = self.text(found.name);
             if !found.is_deleted && self.has_later_property(place, found.name) == Some(true) {
-                return Err(at(DtsKind::Duplicate, 0));
+                return Err(at(Refusal::Duplicate, 0));
             }
             if !found.is_deleted && base_length(name) < name.len() {
-                return Err(at(DtsKind::BadName, 0));
+                return Err(at(Refusal::BadName, 0));
             }
             place = found.next;
         }
@@ -78,12 +86,12 @@ impl<'t, A: Allocator + Copy> Table<'t, A> {
     // Refuses a node of the name of a later one, with two unit addresses, or with other bytes.
     fn check_name(&self, place: usize, name: Piece) -> Result<(), Stop> {
         if self.has_later_child(place, name) == Some(true) {
-            return Err(at(DtsKind::Duplicate, 0));
+            return Err(at(Refusal::Duplicate, 0));
         }
         let text = self.text(name);
         let unit = after(text, base_length(text).saturating_add(1));
         if base_length(unit) < unit.len() || !text.iter().all(|b| is_node_byte(*b)) {
-            return Err(at(DtsKind::BadName, 0));
+            return Err(at(Refusal::BadName, 0));
         }
         Ok(())
     }
@@ -96,7 +104,7 @@ impl<'t, A: Allocator + Copy> Table<'t, A> {
                 return Ok(());
             };
             if !is_string(self.value(found.value)) {
-                return Err(at(DtsKind::BadName, 0));
+                return Err(at(Refusal::BadName, 0));
             }
         }
         let Some(first) = self.property_named(place, b"name") else {
@@ -109,7 +117,7 @@ impl<'t, A: Allocator + Copy> Table<'t, A> {
         let base = node.get(..base_length(node)).unwrap_or(&[]);
         let value = self.value(found.value);
         if value.len() != base.len().saturating_add(1) || !value.starts_with(base) {
-            return Err(at(DtsKind::BadName, 0));
+            return Err(at(Refusal::BadName, 0));
         }
         self.delete_property(first);
         Ok(())
@@ -129,60 +137,50 @@ impl<'t, A: Allocator + Copy> Table<'t, A> {
         Ok(())
     }
 
-    // Returns whether a label or a mark has a name, among the labels before a place and the marks of
-    // properties of the tree before a place among them.
-    fn is_name_of_mark(&self, name: Piece, most: usize) -> bool {
-        let mut count = 0usize;
+    // Adds the names of the labels in a property's value.
+    fn add_marks(&self, names: &mut Vec<Piece, A>, marks: Piece) -> Result<(), Stop> {
+        for i in marks.start..marks.end {
+            match self.marks.get(i) {
+                Some(mark) if mark.kind == MarkKind::Label => add_name(names, mark.name)?,
+                _ => {}
+            }
+        }
+        Ok(())
+    }
+
+    // Returns the names of all labels in the tree.
+    fn label_names(&self) -> Result<Vec<Piece, A>, Stop> {
+        let mut names = Vec::new(self.alloc);
+        for label in self.labels.as_slice() {
+            if self.is_live_label(*label) {
+                add_name(&mut names, label.name)?;
+            }
+        }
         for property in self.properties.as_slice() {
             if !property.is_deleted && self.is_live(property.node) {
-                for i in property.marks.start..property.marks.end {
-                    if self.is_label_mark(i, name) {
-                        count = count.saturating_add(1);
-                    }
-                }
+                self.add_marks(&mut names, property.marks)?;
             }
         }
-        count > most
+        Ok(names)
     }
 
-    // Returns whether a mark is a label of a name.
-    fn is_label_mark(&self, place: usize, name: Piece) -> bool {
-        match self.marks.get(place) {
-            Some(mark) => mark.kind == MarkKind::Label && self.same(mark.name, name),
-            None => false,
-        }
-    }
-
-    // Returns whether another label in the tree has the name of the one at a place.
-    fn has_other_label(&self, place: usize, name: Piece) -> bool {
-        for i in place.saturating_add(1)..self.labels.len() {
-            if let Some(label) = self.labels.get(i) {
-                if self.same(label.name, name) && self.is_live_label(*label) {
-                    return true;
-                }
+    // Returns whether names from a place on have a name.
+    fn has_name(&self, names: &[Piece], first: usize, name: Piece) -> bool {
+        for i in first..names.len() {
+            match names.get(i) {
+                Some(other) if self.same(*other, name) => return true,
+                _ => {}
             }
         }
-        self.is_name_of_mark(name, 0)
+        false
     }
 
     /// Refuses a label that names two things.
     pub(crate) fn check_labels(&self) -> Result<(), Stop> {
-        for i in 0..self.labels.len() {
-            if let Some(label) = self.labels.get(i) {
-                if self.is_live_label(*label) && self.has_other_label(i, label.name) {
-                    return Err(at(DtsKind::Duplicate, 0));
-                }
-            }
-        }
-        for property in self.properties.as_slice() {
-            if !property.is_deleted && self.is_live(property.node) {
-                for i in property.marks.start..property.marks.end {
-                    if let Some(mark) = self.marks.get(i) {
-                        if self.is_label_mark(i, mark.name) && self.is_name_of_mark(mark.name, 1) {
-                            return Err(at(DtsKind::Duplicate, 0));
-                        }
-                    }
-                }
+        let names = self.label_names()?;
+        for (i, name) in names.as_slice().iter().enumerate() {
+            if self.has_name(names.as_slice(), i.saturating_add(1), *name) {
+                return Err(at(Refusal::Duplicate, 0));
             }
         }
         Ok(())

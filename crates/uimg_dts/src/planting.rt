@@ -1,10 +1,16 @@
 //! The tree that the tables hold.
 
+ghost use Rattle.std.specs.Prelude.{◌≡◌, IfOk, OnOk, map};
+ghost use Rattle.uimg_base.specs.Named.{FileMap};
+ghost use Rattle.uimg_blob_writing.specs.Properties.{property, content};
+ghost use Rattle.uimg_dts.specs.Answers.{OpensFiles};
+ghost use Rattle.uimg_dts.specs.FileValues.{IsSoundIn, AreSound, IsSoundTree, IsSoundNode, AreSoundNodes};
+
 use crate::bytes::after;
-use crate::fault::DtsKind;
+use crate::fault::Refusal;
 use crate::finding::ROOT;
-use crate::opening::{WHOLE, read_file, size_of};
-use crate::stop::{Stop, at, out_of_memory};
+use crate::opening::{WHOLE, kept, read_file};
+use crate::stop::{FileStop, Stop, at, out_of_memory, refused};
 use crate::table::{MarkKind, PropertyEntry, Table};
 use std::alloc::Allocator;
 use uimg_base::Files;
@@ -22,7 +28,9 @@ fn append<A: Allocator>(out: &mut Vec<u8, A>, bytes: &[u8]) -> Result<(), Stop> 
 }
 
 // Copies bytes.
-fn copied<A: Allocator>(alloc: A, bytes: &[u8]) -> Result<ByteList<A>, Stop> {
+fn copied<A: Allocator>(alloc: A, bytes: &[u8]) -> Result<ByteList<A>, Stop>
+    ensures { IfOk result (λ l. l ≡ bytes.now) }
+{
     match Vec::from_slice(alloc, bytes) {
         Ok(copy) => Ok(ByteList::of(copy)),
         Err(_) => Err(out_of_memory(0)),
@@ -76,26 +84,63 @@ fn push_value<A: Allocator + Copy>(
     append(out, after(value, done))
 }
 
-// Returns the value of a property.
+// Returns the value of a property with a name.
 fn value_of<F: Files, A: Allocator + Copy>(
     files: &mut F,
     table: &Table<'_, A>,
+    name: &[u8],
     property: PropertyEntry,
-) -> Result<Value<A>, Stop> {
+) -> Result<Value<A>, FileStop>
+    ensures opens { OpensFiles F.Opened.steady F.map result files }
+    ensures sound { IfOk result (λ v. IsSoundIn (F.map files.old) name.now (content v)) }
+{
+    let mut bytes = Vec::new(table.alloc);
     if !property.is_file {
-        let mut bytes = Vec::new(table.alloc);
         push_value(table, property, &mut bytes)?;
         return Ok(Value::Bytes(ByteList::of(bytes)));
     }
-    let path = table.value(property.value);
-    if table.text(property.name) == b"data".as_slice() {
-        let name = copied(table.alloc, path)?;
-        let size = size_of(files, name.items(), 0)?;
-        Ok(Value::File { name, size })
-    } else {
-        let bytes = read_file(table.alloc, files, path, WHOLE, 0)?;
-        Ok(Value::Bytes(ByteList::of(bytes)))
+    append(&mut bytes, table.value(property.value))?;
+    if name == b"data".as_slice() {
+        return kept(files, bytes, 0);
     }
+    let read = read_file(table.alloc, files, &bytes, WHOLE, 0)?;
+    Ok(Value::Bytes(ByteList::of(read)))
+}
+
+// Adds a property.
+fn push_property<A: Allocator>(
+    props: &mut Vec<Prop<A>, A>,
+    name: ByteList<A>,
+    value: Value<A>,
+) -> Result<(), Stop>
+    ensures sound { OnOk result ((files : FileMap) → AreSound files (map property props.old.items) →
+        IsSoundIn files name (content value) → AreSound files (map property props.new.items)) }
+{
+    let Ok(()) = props.push(Prop { name, value }) else {
+        return Err(out_of_memory(0));
+    };
+    Ok(())
+}
+
+// Adds a property of the tables, unless it is deleted.
+fn add_property<F: Files, A: Allocator + Copy>(
+    files: &mut F,
+    table: &Table<'_, A>,
+    props: &mut Vec<Prop<A>, A>,
+    entry: PropertyEntry,
+) -> Result<(), FileStop>
+    ensures opens { OpensFiles F.Opened.steady F.map result files }
+    ensures sound { OnOk result (AreSound (F.map files.old) (map property props.old.items) →
+        AreSound (F.map files.old) (map property props.new.items)) }
+{
+    if entry.is_deleted {
+        return Ok(());
+    }
+    let text = table.text(entry.name);
+    let value = value_of(files, table, text, entry)?;
+    let name = copied(table.alloc, text)?;
+    push_property(props, name, value)?;
+    Ok(())
 }
 
 // Returns the properties of a node, from the first on.
@@ -103,23 +148,31 @@ fn properties<F: Files, A: Allocator + Copy>(
     files: &mut F,
     table: &Table<'_, A>,
     first: usize,
-) -> Result<Props<A>, Stop> {
+) -> Result<Props<A>, FileStop>
+    ensures opens { OpensFiles F.Opened.steady F.map result files }
+    ensures sound { IfOk result (λ x. AreSound (F.map files.old) x) }
+{
     let mut props = Vec::new(table.alloc);
     let mut place = first;
     for _ in 0..table.properties.len() {
         let Some(found) = table.property(place) else {
             break;
         };
-        if !found.is_deleted {
-            let value = value_of(files, table, found)?;
-            let name = copied(table.alloc, table.text(found.name))?;
-            if props.push(Prop { name, value }).is_err() {
-                return Err(out_of_memory(0));
-            }
-        }
+        add_property(files, table, &mut props, found)?;
         place = found.next;
     }
     Ok(Props::of(props))
+}
+
+// Adds a node.
+fn push_node<A: Allocator>(nodes: &mut Vec<Node<A>, A>, node: Node<A>) -> Result<(), Stop>
+    ensures sound { OnOk result ((files : FileMap) → AreSoundNodes files nodes.old.items →
+        IsSoundNode files node → AreSoundNodes files nodes.new.items) }
+{
+    let Ok(()) = nodes.push(node) else {
+        return Err(out_of_memory(0));
+    };
+    Ok(())
 }
 
 // Returns the children of a node, which have at most `levels` levels.
@@ -129,7 +182,10 @@ fn children<F: Files, A: Allocator + Copy>(
     table: &Table<'_, A>,
     levels: u8,
     parent: usize,
-) -> Result<Nodes<A>, Stop> {
+) -> Result<Nodes<A>, FileStop>
+    ensures opens { OpensFiles F.Opened.steady F.map result files }
+    ensures sound { IfOk result (λ x. IsSoundTree (F.map files.old) x) }
+{
     let mut nodes = Vec::new(table.alloc);
     let mut next = table.first_child(parent);
     for _ in 0..table.nodes.len() {
@@ -137,9 +193,7 @@ fn children<F: Files, A: Allocator + Copy>(
             break;
         };
         let child = plant(files, table, levels, place)?;
-        if nodes.push(child).is_err() {
-            return Err(out_of_memory(0));
-        }
+        push_node(&mut nodes, child)?;
         next = table.next_child(place);
     }
     Ok(Nodes::of(nodes))
@@ -152,12 +206,15 @@ fn plant<F: Files, A: Allocator + Copy>(
     table: &Table<'_, A>,
     levels: u8,
     place: usize,
-) -> Result<Node<A>, Stop> {
+) -> Result<Node<A>, FileStop>
+    ensures opens { OpensFiles F.Opened.steady F.map result files }
+    ensures sound { IfOk result (λ x. IsSoundNode (F.map files.old) x) }
+{
     if levels == 0 {
-        return Err(at(DtsKind::Depth, 0));
+        return refused(at(Refusal::Depth, 0));
     }
     let Some(node) = table.node(place) else {
-        return Err(at(DtsKind::NoRoot, 0));
+        return refused(at(Refusal::NoRoot, 0));
     };
     let name = copied(table.alloc, table.text(node.name))?;
     let props = properties(files, table, node.first_property)?;
@@ -173,9 +230,12 @@ fn plant<F: Files, A: Allocator + Copy>(
 pub(crate) fn planted<F: Files, A: Allocator + Copy>(
     files: &mut F,
     table: &Table<'_, A>,
-) -> Result<Node<A>, Stop> {
+) -> Result<Node<A>, FileStop>
+    ensures opens { OpensFiles F.Opened.steady F.map result files }
+    ensures sound { IfOk result (λ x. IsSoundNode (F.map files.old) x) }
+{
     if !table.is_live(ROOT) {
-        return Err(at(DtsKind::NoRoot, 0));
+        return refused(at(Refusal::NoRoot, 0));
     }
     plant(files, table, MOST_LEVELS, ROOT)
 }

@@ -1,6 +1,6 @@
 //! The words that are left.
 
-use crate::fault::DtsKind;
+use crate::fault::Refusal;
 use crate::stop::{Stop, at};
 use crate::tokens::{Token, Word};
 
@@ -27,7 +27,7 @@ pub(crate) fn behind(tokens: &[Token]) -> &[Token] {
 
 /// Returns the fault of a word that is not allowed, which is the next one.
 pub(crate) fn unexpected(tokens: &[Token]) -> Stop {
-    at(DtsKind::BadSyntax, left_at(tokens))
+    at(Refusal::BadSyntax, left_at(tokens))
 }
 
 /// Returns whether the next word is this byte.

@@ -1,7 +1,7 @@
 //! The words of a source as they are collected.
 
 use crate::bytes::after;
-use crate::fault::DtsKind;
+use crate::fault::Refusal;
 use crate::quoted::next_byte;
 use crate::stop::{Stop, at, out_of_memory};
 use crate::tokens::{Piece, Token, Word};
@@ -95,7 +95,7 @@ impl<A: Allocator + Copy> Sheet<A> {
         for _ in 0..length {
             if place < length {
                 let Some((b, more)) = next_byte(after(text, place)) else {
-                    return Err(at(DtsKind::BadToken, left));
+                    return Err(at(Refusal::BadToken, left));
                 };
                 self.keep_byte(b, left)?;
                 place = place.saturating_add(more);

@@ -1,11 +1,13 @@
 //! The statements of a source.
 
+ghost use Rattle.uimg_dts.specs.Answers.{OpensFiles};
+
 use crate::bodies::body;
 use crate::expressions::number;
-use crate::fault::DtsKind;
+use crate::fault::Refusal;
 use crate::finding::ROOT;
 use crate::reading::{behind, expect, left_at, unexpected, word_at};
-use crate::stop::{Stop, at, out_of_memory};
+use crate::stop::{FileStop, Stop, at, out_of_memory, refused};
 use crate::table::{Owner, Table};
 use crate::tokens::{NOTHING, Piece, Token, Word};
 use std::alloc::Allocator;
@@ -30,7 +32,7 @@ pub(crate) fn headers(tokens: &[Token]) -> Result<&[Token], Stop> {
         };
         rest = expect(b';', behind(rest))?;
         if let Some(Word::Plugin) = word_at(rest) {
-            return Err(at(DtsKind::Plugin, left_at(rest)));
+            return Err(at(Refusal::Plugin, left_at(rest)));
         }
     }
     if rest.len() == tokens.len() {
@@ -76,7 +78,7 @@ fn target<A: Allocator + Copy>(table: &Table<'_, A>, tokens: &[Token]) -> Result
     };
     match table.referred(name) {
         Some(place) => Ok(place),
-        None => Err(at(DtsKind::NoNode, left_at(tokens))),
+        None => Err(at(Refusal::NoNode, left_at(tokens))),
     }
 }
 
@@ -86,7 +88,9 @@ fn merged<'a, F: Files, A: Allocator + Copy>(
     table: &mut Table<'_, A>,
     into: usize,
     tokens: &'a [Token],
-) -> Result<&'a [Token], Stop> {
+) -> Result<&'a [Token], FileStop>
+    ensures opens { OpensFiles F.Opened.steady F.map result files }
+{
     let left = left_at(tokens);
     let new = table.add_definition(NOTHING, into, left)?;
     let levels = MOST_LEVELS.saturating_sub(table.level_of(new));
@@ -103,7 +107,9 @@ fn overlay<'a, F: Files, A: Allocator + Copy>(
     table: &mut Table<'_, A>,
     label: Option<Piece>,
     tokens: &'a [Token],
-) -> Result<&'a [Token], Stop> {
+) -> Result<&'a [Token], FileStop>
+    ensures opens { OpensFiles F.Opened.steady F.map result files }
+{
     let into = target(table, tokens)?;
     if let Some(name) = label {
         table.add_label(0, name, Owner::Node(into), left_at(tokens))?;
@@ -126,9 +132,11 @@ pub(crate) fn root<'a, F: Files, A: Allocator + Copy>(
     files: &mut F,
     table: &mut Table<'_, A>,
     tokens: &'a [Token],
-) -> Result<&'a [Token], Stop> {
+) -> Result<&'a [Token], FileStop>
+    ensures opens { OpensFiles F.Opened.steady F.map result files }
+{
     if let Some(Word::Reference(_)) = word_at(tokens) {
-        return Err(at(DtsKind::NoNode, left_at(tokens)));
+        return refused(at(Refusal::NoNode, left_at(tokens)));
     }
     let inner = expect(b'{', expect(b'/', tokens)?)?;
     merged(files, table, ROOT, inner)
@@ -139,7 +147,9 @@ pub(crate) fn statement<'a, F: Files, A: Allocator + Copy>(
     files: &mut F,
     table: &mut Table<'_, A>,
     tokens: &'a [Token],
-) -> Result<&'a [Token], Stop> {
+) -> Result<&'a [Token], FileStop>
+    ensures opens { OpensFiles F.Opened.steady F.map result files }
+{
     let next = behind(tokens);
     match word_at(tokens) {
         Some(Word::Single(b'/')) => merged(files, table, ROOT, expect(b'{', next)?),

@@ -1,6 +1,8 @@
 //! The nodes, properties and labels of a source, in tables. Each names others by their places in the
 //! tables, and a place that is none is `NONE`.
 
+ghost use Rattle.std.specs.Prelude.{◌≡◌, ◌++◌, OnOk};
+
 use crate::stop::{Stop, out_of_memory};
 use crate::tokens::{NOTHING, Piece};
 use std::alloc::Allocator;
@@ -136,7 +138,9 @@ impl<'t, A: Allocator + Copy> Table<'t, A> {
     }
 
     /// Adds bytes to the last value.
-    pub(crate) fn append(&mut self, bytes: &[u8], left: usize) -> Result<(), Stop> {
+    pub(crate) fn append(&mut self, bytes: &[u8], left: usize) -> Result<(), Stop>
+        ensures { OnOk result (self.new.values.items ≡ self.old.values.items ++ bytes.now) }
+    {
         match self.values.extend_from_slice(bytes) {
             Ok(()) => Ok(()),
             Err(_) => Err(out_of_memory(left)),

@@ -1,11 +1,13 @@
 //! The values of properties.
 
+ghost use Rattle.uimg_dts.specs.Answers.{OpensFiles};
+
 use crate::arrays::{byte_pairs, numbers};
 use crate::expressions::number;
-use crate::fault::DtsKind;
+use crate::fault::Refusal;
 use crate::opening::{Range, WHOLE, read_file, size_of};
 use crate::reading::{begins, behind, expect, left_at, unexpected, word_at};
-use crate::stop::{Stop, at, out_of_memory};
+use crate::stop::{FileStop, Stop, at, out_of_memory, refused};
 use crate::table::{MarkKind, Table};
 use crate::tokens::{Piece, Token, Word};
 use std::alloc::Allocator;
@@ -60,7 +62,7 @@ fn range_of(tokens: &[Token]) -> Result<(Range, &[Token]), Stop> {
     let (offset, comma) = number(first)?;
     let (length, closing) = number(expect(b',', comma)?)?;
     if offset >= OFFSETS {
-        return Err(at(DtsKind::BadNumber, left_at(first)));
+        return Err(at(Refusal::BadNumber, left_at(first)));
     }
     Ok((Range { offset, length }, expect(b')', closing)?))
 }
@@ -72,10 +74,12 @@ fn file<'a, F: Files, A: Allocator + Copy>(
     folder: Piece,
     left: usize,
     tokens: &'a [Token],
-) -> Result<&'a [Token], Stop> {
+) -> Result<&'a [Token], FileStop>
+    ensures opens { OpensFiles F.Opened.steady F.map result files }
+{
     let inner = expect(b'(', tokens)?;
     let Some(Word::Text(name)) = word_at(inner) else {
-        return Err(unexpected(inner));
+        return refused(unexpected(inner));
     };
     let (range, rest) = range_of(behind(inner))?;
     let path = path_of(table, folder, name, left)?;
@@ -91,7 +95,9 @@ fn one_value<'a, F: Files, A: Allocator + Copy>(
     table: &mut Table<'_, A>,
     start: usize,
     tokens: &'a [Token],
-) -> Result<&'a [Token], Stop> {
+) -> Result<&'a [Token], FileStop>
+    ensures opens { OpensFiles F.Opened.steady F.map result files }
+{
     let left = left_at(tokens);
     match word_at(tokens) {
         Some(Word::Text(text)) => {
@@ -105,8 +111,8 @@ fn one_value<'a, F: Files, A: Allocator + Copy>(
             Ok(behind(tokens))
         }
         Some(Word::Incbin(folder)) => file(files, table, folder, left, behind(tokens)),
-        Some(Word::Single(b'[')) => byte_pairs(table, start, behind(tokens)),
-        _ => numbers(table, start, tokens),
+        Some(Word::Single(b'[')) => Ok(byte_pairs(table, start, behind(tokens))?),
+        _ => Ok(numbers(table, start, tokens)?),
     }
 }
 
@@ -116,7 +122,9 @@ fn values<'a, F: Files, A: Allocator + Copy>(
     table: &mut Table<'_, A>,
     start: usize,
     tokens: &'a [Token],
-) -> Result<&'a [Token], Stop> {
+) -> Result<&'a [Token], FileStop>
+    ensures opens { OpensFiles F.Opened.steady F.map result files }
+{
     let mut rest = tokens;
     for _ in 0..tokens.len() {
         let value = labels(table, start, rest)?;
@@ -127,7 +135,7 @@ fn values<'a, F: Files, A: Allocator + Copy>(
         }
         rest = behind(rest);
     }
-    Err(unexpected(rest))
+    refused(unexpected(rest))
 }
 
 // Appends the name of the file that is all of a value. Returns the words after the property, or
@@ -136,7 +144,9 @@ fn lone_file<'a, F: Files, A: Allocator + Copy>(
     files: &mut F,
     table: &mut Table<'_, A>,
     tokens: &'a [Token],
-) -> Result<Option<&'a [Token]>, Stop> {
+) -> Result<Option<&'a [Token]>, FileStop>
+    ensures opens { OpensFiles F.Opened.steady F.map result files }
+{
     let Some(Word::Incbin(folder)) = word_at(tokens) else {
         return Ok(None);
     };
@@ -165,7 +175,9 @@ pub(crate) fn assigned<'a, F: Files, A: Allocator + Copy>(
     place: usize,
     name: Piece,
     tokens: &'a [Token],
-) -> Result<&'a [Token], Stop> {
+) -> Result<&'a [Token], FileStop>
+    ensures opens { OpensFiles F.Opened.steady F.map result files }
+{
     let start = table.values.len();
     let marks = table.marks.len();
     let mut is_file = false;

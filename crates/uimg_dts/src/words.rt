@@ -1,7 +1,7 @@
 //! The word at the start of a text.
 
 use crate::bytes::{after, before, byte_at, is_name_byte, label_length, name_length, path_length};
-use crate::fault::DtsKind;
+use crate::fault::Refusal;
 use crate::literals::{hex_pair, read_literal};
 use crate::quoted::{character_length, next_byte, string_length};
 use crate::sheet::{Mode, Sheet};
@@ -66,7 +66,7 @@ fn add_string<A: Allocator + Copy>(
     left: usize,
 ) -> Result<usize, Stop> {
     let Some(length) = string_length(after(text, 1)) else {
-        return Err(at(DtsKind::BadToken, left));
+        return Err(at(Refusal::BadToken, left));
     };
     let piece = sheet.keep_text(after(text, 1), length.saturating_sub(1), left)?;
     sheet.add(Word::Text(piece), left)?;
@@ -80,14 +80,14 @@ fn add_character<A: Allocator + Copy>(
     left: usize,
 ) -> Result<usize, Stop> {
     let Some(length) = character_length(after(text, 1)) else {
-        return Err(at(DtsKind::BadToken, left));
+        return Err(at(Refusal::BadToken, left));
     };
     match next_byte(after(text, 1)) {
         Some((b, more)) if length > 1 && more.saturating_add(1) >= length => {
             sheet.add(Word::Character(u64::from(b)), left)?;
             Ok(length.saturating_add(1))
         }
-        _ => Err(at(DtsKind::BadToken, left)),
+        _ => Err(at(Refusal::BadToken, left)),
     }
 }
 
@@ -138,7 +138,7 @@ fn add_number<A: Allocator + Copy>(
             sheet.add(Word::Number(value), left)?;
             Ok(found.length)
         }
-        None => Err(at(DtsKind::BadNumber, left)),
+        None => Err(at(Refusal::BadNumber, left)),
     }
 }
 
