@@ -23,7 +23,7 @@ impl From<Stop> for FileStop {
     ghost use Rattle.std.specs.Prelude.{◌≡◌};
     ghost use Rattle.uimg_dts.specs.declared.fault.DtsKind.TheVariants.{Source};
 
-    ghost from_gives = { λ stop wide. wide ≡ record { kind = Source stop.kind; left = stop.left; } };
+    ghost from_gives = { λ stop wide. wide ≡ record { kind = Source stop.kind; left = stop.left } };
 
     fn from(stop: Stop) -> FileStop {
         FileStop {
@@ -45,14 +45,14 @@ pub(crate) fn out_of_memory(left: usize) -> Stop {
 
 /// Returns the stop of a word in a call that opens files.
 pub(crate) fn refused<T>(stop: Stop) -> Result<T, FileStop>
-    ensures { result ≡ Err (record { kind = Source stop.kind; left = stop.left; }) }
+    ensures { result ≡ Err (record { kind = Source stop.kind; left = stop.left }) }
 {
     Err(FileStop::from(stop))
 }
 
 /// Returns a stop because of a file.
 pub(crate) fn unread(kind: DtsKind, left: usize) -> FileStop
-    ensures { result ≡ record { kind = kind; left = left; } }
+    ensures { result ≡ record { kind = kind; left = left } }
 {
     FileStop { kind, left }
 }
