@@ -25,6 +25,7 @@ import tempfile
 
 import fit
 import fit_builds
+import dts
 import its
 import old_names
 import signed
@@ -221,6 +222,25 @@ def print_sources(own):
     return same.differences + refused.differences
 
 
+def print_whole_sources(own):
+    """Prints the row of the sources in the whole language of dtc. Returns the differences."""
+    if shutil.which("dtc") is None:
+        return []
+    count, compiled = Count(), 0
+    with tempfile.TemporaryDirectory() as folder:
+        dts.files(folder)
+        for name, text, included in dts.sources(1, 5000):
+            dts.write(folder, text, included)
+            count.images += 1
+            found, both = dts.difference(folder, own, "source.dts")
+            count.expect(f"whole language, {name}", found, None)
+            compiled += both
+    print("\n| Sources in the whole language | Compiled by both | Differences |")
+    print("|---|---|---|")
+    print(f"| {count.images} | {compiled} | {len(count.differences)} |", flush=True)
+    return count.differences
+
+
 def compare_listing(count, uimg, path, case, given):
     """The listing of a FIT by both, image by image, as far as both print the same facts."""
     status, own = output([uimg, "dumpimage", "-l", path])
@@ -323,6 +343,7 @@ def main():
         differences += read.differences + made.differences
     differences += print_fits(uimg)
     differences += print_sources(own)
+    differences += print_whole_sources(own)
     differences += print_lines(uimg)
     differences += print_signed(uimg)
     for what, here, there in differences[:10]:

@@ -1,11 +1,13 @@
 //! The blob of a source, and the number of a blob's nodes, for the comparison with other tools.
 
+use std::alloc::Global;
 use std::io::ErrorKind;
 use std::rt::Files;
 use std::{fs, io};
 use uimg_base::{Out, Room, Source};
 use uimg_blob_reading::index;
-use uimg_blob_writing::{measure, write_tree};
+use uimg_blob_writing::{Tree, measure, write_tree};
+use uimg_dts::compile_all;
 use uimg_engine::DiskFiles;
 use uimg_its::compile;
 
@@ -16,10 +18,33 @@ pub(crate) fn compile_source<R: Files + Print + AllocGlobal>(rt: &R, path: &str)
     let Ok(tree) = compile(rt.alloc(), &text, &mut files) else {
         return Err(io::Error::from(ErrorKind::InvalidData));
     };
-    let Ok(layout) = measure(rt.alloc(), &tree) else {
+    write_blob(rt, &tree, path)
+}
+
+// The same for a source in the whole language of dtc. A fault is printed.
+pub(crate) fn compile_whole<R: Files + Print + AllocGlobal>(rt: &R, path: &str) -> io::Result<()> {
+    let text = fs::read(rt, path)?;
+    let mut files = DiskFiles::new(rt, folder_of(path));
+    match compile_all(rt.alloc(), &text, &mut files) {
+        Ok(compiled) => write_blob(rt, &compiled.tree, path),
+        Err(fault) => {
+            println!(rt; "{fault}")?;
+            Err(io::Error::from(ErrorKind::InvalidData))
+        }
+    }
+}
+
+// Writes the blob of a tree to standard output.
+fn write_blob<R: Files + Print + AllocGlobal>(
+    rt: &R,
+    tree: &Tree<Global>,
+    path: &str,
+) -> io::Result<()> {
+    let mut files = DiskFiles::new(rt, folder_of(path));
+    let Ok(layout) = measure(rt.alloc(), tree) else {
         return Err(io::Error::from(ErrorKind::InvalidData));
     };
-    match write_tree(&tree, &layout, &mut files, &mut Out::new(io::writer(rt))) {
+    match write_tree(tree, &layout, &mut files, &mut Out::new(io::writer(rt))) {
         Ok(()) => Ok(()),
         Err(_) => Err(io::Error::from(ErrorKind::Other)),
     }

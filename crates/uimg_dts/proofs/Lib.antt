@@ -1,0 +1,2 @@
+mod FilesLaws
+mod SoundLaws

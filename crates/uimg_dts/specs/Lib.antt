@@ -1,0 +1,4 @@
+pub mod Answers
+pub mod FileValues
+pub mod Numbers
+pub mod Operators

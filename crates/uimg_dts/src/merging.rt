@@ -1,0 +1,144 @@
+//! Merging of nodes that are given again, and deletion.
+
+use crate::finding::ROOT;
+use crate::stop::Stop;
+use crate::table::{NONE, NodeEntry, Owner, PropertyEntry, Table};
+use crate::tokens::Piece;
+use std::alloc::Allocator;
+
+impl<'t, A: Allocator + Copy> Table<'t, A> {
+    /// Deletes a property.
+    pub(crate) fn delete_property(&mut self, place: usize) {
+        if let Some(property) = self.properties.get_mut(place) {
+            property.is_deleted = true;
+        }
+        self.delete_labels(Owner::Property(place));
+    }
+
+    // Deletes a node's properties and labels, and marks it.
+    fn delete_one(&mut self, place: usize) {
+        let mut property = NONE;
+        if let Some(node) = self.nodes.get_mut(place) {
+            node.is_deleted = true;
+            property = node.first_property;
+        }
+        for _ in 0..self.properties.len() {
+            let Some(found) = self.property(property) else {
+                break;
+            };
+            self.delete_property(property);
+            property = found.next;
+        }
+        self.delete_labels(Owner::Node(place));
+    }
+
+    /// Deletes a node and all below it.
+    pub(crate) fn delete_node(&mut self, top: usize) {
+        let mut place = top;
+        for _ in 0..self.nodes.len() {
+            self.delete_one(place);
+            match self.following(top, place) {
+                Some(next) => place = next,
+                None => return,
+            }
+        }
+    }
+
+    // Gives a property the value of another.
+    fn replace(&mut self, place: usize, by: PropertyEntry) {
+        if let Some(property) = self.properties.get_mut(place) {
+            property.value = by.value;
+            property.marks = by.marks;
+            property.is_file = by.is_file;
+            property.is_deleted = false;
+        }
+    }
+
+    // Merges a property into a node.
+    fn merge_property(
+        &mut self,
+        node: usize,
+        place: usize,
+        new: PropertyEntry,
+        left: usize,
+    ) -> Result<(), Stop> {
+        match self.property_named(node, self.text(new.name)) {
+            Some(old) if new.is_deleted => self.delete_property(old),
+            Some(old) => {
+                self.move_labels(Owner::Property(place), Owner::Property(old), left)?;
+                self.replace(old, new);
+            }
+            None if new.is_deleted => {}
+            None => self.append_property(node, place),
+        }
+        Ok(())
+    }
+
+    // Merges one node into another, without their children.
+    fn merge_one(&mut self, old: usize, new: usize, left: usize) -> Result<(), Stop> {
+        let mut property = NONE;
+        if let Some(node) = self.nodes.get_mut(new) {
+            node.merged = old;
+            node.is_deleted = true;
+            property = node.first_property;
+        }
+        if let Some(node) = self.nodes.get_mut(old) {
+            node.is_deleted = false;
+        }
+        self.move_labels(Owner::Node(new), Owner::Node(old), left)?;
+        for _ in 0..self.properties.len() {
+            let Some(found) = self.property(property) else {
+                break;
+            };
+            self.merge_property(old, property, found, left)?;
+            property = found.next;
+        }
+        Ok(())
+    }
+
+    // Merges a node of a definition into the child of this name, or adds it as a child.
+    fn merge_child(
+        &mut self,
+        parent: usize,
+        place: usize,
+        new: NodeEntry,
+        left: usize,
+    ) -> Result<(), Stop> {
+        match self.child_named(parent, new.name) {
+            Some(old) if new.is_deleted => self.delete_node(old),
+            Some(old) => self.merge_one(old, place, left)?,
+            None if new.is_deleted => {}
+            None => self.append_child(parent, place),
+        }
+        Ok(())
+    }
+
+    /// Merges a definition into a node. The definition is the last in the table, from its place on,
+    /// each node after the one that it is in.
+    pub(crate) fn merge(&mut self, old: usize, new: usize, left: usize) -> Result<(), Stop> {
+        self.merge_one(old, new, left)?;
+        for place in new.saturating_add(1)..self.nodes.len() {
+            let Some(node) = self.node(place) else {
+                return Ok(());
+            };
+            let Some(parent) = self.node(node.parent) else {
+                return Ok(());
+            };
+            if parent.merged != NONE {
+                self.merge_child(parent.merged, place, node, left)?;
+            }
+        }
+        Ok(())
+    }
+
+    /// Adds the root of a definition, on the level of the node that it is merged into.
+    pub(crate) fn add_definition(
+        &mut self,
+        name: Piece,
+        into: usize,
+        left: usize,
+    ) -> Result<usize, Stop> {
+        let level = if into == ROOT { 1 } else { self.level_of(into) };
+        self.add_node(name, level, left)
+    }
+}

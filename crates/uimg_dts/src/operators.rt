@@ -1,0 +1,111 @@
+//! The operators of expressions, on unsigned numbers of 64 bits, as in C.
+
+ghost use Rattle.std.specs.Prelude.{◌≡◌, ◌*◌, ◌/◌, ◌%◌, ◌^◌, nat_lt, if◌then◌else◌};
+ghost use Rattle.uimg_dts.specs.Operators.{truth, combined};
+
+use crate::tokens::{Double, Word};
+
+/// An operator between two numbers.
+#[derive(Clone, Copy, Debug, PartialEq, Eq)]
+pub(crate) enum Binary {
+    Or,
+    And,
+    BitOr,
+    BitXor,
+    BitAnd,
+    Equal,
+    Unequal,
+    Less,
+    Greater,
+    AtMost,
+    AtLeast,
+    ShiftLeft,
+    ShiftRight,
+    Add,
+    Subtract,
+    Multiply,
+    Divide,
+    Remainder,
+}
+
+/// The strength of the weakest operators.
+pub(crate) const WEAKEST: u8 = 1;
+
+/// A strength above that of all operators.
+pub(crate) const ABOVE_ALL: u8 = 11;
+
+/// Returns the operator that a word is, and its strength: of two operators the stronger one takes
+/// its numbers first, and of two with one strength the first.
+pub(crate) fn binary_of(word: Word) -> Option<(Binary, u8)> {
+    match word {
+        Word::Double(Double::Or) => Some((Binary::Or, 1)),
+        Word::Double(Double::And) => Some((Binary::And, 2)),
+        Word::Single(b'|') => Some((Binary::BitOr, 3)),
+        Word::Single(b'^') => Some((Binary::BitXor, 4)),
+        Word::Single(b'&') => Some((Binary::BitAnd, 5)),
+        Word::Double(Double::Equal) => Some((Binary::Equal, 6)),
+        Word::Double(Double::Unequal) => Some((Binary::Unequal, 6)),
+        Word::Single(b'<') => Some((Binary::Less, 7)),
+        Word::Single(b'>') => Some((Binary::Greater, 7)),
+        Word::Double(Double::AtMost) => Some((Binary::AtMost, 7)),
+        Word::Double(Double::AtLeast) => Some((Binary::AtLeast, 7)),
+        Word::Double(Double::ShiftLeft) => Some((Binary::ShiftLeft, 8)),
+        Word::Double(Double::ShiftRight) => Some((Binary::ShiftRight, 8)),
+        Word::Single(b'+') => Some((Binary::Add, 9)),
+        Word::Single(b'-') => Some((Binary::Subtract, 9)),
+        Word::Single(b'*') => Some((Binary::Multiply, 10)),
+        Word::Single(b'/') => Some((Binary::Divide, 10)),
+        Word::Single(b'%') => Some((Binary::Remainder, 10)),
+        _ => None,
+    }
+}
+
+// Returns one or zero.
+fn truth(is_true: bool) -> u64
+    ensures { result ≡ truth is_true }
+{
+    if is_true { 1 } else { 0 }
+}
+
+// Returns a number shifted by some bits; by 64 or more it is zero.
+fn shifted_left(a: u64, bits: u64) -> u64
+    ensures { result ≡ if nat_lt bits 64 then (a * 2 ^ bits) % 2 ^ 64 else 0 }
+{
+    if bits < 64 { a << bits } else { 0 }
+}
+
+fn shifted_right(a: u64, bits: u64) -> u64
+    ensures { result ≡ if nat_lt bits 64 then a / 2 ^ bits else 0 }
+{
+    if bits < 64 { a >> bits } else { 0 }
+}
+
+/// Returns the number that an operator makes of two, or `None` if it divides by zero.
+#[tactic(auto, unfolding(crate::specs::Operators::combined))]
+pub(crate) fn combined(operator: Binary, a: u64, b: u64) -> Option<u64>
+    ensures { result ≡ combined operator a b }
+{
+    let value = match operator {
+        Binary::Or => truth(a != 0 || b != 0),
+        Binary::And => truth(a != 0 && b != 0),
+        Binary::BitOr => a | b,
+        Binary::BitXor => a ^ b,
+        Binary::BitAnd => a & b,
+        Binary::Equal => truth(a == b),
+        Binary::Unequal => truth(a != b),
+        Binary::Less => truth(a < b),
+        Binary::Greater => truth(a > b),
+        Binary::AtMost => truth(a <= b),
+        Binary::AtLeast => truth(a >= b),
+        Binary::ShiftLeft => shifted_left(a, b),
+        Binary::ShiftRight => shifted_right(a, b),
+        Binary::Add => a.wrapping_add(b),
+        Binary::Subtract => a.wrapping_sub(b),
+        Binary::Multiply => a.wrapping_mul(b),
+        Binary::Divide if b == 0 => return None,
+        Binary::Divide => a / b,
+        Binary::Remainder if b == 0 => return None,
+        Binary::Remainder => a % b,
+    };
+    Some(value)
+}

@@ -1,0 +1,198 @@
+//! The numbers by which nodes are named, and references.
+
+use crate::fault::Refusal;
+use crate::stop::{Stop, at, out_of_memory};
+use crate::table::{MarkEntry, MarkKind, PropertyEntry, Table};
+use crate::tokens::Piece;
+use std::alloc::Allocator;
+
+/// The part of the words' bytes that is `phandle`: they begin with it.
+pub(crate) const PHANDLE: Piece = Piece { start: 0, end: 7 };
+
+/// What they begin with.
+pub(crate) const PREFIX: &[u8] = b"phandle";
+
+impl<'t, A: Allocator + Copy> Table<'t, A> {
+    // Returns the first mark of a kind in a property.
+    fn first_mark(&self, property: PropertyEntry, kind: MarkKind) -> Option<MarkEntry> {
+        for i in property.marks.start..property.marks.end {
+            match self.marks.get(i) {
+                Some(mark) if mark.kind == kind => return Some(*mark),
+                _ => {}
+            }
+        }
+        None
+    }
+
+    // Returns the number in a property of a node, or zero if it has none yet.
+    fn given_number(&self, place: usize, name: &[u8]) -> Result<u32, Stop> {
+        let Some(found) = self.live_property(place, name) else {
+            return Ok(0);
+        };
+        let Some(property) = self.property(found) else {
+            return Ok(0);
+        };
+        let bad = at(Refusal::BadPhandle, 0);
+        let [a, b, c, d] = self.value(property.value) else {
+            return Err(bad);
+        };
+        if let Some(mark) = self.first_mark(property, MarkKind::Phandle) {
+            return if self.referred(mark.name) == Some(place) {
+                Ok(0)
+            } else {
+                Err(bad)
+            };
+        }
+        match u32::from_be_bytes([*a, *b, *c, *d]) {
+            0 | u32::MAX => Err(bad),
+            number => Ok(number),
+        }
+    }
+
+    // Returns whether a node of the tree has a number.
+    fn is_taken(&self, order: &[usize], number: u32) -> bool {
+        for place in order {
+            if let Some(node) = self.nodes.get(*place) {
+                if node.phandle == number {
+                    return true;
+                }
+            }
+        }
+        false
+    }
+
+    // Gives a node its number.
+    fn set_number(&mut self, place: usize, number: u32) {
+        if let Some(node) = self.nodes.get_mut(place) {
+            node.phandle = number;
+        }
+    }
+
+    /// Gives the nodes of the tree the numbers that their properties have.
+    pub(crate) fn give_numbers(&mut self, order: &[usize]) -> Result<(), Stop> {
+        for place in order {
+            let own = self.given_number(*place, b"phandle")?;
+            let other = self.given_number(*place, b"linux,phandle")?;
+            let number = if own == 0 { other } else { own };
+            let differ = own != 0 && other != 0 && own != other;
+            if differ || (number != 0 && self.is_taken(order, number)) {
+                return Err(at(Refusal::BadPhandle, 0));
+            }
+            self.set_number(*place, number);
+        }
+        Ok(())
+    }
+
+    // Returns the number of a node; one that has none gets the first that is free, from one on, and
+    // a property with it.
+    fn number_of(&mut self, order: &[usize], place: usize, next: &mut u32) -> Result<u32, Stop> {
+        match self.node(place) {
+            Some(node) if node.phandle != 0 => return Ok(node.phandle),
+            _ => {}
+        }
+        for _ in 0..order.len() {
+            if !self.is_taken(order, *next) {
+                break;
+            }
+            *next = next.saturating_add(1);
+        }
+        self.set_number(place, *next);
+        if self.live_property(place, b"phandle").is_none() {
+            let start = self.values.len();
+            if self.values.extend_from_slice(&next.to_be_bytes()).is_err() {
+                return Err(out_of_memory(0));
+            }
+            let end = self.values.len();
+            let property = self.add_property(PHANDLE, 0)?;
+            if let Some(found) = self.properties.get_mut(property) {
+                found.value = Piece { start, end };
+            }
+            self.append_property(place, property);
+        }
+        Ok(*next)
+    }
+
+    // Writes a number over four bytes of a value.
+    fn put_number(&mut self, place: usize, number: u32) {
+        let end = place.saturating_add(4);
+        if let Some(bytes) = self.values.as_mut_slice().get_mut(place..end) {
+            bytes.copy_from_slice(&number.to_be_bytes());
+        }
+    }
+
+    // Resolves the reference that a mark of a value is, given where the value begins.
+    fn resolve_mark(
+        &mut self,
+        order: &[usize],
+        start: usize,
+        place: usize,
+        next: &mut u32,
+    ) -> Result<(), Stop> {
+        let Some(mark) = self.marks.get(place).copied() else {
+            return Ok(());
+        };
+        if mark.kind == MarkKind::Label {
+            return Ok(());
+        }
+        let Some(found) = self.referred(mark.name) else {
+            return Err(at(Refusal::NoNode, 0));
+        };
+        self.refer(place, found);
+        if mark.kind == MarkKind::Phandle {
+            let number = self.number_of(order, found, next)?;
+            self.put_number(start.saturating_add(mark.offset), number);
+        }
+        Ok(())
+    }
+
+    // Sets the node that a mark refers to.
+    fn refer(&mut self, mark: usize, place: usize) {
+        if let Some(node) = self.nodes.get_mut(place) {
+            node.is_referenced = true;
+        }
+        if let Some(found) = self.marks.get_mut(mark) {
+            found.node = place;
+        }
+    }
+
+    // Resolves the references of a node.
+    fn resolve_node(&mut self, order: &[usize], place: usize, next: &mut u32) -> Result<(), Stop> {
+        let Some(node) = self.node(place) else {
+            return Ok(());
+        };
+        let mut property = node.first_property;
+        for _ in 0..self.properties.len() {
+            let Some(found) = self.property(property) else {
+                return Ok(());
+            };
+            if !found.is_deleted {
+                for i in found.marks.start..found.marks.end {
+                    self.resolve_mark(order, found.value.start, i, next)?;
+                }
+            }
+            property = found.next;
+        }
+        Ok(())
+    }
+
+    /// Resolves all references in the tree: writes the numbers, and finds the nodes of the paths.
+    pub(crate) fn resolve(&mut self, order: &[usize]) -> Result<(), Stop> {
+        let mut next = 1;
+        for place in order {
+            self.resolve_node(order, *place, &mut next)?;
+        }
+        Ok(())
+    }
+
+    /// Deletes the optional nodes that nothing refers to.
+    pub(crate) fn omit(&mut self, order: &[usize]) {
+        for place in order {
+            match self.node(*place) {
+                Some(node) if node.is_optional && !node.is_referenced && !node.is_deleted => {
+                    self.delete_node(*place)
+                }
+                _ => {}
+            }
+        }
+    }
+}

@@ -1,0 +1,241 @@
+//! The tree that the tables hold.
+
+ghost use Rattle.std.specs.Prelude.{◌≡◌, IfOk, OnOk, map};
+ghost use Rattle.uimg_base.specs.Named.{FileMap};
+ghost use Rattle.uimg_blob_writing.specs.Properties.{property, content};
+ghost use Rattle.uimg_dts.specs.Answers.{OpensFiles};
+ghost use Rattle.uimg_dts.specs.FileValues.{IsSoundIn, AreSound, IsSoundTree, IsSoundNode, AreSoundNodes};
+
+use crate::bytes::after;
+use crate::fault::Refusal;
+use crate::finding::ROOT;
+use crate::opening::{WHOLE, kept, read_file};
+use crate::stop::{FileStop, Stop, at, out_of_memory, refused};
+use crate::table::{MarkKind, PropertyEntry, Table};
+use std::alloc::Allocator;
+use uimg_base::Files;
+use uimg_blob_writing::{ByteList, Node, Nodes, Prop, Props, Value};
+
+/// The most levels of a tree.
+const MOST_LEVELS: u8 = 64;
+
+// Appends bytes.
+fn append<A: Allocator>(out: &mut Vec<u8, A>, bytes: &[u8]) -> Result<(), Stop> {
+    match out.extend_from_slice(bytes) {
+        Ok(()) => Ok(()),
+        Err(_) => Err(out_of_memory(0)),
+    }
+}
+
+// Copies bytes.
+fn copied<A: Allocator>(alloc: A, bytes: &[u8]) -> Result<ByteList<A>, Stop>
+    ensures { IfOk result (λ l. l ≡ bytes.now) }
+{
+    match Vec::from_slice(alloc, bytes) {
+        Ok(copy) => Ok(ByteList::of(copy)),
+        Err(_) => Err(out_of_memory(0)),
+    }
+}
+
+// Appends the path of a node and a NUL.
+fn push_path<A: Allocator + Copy>(
+    table: &Table<'_, A>,
+    place: usize,
+    out: &mut Vec<u8, A>,
+) -> Result<(), Stop> {
+    let level = table.level_of(place);
+    if level <= 1 {
+        append(out, b"/")?;
+    }
+    for depth in 2..level.saturating_add(1) {
+        let mut found = place;
+        for _ in depth..level {
+            if let Some(node) = table.node(found) {
+                found = node.parent;
+            }
+        }
+        append(out, b"/")?;
+        if let Some(node) = table.node(found) {
+            append(out, table.text(node.name))?;
+        }
+    }
+    append(out, &[0])
+}
+
+// Appends a value with the paths of the nodes that it refers to.
+fn push_value<A: Allocator + Copy>(
+    table: &Table<'_, A>,
+    property: PropertyEntry,
+    out: &mut Vec<u8, A>,
+) -> Result<(), Stop> {
+    let value = table.value(property.value);
+    let mut done = 0usize;
+    for i in property.marks.start..property.marks.end {
+        match table.marks.get(i) {
+            Some(mark) if mark.kind == MarkKind::Path => {
+                let bytes = value.get(done..mark.offset).unwrap_or(&[]);
+                append(out, bytes)?;
+                done = mark.offset;
+                push_path(table, mark.node, out)?;
+            }
+            _ => {}
+        }
+    }
+    append(out, after(value, done))
+}
+
+// Returns the value of a property with a name.
+fn value_of<F: Files, A: Allocator + Copy>(
+    files: &mut F,
+    table: &Table<'_, A>,
+    name: &[u8],
+    property: PropertyEntry,
+) -> Result<Value<A>, FileStop>
+    ensures opens { OpensFiles F.Opened.steady F.map result files }
+    ensures sound { IfOk result (λ v. IsSoundIn (F.map files.old) name.now (content v)) }
+{
+    let mut bytes = Vec::new(table.alloc);
+    if !property.is_file {
+        push_value(table, property, &mut bytes)?;
+        return Ok(Value::Bytes(ByteList::of(bytes)));
+    }
+    append(&mut bytes, table.value(property.value))?;
+    if name == b"data".as_slice() {
+        return kept(files, bytes, 0);
+    }
+    let read = read_file(table.alloc, files, &bytes, WHOLE, 0)?;
+    Ok(Value::Bytes(ByteList::of(read)))
+}
+
+// Adds a property.
+fn push_property<A: Allocator>(
+    props: &mut Vec<Prop<A>, A>,
+    name: ByteList<A>,
+    value: Value<A>,
+) -> Result<(), Stop>
+    ensures sound { OnOk result ((files : FileMap) → AreSound files (map property props.old.items) →
+        IsSoundIn files name (content value) → AreSound files (map property props.new.items)) }
+{
+    let Ok(()) = props.push(Prop { name, value }) else {
+        return Err(out_of_memory(0));
+    };
+    Ok(())
+}
+
+// Adds a property of the tables, unless it is deleted.
+fn add_property<F: Files, A: Allocator + Copy>(
+    files: &mut F,
+    table: &Table<'_, A>,
+    props: &mut Vec<Prop<A>, A>,
+    entry: PropertyEntry,
+) -> Result<(), FileStop>
+    ensures opens { OpensFiles F.Opened.steady F.map result files }
+    ensures sound { OnOk result (AreSound (F.map files.old) (map property props.old.items) →
+        AreSound (F.map files.old) (map property props.new.items)) }
+{
+    if entry.is_deleted {
+        return Ok(());
+    }
+    let text = table.text(entry.name);
+    let value = value_of(files, table, text, entry)?;
+    let name = copied(table.alloc, text)?;
+    push_property(props, name, value)?;
+    Ok(())
+}
+
+// Returns the properties of a node, from the first on.
+fn properties<F: Files, A: Allocator + Copy>(
+    files: &mut F,
+    table: &Table<'_, A>,
+    first: usize,
+) -> Result<Props<A>, FileStop>
+    ensures opens { OpensFiles F.Opened.steady F.map result files }
+    ensures sound { IfOk result (λ x. AreSound (F.map files.old) x) }
+{
+    let mut props = Vec::new(table.alloc);
+    let mut place = first;
+    for _ in 0..table.properties.len() {
+        let Some(found) = table.property(place) else {
+            break;
+        };
+        add_property(files, table, &mut props, found)?;
+        place = found.next;
+    }
+    Ok(Props::of(props))
+}
+
+// Adds a node.
+fn push_node<A: Allocator>(nodes: &mut Vec<Node<A>, A>, node: Node<A>) -> Result<(), Stop>
+    ensures sound { OnOk result ((files : FileMap) → AreSoundNodes files nodes.old.items →
+        IsSoundNode files node → AreSoundNodes files nodes.new.items) }
+{
+    let Ok(()) = nodes.push(node) else {
+        return Err(out_of_memory(0));
+    };
+    Ok(())
+}
+
+// Returns the children of a node, which have at most `levels` levels.
+#[cycle(planting)]
+fn children<F: Files, A: Allocator + Copy>(
+    files: &mut F,
+    table: &Table<'_, A>,
+    levels: u8,
+    parent: usize,
+) -> Result<Nodes<A>, FileStop>
+    ensures opens { OpensFiles F.Opened.steady F.map result files }
+    ensures sound { IfOk result (λ x. IsSoundTree (F.map files.old) x) }
+{
+    let mut nodes = Vec::new(table.alloc);
+    let mut next = table.first_child(parent);
+    for _ in 0..table.nodes.len() {
+        let Some(place) = next else {
+            break;
+        };
+        let child = plant(files, table, levels, place)?;
+        push_node(&mut nodes, child)?;
+        next = table.next_child(place);
+    }
+    Ok(Nodes::of(nodes))
+}
+
+// Returns a node with all below it, of at most `levels` levels.
+#[cycle(planting)]
+fn plant<F: Files, A: Allocator + Copy>(
+    files: &mut F,
+    table: &Table<'_, A>,
+    levels: u8,
+    place: usize,
+) -> Result<Node<A>, FileStop>
+    ensures opens { OpensFiles F.Opened.steady F.map result files }
+    ensures sound { IfOk result (λ x. IsSoundNode (F.map files.old) x) }
+{
+    if levels == 0 {
+        return refused(at(Refusal::Depth, 0));
+    }
+    let Some(node) = table.node(place) else {
+        return refused(at(Refusal::NoRoot, 0));
+    };
+    let name = copied(table.alloc, table.text(node.name))?;
+    let props = properties(files, table, node.first_property)?;
+    let children = children(files, table, levels - 1, place)?;
+    Ok(Node {
+        name,
+        props,
+        children,
+    })
+}
+
+/// Returns the root of the tree, with all below it.
+pub(crate) fn planted<F: Files, A: Allocator + Copy>(
+    files: &mut F,
+    table: &Table<'_, A>,
+) -> Result<Node<A>, FileStop>
+    ensures opens { OpensFiles F.Opened.steady F.map result files }
+    ensures sound { IfOk result (λ x. IsSoundNode (F.map files.old) x) }
+{
+    if !table.is_live(ROOT) {
+        return refused(at(Refusal::NoRoot, 0));
+    }
+    plant(files, table, MOST_LEVELS, ROOT)
+}
