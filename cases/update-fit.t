@@ -48,15 +48,14 @@ The payloads come after the blob:
   $ cp wanted.itb image.itb && mkimage -q -E -p 1000 -F image.itb && cmp image.itb at.itb
   $ cp wanted.itb image.itb && mkimage -q -E -B 40 -F image.itb && cmp image.itb aligned.itb
 
-Or into it again, each behind the other properties of its image:
+Or into it again, each in its old place:
 
   $ cp after.itb image.itb && mkimage -F image.itb | sed -n 8p
     Data Size:    3 Bytes = 0.00 KiB = 0.00 MiB
-  $ uimg check image.itb after.itb
-  image.itb: ok 1 payload, 4 hashes
-  after.itb: ok 1 payload, 4 hashes
-  $ dumpimage -T flat_dt -p 0 -o payload image.itb > /dev/null && cmp payload abc.bin
-  $ cp image.itb inside.itb && mkimage -q -E -F image.itb && mkimage -q -F image.itb && cmp image.itb inside.itb
+  $ cmp image.itb wanted.itb
+  $ cp after.itb image.itb && mkimage -q -E -F image.itb && cmp image.itb after.itb
+  $ mkimage -q -E -p 1000 -F image.itb && cmp image.itb at.itb
+  $ cp aligned.itb image.itb && mkimage -q -F image.itb && cmp image.itb wanted.itb
 
 All other properties and nodes stay, in their order, and signature nodes as they are:
 

@@ -1,17 +1,18 @@
 //! Makes a FIT image from a source, as mkimage does.
 
+use crate::dts_program::{Beyond, make_beyond};
+use crate::known_sources::{Known, known_source, source_has_labels};
 use crate::main_program::{FAILED, WRONG_LINE};
 use crate::old_program::{make_image, tell, tell_unread, tell_unwritten};
 use crate::old_tools::{Called, Tool};
 use crate::safe_path::{NewBeside, new_beside};
-use crate::source_warnings::{source_has_labels, warn_of_source};
 use std::alloc::AllocError;
 use std::io::{Read, Write};
 use std::path::{Path, PathBuf};
 use std::rt::Files;
 use std::{fs, io};
 use uimg_base::FileSource;
-use uimg_compat::{FitRequest, OldFault};
+use uimg_compat::{FitRequest, OldFault, warn};
 use uimg_requests::MakeRequest;
 
 /// The name of standard input as a source, and its path.
@@ -150,6 +151,8 @@ fn read_input<R: Files + AllocGlobal>(rt: &R) -> io::Result<Vec<u8>> {
     Ok(text)
 }
 
+// Warns about the source, and makes the image: of a source that the profile refuses by the language
+// of dtc.
 fn warn_and_make<R: Files + AllocGlobal, W: Write, V: Write>(
     rt: &R,
     tool: Tool,
@@ -162,11 +165,22 @@ fn warn_and_make<R: Files + AllocGlobal, W: Write, V: Write>(
         return tell(tool, err, &OldFault::DtcSymbols, WRONG_LINE);
     }
     making.manner = request.manner;
+    match known_source(rt, &making, &request.dtc) {
+        Known::Beyond(text, fault) => {
+            let beyond = Beyond {
+                making,
+                text,
+                fault,
+            };
+            return make_beyond(rt, tool, request, &beyond, out, err);
+        }
+        Known::Tree(tree) => warn(rt.alloc(), &tree, request.dtc.silenced, err),
+        Known::Unread => {}
+    }
     let called = Called {
         tool,
         is_quiet: request.is_quiet,
         folders: request.dtc.folders.as_slice(),
     };
-    warn_of_source(rt, &making, &request.dtc, err);
     make_image(rt, called, making, out, err)
 }

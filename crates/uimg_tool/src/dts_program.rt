@@ -1,0 +1,113 @@
+//! Makes a FIT image from a source that the profile refuses, in the whole language of dtc.
+
+ghost use Rattle.uimg_blob_writing.specs.{Content.FilesAtData, Trees.node_of};
+
+use crate::main_program::{FAILED, REFUSED, RequestFault};
+use crate::old_program::{tell, tell_end};
+use crate::old_tools::Tool;
+use crate::searched_files::SearchedFiles;
+use crate::tree_program::{TreeRequest, write_image};
+use std::alloc::Global;
+use std::io::Write;
+use std::rt;
+use uimg_base::Files;
+use uimg_blob_writing::Tree;
+use uimg_compat::{FitRequest, warn};
+use uimg_dts::{Compiled, DtsFault, DtsKind, Refusal, compile_all};
+use uimg_engine::Fault;
+use uimg_fit_building::fill;
+use uimg_its::{FaultKind, ItsFault};
+use uimg_printing::Printed;
+use uimg_requests::MakeRequest;
+
+/// A source that the profile refuses: its request, its text, and the fault.
+#[derive(Drop)]
+pub(crate) struct Beyond<'a> {
+    pub(crate) making: MakeRequest<'a>,
+    pub(crate) text: Vec<u8>,
+    pub(crate) fault: ItsFault,
+}
+
+/// Makes the image of a source that the profile refuses.
+pub(crate) fn make_beyond<R: rt::Files + AllocGlobal, W: Write, V: Write>(
+    rt: &R,
+    tool: Tool,
+    request: &FitRequest<'_>,
+    beyond: &Beyond<'_>,
+    out: &mut W,
+    err: &mut V,
+) -> u8 {
+    let making = &beyond.making;
+    let folders = request.dtc.folders.as_slice();
+    let mut files = SearchedFiles::new(rt, making.folder, folders, making.outfile);
+    let compiled = compile_all(rt.alloc(), &beyond.text, &mut files);
+    if compiled.is_err() && files.has_met_left_out() {
+        let end = Err(RequestFault::WritesWhatIsRead(making.outfile));
+        return tell_end(rt, tool, &end, making.outfile, err);
+    }
+    match compiled {
+        Ok(Compiled { tree, reservations }) if reservations.is_empty() => {
+            let making = TreeRequest {
+                tool,
+                image: making.outfile,
+                placement: request.placement,
+                manner: request.manner,
+                is_quiet: request.is_quiet,
+            };
+            warn(rt.alloc(), &tree, request.dtc.silenced, err);
+            make_compiled(rt, making, tree, &mut files, out, err)
+        }
+        Ok(_) => {
+            let source = Printed(making.source.as_bytes());
+            let reason = format_args!("{source}: /memreserve/ is not supported");
+            tell(tool, err, &reason, REFUSED)
+        }
+        Err(fault) => tell_refused(rt, tool, beyond, fault, err),
+    }
+}
+
+// Fills the tree of a source, and makes its image.
+fn make_compiled<R: rt::Files + AllocGlobal, F: Files, W: Write, V: Write>(
+    rt: &R,
+    making: TreeRequest<'_>,
+    tree: Tree<Global>,
+    files: &mut F,
+    out: &mut W,
+    err: &mut V,
+) -> u8
+    requires { FilesAtData (node_of tree.root) }
+{
+    match fill(rt.alloc(), tree, making.manner.time, files) {
+        Ok(tree) => write_image(rt, making, &tree, files, out, err),
+        Err(fault) => {
+            let end = Err(RequestFault::Stopped(Fault::Fit(fault)));
+            tell_end(rt, making.tool, &end, making.image, err)
+        }
+    }
+}
+
+// Reports why a source is refused: by the fault of the profile, unless that is for a construct of
+// the whole language.
+fn tell_refused<R: rt::Files, V: Write>(
+    rt: &R,
+    tool: Tool,
+    beyond: &Beyond<'_>,
+    fault: DtsFault,
+    err: &mut V,
+) -> u8 {
+    let source = beyond.making.source;
+    let status = match fault.kind {
+        DtsKind::NoFile | DtsKind::ReadFailed | DtsKind::Source(Refusal::OutOfMemory) => FAILED,
+        DtsKind::Source(_) => REFUSED,
+    };
+    match beyond.fault.kind {
+        FaultKind::BadToken | FaultKind::BadSyntax | FaultKind::BadNumber if status == REFUSED => {
+            let end = Err(RequestFault::Stopped(Fault::Its(beyond.fault)));
+            tell_end(rt, tool, &end, source, err)
+        }
+        _ => {
+            let path = Printed(source.as_bytes());
+            tell(tool, err, &format_args!("{path}: {fault}"), status)
+        }
+    }
+}

@@ -1,0 +1,82 @@
+//! The source of an image, before the image is made.
+
+use crate::searched_files::SearchedFiles;
+use std::alloc::Global;
+use std::rt::Files;
+use uimg_base::{Files as _, Out, Source, WINDOW, copy_through};
+use uimg_blob_writing::Tree;
+use uimg_compat::{DtcWords, has_labels};
+use uimg_its::{FaultKind, ItsFault, compile};
+use uimg_requests::{MakeCommand, MakeRequest};
+
+/// The source of a request, as far as it is known before its image is made.
+#[derive(Drop)]
+pub(crate) enum Known {
+    /// It is compiled.
+    Tree(Tree<Global>),
+    /// The profile refuses its text with a fault.
+    Beyond(Vec<u8>, ItsFault),
+    /// It is none, or it or a file of it cannot be read, or there is no memory for it: making the
+    /// image reports that.
+    Unread,
+}
+
+/// Compiles the source of a request with these words for dtc.
+pub(crate) fn known_source<R: Files + AllocGlobal>(
+    rt: &R,
+    request: &MakeRequest<'_>,
+    dtc: &DtcWords<'_>,
+) -> Known {
+    let MakeCommand::Tree { source, .. } = &request.command else {
+        return Known::Unread;
+    };
+    let mut files = SearchedFiles::new(rt, request.folder, dtc.folders.as_slice(), request.outfile);
+    let Ok(mut source) = files.open(source) else {
+        return Known::Unread;
+    };
+    let Some(text) = text_of(rt.alloc(), &mut source) else {
+        return Known::Unread;
+    };
+    match compile(rt.alloc(), &text, &mut files) {
+        Ok(tree) => Known::Tree(tree),
+        Err(fault) if is_of_text(fault.kind) => Known::Beyond(text, fault),
+        Err(_) => Known::Unread,
+    }
+}
+
+// Returns whether a fault is of the text alone.
+fn is_of_text(kind: FaultKind) -> bool {
+    match kind {
+        FaultKind::BadToken | FaultKind::BadSyntax | FaultKind::BadNumber => true,
+        FaultKind::OutOfProfile(_) => true,
+        FaultKind::NoFile | FaultKind::ReadFailed | FaultKind::OutOfMemory => false,
+    }
+}
+
+/// Returns whether the source of a request has labels. One that cannot be read has none.
+pub(crate) fn source_has_labels<R: Files + AllocGlobal>(
+    rt: &R,
+    request: &MakeRequest<'_>,
+    dtc: &DtcWords<'_>,
+) -> bool {
+    let MakeCommand::Tree { source, .. } = &request.command else {
+        return false;
+    };
+    let mut files = SearchedFiles::new(rt, request.folder, dtc.folders.as_slice(), request.outfile);
+    match files.open(source) {
+        Ok(mut source) => text_of(rt.alloc(), &mut source).is_some_and(|text| has_labels(&text)),
+        Err(_) => false,
+    }
+}
+
+// Reads all bytes of a source. Its window is in no stack frame below which the source is compiled.
+#[inline(never)]
+fn text_of<S: Source>(alloc: Global, source: &mut S) -> Option<Vec<u8>> {
+    let size = source.size().ok()?;
+    let mut window = [0; WINDOW];
+    let mut text = Out::new(Vec::new(alloc));
+    match copy_through(source, &mut window, 0, size, &mut text) {
+        Ok(()) => Some(text.into_inner()),
+        Err(_) => None,
+    }
+}

@@ -1,0 +1,123 @@
+//! Writes the image of a tree, as mkimage does.
+
+use crate::main_program::{DONE, FAILED, RequestFault};
+use crate::new_shelf::NewShelf;
+use crate::old_program::{Begun, tell, tell_unprinted, tell_unwritten, tell_written};
+use crate::old_tools::Tool;
+use crate::reasons::{Watched, reason_of_code};
+use crate::safe_path::{Writing, writing_of};
+use std::alloc::Global;
+use std::cell::Cell;
+use std::io::{BufWriter, Write};
+use std::{io, rt};
+use uimg_base::{Files, Out, Room, Status};
+use uimg_blob_writing::Tree;
+use uimg_compat::OldFault;
+use uimg_engine::{Fault, TreeManner, make_tree};
+use uimg_fit_base::Placement;
+use uimg_requests::Manner;
+
+/// The image that is made of a tree: by which tool, at which path and how.
+#[derive(Clone, Copy)]
+pub(crate) struct TreeRequest<'a> {
+    pub(crate) tool: Tool,
+    pub(crate) image: &'a str,
+    pub(crate) placement: Placement,
+    pub(crate) manner: Manner,
+    pub(crate) is_quiet: bool,
+}
+
+/// Writes the image of a tree over its files beside its name, which it gets when it is complete.
+pub(crate) fn write_image<R: rt::Files + AllocGlobal, F: Files, W: Write, V: Write>(
+    rt: &R,
+    request: TreeRequest<'_>,
+    tree: &Tree<Global>,
+    files: &mut F,
+    out: &mut W,
+    err: &mut V,
+) -> u8 {
+    let tool = request.tool;
+    match writing_of(rt, request.image) {
+        Ok(Writing::Beside(file, path)) => {
+            let begun = Begun { file, path: &path };
+            let (end, printed) = if request.is_quiet {
+                make_beside(rt, request, tree, files, begun, &mut io::sink())
+            } else {
+                make_beside(rt, request, tree, files, begun, out)
+            };
+            let status = tell_written(rt, tool, &path, &end, request.image, err);
+            finished(tool, status, printed, err)
+        }
+        Ok(Writing::Nowhere(reason)) => tell_unwritten(tool, request.image, &reason, err),
+        Ok(Writing::InPlace | Writing::Pipe) => {
+            let reason = io::Error::other("it is not a regular file");
+            tell_unwritten(tool, request.image, &reason, err)
+        }
+        Err(_) => tell(tool, err, &OldFault::OutOfMemory, FAILED),
+    }
+}
+
+// Makes the image of a tree in a new file. Returns how that ended, and how the flush of the buffered
+// listing did.
+fn make_beside<'a, R: rt::Files + AllocGlobal, F: Files, W: Write>(
+    rt: &R,
+    request: TreeRequest<'a>,
+    tree: &Tree<Global>,
+    files: &mut F,
+    begun: Begun<'_, R>,
+    out: &mut W,
+) -> (Result<Status, RequestFault<'a>>, io::Result<()>) {
+    let Begun { file, path } = begun;
+    let Ok(mut gathered) = BufWriter::new(rt.alloc(), out) else {
+        return (Err(RequestFault::OutOfMemory), Ok(()));
+    };
+    let end = match NewShelf::new(rt, path.new.as_str(), file) {
+        Ok(shelf) => make_on(rt, request, tree, files, shelf, &mut gathered),
+        Err(_) => Err(RequestFault::OutOfMemory),
+    };
+    let written = gathered.flush();
+    // A failed write leaves text in the buffer, which its drop would try to write again.
+    let (_, _) = gathered.into_parts();
+    (end, written)
+}
+
+// Makes the image of a tree on a shelf.
+fn make_on<'a, R: rt::Files + AllocGlobal, F: Files, W: Write>(
+    rt: &R,
+    request: TreeRequest<'a>,
+    tree: &Tree<Global>,
+    files: &mut F,
+    shelf: NewShelf<'_, R>,
+    out: &mut W,
+) -> Result<Status, RequestFault<'a>> {
+    let code = Cell::new(None);
+    let manner = TreeManner {
+        placement: request.placement.aligned_by(request.manner.align),
+        naming: request.manner.naming,
+    };
+    let made = make_tree(
+        rt.alloc(),
+        tree,
+        manner,
+        files,
+        Watched::new(shelf, &code),
+        &mut Room::new(rt.alloc()),
+        &mut Out::new(out),
+    );
+    match (made, code.get()) {
+        (Ok(_), _) => Ok(Status::Done),
+        (Err(Fault::Put), Some(code)) => {
+            Err(RequestFault::NotPut(request.image, reason_of_code(Some(code))))
+        }
+        (Err(Fault::Keep), _) => Err(RequestFault::CannotRead(request.image)),
+        (Err(fault), _) => Err(RequestFault::Stopped(fault)),
+    }
+}
+
+// Returns the status of an image that was written, unless its listing could not be printed.
+fn finished<V: Write>(tool: Tool, status: u8, printed: io::Result<()>, err: &mut V) -> u8 {
+    match printed {
+        Err(error) if status == DONE => tell_unprinted(tool, &error, err),
+        _ => status,
+    }
+}
