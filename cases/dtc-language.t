@@ -1,0 +1,91 @@
+Sources in the whole language of dtc, by the name mkimage
+=========================================================
+
+The expected trees are those of dtc 1.6.1.
+
+  $ export SOURCE_DATE_EPOCH=1700000000
+  $ for name in mkimage dumpimage; do ln -s "$(command -v uimg)" $name; done
+  $ PATH=$PWD:$PATH && printf 'abc\n' > abc.bin
+
+Included files, roots and nodes given again, references, expressions, other widths, deletions, and a range of a file:
+
+  $ mkdir parts && echo '/ { description = "of a part"; };' > parts/part.dtsi
+  $ cat > whole.its << 'END'
+  > /dts-v1/;
+  > /include/ "parts/part.dtsi"
+  > / {
+  >   #address-cells = <(2 - 1)>;
+  >   images {
+  >     k: kernel { description = "k"; data = /incbin/("abc.bin", 1, 2); type = "kernel"; arch = "arm"; os = "linux";
+  >       compression = "none"; load = <(0x1000 << 4)>; entry = <'a'>; hash-1 { algo = "crc32"; }; };
+  >     gone { description = "gone"; };
+  >   };
+  >   configurations { default = "c"; c { description = "c"; kernel = "kernel"; by-path = &k; by-number = <&k>; }; };
+  > };
+  > &k { description = "changed"; wide = /bits/ 64 <0x123456789>; };
+  > / { images { /delete-node/ gone; }; };
+  > END
+  $ mkimage -f whole.its whole.itb
+  FIT description: of a part
+  Created:         Tue Nov 14 22:13:20 2023
+   Image 0 (kernel)
+    Description:  changed
+    Created:      Tue Nov 14 22:13:20 2023
+    Type:         Kernel Image
+    Compression:  uncompressed
+    Data Size:    2 Bytes = 0.00 KiB = 0.00 MiB
+    Architecture: ARM
+    OS:           Linux
+    Load Address: 0x00010000
+    Entry Point:  0x00000061
+    Hash algo:    crc32
+    Hash value:   c2a92b38
+   Default Configuration: 'c'
+   Configuration 0 (c)
+    Description:  c
+    Kernel:       kernel
+  $ dumpimage -p 0 -o part whole.itb && cat part; echo
+  bc
+  $ python3 - << 'END'
+  > image = open("whole.itb", "rb").read()
+  > print(b"/images/kernel\0" in image, bytes.fromhex("0000000123456789") in image, b"gone" in image)
+  > END
+  True True False
+
+The profile takes none of these, and its faults are as before:
+
+  $ uimg mkimage -f whole.its other.itb
+  uimg: I3 out of profile: directive at line 2
+  [1]
+
+A fault has the line of the source, and leaves what is there:
+
+  $ printf '/dts-v1/;\n/ {\n  a = &nothing;\n};\n' > bad.its && mkimage -f bad.its whole.itb
+  mkimage: bad.its: no such node at line 4
+  [1]
+  $ printf '/dts-v1/;\n/memreserve/ 0 1;\n/ { };\n' > reserved.its && mkimage -f reserved.its whole.itb
+  mkimage: reserved.its: /memreserve/ is not supported
+  [1]
+  $ printf '/dts-v1/;\n/include/ "self.its"\n' > self.its && mkimage -f self.its whole.itb
+  mkimage: self.its: too many includes at line 2
+  [1]
+  $ printf '/dts-v1/;\n/include/ "nothing.dtsi"\n/ { };\n' > lost.its && mkimage -f lost.its whole.itb
+  mkimage: lost.its: no file at line 2
+  [3]
+  $ printf '/dts-v1/;\n/include/ "whole.itb"\n/ { };\n' > own.its && mkimage -f own.its whole.itb
+  mkimage: whole.itb would be written while it is read
+  [2]
+  $ mkimage -l whole.itb | head -n 1 && ls
+  FIT description: of a part
+  abc.bin
+  bad.its
+  dumpimage
+  lost.its
+  mkimage
+  own.its
+  part
+  parts
+  reserved.its
+  self.its
+  whole.itb
+  whole.its
