@@ -45,6 +45,13 @@ pub(crate) fn make_beyond<R: rt::Files + AllocGlobal, W: Write, V: Write>(
         let end = Err(RequestFault::WritesWhatIsRead(making.outfile));
         return tell_end(rt, tool, &end, making.outfile, err);
     }
+    if files.is_ambiguous() {
+        let source = Printed(making.source.as_bytes());
+        let reason = format_args!(
+            "{source}: a file that it includes is in several folders of -D -i"
+        );
+        return tell(tool, err, &reason, REFUSED);
+    }
     match compiled {
         Ok(Compiled { tree, reservations }) if reservations.is_empty() => {
             let making = TreeRequest {
@@ -61,6 +68,12 @@ pub(crate) fn make_beyond<R: rt::Files + AllocGlobal, W: Write, V: Write>(
             let source = Printed(making.source.as_bytes());
             let reason = format_args!("{source}: /memreserve/ is not supported");
             tell(tool, err, &reason, REFUSED)
+        }
+        Err(fault) if fault.kind == DtsKind::NoFile => {
+            let (source, name) = (Printed(making.source.as_bytes()), Printed(files.missing()));
+            let line = fault.line;
+            let reason = format_args!("{source}: cannot read {name}, which line {line} names");
+            tell(tool, err, &reason, FAILED)
         }
         Err(fault) => tell_refused(rt, tool, beyond, fault, err),
     }

@@ -2,9 +2,10 @@
 
 use crate::dts_program::{Beyond, make_beyond};
 use crate::known_sources::{Known, known_source, source_has_labels};
-use crate::main_program::{FAILED, WRONG_LINE};
-use crate::old_program::{make_image, tell, tell_unread, tell_unwritten};
+use crate::main_program::{FAILED, RequestFault, WRONG_LINE};
+use crate::old_program::{make_image, tell, tell_end, tell_unread, tell_unwritten};
 use crate::old_tools::{Called, Tool};
+use crate::reasons::is_pipe;
 use crate::safe_path::{NewBeside, new_beside};
 use std::alloc::AllocError;
 use std::io::{Read, Write};
@@ -14,6 +15,7 @@ use std::{fs, io};
 use uimg_base::FileSource;
 use uimg_compat::{FitRequest, OldFault, warn};
 use uimg_requests::MakeRequest;
+use uimg_unpacking::FileId;
 
 /// The name of standard input as a source, and its path.
 const INPUT_NAME: &str = "-";
@@ -61,7 +63,7 @@ fn path_in_folders<R: Files + AllocGlobal>(
         let Ok(path) = Path::new(folder).join(rt.alloc(), request.source) else {
             return Err(AllocError);
         };
-        if FileSource::open(rt, path.as_str()).is_ok() {
+        if !is_pipe(rt, path.as_str()) && FileSource::open(rt, path.as_str()).is_ok() {
             return Ok(Some(path));
         }
     }
@@ -97,6 +99,11 @@ fn make_of_input<R: Files + AllocGlobal, W: Write, V: Write>(
     out: &mut W,
     err: &mut V,
 ) -> u8 {
+    let outfile = FileId::of(rt, request.outfile);
+    if outfile.is_some() && outfile == FileId::of(rt, INPUT) {
+        let end = Err(RequestFault::WritesWhatIsRead(request.outfile));
+        return tell_end(rt, tool, &end, request.outfile, err);
+    }
     let Ok(text) = read_input(rt) else {
         return tell_unread(rt, tool, INPUT, err);
     };
@@ -166,6 +173,9 @@ fn warn_and_make<R: Files + AllocGlobal, W: Write, V: Write>(
     }
     making.manner = request.manner;
     match known_source(rt, &making, &request.dtc) {
+        Known::Beyond(_, _) if request.dtc.has_symbols => {
+            return tell(tool, err, &OldFault::DtcSymbols, WRONG_LINE);
+        }
         Known::Beyond(text, fault) => {
             let beyond = Beyond {
                 making,

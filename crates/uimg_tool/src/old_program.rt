@@ -249,6 +249,10 @@ pub(crate) fn tell_end<R: Files, V: Write>(
             tell_unwritten(tool, path, reason, err)
         }
         Err(RequestFault::NotPrinted(error)) => tell_unprinted(tool, error, err),
+        Err(RequestFault::WritesWhatIsRead(path)) => {
+            let fault = RequestFault::DrawsOverWhatIsRead(Printed(path.as_bytes()));
+            tell(tool, err, &fault, status_of(&fault))
+        }
         Err(fault) => tell(tool, err, fault, status_of(fault)),
     }
 }

@@ -3,6 +3,7 @@
 ghost use Rattle.std.specs.Prelude.{None, false, IfOk};
 ghost use Rattle.uimg_base.specs.Device.{IsFresh};
 
+use std::alloc::Global;
 use std::rt;
 use uimg_base::{FileSource, Files, Source, SourceFault};
 use uimg_engine::DiskFiles;
@@ -18,6 +19,12 @@ pub(crate) struct SearchedFiles<'a, R: rt::Files + AllocGlobal> {
     others: &'a [&'a str],
     left_out: &'a str,
     has_met_left_out: bool,
+    // Whether a file was found in one of the others.
+    has_searched: bool,
+    // Whether a file was in several folders after that.
+    is_ambiguous: bool,
+    // The name of the last file that was not opened.
+    missing: Option<Vec<u8>>,
     refusals: u64,
 }
 
@@ -36,13 +43,33 @@ impl<'a, R: rt::Files + AllocGlobal> SearchedFiles<'a, R> {
             others,
             left_out,
             has_met_left_out: false,
+            has_searched: false,
+            is_ambiguous: false,
+            missing: None,
             refusals: 0,
         }
     }
 
-    /// Returns whether the file that is left out was requested, and so refused.
-    pub(crate) fn has_met_left_out(&self) -> bool {
-        self.files.has_met_left_out() || self.has_met_left_out
+    /// Returns whether a file was in several folders after another was found in one of the others.
+    /// If that one names it, dtc looks in its folder first.
+    pub(crate) fn is_ambiguous(&self) -> bool {
+        self.is_ambiguous
+    }
+
+    /// Returns the name of the last file that was not opened.
+    pub(crate) fn missing(&self) -> &[u8] {
+        match &self.missing {
+            Some(name) => name.as_slice(),
+            None => b"",
+        }
+    }
+
+    // Notes whether a file that is in this many folders before the others is in several, if another
+    // was found in one of the others.
+    fn note(&mut self, found: usize, name: &[u8]) {
+        if self.has_searched && count_in(self.rt, self.others, name).saturating_add(found) > 1 {
+            self.is_ambiguous = true;
+        }
     }
 }
 
@@ -60,16 +87,25 @@ impl<'a, R: rt::Files + AllocGlobal> Files for SearchedFiles<'a, R> {
     /// has, or as `DiskFiles::open` does.
     fn open(&mut self, name: &[u8]) -> Result<FileSource<R::File>, SourceFault> {
         let opened = match self.files.open(name) {
-            Ok(source) => Ok(source),
-            Err(_) => open_in_others(
-                self.rt,
-                self.others,
-                name,
-                self.left_out,
-                &mut self.has_met_left_out,
-            ),
+            Ok(source) => {
+                self.note(1, name);
+                Ok(source)
+            }
+            Err(_) => {
+                self.note(0, name);
+                let found = open_in_others(
+                    self.rt,
+                    self.others,
+                    name,
+                    self.left_out,
+                    &mut self.has_met_left_out,
+                );
+                self.has_searched = self.has_searched || found.is_ok();
+                found
+            }
         };
         if opened.is_err() {
+            self.missing = copied(self.rt.alloc(), name);
             self.refusals = self.refusals.saturating_add(1);
         }
         opened
@@ -96,4 +132,24 @@ fn open_in_others<R: rt::Files + AllocGlobal>(
         }
     }
     Err(SourceFault)
+}
+
+// Returns in how many of these folders a file of a name is.
+fn count_in<R: rt::Files + AllocGlobal>(rt: &R, folders: &[&str], name: &[u8]) -> usize {
+    let mut found = 0usize;
+    for folder in folders {
+        if DiskFiles::new(rt, folder).open(name).is_ok() {
+            found = found.saturating_add(1);
+        }
+    }
+    found
+}
+
+// Copies a name, if there is memory for it.
+fn copied(alloc: Global, name: &[u8]) -> Option<Vec<u8>> {
+    let mut copy = Vec::new(alloc);
+    match copy.extend_from_slice(name) {
+        Ok(()) => Some(copy),
+        Err(_) => None,
+    }
 }

@@ -45,6 +45,10 @@ pub(crate) fn write_image<R: rt::Files + AllocGlobal, F: Files, W: Write, V: Wri
             } else {
                 make_beside(rt, request, tree, files, begun, out)
             };
+            if let (Err(RequestFault::Stopped(Fault::Put)), Err(error)) = (&end, &printed) {
+                let _ = fs::remove_file(rt, path.new.as_str());
+                return tell_unprinted(tool, error, err);
+            }
             let status = tell_written(rt, tool, &path, &end, request.image, err);
             finished(tool, status, printed, err)
         }
