@@ -9,7 +9,7 @@ use crate::safe_path::{Writing, writing_of};
 use std::alloc::Global;
 use std::cell::Cell;
 use std::io::{BufWriter, Write};
-use std::{io, rt};
+use std::{fs, io, rt};
 use uimg_base::{Files, Out, Room, Status};
 use uimg_blob_writing::Tree;
 use uimg_compat::OldFault;
