@@ -70,11 +70,31 @@ A fault has the line of the source, and leaves what is there:
   mkimage: self.its: too many includes at line 2
   [1]
   $ printf '/dts-v1/;\n/include/ "nothing.dtsi"\n/ { };\n' > lost.its && mkimage -f lost.its whole.itb
-  mkimage: lost.its: no file at line 2
+  mkimage: lost.its: cannot read nothing.dtsi, which line 2 names
   [3]
   $ printf '/dts-v1/;\n/include/ "whole.itb"\n/ { };\n' > own.its && mkimage -f own.its whole.itb
   mkimage: whole.itb would be written while it is read
   [2]
+  $ cp whole.its input.its && mkimage -q -f - input.its < input.its
+  mkimage: input.its would be written while it is read
+  [2]
+  $ cmp input.its whole.its && rm input.its
+
+Files in other folders, and what would be looked for in another order than dtc's:
+
+  $ mkdir more && echo '/include/ "b.dtsi"' > more/a.dtsi && echo '/ { };' > more/b.dtsi
+  $ printf '/dts-v1/;\n/include/ "a.dtsi"\n' > search.its && mkimage -D '-i more' -q -f search.its found.itb
+  mkimage: warning: /: it has no description
+  mkimage: warning: /: it has no #address-cells
+  mkimage: found.itb: F1 no images
+  [1]
+  $ cp more/b.dtsi . && mkimage -D '-i more' -q -f search.its found.itb
+  mkimage: search.its: a file that it includes is in several folders of -D -i
+  [1]
+  $ mkimage -D '-@ -i more' -q -f search.its found.itb
+  mkimage: -D: -@ is not supported for a source with labels; use mkimage of u-boot-tools
+  [2]
+  $ rm -r more b.dtsi search.its
   $ mkimage -l whole.itb | head -n 1 && ls
   FIT description: of a part
   abc.bin

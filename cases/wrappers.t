@@ -9,7 +9,7 @@ They call uimg by its old names, and U-Boot's own tools for what uimg does not d
   > #!/bin/sh
   > # Signs the last word by appending a line, or fails.
   > for image; do :; done
-  > echo "original: $*" | sed 's/uimg-sign[0-9]*/uimg-signN/'
+  > echo "original: $*" | sed 's/uimg-sign[0-9A-Za-z]*/uimg-signN/'
   > test ! -e failing || exit 255
   > case " $* " in *' -F '*) echo signed >> "$image" && echo "Signature written to '$image'" ;; esac
   > EOF
@@ -81,19 +81,19 @@ An image with signatures is made by uimg without placement, then signed and plac
 name. What that prints has the image's name:
 
   $ way mkimage -D '-i none' -f kernel.its -E -p 1000 -B40 -k 'my keys' -K keys.dtb -r -c "it's" -N pkcs11 signed.itb
-  original: -F -E -p 1000 -B 40 -k my keys -K keys.dtb -r -c it's -N pkcs11 -- signed.itb.uimg-signN
+  original: -F -E -p 1000 -B 40 -k my keys -K keys.dtb -r -c it's -N pkcs11 -- ./signed.itb.uimg-signN/image
   split
   $ tail -n 1 output
   Signature written to 'signed.itb'
   $ cp image.itb wanted && echo signed >> wanted && cmp signed.itb wanted && rm wanted
   $ way mkimage --key-file=key --fit kernel.its -- signed.itb
-  original: -F -G key -- signed.itb.uimg-signN
+  original: -F -G key -- ./signed.itb.uimg-signN/image
   split
   $ touch key && way mkimage -g key -f kernel.its signed.itb
-  original: -F -g key -- signed.itb.uimg-signN
+  original: -F -g key -- ./signed.itb.uimg-signN/image
   split
   $ way mkimage -k keys -f - signed.itb < kernel.its
-  original: -F -k keys -- signed.itb.uimg-signN
+  original: -F -k keys -- ./signed.itb.uimg-signN/image
   split
   $ cat log
   split\tmkimage -k keys -f - signed.itb (esc)
@@ -111,7 +111,7 @@ If a step fails, the image is what it was, and no other file is left:
 
   $ touch failing && ls > before
   $ cp signed.itb kept && way mkimage -k keys -f kernel.its signed.itb
-  original: -F -k keys -- signed.itb.uimg-signN
+  original: -F -k keys -- ./signed.itb.uimg-signN/image
   split
   [255]
   $ cmp signed.itb kept && rm kept
@@ -119,7 +119,7 @@ If a step fails, the image is what it was, and no other file is left:
   split
   mkimage: cannot read nothing: No such file or directory (os error 2)
   $ way mkimage -k keys -f kernel.its new.itb
-  original: -F -k keys -- new.itb.uimg-signN
+  original: -F -k keys -- ./new.itb.uimg-signN/image
   split
   [255]
   $ way mkimage -k keys -f kernel.its /dev/null; cat output
@@ -136,3 +136,34 @@ The original is the next one on PATH that is neither the wrapper nor uimg, or th
   $ UIMG_ORIGINAL_MKIMAGE=$PWD/other-tool way mkimage -T rksd -d d out
   original: named
   original
+
+An image that is one of the files that it is made of is refused, and a name may begin with a dash:
+
+  $ cp kernel.its own.its && mkimage -q -k keys -f own.its own.its
+  mkimage: own.its would be written while it is read
+  [2]
+  $ mkimage -q -k keys -f kernel.its abc.bin
+  mkimage: abc.bin would be written while it is read
+  [2]
+  $ cmp own.its kernel.its && wc -c < abc.bin && ls -d *uimg-sign*
+  3
+  ls: cannot access '*uimg-sign*': No such file or directory
+  [2]
+  $ mkimage -q -k keys -f kernel.its -- -o.itb > /dev/null && tail -c 7 ./-o.itb
+  signed
+  $ mkimage -q -k keys -f kernel.its full.itb > /dev/full; echo $?; tail -c 7 full.itb
+  mkimage: write failed
+  3
+  signed
+
+Without U-Boot's tools, by a name that is none of theirs, and with wrappers in two folders, none calls the other:
+
+  $ (PATH=$TESTDIR/../wrappers:$PWD/names:/usr/bin:/bin; rm -rf second; cp -r "$TESTDIR/../wrappers" second
+  >  UIMG_ORIGINAL_MKIMAGE=$PWD/nothing mkimage -q -k keys -f kernel.its new.itb)
+  mkimage: cannot run */nothing (glob)
+  [3]
+  $ (mkdir -p only && for it in sh readlink dirname sed od tr awk; do ln -sf "$(command -v $it)" only/$it; done
+  >  PATH=$TESTDIR/../wrappers:$PWD/second:$PWD/names:$PWD/only; mkimage -l other; mkimage -q -k keys -f kernel.its new.itb)
+  mkimage: other: L1 too short
+  mkimage: signing needs mkimage of u-boot-tools, which is not on PATH
+  [3]

@@ -13,26 +13,42 @@ find_uimg() {
 }
 
 # Returns, in `original`, the path of U-Boot's own tool: UIMG_ORIGINAL_MKIMAGE or
-# UIMG_ORIGINAL_DUMPIMAGE, or else the next one on PATH that is neither this wrapper nor uimg.
-find_original() {
+# UIMG_ORIGINAL_DUMPIMAGE, or else the next one on PATH that is neither a wrapper nor uimg. Fails if
+# there is none.
+seek_original() {
     case $name in
     mkimage) original=${UIMG_ORIGINAL_MKIMAGE:-} ;;
     *) original=${UIMG_ORIGINAL_DUMPIMAGE:-} ;;
     esac
-    test -z "$original" || return 0
-    resolve "$0" && wrapper=$real
+    if test -n "$original"; then
+        test -f "$original" && test -x "$original" || fail "cannot run $original"
+        return 0
+    fi
     rest=$PATH:
     while test -n "$rest"; do
         original=${rest%%:*}/$name rest=${rest#*:}
         test "$original" != "/$name" || original=./$name
         test -f "$original" && test -x "$original" || continue
-        resolve "$original"
-        case $real in
-        "$wrapper" | */uimg) ;;
-        *) return 0 ;;
-        esac
+        is_ours "$original" || return 0
     done
-    fail "$1 needs $name of u-boot-tools, which is not on PATH"
+    return 1
+}
+
+# The same; ends if there is none. $1 is the reason, for the error.
+find_original() { seek_original || fail "$1 needs $name of u-boot-tools, which is not on PATH"; }
+
+# Returns whether a program is uimg or a wrapper like this one: by its real name, by the script
+# beside it, or by the version that it prints.
+is_ours() {
+    resolve "$1"
+    case $real in
+    */uimg) return 0 ;;
+    esac
+    test -f "${real%/*}/common.sh" && test "${real##*/}" = "$name" && return 0
+    case $(UIMG_WRAPPER_LOG= "$1" -V 2>&1 < /dev/null) in
+    *uimg*) return 0 ;;
+    esac
+    return 1
 }
 
 # Prints an error and ends, as for a file that cannot be read.

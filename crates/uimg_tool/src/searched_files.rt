@@ -64,12 +64,9 @@ impl<'a, R: rt::Files + AllocGlobal> SearchedFiles<'a, R> {
         }
     }
 
-    // Notes whether a file that is in this many folders before the others is in several, if another
-    // was found in one of the others.
-    fn note(&mut self, found: usize, name: &[u8]) {
-        if self.has_searched && count_in(self.rt, self.others, name).saturating_add(found) > 1 {
-            self.is_ambiguous = true;
-        }
+    /// Returns whether the file that is left out was requested, and so refused.
+    pub(crate) fn has_met_left_out(&self) -> bool {
+        self.files.has_met_left_out() || self.has_met_left_out
     }
 }
 
@@ -88,11 +85,13 @@ impl<'a, R: rt::Files + AllocGlobal> Files for SearchedFiles<'a, R> {
     fn open(&mut self, name: &[u8]) -> Result<FileSource<R::File>, SourceFault> {
         let opened = match self.files.open(name) {
             Ok(source) => {
-                self.note(1, name);
+                let others = count_in(self.rt, self.others, name);
+                self.is_ambiguous = self.is_ambiguous || (self.has_searched && others > 0);
                 Ok(source)
             }
             Err(_) => {
-                self.note(0, name);
+                let others = count_in(self.rt, self.others, name);
+                self.is_ambiguous = self.is_ambiguous || (self.has_searched && others > 1);
                 let found = open_in_others(
                     self.rt,
                     self.others,
@@ -134,7 +133,7 @@ fn open_in_others<R: rt::Files + AllocGlobal>(
     Err(SourceFault)
 }
 
-// Returns in how many of these folders a file of a name is.
+// Returns in how many of these folders a file of a name is; in most command lines there are none.
 fn count_in<R: rt::Files + AllocGlobal>(rt: &R, folders: &[&str], name: &[u8]) -> usize {
     let mut found = 0usize;
     for folder in folders {
