@@ -29,11 +29,11 @@ pub(crate) struct Beyond<'a> {
 }
 
 /// Makes the image of a source that the profile refuses.
-pub(crate) fn make_beyond<R: rt::Files + AllocGlobal, W: Write, V: Write>(
-    rt: &R,
+pub(crate) fn make_beyond<'x, R: rt::Files + AllocGlobal, W: Write, V: Write>(
+    rt: &'x R,
     tool: Tool,
-    request: &FitRequest<'_>,
-    beyond: &Beyond<'_>,
+    request: &'x FitRequest<'x>,
+    beyond: &'x Beyond<'x>,
     out: &mut W,
     err: &mut V,
 ) -> u8 {
