@@ -23,7 +23,7 @@ taken_by only honest h d from to true right wrong = right refl
 taken_by only honest h d from to false right wrong = wrong refl
 
 -- a first part that is asked for
-asked_first : (only : Option ℕ) → is_there only 1 ≡ true → is_part_asked only 0 ≡ true
+pub asked_first : (only : Option ℕ) → is_there only 1 ≡ true → is_part_asked only 0 ≡ true
 asked_first None e = refl
 asked_first (Some n) e = eq-eqb n 0 (omega (arith, ltb-true n 1 e))
 

@@ -14,6 +14,7 @@ pub mod PlacedPartsLaws
 pub mod ReadsBackLaw
 pub mod BuildingLaws
 pub mod TakingLaws
+pub mod ToldLaws
 pub mod CuttingLaws
 pub mod WalkLaws
 pub mod DataLaws

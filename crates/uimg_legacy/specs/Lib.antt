@@ -3,6 +3,7 @@ pub mod Header
 pub mod Image
 pub mod Parts
 pub mod Tables
+pub mod Told
 pub mod Report
 pub mod Extraction
 pub mod Work

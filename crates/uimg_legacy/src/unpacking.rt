@@ -1,8 +1,9 @@
 //! Unpacking: parts are written while the image's data are summed.
 
-ghost use Rattle.std.specs.Prelude.{◌≡◌, [], IsTrue};
+ghost use Rattle.std.specs.Prelude.{◌≡◌, [], IfOk, IsTrue};
 ghost use Rattle.uimg_legacy.specs.{Commands.TakesOut, UnpackingSteps.{Settles, unpack_work}};
 ghost use Rattle.uimg_legacy.specs.Unpacking.{AreRight, Unpacks, KeepsRight, Extracts};
+ghost use Rattle.uimg_legacy.specs.Told.{TellsAll, Tells, settling};
 
 mod mem_parts;
 mod part_taker;
@@ -21,7 +22,9 @@ use uimg_base::{PutFault, Room, Source};
 // Keeps the held parts if the data's CRC is right, else discards them. Returns whether it is.
 fn settle<T: PartTaker>(right: bool, dcrc: u32, taker: &mut T) -> Result<bool, PutFault>
     requires { IsTrue right → IsTrue T.honest → AreRight dcrc (T.held taker.old) }
-    ensures { Settles right result T.honest T.held T.kept taker }
+    ensures is { IfOk result (λ kept. kept ≡ right) }
+    ensures kept { Settles right result T.honest T.held T.kept taker }
+    ensures told { Tells (settling right dcrc) result T.notes T.told taker }
 {
     if right {
         taker.keep(dcrc)?;
@@ -60,6 +63,7 @@ pub fn unpack<S: Source, A: Allocator, T: PartTaker>(
     ensures right { KeepsRight only result T.honest T.kept taker }
     ensures told { Unpacks only result S.device source T.honest T.kept taker }
     ensures extracts { Extracts result S.device source T.honest T.kept taker }
+    ensures tells { TellsAll only result T.notes T.told taker }
 {
     room.clear();
     let header = read_header(source)?;

@@ -1,8 +1,10 @@
 //! The trait of those who are given unpacked parts.
 
-ghost use Rattle.std.specs.Prelude.{◌≡◌, ℕ, [], ◌++◌, List, Bool, false, Some, IfOk, OnOk, OnErr, IsTrue};
+ghost use Rattle.std.specs.Prelude.{◌≡◌, ℕ, [], ◌∷◌, ◌++◌, List, Bool, false, Some, IfOk, OnOk, OnErr, IsTrue};
 ghost use Rattle.uimg_legacy.specs.Unpacking.{Part, AreRight, part_if};
 ghost use Rattle.std.specs.Prelude.{true};
+ghost use Rattle.uimg_legacy.specs.Told.{Deed};
+ghost use Rattle.uimg_legacy.specs.Told.Deed.{Claimed, Shelved, Given, Kept, Refused};
 
 use std::io::Write;
 use uimg_base::PutFault;
@@ -10,7 +12,8 @@ use uimg_base::PutFault;
 /// Receives the unpacked parts of an image one after another, by their numbers. A written part is
 /// held until all of them are kept or refused. Parts that are still held at the end are discarded.
 ///
-/// Contracts see an honest taker as two lists: the parts that it holds, and those that it keeps.
+/// Contracts see an honest taker as two lists: the parts that it holds, and those that it keeps. Of a
+/// taker that notes what it is told they see all that, in order, whether it is honest or not.
 pub trait PartTaker {
     /// What a part is written to.
     type Shelf: Write + Drop;
@@ -24,19 +27,28 @@ pub trait PartTaker {
     /// The parts that are kept.
     ghost kept: { Self → List Part };
 
+    /// Whether the list of what it is told has each call.
+    ghost notes: { Bool } = { false };
+
+    /// What it was told, in order.
+    ghost told: { Self → List Deed } = { λ _. [] };
+
     /// Announces a part, before any is unpacked. Nothing is unpacked if it refuses.
     fn claim(&mut self, number: u32) -> Result<(), PutFault>
+        ensures told { IsTrue notes → told self.new ≡ told self.old ++ Claimed number ∷ [] }
         ensures held { IsTrue honest → held self.new ≡ held self.old }
         ensures kept { IsTrue honest → kept self.new ≡ kept self.old };
 
     /// Returns an empty shelf to write a part to.
     fn shelf(&mut self, number: u32) -> Result<Self::Shelf, PutFault>
+        ensures told { IsTrue notes → told self.new ≡ told self.old ++ Shelved number ∷ [] }
         ensures held { IsTrue honest → held self.new ≡ held self.old }
         ensures kept { IsTrue honest → kept self.new ≡ kept self.old }
         ensures empty { IsTrue honest → IfOk result (λ shelf. Self.Shelf.contents shelf ≡ Some []) };
 
     /// Takes a written part, to hold it.
     fn hold(&mut self, number: u32, shelf: Self::Shelf) -> Result<(), PutFault>
+        ensures told { IsTrue notes → told self.new ≡ told self.old ++ Given number ∷ [] }
         ensures held { IsTrue honest → (bytes : List ℕ) → Self.Shelf.contents shelf ≡ Some bytes →
             OnOk result (held self.new ≡ held self.old ++ part_if true number bytes) }
         ensures kept { IsTrue honest → kept self.new ≡ kept self.old };
@@ -46,10 +58,12 @@ pub trait PartTaker {
     /// were read from.
     fn keep(&mut self, dcrc: u32) -> Result<(), PutFault>
         requires { IsTrue honest → AreRight dcrc (held self.old) }
+        ensures told { IsTrue notes → told self.new ≡ told self.old ++ Kept dcrc ∷ [] }
         ensures ok { IsTrue honest → OnOk result (kept self.new ≡ kept self.old ++ held self.old) }
         ensures err { IsTrue honest → OnErr result (kept self.new ≡ kept self.old) };
 
     /// Discards the held parts, because the data's CRC is not that in the header.
     fn refuse(&mut self) -> Result<(), PutFault>
-        ensures { IsTrue honest → kept self.new ≡ kept self.old };
+        ensures told { IsTrue notes → told self.new ≡ told self.old ++ Refused ∷ [] }
+        ensures kept { IsTrue honest → kept self.new ≡ kept self.old };
 }

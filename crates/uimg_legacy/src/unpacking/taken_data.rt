@@ -3,6 +3,7 @@
 ghost use Rattle.std.specs.Prelude.{◌≡◌, ◌+◌, ◌≤◌, length, true, false, IsTrue};
 ghost use Rattle.uimg_base.specs.Using.{UsesAtMost};
 ghost use Rattle.uimg_legacy.specs.{Parts.has_parts, Unpacking.is_there};
+ghost use Rattle.uimg_legacy.specs.Told.{Tells, TellsData, claims};
 ghost use Rattle.uimg_legacy.specs.UnpackingSteps.{Takes, TakesData, listed_work, data_work};
 
 use crate::fault::{Fault, LegacyFault};
@@ -28,6 +29,7 @@ fn is_there(only: Option<u32>, count: u32) -> bool
 fn claim_parts<T: PartTaker>(only: Option<u32>, count: u32, taker: &mut T) -> Result<(), PutFault>
     ensures held { IsTrue T.honest → T.held taker.new ≡ T.held taker.old }
     ensures kept { IsTrue T.honest → T.kept taker.new ≡ T.kept taker.old }
+    ensures told { Tells (claims only count) result T.notes T.told taker }
 {
     if let Some(number) = only {
         return taker.claim(number);
@@ -51,6 +53,7 @@ fn take_whole<S: Source, A: Allocator, T: PartTaker>(
     ensures takes { Takes (UsesAtMost header.now.size) result
         S.device source room T.honest T.kept taker }
     ensures taken { TakesData only header.now result S.device source T.honest T.held taker }
+    ensures told { TellsData only result T.notes T.told taker }
 {
     if !is_there(only, 1) {
         return Err(Fault::Legacy(LegacyFault::NoSuchPart));
@@ -80,6 +83,7 @@ fn take_listed<S: Source, A: Allocator, T: PartTaker>(
     ensures takes { Takes (UsesAtMost (listed_work header.now (S.device source.old).bytes)) result
         S.device source room T.honest T.kept taker }
     ensures taken { TakesData only header.now result S.device source T.honest T.held taker }
+    ensures told { TellsData only result T.notes T.told taker }
 {
     let mut sum = Crc::start();
     let count = sum_table(source, room, header.size, &mut sum)?;
@@ -118,6 +122,7 @@ pub(super) fn take_data<S: Source, A: Allocator, T: PartTaker>(
     ensures takes { Takes (UsesAtMost (data_work header.now (S.device source.old).bytes)) result
         S.device source room T.honest T.kept taker }
     ensures taken { TakesData only header.now result S.device source T.honest T.held taker }
+    ensures told { TellsData only result T.notes T.told taker }
 {
     if has_parts(header.kind) {
         take_listed(source, room, header, only, taker)

@@ -1,5 +1,7 @@
 use Rattle.std.proofs.Common.{rules, ◌≡◌, ℕ, List, length, refl, ap, arith}
 use Rattle.std.specs.Prelude.{Ok, Err}
+use Rattle.uimg_legacy.specs.declared.fault.Fault.{TheVariants.{Read, Put}}
+use Rattle.uimg_legacy.proofs.ToldLaws.{ends_before, ends_by, ends_untold, ends_told}
 use Rattle.uimg_legacy.proofs.{SourceLaws.{honest_still, same_still}, ExtractedLaws.extracts}
 use Rattle.uimg_legacy.proofs.UnpackLaws.{is_spelled, unpack_truncated, are_right, keeps_right, unpacks, stops, work_known}
 use Rattle.uimg_legacy.proofs.unpacking.unpack.Goals as goal
@@ -71,13 +73,39 @@ returns-clause-takes g c =
 
 pub returns-clause-right : goal.returns-clause-right
 returns-clause-right g c = λ known.
-    keeps_right c.settle.result c.args.only g.T.PartTaker.honest c.in_ok-header.header _ c.in_ok-right.right c.in_ok-settle.field-0 _ _ _ _ _ (is_spelled c.in_ok-header.header (omega arith) (omega arith) (omega arith) (omega arith) (omega arith) (omega arith)) known (c.requires known) c.in_ok-right.ensures.taken (c.take_data.ensures.takes.kept known) (c.in_ok-settle.ensures known)
+    keeps_right c.settle.result c.args.only g.T.PartTaker.honest c.in_ok-header.header _ c.in_ok-right.right c.in_ok-settle.field-0 _ _ _ _ _ (is_spelled c.in_ok-header.header (omega arith) (omega arith) (omega arith) (omega arith) (omega arith) (omega arith)) known (c.requires known) c.in_ok-right.ensures.taken (c.take_data.ensures.takes.kept known) (c.in_ok-settle.ensures.kept known)
 
 pub returns-clause-told : goal.returns-clause-told
 returns-clause-told g c = λ honest known.
     let same = same_still c.read_header.ensures.reads.uses.same c.size.ensures.same in
     let long = ap (λ (xs : List ℕ). length xs) c.read_header.ensures.reads.uses.same.bytes in
-    unpacks c.settle.result c.args.only g.T.PartTaker.honest c.in_ok-header.header _ _ c.in_ok-right.right c.in_ok-settle.field-0 _ _ _ _ _ same honest (c.in_ok-header.ensures.gives honest) (omega (arith, c.in_ok-size.ensures.length, long, c.if-branch-header.false)) known (c.requires known) c.in_ok-right.ensures.taken (c.take_data.ensures.takes.kept known) (c.in_ok-settle.ensures known)
+    unpacks c.settle.result c.args.only g.T.PartTaker.honest c.in_ok-header.header _ _ c.in_ok-right.right c.in_ok-settle.field-0 _ _ _ _ _ same honest (c.in_ok-header.ensures.gives honest) (omega (arith, c.in_ok-size.ensures.length, long, c.if-branch-header.false)) known (c.requires known) c.in_ok-right.ensures.taken (c.take_data.ensures.takes.kept known) (c.in_ok-settle.ensures.kept known)
 
 pub returns-clause-extracts : goal.returns-clause-extracts
 returns-clause-extracts g c = λ honest known. extracts c.args.only _ (Ok c.in_ok-settle.field-0) _ _ (returns-clause-told g c honest known)
+
+pub returns-in_err-header-clause-tells : goal.returns-in_err-header-clause-tells
+returns-in_err-header-clause-tells g c = λ known.
+    let fault = c.in_err-header.field-0.0 in
+    let is : c.from_residual.result ≡ Err fault = search rules in
+    ends_before c.args.only c.from_residual.result fault _ _ is refl
+
+pub returns-in_err-size-clause-tells : goal.returns-in_err-size-clause-tells
+returns-in_err-size-clause-tells g c = λ known.
+    let is : c.from_residual-in_err-size.result ≡ Err Read = search rules in
+    ends_before c.args.only c.from_residual-in_err-size.result Read _ _ is refl
+
+pub returns-in_err-right-clause-tells : goal.returns-in_err-right-clause-tells
+returns-in_err-right-clause-tells g c = λ known.
+    let fault = c.in_err-right.field-0.0 in
+    let is : c.from_residual-in_err-right.result ≡ Err fault = search rules in
+    ends_by c.args.only c.from_residual-in_err-right.result fault _ _ is (c.in_err-right.ensures.told known)
+
+pub returns-in_err-settle-clause-tells : goal.returns-in_err-settle-clause-tells
+returns-in_err-settle-clause-tells g c = λ known.
+    let is : c.from_residual-in_err-settle.result ≡ Err Put = search rules in
+    ends_untold c.args.only c.in_ok-header.header.dcrc c.in_ok-right.right c.in_ok-right.right c.from_residual-in_err-settle.result _ _ _ is (c.in_ok-right.ensures.told known) (c.in_err-settle.ensures.told known)
+
+pub returns-clause-tells : goal.returns-clause-tells
+returns-clause-tells g c = λ known.
+    ends_told c.args.only c.in_ok-header.header.dcrc c.in_ok-right.right c.in_ok-right.right c.in_ok-settle.field-0 _ _ _ c.in_ok-settle.ensures.is (c.in_ok-right.ensures.told known) (c.in_ok-settle.ensures.told known)

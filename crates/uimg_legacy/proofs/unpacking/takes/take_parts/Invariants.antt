@@ -1,6 +1,6 @@
-use Rattle.std.proofs.Common.{◌≡◌, ◌≤◌, ◌+◌, ◌*◌, IsTrue}
+use Rattle.std.proofs.Common.{◌≡◌, ◌≤◌, ◌+◌, ◌*◌, ◌++◌, IsTrue}
 use Rattle.uimg_base.specs.Device.{SameDevice}
-use Rattle.uimg_legacy.specs.UnpackingSteps.{Walked}
+use Rattle.uimg_legacy.specs.{UnpackingSteps.Walked, Told.takes_to}
 use Rattle.uimg_legacy.proofs.unpacking.takes.take_parts.Given as goal
 
 -- the first parts were taken
@@ -15,5 +15,6 @@ invariant-loop-number g l =
       within : l.walk.at ≤ l.parts.size;
       room : l.room ≡ l.fn.room;
       kept : IsTrue taker.honest → taker.kept l.taker ≡ taker.kept l.fn.taker;
+      told : IsTrue taker.notes → taker.told l.taker ≡ taker.told l.fn.taker ++ takes_to l.parts.only l.number;
       taken : Walked l.parts.only taker.honest l.number l.parts.size (device l.fn.source) l.fn.walk l.walk (taker.held l.fn.taker) (taker.held l.taker);
     }
