@@ -1,5 +1,5 @@
 -- What is told of a file that is unpacked.
-use Rattle.std.proofs.Common.{◌≡◌, ◌≤◌, ◌+◌, ◌*◌, ℕ, List, length, Option, Some, None, Bool, refl, ap, sym, ◌∙◌, subst, arith}
+use Rattle.std.proofs.Common.{◌≡◌, ◌≤◌, ◌+◌, ◌*◌, ◌++◌, ℕ, List, [], length, Option, Some, None, Bool, refl, ap, sym, ◌∙◌, subst, arith}
 use Rattle.std.specs.Prelude.{Result, Ok, Err}
 use Rattle.std.specs.List.{sum_by}
 use Rattle.std.specs.Option.{option_map}
@@ -15,6 +15,8 @@ use Rattle.uimg_fit_base.specs.declared.fault.Fault.{Fault}
 use Rattle.uimg_fit_base.specs.declared.fault.Fault.TheVariants as of
 use Rattle.uimg_fit_base.specs.declared.fault.FitFault.{FitFault}
 use Rattle.uimg_fit_base.proofs.FileLaws.{images_are}
+use Rattle.uimg_fit_reading.specs.Nodes.{GivesTree}
+use Rattle.uimg_fit_checking.specs.Claiming.{Claim, ClaimsTo, claims, claims_in, claims_of}
 use Rattle.uimg_fit_checking.specs.declared.unpacking.Unpacked.{Unpacked}
 use Rattle.uimg_fit_checking.specs.declared.unpacking.Unpacked.TheVariants.{Taken, Overlapping}
 use Rattle.uimg_fit_checking.specs.declared.unpacking.node_names.NodeName.{NodeName}
@@ -28,6 +30,45 @@ pub unpack_is : (file : List ℕ) (t : Siblings) (need : Option Algo) (only : Op
     → unpack_of need only file ≡ told_or_fault (overlapping only file (length file) found) (takes need only file found)
 unpack_is file t need only found is has =
     ap (λ (r : Result (List (NodeOf Spot)) Fault). r >>= images_unpacked need only file) (images_are file t (Some found) is has)
+
+-- the claims of its images
+pub claims_is : (file : List ℕ) (t : Siblings) (only : Option (List ℕ)) (found : List (NodeOf Spot)) → tree file ≡ Ok t → images (spots t) ≡ Some found → claims_of only file ≡ claims only file (length file) found
+claims_is file t only found is has = ap (claims_in only file) (images_are file t (Some found) is has)
+
+treeless : (X : Type 0) (file : List ℕ) (es : List (List ℕ)) (fault : Fault) (all old : List Claim) → GivesTree file (Err fault) es → ClaimsTo {X = X} all (Err fault) old old
+treeless X file es (of.Blob fault at) all old gives = refl
+treeless X file es (of.Fit fault) all old gives = absurd gives
+treeless X file es of.Read all old gives = record { rest = all; is = refl }
+treeless X file es of.Put all old gives = record { rest = all; is = refl }
+
+claims_again : (X Y : Type 0) (fault : Fault) (all old new : List Claim) → ClaimsTo {X = X} all (Err fault) old new → ClaimsTo {X = Y} all (Err fault) old new
+claims_again X Y (of.Blob fault at) all old new claimed = claimed
+claims_again X Y (of.Fit fault) all old new claimed = claimed
+claims_again X Y of.Read all old new claimed = claimed
+claims_again X Y of.Put all old new claimed = claimed
+
+later : (X : Type 0) (fault : Fault) (all : List Claim) (ts from to : List Take) (old new : List Claim) → TakesAll ts (Err fault) from to → new ≡ old ++ all → ClaimsTo {X = X} all (Err fault) old new
+later X (of.Blob fault at) all ts from to old new given told = absurd given
+later X (of.Fit fault) all ts from to old new given told = absurd given
+later X of.Read all ts from to old new given told = record { rest = []; is = append-nil new ∙ told }
+later X of.Put all ts from to old new given told = record { rest = []; is = append-nil new ∙ told }
+
+-- nothing is claimed of a tree that cannot be read
+pub claims_treeless : (X : Type 0) (file : List ℕ) (es : List (List ℕ)) (fault : Fault) (r : Result X Fault) (all old : List Claim) → r ≡ Err fault → GivesTree file (Err fault) es → ClaimsTo all r old old
+claims_treeless X file es fault r all old is gives = subst (λ (x : Result X Fault). ClaimsTo all x old old) (sym is) (treeless X file es fault all old gives)
+
+-- the claims are those of the result, by another name of all of them
+pub claims_by : (X Y : Type 0) (file : List ℕ) (only : Option (List ℕ)) (found : List (NodeOf Spot)) (fault : Fault) (r : Result Y Fault) (told : List Claim) (old new : List Claim) → r ≡ Err fault → told ≡ claims only file (length file) found
+    → ClaimsTo {X = X} (claims only file (length file) found) (Err fault) old new → ClaimsTo told r old new
+claims_by X Y file only found fault r told old new is named claimed =
+    subst (λ (x : Result Y Fault). ClaimsTo told x old new) (sym is)
+    (subst (λ (l : List Claim). ClaimsTo {X = Y} l (Err fault) old new) (sym named) (claims_again X Y fault (claims only file (length file) found) old new claimed))
+
+-- all is claimed where a device fails later
+pub claims_before_fault : (X : Type 0) (fault : Fault) (r : Result X Fault) (told all : List Claim) (ts from to : List Take) (old middle new : List Claim) → r ≡ Err fault → told ≡ all → TakesAll ts (Err fault) from to → middle ≡ old ++ all → new ≡ middle → ClaimsTo told r old new
+claims_before_fault X fault r told all ts from to old middle new is named given claimed same =
+    subst (λ (x : Result X Fault). ClaimsTo told x old new) (sym is)
+    (subst (λ (l : List Claim). ClaimsTo {X = X} l (Err fault) old new) (sym named) (later X fault all ts from to old new given (same ∙ claimed)))
 
 -- a device failed before anything was given
 stops_none : (r : Result UnpackOutcome Fault) (old new : List Take) → new ≡ old → StopsIn r old new

@@ -4,6 +4,7 @@ pub mod Counting
 pub mod Vouching
 pub mod Checks
 pub mod CheckParts
+pub mod Claiming
 pub mod Unpacking
 pub mod UnpackingParts
 pub mod Copies

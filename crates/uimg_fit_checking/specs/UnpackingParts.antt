@@ -1,6 +1,6 @@
 -- Unpacking the payloads of a FIT image, one after the other.
 use Rattle.std.specs.Prelude.{◌≡◌, ⊤, ℕ, ◌+◌, ◌<◌, ◌≤◌, ◌*◌, List, [], ◌∷◌, ◌++◌, length, Bool}
-use Rattle.std.specs.Prelude.{true, false, Option, Some, None, Result, Ok, Err, IfOk}
+use Rattle.std.specs.Prelude.{true, false, Option, Some, None, Result, Ok, Err, IfOk, IsTrue}
 use Rattle.std.specs.List.{list_all}
 use Rattle.std.specs.Option.{option_map}
 use Rattle.uimg_sums.specs.declared.algo.Algo.{Algo}
@@ -24,6 +24,8 @@ use Rattle.uimg_fit_checking.specs.declared.unpacking.claims.Claim.{Claim}
 use Rattle.uimg_fit_checking.specs.declared.unpacking.claims.Claim.TheVariants.{Fits, Overlaps}
 use Rattle.uimg_fit_checking.specs.declared.unpacking.requested.Requested.{Requested}
 use Rattle.uimg_fit_checking.specs.Checks.{wrong_in, or_weak}
+use Rattle.uimg_fit_checking.specs.Claiming as Claiming
+use Rattle.uimg_fit_checking.specs.Claiming.{ClaimsTo, claims}
 use Rattle.uimg_fit_checking.specs.Unpacking.{Take, GivenFirst, overlapping, is_asked, is_kept}
 use Rattle.uimg_fit_checking.specs.Unpacking.{told_of, as_bytes, take_of}
 
@@ -107,15 +109,18 @@ ClaimsAll told (Err fault) = ⊤
 
 -- The images were claimed, up to the first with which payloads overlap.
 pub record ClaimsImagesBetween (file : List ℕ) (only : Option (List ℕ)) (found : List (NodeOf Spot))
-    (asked new : ℕ) (result : Result (Option NodeName) Fault) : Type 0 where
+    (asked new : ℕ) (result : Result (Option NodeName) Fault) (notes : Bool)
+    (before after : List Claiming.Claim) : Type 0 where
   pub told : ClaimsAll (overlapping only file (length file) found) result
   pub paid : new ≤ asked + 267 * length found
+  pub claimed : IsTrue notes → ClaimsTo (claims only file (length file) found) result before after
 
-abbrev pub ClaimsImages : {S : Type 0} → Option (List ℕ) → List (NodeOf Spot)
-    → Result (Option NodeName) Fault → (S → Device) → Lent S → Type 0
-ClaimsImages only found result device source =
+abbrev pub ClaimsImages : {S T : Type 0} → Option (List ℕ) → List (NodeOf Spot)
+    → Result (Option NodeName) Fault → (S → Device) → Lent S → Bool → (T → List Claiming.Claim)
+    → Lent T → Type 0
+ClaimsImages only found result device source notes claimed taker =
     ClaimsImagesBetween (device source.entry.now).bytes only found (device source.entry.now).asked
-    (device source.exit.now).asked result
+    (device source.exit.now).asked result notes (claimed taker.entry.now) (claimed taker.exit.now)
 
 -- the most bytes requested for an image besides its payload, its name and its span
 abbrev pub take_allowance : NodeOf Spot → ℕ

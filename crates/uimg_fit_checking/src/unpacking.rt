@@ -4,6 +4,7 @@ ghost use Rattle.std.specs.Prelude.{IsTrue};
 ghost use Rattle.std.specs.Option.{option_map};
 ghost use Rattle.uimg_base.specs.Honest.{IfHonest};
 ghost use Rattle.uimg_fit_checking.specs.Unpacking.{Unpacks, unpack_of, unpack_work, as_bytes};
+ghost use Rattle.uimg_fit_checking.specs.Claiming.{ClaimsTo, claims_of};
 ghost use Rattle.uimg_fit_reading.specs.Rooms.{TakesOut};
 
 mod claims;
@@ -62,6 +63,9 @@ pub fn unpack<S: Source, A: Allocator, T: Taker>(
     ensures takes { TakesOut unpack_work result S.device source room }
     ensures told { IfHonest S.device source (λ file. IsTrue T.honest → Unpacks result
         (unpack_of need (option_map as_bytes only) file) (T.takes taker.old) (T.takes taker.new)) }
+    ensures claimed { IfHonest S.device source (λ file. IsTrue T.honest → IsTrue T.notes → ClaimsTo
+        (claims_of (option_map as_bytes only) file) result (T.claimed taker.old)
+        (T.claimed taker.new)) }
 {
     let blob = read_tree(source, room)?;
     let first = first_image(&blob, room)?;

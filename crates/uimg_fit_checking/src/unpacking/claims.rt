@@ -1,11 +1,11 @@
 //! Checks, before any payload is taken, that the payloads of all requested images are present and
 //! have at most the file's length together.
 
-ghost use Rattle.std.specs.Prelude.{◌≡◌, IfOk, IsTrue};
+ghost use Rattle.std.specs.Prelude.{◌≡◌, ◌++◌, IfOk, IsTrue};
 ghost use Rattle.std.specs.Option.{option_map};
 ghost use Rattle.uimg_blob_reading.specs.Roles.{in_images};
 ghost use Rattle.uimg_fit_reading.specs.Nodes.{OfNodes, HasNodes};
-ghost use Rattle.uimg_fit_checking.specs.Unpacking.{as_bytes};
+ghost use Rattle.uimg_fit_checking.specs.{Unpacking.as_bytes, Claiming.claim_of};
 ghost use Rattle.uimg_fit_checking.specs.UnpackingParts.{LeavesImage, Claims, ClaimsImages};
 
 use crate::unpacking::node_names::NodeName;
@@ -34,6 +34,8 @@ fn claim_requested<T: Taker>(
 ) -> Result<Claim, PutFault>
     ensures none_given { IsTrue T.honest → T.takes taker.new ≡ T.takes taker.old }
     ensures told { IfOk result (Claims left found) }
+    ensures claimed { IsTrue T.notes →
+        T.claimed taker.new ≡ T.claimed taker.old ++ claim_of left found }
 {
     let Some(payload) = found else {
         return Ok(Claim::Fits(left));
@@ -59,7 +61,8 @@ pub(super) fn claim_images<S: Source, A: Allocator, T: Taker>(
     ensures leaves { LeavesImage result S.device source room }
     ensures none_given { IsTrue T.honest → T.takes taker.new ≡ T.takes taker.old }
     ensures told { OfNodes (S.device source.old) blob.now room.old in_images first
-        (λ found. ClaimsImages (option_map as_bytes only) found result S.device source) }
+        (λ found. ClaimsImages (option_map as_bytes only) found result S.device source
+        T.notes T.claimed taker) }
 {
     let mut left = source.size()?;
     let mut next = first;

@@ -1,7 +1,8 @@
 //! The trait of those who are given unpacked payloads.
 
-ghost use Rattle.std.specs.Prelude.{◌≡◌, ℕ, [], List, Bool, false, Some, IfOk, IsTrue};
+ghost use Rattle.std.specs.Prelude.{◌≡◌, ℕ, [], ◌∷◌, ◌++◌, List, Bool, false, Some, IfOk, IsTrue};
 ghost use Rattle.uimg_fit_checking.specs.Unpacking.{Take, kept, refused, told_of, as_bytes, AddsIf, IsVouched};
+ghost use Rattle.uimg_fit_checking.specs.Claiming.{Claim, claim};
 
 use crate::unpacking::node_names::NodeName;
 use std::io::Write;
@@ -34,7 +35,8 @@ pub enum Refusal {
 /// Receives the unpacked payloads of an image one after another, by the names of their images,
 /// which may come more than once.
 ///
-/// Contracts see an honest taker as the list of what it was given.
+/// Contracts see an honest taker as the list of what it was given, and one that notes what is claimed
+/// as the list of that, too.
 pub trait Taker {
     /// What a payload is written to before anything vouches for it. Only `keep` gives it its name.
     type Shelf: Write + Drop;
@@ -45,13 +47,22 @@ pub trait Taker {
     /// What was given so far.
     ghost takes: { Self → List Take };
 
+    /// Whether the list of claims has each call.
+    ghost notes: { Bool } = { false };
+
+    /// What was claimed so far.
+    ghost claimed: { Self → List Claim } = { λ _. [] };
+
     /// Announces a payload and its length in bytes, before any is unpacked. Nothing is unpacked if
     /// it refuses.
     fn claim(&mut self, name: &NodeName, length: u64) -> Result<(), PutFault>
-        ensures { IsTrue honest → takes self.new ≡ takes self.old };
+        ensures told { IsTrue notes → claimed self.new ≡ claimed self.old
+            ++ claim (as_bytes name.now) length ∷ [] }
+        ensures same { IsTrue honest → takes self.new ≡ takes self.old };
 
     /// Returns an empty shelf to write the payload of an image to.
     fn shelf(&mut self, name: &NodeName) -> Result<Self::Shelf, PutFault>
+        ensures none { IsTrue notes → claimed self.new ≡ claimed self.old }
         ensures same { IsTrue honest → takes self.new ≡ takes self.old }
         ensures empty { IsTrue honest → IfOk result (λ shelf. Self.Shelf.contents shelf ≡ Some []) };
 
@@ -65,7 +76,8 @@ pub trait Taker {
     ) -> Result<(), PutFault>
         requires { IsTrue honest → (bytes : List ℕ) → Self.Shelf.contents shelf ≡ Some bytes →
             IsVouched bytes vouched }
-        ensures { IsTrue honest → (bytes : List ℕ) → Self.Shelf.contents shelf ≡ Some bytes →
+        ensures none { IsTrue notes → claimed self.new ≡ claimed self.old }
+        ensures given { IsTrue honest → (bytes : List ℕ) → Self.Shelf.contents shelf ≡ Some bytes →
             AddsIf result (takes self.old) (takes self.new)
             (kept (as_bytes name.now) bytes vouched) };
 
@@ -76,6 +88,7 @@ pub trait Taker {
         shelf: Self::Shelf,
         refusal: Refusal,
     ) -> Result<(), PutFault>
-        ensures { IsTrue honest → AddsIf result (takes self.old) (takes self.new)
+        ensures none { IsTrue notes → claimed self.new ≡ claimed self.old }
+        ensures given { IsTrue honest → AddsIf result (takes self.old) (takes self.new)
             (refused (as_bytes name.now) (told_of (as_bytes name.now) refusal)) };
 }

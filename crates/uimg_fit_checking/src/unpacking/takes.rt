@@ -1,6 +1,6 @@
 //! Takes payloads one after the other: each is written while it is summed, then kept or refused.
 
-ghost use Rattle.std.specs.Prelude.{◌≤◌, ◌+◌, ◌*◌, true, Some, Ok, length, IsTrue};
+ghost use Rattle.std.specs.Prelude.{◌≡◌, ◌≤◌, ◌+◌, ◌*◌, true, Some, Ok, length, IsTrue};
 ghost use Rattle.std.specs.List.{sum_by};
 ghost use Rattle.std.specs.Option.{option_map};
 ghost use Rattle.uimg_blob_reading.specs.LookUps.{hashes};
@@ -35,6 +35,7 @@ fn take_requested<S: Source, A: Allocator, T: Taker>(
     requires inside { payload.span.place + payload.span.length
         ≤ length (S.device source.old).bytes }
     ensures leaves { LeavesImage result S.device source room }
+    ensures none_claimed { IsTrue T.notes → T.claimed taker.new ≡ T.claimed taker.old }
     ensures paid { OfNode (S.device source.old) blob.now room.old in_images payload.image
         (λ found. Pays (payload.span.length + 383 * length (hashes found)) S.device source) }
     ensures told { IsTrue T.honest →
@@ -67,6 +68,7 @@ fn take_image<S: Source, A: Allocator, T: Taker>(
 ) -> Result<bool, Fault>
     requires { HasNode (S.device source.old) blob.now room.old image }
     ensures leaves { LeavesImage result S.device source room }
+    ensures none_claimed { IsTrue T.notes → T.claimed taker.new ≡ T.claimed taker.old }
     ensures paid { OfNode (S.device source.old) blob.now room.old in_images image
         (λ found. Pays (size_if (is_asked (option_map as_bytes request.only) found.name)
         (payload (S.device source.old).bytes found) + take_allowance found) S.device source) }
@@ -93,6 +95,7 @@ pub(super) fn take_images<S: Source, A: Allocator, T: Taker>(
 ) -> Result<bool, Fault>
     requires { HasNodes (S.device source.old) blob.now room.old first }
     ensures leaves { LeavesImage result S.device source room }
+    ensures none_claimed { IsTrue T.notes → T.claimed taker.new ≡ T.claimed taker.old }
     ensures paid { OfNodes (S.device source.old) blob.now room.old in_images first
         (λ found. Fitting (option_map as_bytes request.only) (S.device source.old).bytes found
         (Pays (length (S.device source.old).bytes + sum_by take_allowance found) S.device source)) }

@@ -20,6 +20,7 @@ loop-next-init g c = record {
   failures = search rules;
   room = search rules;
   within = search rules;
+  none_claimed = search rules;
   paid = λ t o found from fits. pay_first t _ _ found _ c.args.first from fits;
   told = λ honest t o found from fits. take_first t _ c.args.request.need _ found _ c.args.first from fits;
 }
@@ -30,6 +31,7 @@ loop-next-preserved g c = record {
   failures = search rules;
   room = search rules;
   within = search rules;
+  none_claimed = search rules;
   paid = λ t o found from fits.
       let d = g.S.Source.device in
       let file = (d c.args.source.now).bytes in

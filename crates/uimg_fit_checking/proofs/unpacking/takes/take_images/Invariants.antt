@@ -22,6 +22,7 @@ invariant-loop-next g l =
       failures : (device l.source).failures ≡ (device l.fn.source).failures;
       room : l.room ≡ l.fn.room;
       within : IfSome l.next (λ i. i < length l.fn.room.entries);
+      none_claimed : IsTrue g.T.Taker.notes → g.T.Taker.claimed l.taker ≡ g.T.Taker.claimed l.fn.taker;
       paid : (t : Siblings) → Opened (device l.fn.source) l.blob l.fn.room t → (found : List (NodeOf Spot)) → AreFrom t in_images l.fn.first found
           → Fitting only file found (LeftToPay t file only found (device l.fn.source).asked (device l.source).asked l.next);
       told : IsTrue g.T.Taker.honest → (t : Siblings) → Opened (device l.fn.source) l.blob l.fn.room t → (found : List (NodeOf Spot)) → AreFrom t in_images l.fn.first found

@@ -76,7 +76,7 @@ returns-clause-told g c = λ honest t o found n named message is.
     let whole : taken.message ≡ message = read ∙ sym is in
     let none : None ≡ or_weak (wrong_in found.name taken.message (hashes found)) c.args.need found = ap (λ (x : Option Refusal). option_map (told_of found.name) x) (sym c.in_default.is) ∙ its.told in
     let holds = c.into_inner-shelf.ensures ∙ filled_by _ _ taken.message (ap (λ (s : Sink). s.contents) c.new-out.ensures ∙ c.in_ok-shelf.ensures.empty honest) taken.wrote.appended in
-    let given = c.in_ok-keep.ensures honest taken.message holds in
+    let given = c.in_ok-keep.ensures.given honest taken.message holds in
     subst (λ (xs : List ℕ). TakesTo true (take_of c.args.need found xs) (Ok true) (Ok xs) (g.T.Taker.takes c.args.taker.now) (g.T.Taker.takes c.keep.new.self)) whole
     (kept_is c.args.need found taken.message (as_bytes c.args.payload.name) _ c.vouched_by.result (Ok taken.message) _ _ named none (taken.set ∙ algos.algos) (c.vouched_by.ensures taken.message taken.digests)
     (given ∙ ap (λ (l : List Take). l ++ kept (as_bytes c.args.payload.name) taken.message c.vouched_by.result ∷ []) (c.in_ok-shelf.ensures.same honest)))
