@@ -61,7 +61,19 @@ The profile takes none of these, and its faults are as before:
 A fault has the line of the source, and leaves what is there:
 
   $ printf '/dts-v1/;\n/ {\n  a = &nothing;\n};\n' > bad.its && mkimage -f bad.its whole.itb
-  mkimage: bad.its: no such node at line 4
+  mkimage: bad.its: no such node at line 3
+  [1]
+  $ printf '/dts-v1/;\n/ {\n  a = <(1)>;\n  a = <2>;\n  b;\n};\n' > bad.its && mkimage -f bad.its whole.itb
+  mkimage: bad.its: duplicate name at line 4
+  [1]
+  $ printf '/dts-v1/;\n/ {\n  x: a { y = <(1)>; };\n  x: b { };\n\n};\n' > bad.its && mkimage -f bad.its whole.itb
+  mkimage: bad.its: duplicate name at line 4
+  [1]
+  $ printf '/dts-v1/;\n/ {\n  x: c { a@1; };\n  d { y = <&x>; };\n};\n' > bad.its && mkimage -f bad.its whole.itb
+  mkimage: bad.its: bad name at line 3
+  [1]
+  $ printf '/dts-v1/;\n/ {\n  a { phandle = <(1)>; };\n  b { phandle = <1>; };\n};\n' > bad.its && mkimage -f bad.its whole.itb
+  mkimage: bad.its: bad phandle at line 4
   [1]
   $ printf '/dts-v1/;\n/memreserve/ 0 1;\n/ { };\n' > reserved.its && mkimage -f reserved.its whole.itb
   mkimage: reserved.its: /memreserve/ is not supported
@@ -86,10 +98,15 @@ Files in other folders, and what would be looked for in another order than dtc's
   $ printf '/dts-v1/;\n/include/ "a.dtsi"\n' > search.its && mkimage -D '-i more' -q -f search.its found.itb
   mkimage: warning: /: it has no description
   mkimage: warning: /: it has no #address-cells
-  mkimage: found.itb: F1 no images
+  mkimage: search.its: F1 no images
   [1]
   $ cp more/b.dtsi . && mkimage -D '-i more' -q -f search.its found.itb
   mkimage: search.its: a file that it includes is in several folders of -D -i
+  [1]
+  $ rm more/b.dtsi && mkimage -D '-i . -i more' -q -f search.its found.itb
+  mkimage: warning: /: it has no description
+  mkimage: warning: /: it has no #address-cells
+  mkimage: search.its: F1 no images
   [1]
   $ mkimage -D '-@ -i more' -q -f search.its found.itb
   mkimage: -D: -@ is not supported for a source with labels; use mkimage of u-boot-tools

@@ -65,6 +65,7 @@ pub struct DtsFault {
     /// The reason.
     pub kind: DtsKind,
     /// The line of the text, from 1, of the word where it stopped; that of the word `/include/` if
-    /// the word is in an included file. If the whole tree has the fault, the last line.
+    /// the word is in an included file: of a name that is given twice the second, of a reference the
+    /// reference. If the root is deleted, the last line.
     pub line: u64,
 }

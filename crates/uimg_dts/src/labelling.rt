@@ -36,6 +36,7 @@ impl<'t, A: Allocator + Copy> Table<'t, A> {
         }
         let label = LabelEntry {
             name,
+            left,
             owner,
             is_deleted: false,
         };

@@ -47,6 +47,7 @@ impl<'t, A: Allocator + Copy> Table<'t, A> {
     // Gives a property the value of another.
     fn replace(&mut self, place: usize, by: PropertyEntry) {
         if let Some(property) = self.properties.get_mut(place) {
+            property.left = by.left;
             property.value = by.value;
             property.marks = by.marks;
             property.is_file = by.is_file;

@@ -3,7 +3,7 @@
 use crate::bytes::after;
 use crate::fault::Refusal;
 use crate::stop::{Stop, at, out_of_memory};
-use crate::table::{MarkKind, Table};
+use crate::table::{MarkKind, NodeEntry, PropertyEntry, Table};
 use crate::tokens::Piece;
 use std::alloc::Allocator;
 
@@ -19,11 +19,22 @@ fn is_node_byte(b: u8) -> bool {
         || matches!(b, b',' | b'.' | b'_' | b'+' | b'-' | b'@')
 }
 
-// Adds a name.
-fn add_name<A: Allocator>(names: &mut Vec<Piece, A>, name: Piece) -> Result<(), Stop> {
-    match names.push(name) {
+// A label's name, and how many bytes of the text remain there.
+#[derive(Clone, Copy, Debug)]
+struct Labelled {
+    name: Piece,
+    left: usize,
+}
+
+// Adds a label.
+fn add_name<A: Allocator>(
+    names: &mut Vec<Labelled, A>,
+    name: Piece,
+    left: usize,
+) -> Result<(), Stop> {
+    match names.push(Labelled { name, left }) {
         Ok(()) => Ok(()),
-        Err(_) => Err(out_of_memory(0)),
+        Err(_) => Err(out_of_memory(left)),
     }
 }
 
@@ -34,34 +45,42 @@ fn is_string(bytes: &[u8]) -> bool {
 }
 
 impl<'t, A: Allocator + Copy> Table<'t, A> {
-    // Returns whether a later child of the same parent, deleted or not, has a child's name.
-    fn has_later_child(&self, child: usize, name: Piece) -> Option<bool> {
+    // Returns the next child of the same parent, deleted or not, that has a child's name.
+    fn later_child(&self, child: usize, name: Piece) -> Option<NodeEntry> {
         let mut place = self.node(child)?.next;
         for _ in 0..self.nodes.len() {
-            let Some(node) = self.node(place) else {
-                return Some(false);
-            };
+            let node = self.node(place)?;
             if self.same(node.name, name) {
-                return Some(true);
+                return Some(node);
             }
             place = node.next;
         }
-        Some(false)
+        None
     }
 
-    // Returns whether a later property of the node that is not deleted has a property's name.
-    fn has_later_property(&self, property: usize, name: Piece) -> Option<bool> {
+    // Returns the next property of the node that is not deleted and has a property's name.
+    fn later_property(&self, property: usize, name: Piece) -> Option<PropertyEntry> {
         let mut place = self.property(property)?.next;
         for _ in 0..self.properties.len() {
-            let Some(found) = self.property(place) else {
-                return Some(false);
-            };
+            let found = self.property(place)?;
             if !found.is_deleted && self.same(found.name, name) {
-                return Some(true);
+                return Some(found);
             }
             place = found.next;
         }
-        Some(false)
+        None
+    }
+
+    // Refuses a property, which is not deleted, of the name of a later one, or with an `@` in it.
+    fn check_property(&self, place: usize, property: PropertyEntry) -> Result<(), Stop> {
+        if let Some(later) = self.later_property(place, property.name) {
+            return Err(at(Refusal::Duplicate, later.left));
+        }
+        let name = self.text(property.name);
+        if base_length(name) < name.len() {
+            return Err(at(Refusal::BadName, property.left));
+        }
+        Ok(())
     }
 
     // Refuses properties of a node that have one name or an `@` in it.
@@ -71,12 +90,8 @@ impl<'t, A: Allocator + Copy> Table<'t, A> {
             let Some(found) = self.property(place) else {
                 return Ok(());
             };
-            let name = self.text(found.name);
-            if !found.is_deleted && self.has_later_property(place, found.name) == Some(true) {
-                return Err(at(Refusal::Duplicate, 0));
-            }
-            if !found.is_deleted && base_length(name) < name.len() {
-                return Err(at(Refusal::BadName, 0));
+            if !found.is_deleted {
+                self.check_property(place, found)?;
             }
             place = found.next;
         }
@@ -84,14 +99,14 @@ impl<'t, A: Allocator + Copy> Table<'t, A> {
     }
 
     // Refuses a node of the name of a later one, with two unit addresses, or with other bytes.
-    fn check_name(&self, place: usize, name: Piece) -> Result<(), Stop> {
-        if self.has_later_child(place, name) == Some(true) {
-            return Err(at(Refusal::Duplicate, 0));
+    fn check_name(&self, place: usize, node: NodeEntry) -> Result<(), Stop> {
+        if let Some(later) = self.later_child(place, node.name) {
+            return Err(at(Refusal::Duplicate, later.left));
         }
-        let text = self.text(name);
+        let text = self.text(node.name);
         let unit = after(text, base_length(text).saturating_add(1));
         if base_length(unit) < unit.len() || !text.iter().all(|b| is_node_byte(*b)) {
-            return Err(at(Refusal::BadName, 0));
+            return Err(at(Refusal::BadName, node.left));
         }
         Ok(())
     }
@@ -104,7 +119,7 @@ impl<'t, A: Allocator + Copy> Table<'t, A> {
                 return Ok(());
             };
             if !is_string(self.value(found.value)) {
-                return Err(at(Refusal::BadName, 0));
+                return Err(at(Refusal::BadName, found.left));
             }
         }
         let Some(first) = self.property_named(place, b"name") else {
@@ -117,7 +132,7 @@ impl<'t, A: Allocator + Copy> Table<'t, A> {
         let base = node.get(..base_length(node)).unwrap_or(&[]);
         let value = self.value(found.value);
         if value.len() != base.len().saturating_add(1) || !value.starts_with(base) {
-            return Err(at(Refusal::BadName, 0));
+            return Err(at(Refusal::BadName, found.left));
         }
         self.delete_property(first);
         Ok(())
@@ -130,7 +145,7 @@ impl<'t, A: Allocator + Copy> Table<'t, A> {
             let Some(node) = self.node(*place) else {
                 return Ok(());
             };
-            self.check_name(*place, node.name)?;
+            self.check_name(*place, node)?;
             self.check_properties(node.first_property)?;
             self.check_name_property(*place, node.name)?;
         }
@@ -138,10 +153,12 @@ impl<'t, A: Allocator + Copy> Table<'t, A> {
     }
 
     // Adds the names of the labels in a property's value.
-    fn add_marks(&self, names: &mut Vec<Piece, A>, marks: Piece) -> Result<(), Stop> {
+    fn add_marks(&self, names: &mut Vec<Labelled, A>, marks: Piece) -> Result<(), Stop> {
         for i in marks.start..marks.end {
             match self.marks.get(i) {
-                Some(mark) if mark.kind == MarkKind::Label => add_name(names, mark.name)?,
+                Some(mark) if mark.kind == MarkKind::Label => add_name(
+                    names, mark.name, mark.left,
+                )?,
                 _ => {}
             }
         }
@@ -149,11 +166,11 @@ impl<'t, A: Allocator + Copy> Table<'t, A> {
     }
 
     // Returns the names of all labels in the tree.
-    fn label_names(&self) -> Result<Vec<Piece, A>, Stop> {
+    fn label_names(&self) -> Result<Vec<Labelled, A>, Stop> {
         let mut names = Vec::new(self.alloc);
         for label in self.labels.as_slice() {
             if self.is_live_label(*label) {
-                add_name(&mut names, label.name)?;
+                add_name(&mut names, label.name, label.left)?;
             }
         }
         for property in self.properties.as_slice() {
@@ -164,23 +181,27 @@ impl<'t, A: Allocator + Copy> Table<'t, A> {
         Ok(names)
     }
 
-    // Returns whether names from a place on have a name.
-    fn has_name(&self, names: &[Piece], first: usize, name: Piece) -> bool {
+    // Returns the first label of a name, from a place on.
+    fn label_named(&self, names: &[Labelled], first: usize, name: Piece) -> Option<Labelled> {
         for i in first..names.len() {
             match names.get(i) {
-                Some(other) if self.same(*other, name) => return true,
+                Some(other) if self.same(other.name, name) => return Some(*other),
                 _ => {}
             }
         }
-        false
+        None
     }
 
     /// Refuses a label that names two things.
     pub(crate) fn check_labels(&self) -> Result<(), Stop> {
         let names = self.label_names()?;
-        for (i, name) in names.as_slice().iter().enumerate() {
-            if self.has_name(names.as_slice(), i.saturating_add(1), *name) {
-                return Err(at(Refusal::Duplicate, 0));
+        for (i, label) in names.as_slice().iter().enumerate() {
+            if let Some(later) = self.label_named(
+                names.as_slice(),
+                i.saturating_add(1),
+                label.name,
+            ) {
+                return Err(at(Refusal::Duplicate, usize::min(label.left, later.left)));
             }
         }
         Ok(())

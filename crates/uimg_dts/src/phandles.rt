@@ -32,7 +32,7 @@ impl<'t, A: Allocator + Copy> Table<'t, A> {
         let Some(property) = self.property(found) else {
             return Ok(0);
         };
-        let bad = at(Refusal::BadPhandle, 0);
+        let bad = at(Refusal::BadPhandle, property.left);
         let [a, b, c, d] = self.value(property.value) else {
             return Err(bad);
         };
@@ -76,7 +76,7 @@ impl<'t, A: Allocator + Copy> Table<'t, A> {
             let number = if own == 0 { other } else { own };
             let differ = own != 0 && other != 0 && own != other;
             if differ || (number != 0 && self.is_taken(order, number)) {
-                return Err(at(Refusal::BadPhandle, 0));
+                return Err(at(Refusal::BadPhandle, self.left_of(*place)));
             }
             self.set_number(*place, number);
         }
@@ -135,7 +135,7 @@ impl<'t, A: Allocator + Copy> Table<'t, A> {
             return Ok(());
         }
         let Some(found) = self.referred(mark.name) else {
-            return Err(at(Refusal::NoNode, 0));
+            return Err(at(Refusal::NoNode, mark.left));
         };
         self.refer(place, found);
         if mark.kind == MarkKind::Phandle {

@@ -1,5 +1,6 @@
 //! The nodes, properties and labels of a source, in tables. Each names others by their places in the
-//! tables, and a place that is none is `NONE`.
+//! tables, and a place that is none is `NONE`. `left` is how many bytes of the text remain at the word
+//! that gave an entry.
 
 ghost use Rattle.std.specs.Prelude.{◌≡◌, ◌++◌, OnOk};
 
@@ -14,6 +15,7 @@ pub(crate) const NONE: usize = usize::MAX;
 #[derive(Clone, Copy, Debug)]
 pub(crate) struct NodeEntry {
     pub(crate) name: Piece,
+    pub(crate) left: usize,
     pub(crate) parent: usize,
     pub(crate) next: usize,
     pub(crate) first_child: usize,
@@ -36,6 +38,7 @@ pub(crate) struct NodeEntry {
 #[derive(Clone, Copy, Debug)]
 pub(crate) struct PropertyEntry {
     pub(crate) name: Piece,
+    pub(crate) left: usize,
     pub(crate) node: usize,
     pub(crate) next: usize,
     pub(crate) value: Piece,
@@ -56,6 +59,7 @@ pub(crate) enum Owner {
 #[derive(Clone, Copy, Debug)]
 pub(crate) struct LabelEntry {
     pub(crate) name: Piece,
+    pub(crate) left: usize,
     pub(crate) owner: Owner,
     pub(crate) is_deleted: bool,
 }
@@ -76,6 +80,7 @@ pub(crate) struct MarkEntry {
     pub(crate) kind: MarkKind,
     pub(crate) offset: usize,
     pub(crate) name: Piece,
+    pub(crate) left: usize,
     /// The node that a reference means, once it is resolved.
     pub(crate) node: usize,
 }
@@ -160,6 +165,7 @@ impl<'t, A: Allocator + Copy> Table<'t, A> {
             kind,
             offset,
             name,
+            left,
             node: NONE,
         };
         match self.marks.push(mark) {
@@ -173,6 +179,7 @@ impl<'t, A: Allocator + Copy> Table<'t, A> {
         let place = self.nodes.len();
         let node = NodeEntry {
             name,
+            left,
             parent: NONE,
             next: NONE,
             first_child: NONE,
@@ -197,6 +204,7 @@ impl<'t, A: Allocator + Copy> Table<'t, A> {
         let place = self.properties.len();
         let property = PropertyEntry {
             name,
+            left,
             node: NONE,
             next: NONE,
             value: NOTHING,
