@@ -1,0 +1,7 @@
+pub mod Chains
+pub mod Examples
+pub mod MakingLaws
+pub mod Numbers
+pub mod Refusals
+pub mod Simple
+pub mod SubcommandLaws
