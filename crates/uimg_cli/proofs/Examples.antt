@@ -152,3 +152,20 @@ the_help_command = refl
 no_word : asked [] ≡ Err no_command ∷ []
 unfolding clap_on_literals uimg_on_literals
 no_word = refl
+
+-- ---- any text
+
+any_verified_image : (image : Text) → asked (codes "verify" ∷ codes "--" ∷ image ∷ [])
+    ≡ Ok (runs (plain_run action.Verify form.Guess image None)) ∷ []
+unfolding clap_on_literals uimg_on_literals
+any_verified_image image = refl
+
+any_listed_image : (image : Text) → asked (codes "mkimage" ∷ codes "-l" ∷ codes "--" ∷ image ∷ [])
+    ≡ Ok (runs (plain_run action.List form.Guess image None)) ∷ []
+unfolding clap_on_literals uimg_on_literals
+any_listed_image image = refl
+
+any_checked_images : (one two : Text) → asked (codes "check" ∷ codes "--quiet" ∷ codes "--" ∷ one ∷ two ∷ [])
+    ≡ Ok (checks (record { need = None; is_strict = false; images = one ∷ two ∷ []; files_from = None; has_nuls = false; as_json = false; is_quiet = true; allows_none = false })) ∷ []
+unfolding clap_on_literals uimg_on_literals
+any_checked_images one two = refl
