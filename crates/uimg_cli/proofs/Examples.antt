@@ -1,5 +1,5 @@
 -- What some command lines of `uimg` ask for. SOURCE_DATE_EPOCH is 1700000000.
-use Rattle.std.proofs.Common.{◌≡◌, List, [], ◌∷◌, Some, None, Result, Ok, Err, codes, false, refl, true}
+use Rattle.std.proofs.Common.{◌≡◌, ◌++◌, List, [], ◌∷◌, Some, None, Result, Ok, Err, codes, false, refl, true}
 use Rattle.std.specs.Prelude.{⊤}
 use Rattle.clap.proofs.OnLiterals.{clap_on_literals}
 use Rattle.clap.specs.Walk.{Text}
@@ -169,3 +169,13 @@ any_checked_images : (one two : Text) → asked (codes "check" ∷ codes "--quie
     ≡ Ok (checks (record { need = None; is_strict = false; images = one ∷ two ∷ []; files_from = None; has_nuls = false; as_json = false; is_quiet = true; allows_none = false })) ∷ []
 unfolding clap_on_literals uimg_on_literals
 any_checked_images one two = refl
+
+any_list_of_images : (file : Text) → asked (codes "check" ∷ (codes "--files-from=" ++ file) ∷ [])
+    ≡ Ok (checks (record { need = None; is_strict = false; images = []; files_from = Some file; has_nuls = false; as_json = false; is_quiet = false; allows_none = false })) ∷ []
+unfolding clap_on_literals uimg_on_literals
+any_list_of_images file = refl
+
+any_one_payload : (name image : Text) → asked (codes "unpack" ∷ (codes "--only=" ++ name) ∷ codes "--" ∷ image ∷ [])
+    ≡ Ok (unpacks (record { folder = codes "."; only = Some name; need = None; is_forced = false; keeps_good = false; is_synced = true; as_json = false; cleans = false; most_files = 4096; most_bytes = None; image = Some image })) ∷ []
+unfolding clap_on_literals uimg_on_literals
+any_one_payload name image = refl

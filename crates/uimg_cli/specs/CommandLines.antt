@@ -26,7 +26,7 @@ version_rule = record (new_rule (codes "version")) {
   action = Some Version;
 }
 
--- The program by itself wants a command, and shows its help without any word.
+-- The program by itself wants a command. Without any word it prints its help as a complaint.
 abbrev pub bare_program : App
 bare_program = on_top (λ top. record top {
   has_version = true;
@@ -72,7 +72,7 @@ refusal DisplayVersion = Ok (shows DisplayVersion)
 refusal _ = Err no_command
 
 -- Where the library refuses nothing, the request is the answer; else one of its refusals is. There
--- are two where `help` has a word after it, whose help it shows, or which is no command.
+-- are two for the command `help`: the word after it has a help, or is no command.
 abbrev pub answers : Result Wanted Wrong → Kinds → List (Result Wanted Wrong)
 answers asked [] = asked ∷ []
 answers asked (kind ∷ kinds) = map refusal (kind ∷ kinds)

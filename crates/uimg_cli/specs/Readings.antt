@@ -42,20 +42,21 @@ number_of base text = number_below 4294967296 base text
 abbrev pub count_of : Text → Option ℕ
 count_of text = number_below 18446744073709551616 10 text
 
--- a decimal number of 32 bits
-abbrev pub decimal_of : Text → Option ℕ
-decimal_of text = number_of 10 text
-
 -- the same as a fact
 abbrev pub IsCount : Text → Option ℕ → Type 0
 IsCount text result = SomeIff result (IsNumeral 10 text × (digits_value 10 text < 2 ^ 64))
     (digits_value 10 text)
+
+-- a decimal number of 32 bits
+abbrev pub decimal_of : Text → Option ℕ
+decimal_of text = number_of 10 text
 
 -- the digits after `0x` (48, 120), if the text begins so
 abbrev pub unmarked : Text → Text
 unmarked (a ∷ b ∷ rest) = if a == 48 && b == 120 then rest else a ∷ b ∷ rest
 unmarked text = text
 
+-- a hexadecimal number of 32 bits
 abbrev pub hexadecimal_of : Text → Option ℕ
 hexadecimal_of text = number_of 16 (unmarked text)
 
