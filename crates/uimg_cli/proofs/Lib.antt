@@ -1,5 +1,6 @@
 pub mod Chains
 pub mod Examples
+pub mod ImageLaws
 pub mod MakingLaws
 pub mod Numbers
 pub mod Refusals
