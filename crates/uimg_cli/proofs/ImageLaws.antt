@@ -1,58 +1,21 @@
 -- The images of `check` are the words after `--`, all of them and in their order.
-use Rattle.std.proofs.Common.{◌≡◌, ◌∙◌, ◌&&◌, if◌then◌else◌, ◌++◌, ◌≤◌, ℕ, suc, arith, le-ltb, ne_eqb, Bool, List, [], ◌∷◌, Option, Some, None, Result, Ok, Err, codes, false, true, refl, ap, ap₂, sym, append-nil, append_assoc, find, fold, is_some, length, nat_lt, unwrap_or, bytes_eq}
+use Rattle.std.proofs.Common.{◌≡◌, ◌∙◌, ◌&&◌, if◌then◌else◌, ◌++◌, ℕ, suc, arith, le-ltb, ne_eqb, List, [], ◌∷◌, Option, Some, None, Result, Ok, Err, codes, false, true, refl, ap, ap₂, append-nil, append_assoc, fold, length, nat_lt}
 use Rattle.clap.proofs.OnLiterals.{clap_on_literals}
-use Rattle.clap.proofs.FaultLemmas.{stopped_fault}
-use Rattle.clap.specs.Faults.{check_fault, defaults_fault, entered_fault, fault_of, level_fault, settle_fault, values_fault, walk_fault}
+use Rattle.clap.specs.Faults.{check_fault, defaults_fault, settle_fault, walk_fault}
 use Rattle.clap.specs.Lexer.{usize_max}
 use Rattle.clap.specs.Kinds.{Kinds, or_else, values_kinds}
-use Rattle.clap.specs.Simple.{App, Shape, built, entered, names_of}
-use Rattle.clap.specs.Walk.{Names, is_empty, Row, Rule, Text, Walk, finished, nothing_held, positional, settled, walk, walk_from, walked}
+use Rattle.clap.specs.Simple.{Shape}
+use Rattle.clap.specs.Walk.{is_empty, Text, Walk, finished, positional, settled, walked}
 use Rattle.clap.specs.declared.builder.value_parser.ValueParser.TheVariants as vp
 use Rattle.uimg_cli.specs.Check.{Checking}
-use Rattle.uimg_cli.specs.CommandLines.{answers, asked_by, request_asked, uimg, words_asked}
+use Rattle.uimg_cli.specs.CommandLines.{answers, asked_by, words_asked}
 use Rattle.uimg_cli.specs.Wanted.{Wanted, checks}
 use Rattle.uimg_cli.specs.Wrong.{Wrong, and_then, no_images}
+use Rattle.uimg_cli.proofs.EnteringLaws.{by_level, by_walk, entered_walk, entering, shape_named}
 use Rattle.uimg_cli.proofs.Examples.{uimg_on_literals}
 
--- a walk that met a subcommand hands it each further word
-handed : (c : List Rule) (names : Names) (w : Walk) (name : Text) (so_far words : List Text) → w.stopped ≡ Some (name, so_far)
-    → fold (walked c names) w words ≡ record w { stopped = Some (name, so_far ++ words) }
-unfolding walked
-handed c names w name so_far [] met = rw (append-nil so_far, ← met) refl
-handed c names w name so_far (word ∷ rest) met =
-    let one : walked c names w word ≡ record w { stopped = Some (name, so_far ++ word ∷ []) } = rw met refl in
-    ap (λ v. fold (walked c names) v rest) one
-    ∙ handed c names (record w { stopped = Some (name, so_far ++ word ∷ []) }) name (so_far ++ word ∷ []) rest refl
-    ∙ ap (λ all. record w { stopped = Some (name, all) }) (append_assoc so_far (word ∷ []) rest)
-
--- what the words of `uimg` come to by the walk over them and by what is wrong in it
-abbrev by_walk : Option Text → ℕ → Walk → Kinds → List (Result Wanted Wrong)
-by_walk epoch moment w wrong =
-    let a = built uimg in
-    answers (request_asked epoch moment (entered a w.stopped))
-    (or_else wrong (or_else (entered_fault a w.stopped) (or_else (settle_fault a.top.rules a.top.args_override_self w.held)
-    (or_else (defaults_fault (settled a.top.rules w.held).rows a.top.rules)
-    (check_fault a.top (finished a.top.rules w.held) (is_some (entered a w.stopped)))))))
-
-abbrev first_walk : Walk
-first_walk = walked (built uimg).top.rules (names_of (built uimg)) (walk_from nothing_held) (codes "check")
-
-abbrev entered_walk : List Text → Walk
-entered_walk rest = record first_walk { stopped = Some (codes "check", rest) }
-
-entering : (epoch : Option Text) (moment : ℕ) (rest : List Text) → words_asked epoch moment (codes "uimg" ∷ codes "check" ∷ rest) ≡ by_walk epoch moment (entered_walk rest) []
-unfolding clap_on_literals uimg_on_literals
-entering epoch moment rest =
-    let c = (built uimg).top.rules in
-    let names = names_of (built uimg) in
-    let walks : walk c names nothing_held (codes "check" ∷ rest) ≡ entered_walk rest = handed c names first_walk (codes "check") [] rest refl in
-    let faults : walk_fault (built uimg).top names (walk_from nothing_held) (codes "check" ∷ rest) ≡ [] = stopped_fault (built uimg).top names first_walk (codes "check", []) rest in
-    ap₂ (by_walk epoch moment) walks faults
-
--- ---- the words of `check`
-
 abbrev shape : Shape
-shape = unwrap_or (find (λ s. bytes_eq s.name (codes "check")) (built uimg).subs) (built uimg).top
+shape = shape_named (codes "check")
 
 -- the walk after `--` and these images
 abbrev behind : List Text → Walk
@@ -78,19 +41,11 @@ all_accepted : (words : List Text) → values_kinds false vp.String words ≡ []
 all_accepted [] = refl
 all_accepted (word ∷ rest) = all_accepted rest
 
--- what the words of `check` come to by the walk over them, and by what is wrong in it
-abbrev by_level : Option Text → ℕ → Walk → Kinds → List (Result Wanted Wrong)
-by_level epoch moment w wrong =
-    answers (asked_by epoch moment (codes "check") (finished shape.rules w.held))
-    (or_else (or_else wrong (or_else [] (or_else (settle_fault shape.rules false w.held)
-    (or_else (defaults_fault (settled shape.rules w.held).rows shape.rules)
-    (check_fault shape (finished shape.rules w.held) false))))) [])
-
 checking : (epoch : Option Text) (moment : ℕ) (image : Text) (images : List Text)
-    → by_walk epoch moment (entered_walk (codes "--" ∷ image ∷ images)) [] ≡ by_level epoch moment (behind (image ∷ images)) []
+    → by_walk epoch moment (entered_walk (codes "check") (codes "--" ∷ image ∷ images)) [] ≡ by_level epoch moment (codes "check") (behind (image ∷ images)) []
 unfolding clap_on_literals uimg_on_literals
 checking epoch moment image images =
-    ap₂ (by_level epoch moment) (all_held (image ∷ []) images) (nothing_wrong (image ∷ []) images)
+    ap₂ (by_level epoch moment (codes "check")) (all_held (image ∷ []) images) (nothing_wrong (image ∷ []) images)
 
 none_below_zero : (n : ℕ) → nat_lt n 0 ≡ false
 none_below_zero n = le-ltb n 0 (omega arith)
@@ -116,7 +71,7 @@ by_end epoch moment images wrong =
     (check_fault shape (finished shape.rules (behind images).held) false))))) [])
 
 ending : (epoch : Option Text) (moment : ℕ) (image : Text) (images : List Text) → nat_lt usize_max (length (image ∷ images)) ≡ false
-    → by_level epoch moment (behind (image ∷ images)) [] ≡ Ok (checks (check_of (image ∷ images))) ∷ []
+    → by_level epoch moment (codes "check") (behind (image ∷ images)) [] ≡ Ok (checks (check_of (image ∷ images))) ∷ []
 unfolding clap_on_literals uimg_on_literals
 ending epoch moment image images few =
     ap (by_end epoch moment (image ∷ images)) (settles image images few)
@@ -126,5 +81,6 @@ ending epoch moment image images few =
 pub all_images : (epoch : Option Text) (moment : ℕ) (image : Text) (images : List Text) → nat_lt usize_max (length (image ∷ images)) ≡ false
     → words_asked epoch moment (codes "uimg" ∷ codes "check" ∷ codes "--" ∷ image ∷ images)
     ≡ Ok (checks (check_of (image ∷ images))) ∷ []
+unfolding clap_on_literals uimg_on_literals
 all_images epoch moment image images few =
-    entering epoch moment (codes "--" ∷ image ∷ images) ∙ checking epoch moment image images ∙ ending epoch moment image images few
+    entering epoch moment (codes "check") (codes "--" ∷ image ∷ images) refl refl ∙ checking epoch moment image images ∙ ending epoch moment image images few

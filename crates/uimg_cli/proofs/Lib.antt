@@ -1,4 +1,5 @@
 pub mod Chains
+pub mod EnteringLaws
 pub mod Examples
 pub mod ImageLaws
 pub mod MakingLaws
@@ -6,3 +7,4 @@ pub mod Numbers
 pub mod Refusals
 pub mod Simple
 pub mod SubcommandLaws
+pub mod WordLaws
