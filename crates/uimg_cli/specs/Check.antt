@@ -19,7 +19,8 @@ images_rule = record (new_rule (codes "image")) {
   range = Some (record { start_inclusive = 0; end_inclusive = usize_max });
 }
 
--- check [--need ALGO] [--strict] [--files-from FILE] [-0] [--json] [--quiet] [--allow-empty] [IMAGE ..]
+-- check [--need ALGO] [--strict] [--files-from FILE] [-0] [--json] [--quiet] [--allow-empty]
+-- [IMAGE ..]
 unfoldable pub check : App
 check = with_rules (
     long_rule (codes "need")
