@@ -1,7 +1,19 @@
 //! The words of `check`.
 
+ghost use Rattle.std.specs.Prelude.{◌≡◌, IfOk, codes, false};
+ghost use Rattle.clap.specs.Simple.{app_of};
+ghost use Rattle.clap.specs.Walk.{rule_of, texts};
+ghost use Rattle.clap.specs.declared.builder.command.Command.TheViews.{out-Command as fields_of};
+ghost use Rattle.uimg_cli.specs.Check.{check, check_asked, checking_of, checking_with, images_rule};
+ghost use Rattle.uimg_cli.specs.Check.{least_need};
+ghost use Rattle.uimg_cli.specs.Readings.{given, texts_given};
+ghost use Rattle.uimg_cli.specs.Wrong.{Tells};
+
+use super::WordsFault;
+use super::arguments::{titled, with, with_flag, with_long, with_switch};
 use super::help_notes::CHECK_NOTES;
-use super::{WordsFault, flag, need_of, switch};
+use super::needs::need_of;
+use super::readings::{is_missing, is_set, text_of, values_of};
 use clap::{Arg, ArgAction, ArgMatches};
 use std::alloc::{AllocError, Global};
 use uimg_base::Algo;
@@ -34,43 +46,11 @@ pub struct CheckRequest<'a> {
     pub allows_none: bool,
 }
 
-pub(super) fn command<'a>(alloc: Global) -> Result<clap::Command<'a>, AllocError> {
-    clap::Command::new(alloc, "check")
-        .about("Check many images, and print a line for each")
-        .after_help(CHECK_NOTES)
-        .arg(
-            Arg::new(alloc, "need")
-                .long("need")
-                .action(ArgAction::Set)
-                .value_name("algo")
-                .help("Require a hash by this algorithm or a stronger one"),
-        )?
-        .arg(switch(alloc, "strict", STRICT))?
-        .arg(
-            Arg::new(alloc, "files-from")
-                .long("files-from")
-                .action(ArgAction::Set)
-                .value_name("file")
-                .help("Also check the images whose paths are in this file, one a line"),
-        )?
-        .arg(flag(
-            alloc,
-            "nuls",
-            '0',
-            "Paths in that file end with NUL, not with a newline",
-        ))?
-        .arg(switch(alloc, "json", JSON))?
-        .arg(switch(alloc, "quiet", QUIET))?
-        .arg(switch(alloc, "allow-empty", ALLOW_EMPTY))?
-        .arg(
-            Arg::new(alloc, "image")
-                .action(ArgAction::Append)
-                .num_args(0..)
-                .help("The images"),
-        )
-}
+// What it is about, and the helps of its options.
+const ABOUT: &str = "Check many images, and print a line for each";
 
-// The helps of options.
+const NEED: &str = "Require a hash by this algorithm or a stronger one";
+
 const STRICT: &str = "Require hashes, images for all names, and a tree that U-Boot reads alike";
 
 const JSON: &str = "Print a JSON object for each image";
@@ -79,28 +59,93 @@ const QUIET: &str = "Print no line for images that are ok";
 
 const ALLOW_EMPTY: &str = "Accept a file of paths that has none";
 
+const FILES_FROM: &str = "Also check the images whose paths are in this file, one a line";
+
+const NULS: &str = "Paths in that file end with NUL, not with a newline";
+
+#[tactic(auto, unfolding(crate::specs::Check::check))]
+pub(super) fn command<'a>(alloc: Global) -> Result<clap::Command<'a>, AllocError>
+    ensures app { IfOk result (λ command. app_of command ≡ check) }
+    ensures local { IfOk result (λ command. (fields_of command).has_globals ≡ false) }
+{
+    let command = titled(alloc, "check", ABOUT, CHECK_NOTES);
+    let command = with_long(command, alloc, "need", "algo", NEED)?;
+    let command = with_switch(command, alloc, "strict", STRICT)?;
+    let command = with_long(command, alloc, "files-from", "file", FILES_FROM)?;
+    let command = with_flag(command, alloc, "nuls", '0', NULS)?;
+    let command = with_switch(command, alloc, "json", JSON)?;
+    let command = with_switch(command, alloc, "quiet", QUIET)?;
+    let command = with_switch(command, alloc, "allow-empty", ALLOW_EMPTY)?;
+    with(command, images(alloc))
+}
+
+// Returns the operands for the images.
+fn images<'a>(alloc: Global) -> Arg<'a>
+    ensures rule { rule_of result ≡ images_rule }
+    ensures local { result.global ≡ false }
+{
+    Arg::new(alloc, "image")
+        .action(ArgAction::Append)
+        .num_args(0..)
+        .help("The images")
+}
+
 pub(super) fn request<'a>(
     alloc: Global,
     matches: &ArgMatches<'a>,
-) -> Result<CheckRequest<'a>, WordsFault> {
-    let is_strict = matches.get_flag("strict");
-    let need = match need_of(alloc, matches)? {
-        None if is_strict => Some(Algo::Crc32),
-        need => need,
+) -> Result<CheckRequest<'a>, WordsFault>
+    ensures { Tells checking_of (check_asked (given matches.now)) result }
+{
+    match need_of(alloc, matches) {
+        Ok(need) => request_with(alloc, matches, need),
+        Err(fault) => Err(fault),
+    }
+}
+
+fn request_with<'a>(
+    alloc: Global,
+    matches: &ArgMatches<'a>,
+    need: Option<Algo>,
+) -> Result<CheckRequest<'a>, WordsFault>
+    ensures { Tells checking_of (checking_with (given matches.now) need) result }
+{
+    let files_from = text_of(matches, "files-from");
+    let Ok(images) = images_of(alloc, matches) else {
+        return Err(WordsFault::OutOfMemory);
     };
-    let images = Vec::from_slice(alloc, matches.get_strs("image").unwrap_or(&[]))?;
-    let files_from = matches.get_str("files-from");
-    if images.is_empty() & files_from.is_none() {
+    if images.as_slice().is_empty() & is_missing(files_from) {
         return Err(WordsFault::NoImages);
     }
+    let is_strict = is_set(matches, "strict");
     Ok(CheckRequest {
-        need,
+        need: least_need(is_strict, need),
         is_strict,
         images,
         files_from,
-        has_nuls: matches.get_flag("nuls"),
-        as_json: matches.get_flag("json"),
-        is_quiet: matches.get_flag("quiet"),
-        allows_none: matches.get_flag("allow-empty"),
+        has_nuls: is_set(matches, "nuls"),
+        as_json: is_set(matches, "json"),
+        is_quiet: is_set(matches, "quiet"),
+        allows_none: is_set(matches, "allow-empty"),
     })
+}
+
+// Returns the operands.
+fn images_of<'a>(alloc: Global, matches: &ArgMatches<'a>) -> Result<Vec<&'a str>, AllocError>
+    ensures { IfOk result (λ images.
+        texts images.items ≡ texts_given (codes "image") (given matches.now)) }
+{
+    match values_of(matches, "image") {
+        Some(values) => Vec::from_slice(alloc, values),
+        None => Ok(Vec::new(alloc)),
+    }
+}
+
+// Returns the algorithm that is needed: at least CRC-32 for a strict check.
+fn least_need(is_strict: bool, need: Option<Algo>) -> Option<Algo>
+    ensures { result ≡ least_need is_strict need }
+{
+    match need {
+        None if is_strict => Some(Algo::Crc32),
+        need => need,
+    }
 }

@@ -1,8 +1,15 @@
 //! The words of `info`.
 
+ghost use Rattle.std.specs.Prelude.{◌≡◌, IfOk, false};
+ghost use Rattle.clap.specs.Simple.{app_of};
+ghost use Rattle.clap.specs.declared.builder.command.Command.TheViews.{out-Command as fields_of};
+ghost use Rattle.uimg_cli.specs.Info.{info, info_asked};
+ghost use Rattle.uimg_cli.specs.Readings.{given};
+
+use super::arguments::{titled, with_image, with_switch};
 use super::help_notes::INFO_NOTES;
-use super::image;
-use clap::{Arg, ArgAction, ArgMatches};
+use super::readings::text_or;
+use clap::ArgMatches;
 use std::alloc::{AllocError, Global};
 
 /// A request for the facts of an image, as a JSON object.
@@ -12,21 +19,25 @@ pub struct InfoRequest<'a> {
     pub image: &'a str,
 }
 
-pub(super) fn command<'a>(alloc: Global) -> Result<clap::Command<'a>, AllocError> {
-    clap::Command::new(alloc, "info")
-        .about("Print the facts of an image as JSON, for scripts")
-        .after_help(INFO_NOTES)
-        .arg(
-            Arg::new(alloc, "json")
-                .long("json")
-                .action(ArgAction::SetTrue)
-                .help("Print a JSON object (the default)"),
-        )?
-        .arg(image(alloc, "The image"))
+// What it is about, and the help of its option.
+const ABOUT: &str = "Print the facts of an image as JSON, for scripts";
+
+const JSON: &str = "Print a JSON object (the default)";
+
+#[tactic(auto, unfolding(crate::specs::Info::info))]
+pub(super) fn command<'a>(alloc: Global) -> Result<clap::Command<'a>, AllocError>
+    ensures app { IfOk result (λ command. app_of command ≡ info) }
+    ensures local { IfOk result (λ command. (fields_of command).has_globals ≡ false) }
+{
+    let command = titled(alloc, "info", ABOUT, INFO_NOTES);
+    let command = with_switch(command, alloc, "json", JSON)?;
+    with_image(command, alloc, "The image")
 }
 
-pub(super) fn request<'a>(matches: &ArgMatches<'a>) -> InfoRequest<'a> {
+pub(super) fn request<'a>(matches: &ArgMatches<'a>) -> InfoRequest<'a>
+    ensures { result.image.now ≡ info_asked (given matches.now) }
+{
     InfoRequest {
-        image: matches.get_str("image").unwrap_or(""),
+        image: text_or(matches, "image", ""),
     }
 }

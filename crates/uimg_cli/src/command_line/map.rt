@@ -1,8 +1,19 @@
 //! The words of `map`.
 
+ghost use Rattle.std.specs.Prelude.{◌≡◌, IfOk, codes, false, option_map};
+ghost use Rattle.std.specs.Option.{option_map_or};
+ghost use Rattle.std.specs.Str.{bytes_eq};
+ghost use Rattle.clap.specs.Simple.{app_of};
+ghost use Rattle.clap.specs.declared.builder.command.Command.TheViews.{out-Command as fields_of};
+ghost use Rattle.uimg_cli.specs.Map.{is_output, map_asked, map_command, mapping_of};
+ghost use Rattle.uimg_cli.specs.Readings.{given};
+ghost use Rattle.uimg_cli.specs.Wrong.{told};
+
+use super::WordsFault;
+use super::arguments::{titled, with_image, with_long, with_switch};
 use super::help_notes::MAP_NOTES;
-use super::{WordsFault, image, switch};
-use clap::{Arg, ArgAction, ArgMatches};
+use super::readings::{is_set, text_of, text_or};
+use clap::ArgMatches;
 use std::alloc::{AllocError, Global};
 
 /// A request for the map of an image's file.
@@ -18,29 +29,44 @@ pub struct MapRequest<'a> {
     pub image: &'a str,
 }
 
-pub(super) fn command<'a>(alloc: Global) -> Result<clap::Command<'a>, AllocError> {
-    clap::Command::new(alloc, "map")
-        .about("Show the layout of an image's file, even of a broken one")
-        .after_help(MAP_NOTES)
-        .arg(
-            Arg::new(alloc, "svg")
-                .long("svg")
-                .action(ArgAction::Set)
-                .value_name("file")
-                .help("Write a picture to this file instead of printing lines"),
-        )?
-        .arg(switch(alloc, "force", "Replace a file that exists by the picture"))?
-        .arg(image(alloc, "The image"))
+// What it is about, and the helps of its options.
+const ABOUT: &str = "Show the layout of an image's file, even of a broken one";
+
+const SVG: &str = "Write a picture to this file instead of printing lines";
+
+const FORCE: &str = "Replace a file that exists by the picture";
+
+#[tactic(auto, unfolding(crate::specs::Map::map_command))]
+pub(super) fn command<'a>(alloc: Global) -> Result<clap::Command<'a>, AllocError>
+    ensures app { IfOk result (λ command. app_of command ≡ map_command) }
+    ensures local { IfOk result (λ command. (fields_of command).has_globals ≡ false) }
+{
+    let command = titled(alloc, "map", ABOUT, MAP_NOTES);
+    let command = with_long(command, alloc, "svg", "file", SVG)?;
+    let command = with_switch(command, alloc, "force", FORCE)?;
+    with_image(command, alloc, "The image")
 }
 
-pub(super) fn request<'a>(matches: &ArgMatches<'a>) -> Result<MapRequest<'a>, WordsFault> {
-    let picture = matches.get_str("svg");
-    if picture == Some("-") {
+pub(super) fn request<'a>(matches: &ArgMatches<'a>) -> Result<MapRequest<'a>, WordsFault>
+    ensures { told mapping_of result ≡ map_asked (given matches.now) }
+{
+    let picture = text_of(matches, "svg");
+    if is_output(picture) {
         return Err(WordsFault::PictureToOutput);
     }
     Ok(MapRequest {
         picture,
-        is_forced: matches.get_flag("force"),
-        image: matches.get_str("image").unwrap_or(""),
+        is_forced: is_set(matches, "force"),
+        image: text_or(matches, "image", ""),
     })
+}
+
+// Returns whether a path would be standard output.
+fn is_output(path: Option<&str>) -> bool
+    ensures { result ≡ is_output (option_map (λ text. text.now) path.entry) }
+{
+    match path {
+        Some(path) => path == "-",
+        None => false,
+    }
 }

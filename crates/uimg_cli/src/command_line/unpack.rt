@@ -1,7 +1,21 @@
 //! The words of `unpack`.
 
+ghost use Rattle.std.specs.Prelude.{◌≡◌, Err, IfOk, Option, Result, codes, false, option_map, ℕ};
+ghost use Rattle.clap.specs.Simple.{app_of, new_rule};
+ghost use Rattle.clap.specs.Walk.{rule_of};
+ghost use Rattle.clap.specs.declared.builder.command.Command.TheViews.{out-Command as fields_of};
+ghost use Rattle.uimg_cli.specs.Readings.{given};
+ghost use Rattle.uimg_cli.specs.Rules.{with_rules};
+ghost use Rattle.uimg_cli.specs.Unpack.{chosen_rules, clash, count_asked, need_rule, unpack};
+ghost use Rattle.uimg_cli.specs.Unpack.{unpack_asked, unpacking_limited, unpacking_of};
+ghost use Rattle.uimg_cli.specs.Unpack.{unpacking_with, written_rules};
+ghost use Rattle.uimg_cli.specs.Wrong.{IsWrong, Tells, Wrong, not_number, wrong_of};
+
+use super::WordsFault;
+use super::arguments::{titled, with, with_long, with_switch, with_value};
 use super::help_notes::UNPACK_NOTES;
-use super::{WordsFault, need_of, switch, value};
+use super::needs::need_of;
+use super::readings::{count, is_missing, is_set, text_of, text_or};
 use clap::{Arg, ArgAction, ArgMatches};
 use std::alloc::{AllocError, Global};
 use uimg_base::Algo;
@@ -46,24 +60,15 @@ pub struct UnpackRequest<'a> {
 /// The greatest number of files, without an option.
 const MOST_FILES: u64 = 4096;
 
-pub(super) fn command<'a>(alloc: Global) -> Result<clap::Command<'a>, AllocError> {
-    clap::Command::new(alloc, "unpack")
-        .about("Write the payloads of an image to a folder, if their hashes are right")
-        .after_help(UNPACK_NOTES)
-        .arg(value(alloc, "folder", 'C', FOLDER))?
-        .arg(only(alloc))?
-        .arg(need(alloc)?)?
-        .arg(switch(alloc, "force", "Replace files that exist"))?
-        .arg(switch(alloc, "keep-good", KEEP_GOOD))?
-        .arg(switch(alloc, "no-sync", NO_SYNC))?
-        .arg(number(alloc, "max-files", MAX_FILES))?
-        .arg(number(alloc, "max-bytes", MAX_BYTES))?
-        .arg(switch(alloc, "json", JSON))?
-        .arg(switch(alloc, "clean", CLEAN))?
-        .arg(Arg::new(alloc, "image").help("The image"))
-}
+// What it is about, and the helps of its options.
+const ABOUT: &str = "Write the payloads of an image to a folder, if their hashes are right";
 
-// The helps of options.
+const ONLY: &str = "Unpack only the payload of the image of this name, or one part: image-0";
+
+const NEED: &str = "Require a hash by this algorithm or a stronger one";
+
+const FORCE: &str = "Replace files that exist";
+
 const FOLDER: &str = "Write the files to this folder, which has to exist";
 
 const JSON: &str = "Print a JSON object for each payload or part";
@@ -78,32 +83,132 @@ const MAX_BYTES: &str = "Unpack nothing if the files have more bytes together";
 
 const CLEAN: &str = "Remove the temporary files that stopped commands left in the folder";
 
-// Returns the option for one payload or part.
-fn only<'a>(alloc: Global) -> Arg<'a> {
-    Arg::new(alloc, "only")
-        .long("only")
-        .action(ArgAction::Set)
-        .value_name("name")
-        .help("Unpack only the payload of the image of this name, or one part: image-0")
+#[tactic(auto, unfolding(crate::specs::Unpack::unpack))]
+pub(super) fn command<'a>(alloc: Global) -> Result<clap::Command<'a>, AllocError>
+    ensures app { IfOk result (λ command. app_of command ≡ unpack) }
+    ensures local { IfOk result (λ command. (fields_of command).has_globals ≡ false) }
+{
+    let command = titled(alloc, "unpack", ABOUT, UNPACK_NOTES);
+    let command = chosen_options(alloc, command)?;
+    let command = written_options(alloc, command)?;
+    let command = with_switch(command, alloc, "json", JSON)?;
+    let command = with_switch(command, alloc, "clean", CLEAN)?;
+    with(command, image(alloc))
+}
+
+// Returns the operand for the image, which --clean can do without.
+fn image<'a>(alloc: Global) -> Arg<'a>
+    ensures rule { rule_of result ≡ new_rule (codes "image") }
+    ensures local { result.global ≡ false }
+{
+    Arg::new(alloc, "image").help("The image")
+}
+
+// Adds the options of what is unpacked.
+#[tactic(auto, unfolding(crate::specs::Unpack::chosen_rules))]
+fn chosen_options<'a>(
+    alloc: Global,
+    command: clap::Command<'a>,
+) -> Result<clap::Command<'a>, AllocError>
+    ensures app { IfOk result (λ new. app_of new ≡ with_rules chosen_rules (app_of command.entry)) }
+    ensures local { IfOk result (λ new.
+        (fields_of new).has_globals ≡ (fields_of command.entry).has_globals) }
+{
+    let command = with_value(command, alloc, "folder", 'C', FOLDER)?;
+    let command = with_long(command, alloc, "only", "name", ONLY)?;
+    with(command, need(alloc)?)
+}
+
+// Adds the options of how files are written, and of how many.
+#[tactic(auto, unfolding(crate::specs::Unpack::written_rules))]
+fn written_options<'a>(
+    alloc: Global,
+    command: clap::Command<'a>,
+) -> Result<clap::Command<'a>, AllocError>
+    ensures app { IfOk result (λ new. app_of new ≡ with_rules written_rules (app_of command.entry)) }
+    ensures local { IfOk result (λ new.
+        (fields_of new).has_globals ≡ (fields_of command.entry).has_globals) }
+{
+    let command = with_switch(command, alloc, "force", FORCE)?;
+    let command = with_switch(command, alloc, "keep-good", KEEP_GOOD)?;
+    let command = with_switch(command, alloc, "no-sync", NO_SYNC)?;
+    let command = with_long(command, alloc, "max-files", "number", MAX_FILES)?;
+    with_long(command, alloc, "max-bytes", "number", MAX_BYTES)
 }
 
 // Returns the option for a needed strength, by both its names.
-fn need<'a>(alloc: Global) -> Result<Arg<'a>, AllocError> {
+fn need<'a>(alloc: Global) -> Result<Arg<'a>, AllocError>
+    ensures rule { IfOk result (λ need. rule_of need ≡ need_rule) }
+    ensures local { IfOk result (λ need. need.global ≡ false) }
+{
     let need = Arg::new(alloc, "need").long("need").alias("need-hash")?;
-    Ok(
-        need.action(ArgAction::Set)
-            .value_name("algo")
-            .help("Require a hash by this algorithm or a stronger one"),
-    )
+    Ok(need.action(ArgAction::Set).value_name("algo").help(NEED))
 }
 
-// Returns an option whose value is a number.
-fn number<'a>(alloc: Global, id: &'a str, help: &'a str) -> Arg<'a> {
-    Arg::new(alloc, id)
-        .long(id)
-        .action(ArgAction::Set)
-        .value_name("number")
-        .help(help)
+pub(super) fn request<'a>(
+    alloc: Global,
+    matches: &ArgMatches<'a>,
+) -> Result<UnpackRequest<'a>, WordsFault>
+    ensures { Tells unpacking_of (unpack_asked (given matches.now)) result }
+{
+    match need_of(alloc, matches) {
+        Ok(need) => request_with(alloc, matches, need),
+        Err(fault) => Err(fault),
+    }
+}
+
+fn request_with<'a>(
+    alloc: Global,
+    matches: &ArgMatches<'a>,
+    need: Option<Algo>,
+) -> Result<UnpackRequest<'a>, WordsFault>
+    ensures { Tells unpacking_of (unpacking_with (given matches.now) need) result }
+{
+    match clash(matches) {
+        Some(fault) => Err(fault),
+        None => limited(alloc, matches, need),
+    }
+}
+
+// Returns what is wrong with the options together.
+fn clash(matches: &ArgMatches<'_>) -> Option<WordsFault>
+    ensures { option_map wrong_of result ≡ clash (given matches.now) }
+{
+    let cleans = is_set(matches, "clean");
+    if text_or(matches, "folder", ".").is_empty() {
+        Some(WordsFault::NoFolder)
+    } else if is_missing(text_of(matches, "image")) & !cleans {
+        Some(WordsFault::NoImages)
+    } else if is_set(matches, "json") & cleans {
+        Some(WordsFault::CleansWithJson)
+    } else {
+        None
+    }
+}
+
+// Returns the request with its limits.
+fn limited<'a>(
+    alloc: Global,
+    matches: &ArgMatches<'a>,
+    need: Option<Algo>,
+) -> Result<UnpackRequest<'a>, WordsFault>
+    ensures { Tells unpacking_of (unpacking_limited (given matches.now) need) result }
+{
+    let files = number_of(alloc, matches, "max-files")?;
+    let bytes = number_of(alloc, matches, "max-bytes")?;
+    Ok(UnpackRequest {
+        folder: text_or(matches, "folder", "."),
+        only: text_of(matches, "only"),
+        need,
+        is_forced: is_set(matches, "force"),
+        keeps_good: is_set(matches, "keep-good"),
+        is_synced: !is_set(matches, "no-sync"),
+        as_json: is_set(matches, "json"),
+        cleans: is_set(matches, "clean"),
+        most_files: files.unwrap_or(MOST_FILES),
+        most_bytes: bytes,
+        image: text_of(matches, "image"),
+    })
 }
 
 // Returns the number of an option, if it was given: decimal digits, below 2^64.
@@ -111,45 +216,24 @@ fn number_of(
     alloc: Global,
     matches: &ArgMatches<'_>,
     id: &'static str,
-) -> Result<Option<u64>, WordsFault> {
-    let Some(text) = matches.get_str(id) else {
+) -> Result<Option<u64>, WordsFault>
+    ensures { Tells (λ number. number) (count_asked id.now (given matches.now)) result }
+{
+    let Some(text) = text_of(matches, id) else {
         return Ok(None);
     };
-    let has_digits = text.bytes().all(|digit| digit.is_ascii_digit());
-    match text.parse() {
-        Ok(number) if has_digits => Ok(Some(number)),
-        _ => Err(WordsFault::NotNumber(id, String::from_str(alloc, text)?)),
+    match count(text) {
+        Some(number) => Ok(Some(number)),
+        None => Err(not_number(alloc, id, text)),
     }
 }
 
-pub(super) fn request<'a>(
-    alloc: Global,
-    matches: &ArgMatches<'a>,
-) -> Result<UnpackRequest<'a>, WordsFault> {
-    let need = need_of(alloc, matches)?;
-    let folder = matches.get_str("folder").unwrap_or(".");
-    if folder.is_empty() {
-        return Err(WordsFault::NoFolder);
+fn not_number(alloc: Global, id: &'static str, text: &str) -> WordsFault
+    ensures { (any : Result (Option ℕ) Wrong) → any ≡ Err (not_number id.now text.now)
+        → IsWrong any (wrong_of result) }
+{
+    match String::from_str(alloc, text) {
+        Ok(text) => WordsFault::NotNumber(id, text),
+        Err(_) => WordsFault::OutOfMemory,
     }
-    let (image, cleans) = (matches.get_str("image"), matches.get_flag("clean"));
-    if image.is_none() & !cleans {
-        return Err(WordsFault::NoImages);
-    }
-    let as_json = matches.get_flag("json");
-    if as_json & cleans {
-        return Err(WordsFault::CleansWithJson);
-    }
-    Ok(UnpackRequest {
-        folder,
-        only: matches.get_str("only"),
-        need,
-        is_forced: matches.get_flag("force"),
-        keeps_good: matches.get_flag("keep-good"),
-        is_synced: !matches.get_flag("no-sync"),
-        as_json,
-        cleans,
-        most_files: number_of(alloc, matches, "max-files")?.unwrap_or(MOST_FILES),
-        most_bytes: number_of(alloc, matches, "max-bytes")?,
-        image,
-    })
 }

@@ -1,0 +1,10 @@
+pub mod Chains
+pub mod EnteringLaws
+pub mod Examples
+pub mod ImageLaws
+pub mod MakingLaws
+pub mod Numbers
+pub mod Refusals
+pub mod Simple
+pub mod SubcommandLaws
+pub mod WordLaws

@@ -1,0 +1,26 @@
+use Rattle.std.proofs.Common.{◌≡◌, ◌∙◌, ap, ap₂}
+use Rattle.clap.specs.Simple.{App, app_of, with_rule}
+use Rattle.clap.specs.Walk.{Rule}
+use Rattle.clap.specs.declared.builder.command.Command.TheViews.{out-Command as fields_of}
+use Rattle.uimg_cli.proofs.Chains.{onward}
+use Rattle.uimg_cli.specs.Check.{check}
+use Rattle.uimg_cli.proofs.command_line.check.command.Goals as goal
+
+next : {a b : App} (r : Rule) → a ≡ b → with_rule a r ≡ with_rule b r
+next r e = ap (λ a. with_rule a r) e
+
+pub returns-clause-app : goal.returns-clause-app
+unfolding check
+returns-clause-app c =
+    let e1 = c.in_ok-command.ensures.rules ∙ next _ c.titled-command.ensures.app in
+    let e2 = c.in_ok-command-2.ensures.rules ∙ next _ e1 in
+    let e3 = c.in_ok-command-3.ensures.rules ∙ next _ e2 in
+    let e4 = c.in_ok-command-4.ensures.rules ∙ next _ e3 in
+    let e5 = c.in_ok-command-5.ensures.rules ∙ next _ e4 in
+    let e6 = c.in_ok-command-6.ensures.rules ∙ next _ e5 in
+    let e7 = c.in_ok-command-7.ensures.rules ∙ next _ e6 in
+    onward app_of c.with.result _ _ c.with.ensures.rules (ap₂ with_rule e7 c.images.ensures.rule)
+
+pub returns-clause-local : goal.returns-clause-local
+returns-clause-local c =
+    onward (λ it. (fields_of it).has_globals) c.with.result _ _ c.with.ensures.local (c.in_ok-command-7.ensures.local ∙ c.in_ok-command-6.ensures.local ∙ c.in_ok-command-5.ensures.local ∙ c.in_ok-command-4.ensures.local ∙ c.in_ok-command-3.ensures.local ∙ c.in_ok-command-2.ensures.local ∙ c.in_ok-command.ensures.local ∙ c.titled-command.ensures.local)

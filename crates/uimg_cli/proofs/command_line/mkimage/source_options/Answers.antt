@@ -1,0 +1,21 @@
+use Rattle.std.proofs.Common.{◌≡◌, ◌∙◌, ap}
+use Rattle.clap.specs.Simple.{App, app_of, with_rule}
+use Rattle.clap.specs.Walk.{Rule}
+use Rattle.clap.specs.declared.builder.command.Command.TheViews.{out-Command as fields_of}
+use Rattle.uimg_cli.proofs.Chains.{onward}
+use Rattle.uimg_cli.specs.Mkimage.{source_rules}
+use Rattle.uimg_cli.proofs.command_line.mkimage.source_options.Goals as goal
+
+next : {a b : App} (r : Rule) → a ≡ b → with_rule a r ≡ with_rule b r
+next r e = ap (λ a. with_rule a r) e
+
+pub returns-clause-app : goal.returns-clause-app
+unfolding source_rules
+returns-clause-app c =
+    let e1 = c.in_ok-command.ensures.rules in
+    let e2 = c.in_ok-command-2.ensures.rules ∙ next _ e1 in
+    onward app_of c.with_value-2.result _ _ c.with_value-2.ensures.rules (next _ e2)
+
+pub returns-clause-local : goal.returns-clause-local
+returns-clause-local c =
+    onward (λ it. (fields_of it).has_globals) c.with_value-2.result _ _ c.with_value-2.ensures.local (c.in_ok-command-2.ensures.local ∙ c.in_ok-command.ensures.local)

@@ -1,0 +1,82 @@
+-- The words of `check`.
+use Rattle.std.specs.Prelude.{Bool, true, ◌&&◌, List, [], ◌∷◌, Option, Some, None, Result, Ok, Err, codes, if◌then◌else◌, is_none, option_map}
+use Rattle.clap.specs.Lexer.{usize_max}
+use Rattle.clap.specs.Simple.{App, new_app, new_rule}
+use Rattle.clap.specs.Walk.{Row, Rule, Text, first_of, is_empty, texts}
+use Rattle.clap.specs.declared.builder.action.ArgAction.TheVariants.{Append}
+use Rattle.uimg_cli.specs.Needs.{need_asked}
+use Rattle.uimg_cli.specs.Readings.{is_set, texts_given}
+use Rattle.uimg_cli.specs.Rules.{flag_rule, long_rule, switch_rule, with_rules}
+use Rattle.uimg_cli.specs.Wrong.{Wrong, and_then, no_images}
+use Rattle.uimg_cli.specs.declared.command_line.check.CheckRequest.{CheckRequest}
+use Rattle.uimg_sums.specs.declared.algo.Algo.{Algo}
+use Rattle.uimg_sums.specs.declared.algo.Algo.TheVariants.{Crc32}
+
+-- any number of images
+abbrev pub images_rule : Rule
+images_rule = record (new_rule (codes "image")) {
+  action = Some Append;
+  range = Some (record { start_inclusive = 0; end_inclusive = usize_max });
+}
+
+-- check [--need ALGO] [--strict] [--files-from FILE] [-0] [--json] [--quiet] [--allow-empty]
+-- [IMAGE ..]
+unfoldable pub check : App
+check = with_rules (
+    long_rule (codes "need")
+    ∷ switch_rule (codes "strict")
+    ∷ long_rule (codes "files-from")
+    ∷ flag_rule (codes "nuls") 48
+    ∷ switch_rule (codes "json")
+    ∷ switch_rule (codes "quiet")
+    ∷ switch_rule (codes "allow-empty")
+    ∷ images_rule
+    ∷ []) (new_app (codes "check"))
+
+pub record Checking : Type 0 where
+  pub need : Option Algo
+  pub is_strict : Bool
+  pub images : List Text
+  pub files_from : Option Text
+  pub has_nuls : Bool
+  pub as_json : Bool
+  pub is_quiet : Bool
+  pub allows_none : Bool
+
+abbrev pub checking_of : CheckRequest → Checking
+checking_of request = record {
+  need = request.need;
+  is_strict = request.is_strict;
+  images = texts request.images.items;
+  files_from = option_map (λ path. path.now) request.files_from;
+  has_nuls = request.has_nuls;
+  as_json = request.as_json;
+  is_quiet = request.is_quiet;
+  allows_none = request.allows_none;
+}
+
+-- a strict check needs at least a CRC-32
+abbrev pub least_need : Bool → Option Algo → Option Algo
+least_need true None = Some Crc32
+least_need is_strict need = need
+
+abbrev pub checking_by : List Row → Option Algo → Checking
+checking_by rows need = record {
+  need = least_need (is_set (codes "strict") rows) need;
+  is_strict = is_set (codes "strict") rows;
+  images = texts_given (codes "image") rows;
+  files_from = first_of (codes "files-from") rows;
+  has_nuls = is_set (codes "nuls") rows;
+  as_json = is_set (codes "json") rows;
+  is_quiet = is_set (codes "quiet") rows;
+  allows_none = is_set (codes "allow-empty") rows;
+}
+
+-- there is an image, or a list of images
+abbrev pub checking_with : List Row → Option Algo → Result Checking Wrong
+checking_with rows need =
+    if is_empty (texts_given (codes "image") rows) && is_none (first_of (codes "files-from") rows)
+    then Err no_images else Ok (checking_by rows need)
+
+abbrev pub check_asked : List Row → Result Checking Wrong
+check_asked rows = and_then (need_asked rows) (checking_with rows)

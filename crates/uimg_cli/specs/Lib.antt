@@ -1,0 +1,16 @@
+pub mod Check
+pub mod CommandLines
+pub mod Dumpimage
+pub mod Info
+pub mod Makings
+pub mod Map
+pub mod Mkimage
+pub mod Needs
+pub mod Parsed
+pub mod Readings
+pub mod Rules
+pub mod Runs
+pub mod Unpack
+pub mod Verify
+pub mod Wanted
+pub mod Wrong

@@ -1,0 +1,15 @@
+-- The algorithm that --need names.
+use Rattle.std.specs.Prelude.{List, Option, Some, None, Result, Ok, codes}
+use Rattle.clap.specs.Walk.{Row, Text, first_of}
+use Rattle.uimg_cli.specs.Readings.{or_wrong}
+use Rattle.uimg_cli.specs.Wrong.{Wrong, and_then, unknown_algo}
+use Rattle.uimg_sums.specs.Algorithms.{algo_named}
+use Rattle.uimg_sums.specs.declared.algo.Algo.{Algo}
+
+abbrev pub algo_asked : Option Text → Result (Option Algo) Wrong
+algo_asked None = Ok None
+algo_asked (Some name) =
+    and_then (or_wrong (unknown_algo name) (algo_named name)) (λ algo. Ok (Some algo))
+
+abbrev pub need_asked : List Row → Result (Option Algo) Wrong
+need_asked rows = algo_asked (first_of (codes "need") rows)
