@@ -120,6 +120,9 @@ A source from standard input has its files in the current folder:
   $ mkimage -f - out < /dev/null
   mkimage: -: I2 bad syntax at line 1
   [1]
+  $ yes | mkimage -f - out
+  mkimage: -: a source of more than 64 MiB
+  [1]
   $ cat whole.its | mkimage -f - empty/none/out
   mkimage: cannot write empty/none/out: No such file or directory (os error 2)
   [3]

@@ -348,6 +348,12 @@ Requests that fail:
   $ mkimage --arch=arm
   mkimage: unknown option '--arch'
   [2]
+  $ mkimage -A "$(printf '\033[31m')" -d kernel.bin out
+  mkimage: -A: unknown architecture '\x1b[31m'; mkimage -A list prints all names
+  [2]
+  $ mkimage "-$(printf '\033')"
+  mkimage: unknown option '-\x1b'
+  [2]
   $ mkimage out -d
   mkimage: option '-d' needs a value
   [2]

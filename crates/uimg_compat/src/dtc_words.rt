@@ -4,6 +4,7 @@ use crate::dtc_checks::is_check;
 use crate::fault::OldFault;
 use crate::getopt::{OptionRow, option_by_name};
 use std::alloc::Global;
+use uimg_printing::Printed;
 
 /// The options of dtc 1.6.1 with which mkimage makes the same image, or finds other files.
 const DTC_OPTIONS: [OptionRow; 12] = [
@@ -85,7 +86,7 @@ impl<'a> DtcWords<'a> {
         word: &'a str,
     ) -> Result<Option<char>, OldFault<'a>> {
         if word.contains(is_special) {
-            return Err(OldFault::DtcWord(word));
+            return Err(OldFault::DtcWord(Printed(word.as_bytes())));
         }
         match (waiting, word.strip_prefix("--")) {
             (Some(option), _) => self.take_value(option, word, word),
@@ -107,7 +108,7 @@ impl<'a> DtcWords<'a> {
                 self.take_flag(option);
                 Ok(None)
             }
-            _ => Err(OldFault::DtcWord(word)),
+            _ => Err(OldFault::DtcWord(Printed(word.as_bytes()))),
         }
     }
 
@@ -125,7 +126,7 @@ impl<'a> DtcWords<'a> {
             (Some((option, "")), _) => Ok(Some(option)),
             (Some((option, value)), _) => self.take_value(option, value, word),
             (None, true) if !letters.is_empty() => Ok(None),
-            _ => Err(OldFault::DtcWord(word)),
+            _ => Err(OldFault::DtcWord(Printed(word.as_bytes()))),
         }
     }
 
@@ -169,7 +170,7 @@ impl<'a> DtcWords<'a> {
         if is_taken {
             Ok(None)
         } else {
-            Err(OldFault::DtcWord(word))
+            Err(OldFault::DtcWord(Printed(word.as_bytes())))
         }
     }
 

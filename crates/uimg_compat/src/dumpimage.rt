@@ -8,6 +8,7 @@ use crate::names::{Named, format_of, name_of};
 use crate::request::{OldRequest, Show};
 use std::alloc::Global;
 use uimg_names::{Field, Naming};
+use uimg_printing::Printed;
 use uimg_requests::{Action, Command, RunRequest};
 
 /// The options by their letters; they have no long names.
@@ -110,7 +111,7 @@ fn position(word: &str) -> Result<u32, OldFault<'_>> {
         None => Err(OldFault::NoNumber {
             letter: 'p',
             title: "decimal",
-            word,
+            word: Printed(word.as_bytes()),
         }),
     }
 }

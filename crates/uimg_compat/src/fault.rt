@@ -3,8 +3,10 @@
 use crate::getopt::Misuse;
 use std::alloc::AllocError;
 use thiserror::Error;
+use uimg_printing::Printed;
 
-/// Why the words of a command line request nothing. Its text is the line after the tool's name.
+/// Why the words of a command line request nothing. Its text is the line after the tool's name, in
+/// which the words are printed by the rule of names.
 #[derive(Clone, Copy, Debug, Error)]
 pub enum OldFault<'a> {
     /// The words are not options and operands as getopt reads them.
@@ -16,7 +18,7 @@ pub enum OldFault<'a> {
     UnknownName {
         letter: char,
         title: &'static str,
-        word: &'a str,
+        word: Printed<'a>,
     },
 
     /// The word of -A, -O, -T or -C is not a name of its field, but near to one.
@@ -24,7 +26,7 @@ pub enum OldFault<'a> {
     NearName {
         letter: char,
         title: &'static str,
-        word: &'a str,
+        word: Printed<'a>,
         nearest: &'static str,
     },
 
@@ -33,12 +35,12 @@ pub enum OldFault<'a> {
     NoNumber {
         letter: char,
         title: &'static str,
-        word: &'a str,
+        word: Printed<'a>,
     },
 
     /// Readers of the image look only at multiples of 4 for payloads after the tree.
     #[error("-B: '{0}' is not a multiple of 4")]
-    UnevenAlignment(&'a str),
+    UnevenAlignment(Printed<'a>),
 
     /// SOURCE_DATE_EPOCH is in no year that the C library has.
     #[error("SOURCE_DATE_EPOCH is too large")]
@@ -78,7 +80,7 @@ pub enum OldFault<'a> {
 
     /// An image would be written to a pipe, from which it could not be read back.
     #[error("cannot write {0}: it is a pipe")]
-    MadeAsPipe(&'a str),
+    MadeAsPipe(Printed<'a>),
 
     /// -f auto was given without data.
     #[error("-f auto needs -d")]
@@ -90,7 +92,7 @@ pub enum OldFault<'a> {
 
     /// Images of this type are neither legacy nor FIT images.
     #[error("-T {0}: not supported; use mkimage of u-boot-tools")]
-    OtherImages(&'a str),
+    OtherImages(Printed<'a>),
 
     /// The option is for signing.
     #[error("-{0}: uimg does not sign; mkimage -F of u-boot-tools signs an existing image")]
@@ -102,7 +104,7 @@ pub enum OldFault<'a> {
 
     /// With this word dtc makes another image or none, or a shell reads it otherwise.
     #[error("-D: '{0}' is not supported; use mkimage of u-boot-tools")]
-    DtcWord(&'a str),
+    DtcWord(Printed<'a>),
 
     /// The last option for dtc has no value.
     #[error("-D: the last option needs a value")]

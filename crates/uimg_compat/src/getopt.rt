@@ -8,6 +8,7 @@ ghost use Rattle.std.specs.Prelude.{◌≡◌, ◌+◌, ◌<◌, ◌≤◌, leng
 ghost use Rattle.uimg_compat.specs.Getopt.{left};
 
 use thiserror::Error;
+use uimg_printing::Printed;
 
 /// An option: its letter, its long name (empty without one), and whether it has a value.
 pub type OptionRow = (char, &'static str, bool);
@@ -26,27 +27,27 @@ pub enum Given<'a> {
 }
 
 /// Why a command line cannot be read further.
-#[derive(Clone, Copy, Debug, Error, PartialEq, Eq)]
+#[derive(Clone, Copy, Debug, Error)]
 pub enum Misuse<'a> {
     /// No option has this letter.
     #[error("unknown option '-{0}'")]
-    UnknownLetter(char),
+    UnknownLetter(Printed<'a>),
 
     /// No option has this long name.
     #[error("unknown option '--{0}'")]
-    UnknownName(&'a str),
+    UnknownName(Printed<'a>),
 
     /// The option of this letter needs a value, and no word is left.
     #[error("option '-{0}' needs a value")]
-    NoValueOfLetter(&'a str),
+    NoValueOfLetter(Printed<'a>),
 
     /// The option of this long name needs a value, and no word is left.
     #[error("option '--{0}' needs a value")]
-    NoValueOfName(&'a str),
+    NoValueOfName(Printed<'a>),
 
     /// The option of this long name has no value, but one is joined to it.
     #[error("option '--{0}' takes no value")]
-    ValueNotWanted(&'a str),
+    ValueNotWanted(Printed<'a>),
 }
 
 /// The unread words of a command line.
@@ -111,7 +112,7 @@ impl<'a> Words<'a> {
     {
         let letters = self.letters;
         let Some((option, has_value, rest)) = option_by_letter(rows, letters) else {
-            return Err(Misuse::UnknownLetter(letters.chars().next().unwrap_or('-')));
+            return Err(Misuse::UnknownLetter(Printed(first_letter(letters).as_bytes())));
         };
         if !has_value {
             self.letters = rest;
@@ -123,7 +124,7 @@ impl<'a> Words<'a> {
         }
         match self.take_word() {
             Some(value) => Ok(Some(Given::Value(option, value))),
-            None => Err(Misuse::NoValueOfLetter(letters)),
+            None => Err(Misuse::NoValueOfLetter(Printed(letters.as_bytes()))),
         }
     }
 
@@ -140,18 +141,24 @@ impl<'a> Words<'a> {
             None => (text, None),
         };
         let Some((option, has_value)) = option_by_name(rows, name) else {
-            return Err(Misuse::UnknownName(name));
+            return Err(Misuse::UnknownName(Printed(name.as_bytes())));
         };
         match (has_value, joined) {
             (false, None) => Ok(Some(Given::Flag(option))),
-            (false, Some(_)) => Err(Misuse::ValueNotWanted(name)),
+            (false, Some(_)) => Err(Misuse::ValueNotWanted(Printed(name.as_bytes()))),
             (true, Some(value)) => Ok(Some(Given::Value(option, value))),
             (true, None) => match self.take_word() {
                 Some(value) => Ok(Some(Given::Value(option, value))),
-                None => Err(Misuse::NoValueOfName(name)),
+                None => Err(Misuse::NoValueOfName(Printed(name.as_bytes()))),
             },
         }
     }
+}
+
+// Returns the part of joined letters that is the first.
+fn first_letter(letters: &str) -> &str {
+    let length = letters.chars().next().map_or(0, char::len_utf8);
+    letters.get(..length).unwrap_or(letters)
 }
 
 // Returns the option of the first letter, whether it has a value, and the letters after it.

@@ -11,6 +11,7 @@ use crate::names::{Named, name_of};
 use crate::request::{OldRequest, Show};
 use std::alloc::Global;
 use uimg_names::Field;
+use uimg_printing::Printed;
 
 /// The options of a command line so far. Of a repeated one the last counts.
 #[derive(Clone, Copy, Debug)]
@@ -180,7 +181,7 @@ fn address(letter: char, word: &str) -> Result<u32, OldFault<'_>> {
         None => Err(OldFault::NoNumber {
             letter,
             title: "hexadecimal",
-            word,
+            word: Printed(word.as_bytes()),
         }),
     }
 }

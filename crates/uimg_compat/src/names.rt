@@ -5,6 +5,7 @@ use crate::nearest::nearest;
 use std::alloc::Global;
 use uimg_base::FLAT_DT;
 use uimg_names::{Field, Naming};
+use uimg_printing::Printed;
 use uimg_requests::Form;
 
 /// The type of a kernel that runs in place (`IH_TYPE_KERNEL_NOLOAD`).
@@ -73,13 +74,13 @@ fn unknown_name<'a>(
         Some(nearest) => OldFault::NearName {
             letter,
             title,
-            word,
+            word: Printed(word.as_bytes()),
             nearest,
         },
         None => OldFault::UnknownName {
             letter,
             title,
-            word,
+            word: Printed(word.as_bytes()),
         },
     })
 }
@@ -89,7 +90,7 @@ pub(crate) fn check_made(kind: u8, name: &str) -> Result<(), OldFault<'_>> {
     if is_made(kind) {
         return Ok(());
     }
-    Err(OldFault::OtherImages(name))
+    Err(OldFault::OtherImages(Printed(name.as_bytes())))
 }
 
 /// Returns the format of the images of a type, by its name. The type `invalid` counts as none. A
@@ -100,7 +101,7 @@ pub(crate) fn format_of(kind: Option<u8>, name: &str) -> Result<Form, OldFault<'
         Some(FLAT_DT) => Ok(Form::Fit),
         Some(code) if is_made(code) || code == FIRMWARE_IVT => Ok(Form::Legacy),
         Some(code) if ANY_FORMAT.contains(&code) => Ok(Form::Guess),
-        Some(_) => Err(OldFault::OtherImages(name)),
+        Some(_) => Err(OldFault::OtherImages(Printed(name.as_bytes()))),
     }
 }
 

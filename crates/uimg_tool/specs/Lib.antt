@@ -1,1 +1,3 @@
+pub mod CheckEnds
 pub mod JsonLines
+pub mod Statuses

@@ -1,9 +1,11 @@
 //! Makes a FIT image from the source that mkimage makes itself.
 
+ghost use Rattle.std.specs.Prelude.{◌≤◌};
+
 use crate::fit_program::is_key;
-use crate::main_program::{FAILED, WRONG_LINE};
 use crate::old_program::{make_image, tell, tell_unread, tell_unwritten};
 use crate::old_tools::{Called, Tool};
+use crate::request_fault::{FAILED, WRONG_LINE};
 use crate::safe_path::{NewBeside, new_beside};
 use std::io::{BufWriter, Write};
 use std::rt::Files;
@@ -12,6 +14,9 @@ use uimg_base::FileSource;
 use uimg_compat::{AutoRequest, AutoSource, OldFault};
 use uimg_requests::MakeRequest;
 
+/// What faults call the source.
+const SOURCE_NAME: &str = "-f auto";
+
 /// Makes the requested image. The text of its source is beside the image meanwhile.
 pub(crate) fn make_auto<R: Files + AllocGlobal, W: Write, V: Write>(
     rt: &R,
@@ -19,7 +24,9 @@ pub(crate) fn make_auto<R: Files + AllocGlobal, W: Write, V: Write>(
     request: &AutoRequest<'_>,
     out: &mut W,
     err: &mut V,
-) -> u8 {
+) -> u8
+    ensures { result ≤ 3 }
+{
     if is_key(rt, request.key) {
         return tell(tool, err, &OldFault::Signs('g'), WRONG_LINE);
     }
@@ -48,7 +55,9 @@ fn make_of_text<R: Files + AllocGlobal, W: Write, V: Write>(
     path: &str,
     out: &mut W,
     err: &mut V,
-) -> u8 {
+) -> u8
+    ensures { result ≤ 3 }
+{
     let made = MakeRequest::of_source_here(
         rt.alloc(),
         path,
@@ -57,12 +66,20 @@ fn make_of_text<R: Files + AllocGlobal, W: Write, V: Write>(
         request.outfile,
     );
     match made {
-        Ok(mut making) => {
+        Ok(making) => {
+            let mut making = named_source(making);
             making.manner = request.manner;
             make_image(rt, Called::new(tool, request.is_quiet), making, out, err)
         }
         Err(_) => tell(tool, err, &OldFault::OutOfMemory, FAILED),
     }
+}
+
+// Returns a request whose source is reported as the one that the tool makes.
+fn named_source<'a>(making: MakeRequest<'a>) -> MakeRequest<'a> {
+    let mut named = making;
+    named.source = SOURCE_NAME;
+    named
 }
 
 // Returns the first path of a source whose file cannot be opened: the data, a device tree or the

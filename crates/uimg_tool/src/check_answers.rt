@@ -1,9 +1,10 @@
 //! Turns the end of a check into its result.
 
-ghost use Rattle.std.specs.Prelude.{◌≤◌, IfSome};
+ghost use Rattle.std.specs.Prelude.{◌≡◌, ◌≤◌, false, IfSome};
+ghost use Rattle.uimg_tool.specs.CheckEnds.{AnswersEnd, AnswersFault, AnswersLine, format_of, nameless_fit, offset_of};
 
-use crate::main_program::{REFUSED, RequestFault, status_of};
 use crate::reasons::reason_unread;
+use crate::request_fault::{REFUSED, status_of_fault};
 use std::alloc::Global;
 use std::fmt::Display;
 use std::io;
@@ -70,7 +71,9 @@ pub(crate) fn answer_of_unread<'a, R: Files>(
     rt: &R,
     path: &str,
     names: &'a mut Names,
-) -> Answer<'a> {
+) -> Answer<'a>
+    ensures { AnswersLine false result }
+{
     match reason_unread(rt, path) {
         Some(reason) => answer_of_line(&Unread(reason), false, names),
         None => answer_of_line(&"cannot read", false, names),
@@ -88,7 +91,9 @@ pub(crate) fn answer_of_line<'a, D: Display>(
     line: &D,
     is_refused: bool,
     names: &'a mut Names,
-) -> Answer<'a> {
+) -> Answer<'a>
+    ensures { AnswersLine is_refused result }
+{
     let Ok(message) = format!(in names.alloc; "{line}") else {
         return NO_MEMORY;
     };
@@ -113,7 +118,9 @@ pub(crate) fn answer_of<'a, S: Source>(
     unchecked: Option<u64>,
     source: &mut S,
     names: &'a mut Names,
-) -> Answer<'a> {
+) -> Answer<'a>
+    ensures { AnswersEnd end unchecked result }
+{
     let found = match end {
         Ok(Checked::Fit(finding)) => {
             if !read_names(finding, source, names) {
@@ -188,7 +195,9 @@ pub(crate) fn answer_of_header<'a>(why: Looseness) -> Answer<'a> {
 }
 
 /// Returns the result for a fault.
-pub(crate) fn answer_of_fault<'a>(fault: Fault, names: &'a mut Names) -> Answer<'a> {
+pub(crate) fn answer_of_fault<'a>(fault: Fault, names: &'a mut Names) -> Answer<'a>
+    ensures { AnswersFault fault result }
+{
     let Ok(message) = format!(in names.alloc; "{fault}") else {
         return NO_MEMORY;
     };
@@ -200,7 +209,7 @@ pub(crate) fn answer_of_fault<'a>(fault: Fault, names: &'a mut Names) -> Answer<
         format: format_of(fault),
         offset: offset_of(fault),
     };
-    if status_of(&RequestFault::Stopped(fault)) == REFUSED {
+    if status_of_fault(fault) == REFUSED {
         Answer::Refused(stop)
     } else {
         Answer::Failed(stop)
@@ -218,16 +227,21 @@ fn code_of(fault: Fault, message: &str) -> Option<&str> {
 }
 
 // Returns the format of the image, if the fault shows it.
-fn format_of(fault: Fault) -> Option<Format> {
+fn format_of(fault: Fault) -> Option<Format>
+    ensures { result ≡ format_of fault }
+{
     match fault {
-        Fault::Blob(_, _) | Fault::Fit(_) => Some(Format::Fit),
+        Fault::Blob(_, _) => Some(Format::Fit),
+        Fault::Fit(_) => Some(Format::Fit),
         Fault::Legacy(_) => Some(Format::Legacy),
         _ => None,
     }
 }
 
 // Returns the offset of a fault, if it has one.
-fn offset_of(fault: Fault) -> Option<u64> {
+fn offset_of(fault: Fault) -> Option<u64>
+    ensures { result ≡ offset_of fault }
+{
     match fault {
         Fault::Blob(_, offset) => Some(offset),
         _ => None,
@@ -249,7 +263,9 @@ fn read_names<S: Source>(finding: Finding<Span>, source: &mut S, names: &mut Nam
 }
 
 // Returns a finding with its names, which were read.
-fn named<'a>(finding: Finding<Span>, names: &'a Names) -> Finding<&'a [u8]> {
+fn named<'a>(finding: Finding<Span>, names: &'a Names) -> Finding<&'a [u8]>
+    ensures { nameless_fit result ≡ nameless_fit finding }
+{
     match finding {
         Finding::Right { images, hashes } => Finding::Right { images, hashes },
         Finding::Unhashed(image) => Finding::Unhashed(name_in(&names.image, image)),

@@ -1,9 +1,13 @@
 //! Checks many images, with a line for each.
 
+ghost use Rattle.std.specs.Prelude.{◌≡◌, ◌≤◌};
+ghost use Rattle.uimg_tool.specs.Statuses.{Grows};
+
 use crate::check_answers::{NOT_UTF8, Names, answer_of, answer_of_unread};
 use crate::json_lines::put_json;
-use crate::main_program::{DONE, FAILED, RequestFault, WRONG_LINE, tell, tell_unprinted};
+use crate::main_program::{tell, tell_unprinted};
 use crate::reasons::is_pipe;
+use crate::request_fault::{DONE, FAILED, RequestFault, WRONG_LINE};
 use crate::strict_answers::{answer_of_fit, answer_of_legacy};
 use std::alloc::{AllocError, Global};
 use std::io::{BufRead, BufReader, BufWriter, ErrorKind, Write};
@@ -28,7 +32,9 @@ pub(crate) fn check_images<R: Files + AllocGlobal, W: Write, V: Write>(
     request: &CheckRequest<'_>,
     out: &mut W,
     err: &mut V,
-) -> u8 {
+) -> u8
+    ensures { result ≤ 3 }
+{
     let Ok(gathered) = BufWriter::new(rt.alloc(), out) else {
         return tell(err, &RequestFault::OutOfMemory, FAILED);
     };
@@ -100,7 +106,9 @@ impl<'a, W: Write> Checks<'a, W> {
         &mut self,
         rt: &R,
         request: &CheckRequest<'b>,
-    ) -> Result<(), Stop<'b>> {
+    ) -> Result<(), Stop<'b>>
+        ensures grows { Grows self.old.greatest self.new.greatest }
+    {
         for path in &request.images {
             self.check(rt, request, path.as_bytes())?;
         }
@@ -116,7 +124,9 @@ impl<'a, W: Write> Checks<'a, W> {
         rt: &R,
         request: &CheckRequest<'b>,
         path: &'b str,
-    ) -> Result<(), Stop<'b>> {
+    ) -> Result<(), Stop<'b>>
+        ensures grows { Grows self.old.greatest self.new.greatest }
+    {
         let from = if path == "-" { STANDARD_INPUT } else { path };
         let file = match fs::open(rt, from) {
             Ok(file) => file,
@@ -141,7 +151,9 @@ impl<'a, W: Write> Checks<'a, W> {
         rt: &R,
         request: &CheckRequest<'b>,
         path: &[u8],
-    ) -> Result<(), Stop<'b>> {
+    ) -> Result<(), Stop<'b>>
+        ensures grows { Grows self.old.greatest self.new.greatest }
+    {
         if path.is_empty() {
             return Ok(());
         }
@@ -154,7 +166,9 @@ impl<'a, W: Write> Checks<'a, W> {
         rt: &R,
         request: &CheckRequest<'b>,
         path: &[u8],
-    ) -> Result<(), Stop<'b>> {
+    ) -> Result<(), Stop<'b>>
+        ensures grows { Grows self.old.greatest self.new.greatest }
+    {
         let mut names = Names::new(rt.alloc());
         let answer = match str::from_utf8(path) {
             Ok(path) => self.answer(rt, request, path, &mut names),
@@ -175,7 +189,9 @@ impl<'a, W: Write> Checks<'a, W> {
         as_json: bool,
         path: &[u8],
         answer: &Answer<'_>,
-    ) -> Result<(), Stop<'b>> {
+    ) -> Result<(), Stop<'b>>
+        ensures same { self.new.greatest ≡ self.old.greatest }
+    {
         if as_json {
             let text = object_text(alloc, path, answer)?;
             put_json(text.as_slice(), &mut self.out)?;
@@ -195,7 +211,9 @@ impl<'a, W: Write> Checks<'a, W> {
         request: &CheckRequest<'_>,
         path: &str,
         names: &'n mut Names,
-    ) -> Answer<'n> {
+    ) -> Answer<'n>
+        ensures same { self.new.greatest ≡ self.old.greatest }
+    {
         if is_pipe(rt, path) {
             return answer_of_unread(rt, path, names);
         }

@@ -1,10 +1,11 @@
 //! Makes a FIT image from a source that the profile refuses, in the whole language of dtc.
 
+ghost use Rattle.std.specs.Prelude.{◌≤◌};
 ghost use Rattle.uimg_blob_writing.specs.{Content.FilesAtData, Trees.node_of};
 
-use crate::main_program::{FAILED, REFUSED, RequestFault};
-use crate::old_program::{tell, tell_end};
+use crate::old_program::{about_end, tell, tell_end};
 use crate::old_tools::Tool;
+use crate::request_fault::{FAILED, REFUSED, RequestFault};
 use crate::searched_files::SearchedFiles;
 use crate::tree_program::{TreeRequest, write_image};
 use std::alloc::Global;
@@ -36,7 +37,9 @@ pub(crate) fn make_beyond<'x, R: rt::Files + AllocGlobal, W: Write, V: Write>(
     beyond: &'x Beyond<'x>,
     out: &mut W,
     err: &mut V,
-) -> u8 {
+) -> u8
+    ensures { result ≤ 3 }
+{
     let making = &beyond.making;
     let folders = request.dtc.folders.as_slice();
     let mut files = SearchedFiles::new(rt, making.folder, folders, making.outfile);
@@ -56,6 +59,7 @@ pub(crate) fn make_beyond<'x, R: rt::Files + AllocGlobal, W: Write, V: Write>(
         Ok(Compiled { tree, reservations }) if reservations.is_empty() => {
             let making = TreeRequest {
                 tool,
+                source: making.source,
                 image: making.outfile,
                 placement: request.placement,
                 manner: request.manner,
@@ -89,32 +93,37 @@ fn make_compiled<R: rt::Files + AllocGlobal, F: Files, W: Write, V: Write>(
     err: &mut V,
 ) -> u8
     requires { FilesAtData (node_of tree.root) }
+    ensures { result ≤ 3 }
 {
     match fill(rt.alloc(), tree, making.manner.time, files) {
         Ok(tree) => write_image(rt, making, &tree, files, out, err),
         Err(fault) => {
             let end = Err(RequestFault::Stopped(Fault::Fit(fault)));
-            tell_end(rt, making.tool, &end, making.image, err)
+            let about = about_end(&end, making.source, making.image);
+            tell_end(rt, making.tool, &end, about, err)
         }
     }
 }
 
-// Reports why a source is refused: by the fault of the profile, unless that is for a construct of
-// the whole language.
+// Reports why a source is refused: by the fault of the profile if that is for the same line and not
+// for a construct of the whole language.
 fn tell_refused<R: rt::Files, V: Write>(
     rt: &R,
     tool: Tool,
     beyond: &Beyond<'_>,
     fault: DtsFault,
     err: &mut V,
-) -> u8 {
+) -> u8
+    ensures { result ≤ 3 }
+{
     let source = beyond.making.source;
     let status = match fault.kind {
         DtsKind::NoFile | DtsKind::ReadFailed | DtsKind::Source(Refusal::OutOfMemory) => FAILED,
         DtsKind::Source(_) => REFUSED,
     };
     match beyond.fault.kind {
-        FaultKind::BadToken | FaultKind::BadSyntax | FaultKind::BadNumber if status == REFUSED => {
+        FaultKind::BadToken | FaultKind::BadSyntax | FaultKind::BadNumber
+            if status == REFUSED && beyond.fault.line == fault.line => {
             let end = Err(RequestFault::Stopped(Fault::Its(beyond.fault)));
             tell_end(rt, tool, &end, source, err)
         }

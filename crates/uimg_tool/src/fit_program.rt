@@ -1,11 +1,13 @@
 //! Makes a FIT image from a source, as mkimage does.
 
+ghost use Rattle.std.specs.Prelude.{◌≤◌};
+
 use crate::dts_program::{Beyond, make_beyond};
 use crate::known_sources::{Known, known_source, source_has_labels};
-use crate::main_program::{FAILED, RequestFault, WRONG_LINE};
 use crate::old_program::{make_image, tell, tell_end, tell_unread, tell_unwritten};
 use crate::old_tools::{Called, Tool};
 use crate::reasons::is_pipe;
+use crate::request_fault::{FAILED, REFUSED, RequestFault, WRONG_LINE};
 use crate::safe_path::{NewBeside, new_beside};
 use std::alloc::AllocError;
 use std::io::{Read, Write};
@@ -22,6 +24,9 @@ const INPUT_NAME: &str = "-";
 
 const INPUT: &str = "/dev/stdin";
 
+/// The most bytes that are read of standard input.
+const MOST_INPUT: u64 = 1 << 26;
+
 /// Makes the requested image. A source from standard input is beside the image meanwhile.
 pub(crate) fn make_fit<R: Files + AllocGlobal, W: Write, V: Write>(
     rt: &R,
@@ -29,7 +34,9 @@ pub(crate) fn make_fit<R: Files + AllocGlobal, W: Write, V: Write>(
     request: &FitRequest<'_>,
     out: &mut W,
     err: &mut V,
-) -> u8 {
+) -> u8
+    ensures { result ≤ 3 }
+{
     if is_key(rt, request.key) {
         return tell(tool, err, &OldFault::Signs('g'), WRONG_LINE);
     }
@@ -77,7 +84,9 @@ fn make_of_path<R: Files + AllocGlobal, W: Write, V: Write>(
     path: &str,
     out: &mut W,
     err: &mut V,
-) -> u8 {
+) -> u8
+    ensures { result ≤ 3 }
+{
     let made = MakeRequest::of_source(
         rt.alloc(),
         path,
@@ -98,7 +107,9 @@ fn make_of_input<R: Files + AllocGlobal, W: Write, V: Write>(
     request: &FitRequest<'_>,
     out: &mut W,
     err: &mut V,
-) -> u8 {
+) -> u8
+    ensures { result ≤ 3 }
+{
     let outfile = FileId::of(rt, request.outfile);
     if outfile.is_some() && outfile == FileId::of(rt, INPUT) {
         let end = Err(RequestFault::WritesWhatIsRead(request.outfile));
@@ -107,6 +118,10 @@ fn make_of_input<R: Files + AllocGlobal, W: Write, V: Write>(
     let Ok(text) = read_input(rt) else {
         return tell_unread(rt, tool, INPUT, err);
     };
+    if text.len() as u64 > MOST_INPUT {
+        let reason = format_args!("{INPUT_NAME}: a source of more than 64 MiB");
+        return tell(tool, err, &reason, REFUSED);
+    }
     match new_beside(rt, request.outfile) {
         Ok(Ok(NewBeside { mut file, path })) => {
             let status = match file.write_all(&text) {
@@ -129,7 +144,9 @@ fn make_of_copy<R: Files + AllocGlobal, W: Write, V: Write>(
     path: &str,
     out: &mut W,
     err: &mut V,
-) -> u8 {
+) -> u8
+    ensures { result ≤ 3 }
+{
     let made = MakeRequest::of_source_here(
         rt.alloc(),
         path,
@@ -150,11 +167,11 @@ fn named_input<'a>(making: MakeRequest<'a>) -> MakeRequest<'a> {
     named
 }
 
-// Reads standard input to its end.
+// Reads standard input to its end, or one byte more than the most.
 fn read_input<R: Files + AllocGlobal>(rt: &R) -> io::Result<Vec<u8>> {
     let mut text = Vec::new(rt.alloc());
-    let mut input = fs::File::open(rt, INPUT)?;
-    input.read_to_end(&mut text)?;
+    let input = fs::File::open(rt, INPUT)?;
+    input.take(MOST_INPUT + 1).read_to_end(&mut text)?;
     Ok(text)
 }
 
@@ -167,7 +184,9 @@ fn warn_and_make<R: Files + AllocGlobal, W: Write, V: Write>(
     mut making: MakeRequest<'_>,
     out: &mut W,
     err: &mut V,
-) -> u8 {
+) -> u8
+    ensures { result ≤ 3 }
+{
     if request.dtc.has_symbols && source_has_labels(rt, &making, &request.dtc) {
         return tell(tool, err, &OldFault::DtcSymbols, WRONG_LINE);
     }

@@ -1,9 +1,12 @@
 //! Prints the facts of an image, as a line of JSON.
 
+ghost use Rattle.std.specs.Prelude.{◌≤◌, IfOk};
+
 use crate::check_answers::{CHANGED, Names, answer_of_fault, answer_of_unread};
 use crate::json_lines::put_json;
-use crate::main_program::{DONE, FAILED, RequestFault, tell, tell_unprinted};
+use crate::main_program::{tell, tell_unprinted};
 use crate::reasons::is_pipe;
+use crate::request_fault::{DONE, FAILED, RequestFault};
 use std::alloc::{AllocError, Global};
 use std::io::{BufWriter, Write};
 use std::rt::Files;
@@ -22,7 +25,9 @@ pub(crate) fn tell_facts<R: Files + AllocGlobal, W: Write, V: Write>(
     request: &InfoRequest<'_>,
     out: &mut W,
     err: &mut V,
-) -> u8 {
+) -> u8
+    ensures { result ≤ 3 }
+{
     let Ok(mut gathered) = BufWriter::new(rt.alloc(), out) else {
         return tell(err, &RequestFault::OutOfMemory, FAILED);
     };
@@ -41,7 +46,9 @@ pub(crate) fn put_object<W: Write, V: Write>(
     status: u8,
     out: &mut W,
     err: &mut V,
-) -> u8 {
+) -> u8
+    ensures { status ≤ 3 → result ≤ 3 }
+{
     match put_json(text, out).and_then(|()| out.flush()) {
         Ok(()) => status,
         Err(error) => tell_unprinted(error, err),
@@ -95,7 +102,9 @@ impl From<PartsFault> for Stop {
 }
 
 // Returns the object of an image, and its status.
-fn object_of<R: Files + AllocGlobal>(rt: &R, path: &str) -> Result<(Vec<u8>, u8), AllocError> {
+fn object_of<R: Files + AllocGlobal>(rt: &R, path: &str) -> Result<(Vec<u8>, u8), AllocError>
+    ensures { IfOk result (λ found. found.1 ≤ 3) }
+{
     let mut names = Names::new(rt.alloc());
     let answer = match facts_of(rt, path) {
         Ok(text) => return Ok((text, DONE)),

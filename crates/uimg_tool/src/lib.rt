@@ -19,6 +19,7 @@ mod old_program;
 mod old_tools;
 mod progress;
 mod reasons;
+mod request_fault;
 mod safe_path;
 mod searched_files;
 mod strict_answers;

@@ -1,5 +1,9 @@
 //! The function `program`, the whole program: opens the files that a command line names, carries
 //! out its request, and turns the end into a line and an exit status.
+
+ghost use Rattle.std.specs.Prelude.{◌≡◌, ◌≤◌};
+ghost use Rattle.uimg_tool.specs.Statuses.{end_status, words_status};
+
 use crate::check_program::check_images;
 use crate::info_program::tell_facts;
 use crate::making::make_image;
@@ -8,88 +12,18 @@ use crate::new_shelf::NewShelf;
 use crate::old_program::{carry_out_old, read_old_words};
 use crate::old_tools::Tool;
 use crate::reasons::{Watched, is_pipe, reason_of_code, reason_unread};
+use crate::request_fault::{DONE, FAILED, REFUSED, RequestFault, WRONG_LINE, status_of};
 use crate::unpack_program::unpack_image;
 use std::cell::Cell;
 use std::fmt::Display;
 use std::io::{BufWriter, ErrorKind, Write};
 use std::rt::Files;
 use std::{fs, io};
-use thiserror::Error;
 use uimg_base::{FileShelf, FileSource, Out, Room, Status};
-use uimg_blob_reading::BlobFault;
 use uimg_cli::{Asked, Request, WordsFault, read_words};
 use uimg_engine::{Fault, is_same_file, run_by};
-use uimg_fit_base::FitFault;
-use uimg_its::FaultKind;
 use uimg_printing::Printed;
 use uimg_requests::{MakeRequest, RunRequest};
-
-/// All is done.
-pub(crate) const DONE: u8 = 0;
-
-/// The image is refused, or a checksum is not right.
-pub(crate) const REFUSED: u8 = 1;
-
-/// The command line is wrong.
-pub(crate) const WRONG_LINE: u8 = 2;
-
-/// A file could not be opened, or a read, a write or memory failed.
-pub(crate) const FAILED: u8 = 3;
-
-// Why a request was not carried out. Its text is the line after `uimg: `.
-#[derive(Debug, Drop, Error)]
-pub(crate) enum RequestFault<'a> {
-    #[error("cannot read {0}")]
-    CannotRead(&'a str),
-
-    // The same, by the new commands.
-    #[error("cannot read {0}: {1}")]
-    Unread(Printed<'a>, io::Error),
-
-    #[error("cannot write {0}")]
-    CannotWrite(&'a str, io::Error),
-
-    // The same, by the new commands.
-    #[error("cannot write {0}: {1}")]
-    Unwritten(Printed<'a>, io::Error),
-
-    // Bytes of the outfile, at this path.
-    #[error("write failed")]
-    NotPut(&'a str, io::Error),
-
-    // Text for standard output.
-    #[error("write failed")]
-    NotPrinted(io::Error),
-
-    // The same, by the new commands.
-    #[error("write failed: {0}")]
-    Unprinted(io::Error),
-
-    #[error("{0} exists; use --force to replace it")]
-    Exists(Printed<'a>),
-
-    #[error("{0} would be written while it is read")]
-    WritesWhatIsRead(&'a str),
-
-    // The same, by the new commands.
-    #[error("{0} would be written while it is read")]
-    DrawsOverWhatIsRead(Printed<'a>),
-
-    #[error("-x: {0} does not begin with 64 bytes 0xff, which the header replaces")]
-    NoRoom(&'a str),
-
-    #[error("out of memory")]
-    OutOfMemory,
-
-    #[error("{0}")]
-    Stopped(Fault),
-}
-
-impl<'a> From<Fault> for RequestFault<'a> {
-    fn from(fault: Fault) -> RequestFault<'a> {
-        RequestFault::Stopped(fault)
-    }
-}
 
 /// Carries out the words of a command line, the program's name first, and returns the exit status.
 /// A program whose name, after its last slash, is `mkimage`, `dumpimage`, `uimg-mkimage` or
@@ -106,11 +40,27 @@ pub fn program<R: Files + AllocGlobal, W: Write, V: Write>(
     now: u32,
     out: &mut W,
     err: &mut V,
-) -> u8 {
+) -> u8
+    ensures { result ≤ 3 }
+{
     if let Some(tool) = words.first().and_then(|word| Tool::of_path(word)) {
         let asked = read_old_words(rt.alloc(), tool, words, epoch, now);
         return carry_out_old(rt, tool, asked, out, err);
     }
+    carry_out_words(rt, words, epoch, now, out, err)
+}
+
+// Carries out the words of `uimg`, the program's name first.
+fn carry_out_words<R: Files + AllocGlobal, W: Write, V: Write>(
+    rt: &R,
+    words: &[&str],
+    epoch: Option<&str>,
+    now: u32,
+    out: &mut W,
+    err: &mut V,
+) -> u8
+    ensures { result ≤ 3 }
+{
     match read_words(rt.alloc(), words, epoch, now) {
         Ok(asked) => carry_out_asked(rt, &asked, out, err),
         Err(fault) => tell_words_fault(&fault, err),
@@ -123,7 +73,9 @@ fn carry_out_asked<R: Files + AllocGlobal, W: Write, V: Write>(
     asked: &Asked<'_>,
     out: &mut W,
     err: &mut V,
-) -> u8 {
+) -> u8
+    ensures { result ≤ 3 }
+{
     match asked {
         Asked::One(request) => carry_out_one(rt, request, out, err),
         Asked::Check(request) => check_images(rt, request, out, err),
@@ -139,7 +91,9 @@ fn carry_out_one<'a, R: Files + AllocGlobal, W: Write, V: Write>(
     request: &'a Request<'a>,
     out: &mut W,
     err: &mut V,
-) -> u8 {
+) -> u8
+    ensures { result ≤ 3 }
+{
     let end = carry_out(rt, request, Way::to(None), out);
     if matches!(request, Request::Show(_)) && is_unread(&end) {
         return FAILED;
@@ -160,7 +114,9 @@ pub(crate) fn is_closed(error: &io::Error) -> bool {
     error.kind() == ErrorKind::BrokenPipe
 }
 
-fn tell_words_fault<V: Write>(fault: &WordsFault, err: &mut V) -> u8 {
+fn tell_words_fault<V: Write>(fault: &WordsFault, err: &mut V) -> u8
+    ensures { result ≡ words_status fault.now }
+{
     match fault {
         WordsFault::NoCommand(text) => {
             let _ = write!(err, "{text}");
@@ -171,7 +127,9 @@ fn tell_words_fault<V: Write>(fault: &WordsFault, err: &mut V) -> u8 {
     }
 }
 
-fn tell_end<V: Write>(end: &Result<Status, RequestFault<'_>>, err: &mut V) -> u8 {
+fn tell_end<V: Write>(end: &Result<Status, RequestFault<'_>>, err: &mut V) -> u8
+    ensures { result ≡ end_status end.now }
+{
     match end {
         Ok(Status::Done) => DONE,
         Ok(Status::NotRight) => REFUSED,
@@ -180,13 +138,17 @@ fn tell_end<V: Write>(end: &Result<Status, RequestFault<'_>>, err: &mut V) -> u8
 }
 
 /// Writes the line of a fault, and returns the status. Failed writes are ignored.
-pub(crate) fn tell<V: Write, D: Display>(err: &mut V, fault: &D, status: u8) -> u8 {
+pub(crate) fn tell<V: Write, D: Display>(err: &mut V, fault: &D, status: u8) -> u8
+    ensures { result ≡ status }
+{
     let _ = writeln!(err, "uimg: {fault}");
     status
 }
 
 /// Reports a text that could not be printed, unless nobody reads any more. Returns the status.
-pub(crate) fn tell_unprinted<V: Write>(error: io::Error, err: &mut V) -> u8 {
+pub(crate) fn tell_unprinted<V: Write>(error: io::Error, err: &mut V) -> u8
+    ensures { result ≡ 3 }
+{
     if is_closed(&error) {
         return FAILED;
     }
@@ -194,39 +156,14 @@ pub(crate) fn tell_unprinted<V: Write>(error: io::Error, err: &mut V) -> u8 {
 }
 
 /// Reports a file that could not be opened, with the reason if there is one. Returns the status.
-pub(crate) fn tell_unread<R: Files, V: Write>(rt: &R, path: &str, err: &mut V) -> u8 {
+pub(crate) fn tell_unread<R: Files, V: Write>(rt: &R, path: &str, err: &mut V) -> u8
+    ensures { result ≡ 3 }
+{
     let reason = reason_unread(rt, path);
     let path = Printed(path.as_bytes());
     match reason {
         Some(reason) => tell(err, &RequestFault::Unread(path, reason), FAILED),
         None => tell(err, &format_args!("cannot read {path}"), FAILED),
-    }
-}
-
-/// Returns the exit status of a request that was not carried out.
-pub(crate) fn status_of(fault: &RequestFault<'_>) -> u8 {
-    match fault {
-        RequestFault::WritesWhatIsRead(_) | RequestFault::DrawsOverWhatIsRead(_) => WRONG_LINE,
-        RequestFault::NoRoom(_) => REFUSED,
-        RequestFault::Stopped(Fault::Legacy(_)) => REFUSED,
-        RequestFault::Stopped(Fault::Blob(fault, _)) if *fault != BlobFault::OutOfMemory => REFUSED,
-        RequestFault::Stopped(Fault::Fit(fault)) => status_of_fit(*fault),
-        RequestFault::Stopped(Fault::Its(fault)) => status_of_source(fault.kind),
-        _ => FAILED,
-    }
-}
-
-fn status_of_fit(fault: FitFault) -> u8 {
-    match fault {
-        FitFault::OutOfMemory | FitFault::NoFile | FitFault::ReadFailed => FAILED,
-        _ => REFUSED,
-    }
-}
-
-fn status_of_source(kind: FaultKind) -> u8 {
-    match kind {
-        FaultKind::NoFile | FaultKind::ReadFailed | FaultKind::OutOfMemory => FAILED,
-        _ => REFUSED,
     }
 }
 

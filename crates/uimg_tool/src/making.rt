@@ -1,6 +1,6 @@
 //! Makes an image on a disk.
 
-use crate::main_program::RequestFault;
+use crate::request_fault::RequestFault;
 use crate::searched_files::SearchedFiles;
 use crate::xip_files::XipFiles;
 use std::io::Write;

@@ -1,9 +1,10 @@
 //! Prints the map of an image's file, as lines or as a picture.
 
-use crate::main_program::{
-    DONE, FAILED, REFUSED, RequestFault, WRONG_LINE, tell, tell_unprinted, tell_unread,
-};
+ghost use Rattle.std.specs.Prelude.{◌≤◌};
+
+use crate::main_program::{tell, tell_unprinted, tell_unread};
 use crate::reasons::{is_pipe, reason_of_code};
+use crate::request_fault::{DONE, FAILED, REFUSED, RequestFault, WRONG_LINE};
 use crate::safe_path::{SafePath, Writing, writing_of};
 use std::io::{BufWriter, Write};
 use std::rt::Files;
@@ -23,7 +24,9 @@ pub(crate) fn map_image<R: Files + AllocGlobal, W: Write, V: Write>(
     request: &MapRequest<'_>,
     out: &mut W,
     err: &mut V,
-) -> u8 {
+) -> u8
+    ensures { result ≤ 3 }
+{
     if is_pipe(rt, request.image) {
         return tell_unread(rt, request.image, err);
     }
@@ -70,7 +73,9 @@ enum Stop<'a> {
     Stopped(MapStop),
 }
 
-fn tell_ended<V: Write>(ended: Result<(), Stop<'_>>, fault: Option<MapFault>, err: &mut V) -> u8 {
+fn tell_ended<V: Write>(ended: Result<(), Stop<'_>>, fault: Option<MapFault>, err: &mut V) -> u8
+    ensures { result ≤ 3 }
+{
     match (ended, fault) {
         (Ok(()), None) => DONE,
         (Ok(()), Some(fault)) => tell(err, &fault, REFUSED),

@@ -1,13 +1,14 @@
 //! The program with the names of mkimage and dumpimage.
 
+ghost use Rattle.std.specs.Prelude.{◌≡◌, ◌≤◌, IfErr};
+ghost use Rattle.uimg_tool.specs.Statuses.{end_status, old_words_status};
+
 use crate::auto_program::make_auto;
 use crate::fit_program::make_fit;
-use crate::main_program::{
-    DONE, FAILED, REFUSED, RequestFault, WRONG_LINE, Way, carry_out, carry_out_apart, is_closed,
-    status_of,
-};
+use crate::main_program::{Way, carry_out, carry_out_apart, is_closed};
 use crate::old_tools::{Called, Tool};
 use crate::reasons::reason_unread;
+use crate::request_fault::{DONE, FAILED, REFUSED, RequestFault, WRONG_LINE, status_of};
 use crate::safe_path::{SafePath, Writing, writing_of};
 use crate::update_program::update_image;
 use std::alloc::Global;
@@ -19,6 +20,7 @@ use uimg_base::Status;
 use uimg_cli::Request;
 use uimg_compat::{OldFault, OldRequest, Show, read_dumpimage, read_mkimage, title_of};
 use uimg_engine::Fault;
+use uimg_fit_base::FitFault;
 use uimg_names::Field;
 use uimg_printing::Printed;
 use uimg_requests::{MakeRequest, RunRequest, VERSION};
@@ -48,7 +50,10 @@ pub(crate) fn carry_out_old<R: Files + AllocGlobal, W: Write, V: Write>(
     asked: Result<OldRequest<'_>, OldFault<'_>>,
     out: &mut W,
     err: &mut V,
-) -> u8 {
+) -> u8
+    ensures status { result ≤ 3 }
+    ensures refused { IfErr asked.entry (λ fault. result ≡ old_words_status fault) }
+{
     match asked {
         Ok(OldRequest::Run { request, is_quiet }) => {
             run_command(rt, Called::new(tool, is_quiet), request, out, err)
@@ -73,7 +78,9 @@ fn run_command<R: Files + AllocGlobal, W: Write, V: Write>(
     request: RunRequest<'_>,
     out: &mut W,
     err: &mut V,
-) -> u8 {
+) -> u8
+    ensures { result ≤ 3 }
+{
     let tool = called.tool;
     let Some(outfile) = request.outfile else {
         return run_in_place(rt, called, request, out, err);
@@ -94,7 +101,9 @@ fn run_in_place<R: Files + AllocGlobal, W: Write, V: Write>(
     request: RunRequest<'_>,
     out: &mut W,
     err: &mut V,
-) -> u8 {
+) -> u8
+    ensures { result ≤ 3 }
+{
     let image = request.image;
     let request = Request::Run(request);
     let end = carry_out_by(rt, &request, called, out);
@@ -114,7 +123,9 @@ fn run_beside<'a, R: Files + AllocGlobal, W: Write, V: Write>(
     begun: Begun<'a, R>,
     out: &mut W,
     err: &mut V,
-) -> u8 {
+) -> u8
+    ensures { result ≤ 3 }
+{
     let image = request.image;
     let request = Request::Run(request);
     let Begun { file, path } = begun;
@@ -129,7 +140,9 @@ pub(crate) fn make_image<R: Files + AllocGlobal, W: Write, V: Write>(
     request: MakeRequest<'_>,
     out: &mut W,
     err: &mut V,
-) -> u8 {
+) -> u8
+    ensures { result ≤ 3 }
+{
     let tool = called.tool;
     match writing_of(rt, request.outfile) {
         Ok(Writing::InPlace) => {
@@ -141,7 +154,10 @@ pub(crate) fn make_image<R: Files + AllocGlobal, W: Write, V: Write>(
         Ok(Writing::Beside(file, path)) => {
             make_beside(rt, called, request, Begun { file, path: &path }, out, err)
         }
-        Ok(Writing::Pipe) => tell(tool, err, &OldFault::MadeAsPipe(request.outfile), FAILED),
+        Ok(Writing::Pipe) => {
+            let path = Printed(request.outfile.as_bytes());
+            tell(tool, err, &OldFault::MadeAsPipe(path), FAILED)
+        }
         Ok(Writing::Nowhere(reason)) => tell_unwritten(tool, request.outfile, &reason, err),
         Err(_) => tell(tool, err, &OldFault::OutOfMemory, FAILED),
     }
@@ -155,7 +171,9 @@ fn make_beside<'a, R: Files + AllocGlobal, W: Write, V: Write>(
     begun: Begun<'a, R>,
     out: &mut W,
     err: &mut V,
-) -> u8 {
+) -> u8
+    ensures { result ≤ 3 }
+{
     let (source, outfile) = (request.source, request.outfile);
     let Begun { file, path } = begun;
     request.written = path.new.as_str();
@@ -173,16 +191,29 @@ fn make_beside<'a, R: Files + AllocGlobal, W: Write, V: Write>(
         let _ = fs::remove_file(rt, path.new.as_str());
         return tell_unprinted(called.tool, error, err);
     }
-    let about = match &end {
-        Err(RequestFault::Stopped(Fault::Its(_))) => source,
-        _ => outfile,
-    };
+    let about = about_end(&end, source, outfile);
     match (
         tell_written(rt, called.tool, path, &end, about, err),
         printed,
     ) {
         (DONE, Err(error)) => tell_unprinted(called.tool, &error, err),
         (status, _) => status,
+    }
+}
+
+/// Returns the path that the end of a making is about: the source if its text or the tree that it
+/// means is refused, else the image.
+pub(crate) fn about_end<'a>(
+    end: &Result<Status, RequestFault<'_>>,
+    source: &'a str,
+    image: &'a str,
+) -> &'a str {
+    match end {
+        Err(RequestFault::Stopped(Fault::Fit(FitFault::PositionTooLow))) => image,
+        Err(RequestFault::Stopped(Fault::Fit(FitFault::TooLarge))) => image,
+        Err(RequestFault::Stopped(Fault::Its(_))) => source,
+        Err(RequestFault::Stopped(Fault::Fit(_))) => source,
+        _ => image,
     }
 }
 
@@ -194,7 +225,9 @@ pub(crate) fn tell_written<R: Files, V: Write>(
     end: &Result<Status, RequestFault<'_>>,
     about: &str,
     err: &mut V,
-) -> u8 {
+) -> u8
+    ensures { result ≤ 3 }
+{
     let (new, whole) = (path.new.as_str(), path.whole.as_str());
     let named = if end.is_ok() {
         fs::rename(rt, new, whole)
@@ -235,7 +268,9 @@ pub(crate) fn tell_end<R: Files, V: Write>(
     end: &Result<Status, RequestFault<'_>>,
     path: &str,
     err: &mut V,
-) -> u8 {
+) -> u8
+    ensures { result ≡ end_status end.now }
+{
     match end {
         Ok(Status::Done) => DONE,
         Ok(Status::NotRight) => REFUSED,
@@ -259,7 +294,9 @@ pub(crate) fn tell_end<R: Files, V: Write>(
 
 /// Reports a file that could not be opened, with the operating system's reason, from another look
 /// at it.
-pub(crate) fn tell_unread<R: Files, V: Write>(rt: &R, tool: Tool, path: &str, err: &mut V) -> u8 {
+pub(crate) fn tell_unread<R: Files, V: Write>(rt: &R, tool: Tool, path: &str, err: &mut V) -> u8
+    ensures { result ≡ 3 }
+{
     let reason = reason_unread(rt, path);
     let path = Printed(path.as_bytes());
     match reason {
@@ -274,14 +311,18 @@ pub(crate) fn tell_unwritten<V: Write>(
     path: &str,
     reason: &io::Error,
     err: &mut V,
-) -> u8 {
+) -> u8
+    ensures { result ≡ 3 }
+{
     let path = Printed(path.as_bytes());
     let _ = writeln!(err, "{}: cannot write {path}: {reason}", tool.name());
     FAILED
 }
 
 /// Reports a text that could not be printed, unless nobody reads any more.
-pub(crate) fn tell_unprinted<V: Write>(tool: Tool, error: &io::Error, err: &mut V) -> u8 {
+pub(crate) fn tell_unprinted<V: Write>(tool: Tool, error: &io::Error, err: &mut V) -> u8
+    ensures { result ≡ 3 }
+{
     if !is_closed(error) {
         let _ = writeln!(err, "{}: write failed: {error}", tool.name());
     }
@@ -289,13 +330,17 @@ pub(crate) fn tell_unprinted<V: Write>(tool: Tool, error: &io::Error, err: &mut 
 }
 
 /// Writes the line of a fault, and returns the status. Failed writes are ignored.
-pub(crate) fn tell<V: Write, D: Display>(tool: Tool, err: &mut V, fault: &D, status: u8) -> u8 {
+pub(crate) fn tell<V: Write, D: Display>(tool: Tool, err: &mut V, fault: &D, status: u8) -> u8
+    ensures { result ≡ status }
+{
     let _ = writeln!(err, "{}: {fault}", tool.name());
     status
 }
 
 // Prints a text. The names of a field go to standard error, as with the originals.
-fn show_text<W: Write, V: Write>(tool: Tool, show: Show, out: &mut W, err: &mut V) -> u8 {
+fn show_text<W: Write, V: Write>(tool: Tool, show: Show, out: &mut W, err: &mut V) -> u8
+    ensures { result ≤ 3 }
+{
     let written = match show {
         Show::Help(text) => write!(out, "{text}"),
         Show::Version => put_version(tool, out, err),

@@ -4,9 +4,11 @@ ghost use Rattle.std.specs.Prelude.{None, false, IfOk};
 ghost use Rattle.uimg_base.specs.Device.{IsFresh};
 
 use std::alloc::Global;
+use std::path::Path;
 use std::rt;
 use uimg_base::{FileSource, Files, Source, SourceFault};
 use uimg_engine::DiskFiles;
+use uimg_unpacking::FileId;
 
 /// The files of a folder, and of others for what is not there. The file that is left out is found
 /// in none of them.
@@ -15,6 +17,7 @@ use uimg_engine::DiskFiles;
 #[derive(Drop)]
 pub(crate) struct SearchedFiles<'a, R: rt::Files + AllocGlobal> {
     rt: &'a R,
+    folder: &'a str,
     files: DiskFiles<'a, R>,
     others: &'a [&'a str],
     left_out: &'a str,
@@ -39,6 +42,7 @@ impl<'a, R: rt::Files + AllocGlobal> SearchedFiles<'a, R> {
     ) -> SearchedFiles<'a, R> {
         SearchedFiles {
             rt,
+            folder,
             files: DiskFiles::without(rt, folder, left_out),
             others,
             left_out,
@@ -83,15 +87,12 @@ impl<'a, R: rt::Files + AllocGlobal> Files for SearchedFiles<'a, R> {
     /// Opens the file of this name in the first folder that has one. Returns `SourceFault` if none
     /// has, or as `DiskFiles::open` does.
     fn open(&mut self, name: &[u8]) -> Result<FileSource<R::File>, SourceFault> {
+        if self.has_searched && is_in_several(self.rt, self.folder, self.others, name) {
+            self.is_ambiguous = true;
+        }
         let opened = match self.files.open(name) {
-            Ok(source) => {
-                let others = count_in(self.rt, self.others, name);
-                self.is_ambiguous = self.is_ambiguous || (self.has_searched && others > 0);
-                Ok(source)
-            }
+            Ok(source) => Ok(source),
             Err(_) => {
-                let others = count_in(self.rt, self.others, name);
-                self.is_ambiguous = self.is_ambiguous || (self.has_searched && others > 1);
                 let found = open_in_others(
                     self.rt,
                     self.others,
@@ -133,15 +134,32 @@ fn open_in_others<R: rt::Files + AllocGlobal>(
     Err(SourceFault)
 }
 
-// Returns in how many of these folders a file of a name is; in most command lines there are none.
-fn count_in<R: rt::Files + AllocGlobal>(rt: &R, folders: &[&str], name: &[u8]) -> usize {
-    let mut found = 0usize;
-    for folder in folders {
-        if DiskFiles::new(rt, folder).open(name).is_ok() {
-            found = found.saturating_add(1);
+// Returns whether a name is that of several files in a folder and others. A file that is met again,
+// by another path of its folder, is one.
+fn is_in_several<R: rt::Files + AllocGlobal>(
+    rt: &R,
+    folder: &str,
+    others: &[&str],
+    name: &[u8],
+) -> bool {
+    let mut first = file_in(rt, folder, name);
+    for other in others {
+        let found = file_in(rt, other, name);
+        if first.is_none() {
+            first = found;
+        } else if found.is_some() && found != first {
+            return true;
         }
     }
-    found
+    false
+}
+
+// Returns the file of a name in a folder, if one is there that can be opened.
+fn file_in<R: rt::Files + AllocGlobal>(rt: &R, folder: &str, name: &[u8]) -> Option<FileId> {
+    let name = str::from_utf8(name).ok()?;
+    let path = Path::new(folder).join(rt.alloc(), name).ok()?;
+    FileSource::open(rt, path.as_str()).ok()?;
+    FileId::of(rt, path.as_str())
 }
 
 // Copies a name, if there is memory for it.

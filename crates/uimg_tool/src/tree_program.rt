@@ -1,10 +1,12 @@
 //! Writes the image of a tree, as mkimage does.
 
-use crate::main_program::{DONE, FAILED, RequestFault};
+ghost use Rattle.std.specs.Prelude.{◌≤◌};
+
 use crate::new_shelf::NewShelf;
-use crate::old_program::{Begun, tell, tell_unprinted, tell_unwritten, tell_written};
+use crate::old_program::{Begun, about_end, tell, tell_unprinted, tell_unwritten, tell_written};
 use crate::old_tools::Tool;
 use crate::reasons::{Watched, reason_of_code};
+use crate::request_fault::{DONE, FAILED, RequestFault};
 use crate::safe_path::{Writing, writing_of};
 use std::alloc::Global;
 use std::cell::Cell;
@@ -17,10 +19,11 @@ use uimg_engine::{Fault, TreeManner, make_tree};
 use uimg_fit_base::Placement;
 use uimg_requests::Manner;
 
-/// The image that is made of a tree: by which tool, at which path and how.
+/// The image that is made of a tree: by which tool, of the file at which path, at which path and how.
 #[derive(Clone, Copy)]
 pub(crate) struct TreeRequest<'a> {
     pub(crate) tool: Tool,
+    pub(crate) source: &'a str,
     pub(crate) image: &'a str,
     pub(crate) placement: Placement,
     pub(crate) manner: Manner,
@@ -35,7 +38,9 @@ pub(crate) fn write_image<R: rt::Files + AllocGlobal, F: Files, W: Write, V: Wri
     files: &mut F,
     out: &mut W,
     err: &mut V,
-) -> u8 {
+) -> u8
+    ensures { result ≤ 3 }
+{
     let tool = request.tool;
     match writing_of(rt, request.image) {
         Ok(Writing::Beside(file, path)) => {
@@ -49,7 +54,8 @@ pub(crate) fn write_image<R: rt::Files + AllocGlobal, F: Files, W: Write, V: Wri
                 let _ = fs::remove_file(rt, path.new.as_str());
                 return tell_unprinted(tool, error, err);
             }
-            let status = tell_written(rt, tool, &path, &end, request.image, err);
+            let about = about_end(&end, request.source, request.image);
+            let status = tell_written(rt, tool, &path, &end, about, err);
             finished(tool, status, printed, err)
         }
         Ok(Writing::Nowhere(reason)) => tell_unwritten(tool, request.image, &reason, err),
@@ -119,7 +125,9 @@ fn make_on<'a, R: rt::Files + AllocGlobal, F: Files, W: Write>(
 }
 
 // Returns the status of an image that was written, unless its listing could not be printed.
-fn finished<V: Write>(tool: Tool, status: u8, printed: io::Result<()>, err: &mut V) -> u8 {
+fn finished<V: Write>(tool: Tool, status: u8, printed: io::Result<()>, err: &mut V) -> u8
+    ensures { status ≤ 3 → result ≤ 3 }
+{
     match printed {
         Err(error) if status == DONE => tell_unprinted(tool, &error, err),
         _ => status,

@@ -1,8 +1,12 @@
 //! Turns the end of an unpacking into the result that a check would have.
 
+ghost use Rattle.std.specs.Prelude.{◌≡◌};
+ghost use Rattle.uimg_tool.specs.{Statuses.trouble_status, CheckEnds.AnswersEnding};
+
 use crate::check_answers::{Names, answer_of_fault, answer_of_line, answer_of_unread};
-use crate::main_program::{DONE, FAILED, REFUSED};
+use crate::request_fault::{FAILED, REFUSED};
 use std::rt::Files;
+use uimg_base::Status;
 use uimg_checks::{Answer, Checked};
 use uimg_engine::Fault;
 use uimg_fit_checking::Finding;
@@ -11,8 +15,8 @@ use uimg_unpacking::{Ended, PartsEnded, Trouble};
 /// How the unpacking of an image ended.
 #[derive(Drop)]
 pub(crate) enum Ending {
-    /// All is told by lines; this is the status.
-    Told(u8),
+    /// All is told by lines. It is done if all is kept.
+    Told(Status),
 
     /// The image could not be opened.
     Unread,
@@ -33,8 +37,8 @@ pub(crate) enum Ending {
 impl From<Ended> for Ending {
     fn from(ended: Ended) -> Ending {
         match ended {
-            Ended::Kept => Ending::Told(DONE),
-            Ended::Refused => Ending::Told(REFUSED),
+            Ended::Kept => Ending::Told(Status::Done),
+            Ended::Refused => Ending::Told(Status::NotRight),
             Ended::NoImage => Ending::NoImage,
             Ended::Stopped(fault) => Ending::Stopped(Fault::from(fault)),
             Ended::Troubled(trouble) => Ending::Troubled(trouble),
@@ -45,7 +49,7 @@ impl From<Ended> for Ending {
 impl From<PartsEnded> for Ending {
     fn from(ended: PartsEnded) -> Ending {
         match ended {
-            PartsEnded::Kept => Ending::Told(DONE),
+            PartsEnded::Kept => Ending::Told(Status::Done),
             PartsEnded::Weak => Ending::Weak,
             PartsEnded::Stopped(fault) => Ending::Stopped(Fault::from(fault)),
             PartsEnded::Troubled(trouble) => Ending::Troubled(trouble),
@@ -59,9 +63,12 @@ pub(crate) fn answer_of_ending<'a, R: Files + AllocGlobal>(
     path: &str,
     ending: Ending,
     names: &'a mut Names,
-) -> Answer<'a> {
+) -> Answer<'a>
+    ensures { AnswersEnding ending result }
+{
     match ending {
-        Ending::Told(_) | Ending::Unread => answer_of_unread(rt, path, names),
+        Ending::Told(_) => answer_of_unread(rt, path, names),
+        Ending::Unread => answer_of_unread(rt, path, names),
         Ending::Weak => Answer::Found(Checked::Weak, None),
         Ending::NoImage => Answer::Found(Checked::Fit(Finding::NoImage), None),
         Ending::Stopped(fault) => answer_of_fault(fault, names),
@@ -73,9 +80,13 @@ pub(crate) fn answer_of_ending<'a, R: Files + AllocGlobal>(
 }
 
 /// Returns the exit status for a trouble with the files of an image.
-pub(crate) fn status_of_trouble(trouble: &Trouble) -> u8 {
+pub(crate) fn status_of_trouble(trouble: &Trouble) -> u8
+    ensures { result ≡ trouble_status trouble.now }
+{
     match trouble {
-        Trouble::NoName | Trouble::TooManyFiles(_) | Trouble::TooManyBytes(_) => REFUSED,
+        Trouble::NoName => REFUSED,
+        Trouble::TooManyFiles(_) => REFUSED,
+        Trouble::TooManyBytes(_) => REFUSED,
         _ => FAILED,
     }
 }

@@ -1,16 +1,17 @@
 //! Unpacks an image.
 
+ghost use Rattle.std.specs.Prelude.{◌≤◌};
+
 use crate::check_answers::Names;
 use crate::info_program::put_object;
 use crate::json_lines::JsonOut;
-use crate::main_program::{
-    DONE, FAILED, REFUSED, RequestFault, WRONG_LINE, status_of, tell, tell_unprinted, tell_unread,
-};
+use crate::main_program::{tell, tell_unprinted, tell_unread};
 use crate::reasons::is_pipe;
+use crate::request_fault::{DONE, FAILED, REFUSED, RequestFault, WRONG_LINE, status_of};
 use crate::unpack_answers::{Ending, answer_of_ending, status_of_trouble};
 use std::io::{BufWriter, Write};
 use std::rt::Files;
-use uimg_base::{FileSource, Source};
+use uimg_base::{FileSource, Source, Status};
 use uimg_checks::object_text;
 use uimg_cli::UnpackRequest;
 use uimg_engine::{Fault, Form, is_fit};
@@ -25,7 +26,9 @@ pub(crate) fn unpack_image<R: Files + AllocGlobal, W: Write, V: Write>(
     request: &UnpackRequest<'_>,
     out: &mut W,
     err: &mut V,
-) -> u8 {
+) -> u8
+    ensures { result ≤ 3 }
+{
     let Ok(mut gathered) = BufWriter::new(rt.alloc(), out) else {
         return tell(err, &RequestFault::OutOfMemory, FAILED);
     };
@@ -110,9 +113,12 @@ fn tell_ending<R: Files + AllocGlobal, W: Write, V: Write>(
     ending: Ending,
     out: &mut W,
     err: &mut V,
-) -> u8 {
+) -> u8
+    ensures { result ≤ 3 }
+{
     match ending {
-        Ending::Told(status) => status,
+        Ending::Told(Status::Done) => DONE,
+        Ending::Told(Status::NotRight) => REFUSED,
         Ending::Troubled(trouble) if !as_json || is_of_command(&trouble) => {
             tell_trouble(trouble, err)
         }
@@ -144,7 +150,9 @@ fn tell_object<R: Files + AllocGlobal, W: Write, V: Write>(
     ending: Ending,
     out: &mut W,
     err: &mut V,
-) -> u8 {
+) -> u8
+    ensures { result ≤ 3 }
+{
     let mut names = Names::new(rt.alloc());
     let answer = answer_of_ending(rt, path, ending, &mut names);
     match object_text(rt.alloc(), path.as_bytes(), &answer) {
@@ -154,7 +162,9 @@ fn tell_object<R: Files + AllocGlobal, W: Write, V: Write>(
 }
 
 // Reports that a legacy image has CRC-32 alone.
-fn tell_weak<W: Write, V: Write>(path: &str, out: &mut W, err: &mut V) -> u8 {
+fn tell_weak<W: Write, V: Write>(path: &str, out: &mut W, err: &mut V) -> u8
+    ensures { result ≤ 3 }
+{
     let told = writeln!(out, "{}: weak crc32", Printed(path.as_bytes()));
     match told.and_then(|()| out.flush()) {
         Ok(()) => REFUSED,
@@ -162,7 +172,9 @@ fn tell_weak<W: Write, V: Write>(path: &str, out: &mut W, err: &mut V) -> u8 {
     }
 }
 
-fn tell_trouble<V: Write>(trouble: Trouble, err: &mut V) -> u8 {
+fn tell_trouble<V: Write>(trouble: Trouble, err: &mut V) -> u8
+    ensures { result ≤ 3 }
+{
     match trouble {
         Trouble::Closed => FAILED,
         Trouble::IsImage(_) | Trouble::RemovesImage(_) => tell(err, &trouble, WRONG_LINE),

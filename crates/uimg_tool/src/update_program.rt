@@ -1,9 +1,11 @@
 //! Updates a FIT image.
 
-use crate::main_program::{FAILED, REFUSED, RequestFault};
+ghost use Rattle.std.specs.Prelude.{◌≤◌};
+
 use crate::old_program::{tell, tell_end, tell_unread};
 use crate::old_tools::Tool;
 use crate::reasons::is_pipe;
+use crate::request_fault::{FAILED, REFUSED, RequestFault};
 use crate::tree_program::{TreeRequest, write_image};
 use std::io::Write;
 use std::rt::Files;
@@ -20,7 +22,9 @@ pub(crate) fn update_image<R: Files + AllocGlobal, W: Write, V: Write>(
     request: &UpdateRequest<'_>,
     out: &mut W,
     err: &mut V,
-) -> u8 {
+) -> u8
+    ensures { result ≤ 3 }
+{
     if is_pipe(rt, request.image) {
         return tell_unread(rt, tool, request.image, err);
     }
@@ -32,6 +36,7 @@ pub(crate) fn update_image<R: Files + AllocGlobal, W: Write, V: Write>(
         Ok(tree) => {
             let making = TreeRequest {
                 tool,
+                source: request.image,
                 image: request.image,
                 placement: request.placement,
                 manner: request.manner,
@@ -50,7 +55,9 @@ fn tell_fault<R: Files, V: Write>(
     image: &str,
     fault: UpdateFault,
     err: &mut V,
-) -> u8 {
+) -> u8
+    ensures { result ≤ 3 }
+{
     match fault {
         UpdateFault::Fit(fault) => {
             let end = Err(RequestFault::Stopped(Fault::from(fault)));

@@ -12,6 +12,7 @@ use uimg_base::{FLAT_DT, MULTI, SCRIPT};
 use uimg_fit_base::{Placement, WORD_ALIGNMENT};
 use uimg_legacy::{Options, name_field};
 use uimg_names::Naming;
+use uimg_printing::Printed;
 use uimg_requests::{Action, Command, MakeRequest, Manner, RunRequest};
 
 /// The word of -f for a source that mkimage makes itself.
@@ -212,7 +213,7 @@ impl<'a> Settings<'a> {
         match self.alignment {
             0 => Ok(WORD_ALIGNMENT),
             align if align % WORD_ALIGNMENT == 0 => Ok(align),
-            _ => Err(OldFault::UnevenAlignment(self.alignment_word)),
+            _ => Err(OldFault::UnevenAlignment(Printed(self.alignment_word.as_bytes()))),
         }
     }
 

@@ -1,0 +1,75 @@
+-- The exit status of each end of a request: 0 if all is done, 1 if an image, a source or a file is
+-- refused or a sum is not right, 2 for a wrong command line, and 3 if a file could not be opened, or a
+-- read, a write or memory failed.
+use Rattle.std.specs.Prelude.{ℕ, ◌≤◌, Result, Ok, Err, if◌then◌else◌}
+use Rattle.uimg_base.specs.declared.status.Status.{Status, TheVariants.{Done, NotRight}}
+use Rattle.uimg_blob_reading.specs.Faults.{refuses_memory}
+use Rattle.uimg_fit_base.specs.declared.fault.FitFault.{FitFault}
+use Rattle.uimg_fit_base.specs.declared.fault.FitFault.TheVariants as fit
+use Rattle.uimg_its.specs.Answers.{is_outside_text}
+use Rattle.uimg_its.specs.declared.fault.FaultKind.{FaultKind}
+use Rattle.uimg_engine.specs.declared.fault.Fault.{Fault}
+use Rattle.uimg_engine.specs.declared.fault.Fault.TheVariants as engine
+use Rattle.uimg_cli.specs.declared.command_line.words_fault.WordsFault.{WordsFault}
+use Rattle.uimg_cli.specs.declared.command_line.words_fault.WordsFault.TheVariants as words
+use Rattle.uimg_compat.specs.declared.fault.OldFault.{OldFault}
+use Rattle.uimg_compat.specs.declared.fault.OldFault.TheVariants as old
+use Rattle.uimg_unpacking.specs.declared.trouble.Trouble.{Trouble}
+use Rattle.uimg_unpacking.specs.declared.trouble.Trouble.TheVariants as trouble
+use Rattle.uimg_tool.specs.declared.request_fault.RequestFault.{RequestFault}
+use Rattle.uimg_tool.specs.declared.request_fault.RequestFault.TheVariants as request
+
+-- A FIT image or its tree is refused, unless memory or a file of a payload failed.
+abbrev pub fit_status : FitFault → ℕ
+fit_status fit.OutOfMemory = 3
+fit_status fit.NoFile = 3
+fit_status fit.ReadFailed = 3
+fit_status fault = 1
+
+-- A source is refused, unless the reason is outside its text: memory or a file.
+abbrev pub source_status : FaultKind → ℕ
+source_status kind = if is_outside_text kind then 3 else 1
+
+-- a command that stopped
+abbrev pub fault_status : Fault → ℕ
+fault_status (engine.Legacy fault) = 1
+fault_status (engine.Blob fault offset) = if refuses_memory fault then 3 else 1
+fault_status (engine.Fit fault) = fit_status fault
+fault_status (engine.Its fault) = source_status fault.kind
+fault_status fault = 3
+
+-- a request that was not carried out
+abbrev pub request_status : RequestFault → ℕ
+request_status (request.WritesWhatIsRead path) = 2
+request_status (request.DrawsOverWhatIsRead path) = 2
+request_status (request.NoRoom path) = 1
+request_status (request.Stopped fault) = fault_status fault
+request_status fault = 3
+
+-- a request
+abbrev pub end_status : Result Status RequestFault → ℕ
+end_status (Ok Done) = 0
+end_status (Ok NotRight) = 1
+end_status (Err fault) = request_status fault
+
+-- words that are no command
+abbrev pub words_status : WordsFault → ℕ
+words_status words.OutOfMemory = 3
+words_status fault = 2
+
+-- words of mkimage or dumpimage that request nothing
+abbrev pub old_words_status : OldFault → ℕ
+old_words_status old.OutOfMemory = 3
+old_words_status fault = 2
+
+-- a trouble with the files of an image: its names and its limits are refused
+abbrev pub trouble_status : Trouble → ℕ
+trouble_status trouble.NoName = 1
+trouble_status (trouble.TooManyFiles most) = 1
+trouble_status (trouble.TooManyBytes most) = 1
+trouble_status other = 3
+
+-- a status that never falls, and stays one
+pub record Grows (old new : ℕ) : Type 0 where
+  pub least : old ≤ new
+  pub most : old ≤ 3 → new ≤ 3
