@@ -1,0 +1,73 @@
+"""Compares files that hold device tree blobs: FITs, alone or within a larger image.
+
+uimg and mkimage place the properties that they add at other places of a node, so the blobs differ
+though the trees are the same. A file is the same in this sense if its bytes outside of blobs are the
+same, and its blobs read as the same trees, where a property's value may hold blobs again."""
+
+import struct
+
+MAGIC = b"\xd0\x0d\xfe\xed"
+
+
+def compared(first, second):
+    """Compares two files. Returns same, tree (the same but for the order in trees) or other."""
+    both = []
+    for path in (first, second):
+        with open(path, "rb") as file:
+            both.append(file.read())
+    if both[0] == both[1]:
+        return "same"
+    if MAGIC not in both[0]:
+        return "other"
+    return "tree" if parts(both[0]) == parts(both[1]) else "other"
+
+
+def parts(data):
+    """The parts of bytes: bytes outside of blobs, and trees."""
+    found, last, at = [], 0, data.find(MAGIC)
+    while at >= 0:
+        size = int.from_bytes(data[at + 4 : at + 8], "big")
+        read = tree(data[at : at + size]) if 40 <= size <= len(data) - at else None
+        if read is None:
+            at = data.find(MAGIC, at + 1)
+            continue
+        found += [data[last:at], read]
+        last = at + size
+        at = data.find(MAGIC, last)
+    return [*found, data[last:]]
+
+
+def tree(blob):
+    """The tree of a blob: its reserved memory and its root, or None for what is no blob."""
+    try:
+        _, _, structure, strings, reserved, *_ = struct.unpack_from(">10I", blob)
+        root, at = node(blob, structure + 4, strings)
+        if struct.unpack_from(">I", blob, structure)[0] != 1 or struct.unpack_from(">I", blob, at)[0] != 9:
+            return None
+        memory = blob[reserved:structure] if reserved < structure else blob[reserved : reserved + 16]
+        return memory.rstrip(b"\0"), root
+    except (struct.error, ValueError, IndexError):
+        return None
+
+
+def node(blob, at, strings):
+    """The node whose name is at an offset. Returns it, with sorted properties and nodes, and its end."""
+    end = blob.index(b"\0", at)
+    name, at = blob[at:end], (end + 4) // 4 * 4
+    properties, children = [], []
+    while True:
+        (token,) = struct.unpack_from(">I", blob, at)
+        at += 4
+        if token == 1:
+            child, at = node(blob, at, strings)
+            children.append(child)
+        elif token == 2:
+            return (name, sorted(properties, key=lambda it: it[0]), sorted(children, key=lambda it: it[0])), at
+        elif token == 3:
+            size, named = struct.unpack_from(">2I", blob, at)
+            value = blob[at + 8 : at + 8 + size]
+            place = strings + named
+            properties.append((blob[place : blob.index(b"\0", place)], parts(value) if MAGIC in value else value))
+            at += 8 + (size + 3) // 4 * 4
+        elif token != 4:
+            raise ValueError(token)
