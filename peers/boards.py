@@ -1,14 +1,14 @@
 """Full builds of boards of U-Boot, with uimg in the place of the build's own mkimage and dumpimage.
 
-A board is compiled once with U-Boot's tools. From then on tools/mkimage and tools/dumpimage of its
-build folder are callers, newer than their sources, so make leaves them; each call is logged with its
-time. For each way to call the tools, all files that were written since the first call are moved away,
-with whatever else was written then, and make has to make them anew. As long as a file is not moved
-away, its content has to stay the same. So only what the tools make, or what is made of it, can
-differ. The remake with U-Boot's tools is the control."""
+A board is compiled once with U-Boot's tools. tools/mkimage and tools/dumpimage of its build folder are
+callers, newer than their sources, so make leaves them; they log each call with its time. For each way
+to call the tools, all files that were written since the first call are removed, except objects and
+headers, and make has to make them anew. Then each file of the build folder, removed or not, has to be
+as after the first build. The remake with U-Boot's tools is the control."""
 
 import hashlib
 import os
+import re
 import shutil
 import time
 
@@ -17,8 +17,8 @@ from trees import compared
 ARM, ARM64, MIPS = "arm-linux-gnueabihf-", "aarch64-linux-gnu-", "mips-linux-gnu-"
 # Each board, its cross compiler, and the image formats that its build makes.
 BOARDS = {
-    "am65x_evm_a53": ARM64,  # two FITs: -f with -E, and -f auto with -E
-    "pine64_plus": ARM64,  # sunxi_egon, and a FIT by binman
+    "am65x_evm_a53": ARM64,  # FITs by -f auto -E and by a source and -E
+    "pine64_plus": ARM64,  # sunxi_egon, FITs by -f auto -E and by binman and -F
     "rockpro64-rk3399": ARM64,  # rksd and rkspi, and FITs by binman
     "wandboard": ARM,  # imximage, and a FIT of several device trees
     "am335x_evm": ARM,  # omapimage, and a FIT of several device trees
@@ -32,6 +32,8 @@ printf '%s\\t%s\\n' "$(date +%s)" "${0##*/} $*" >> "$UIMG_SUITE_CALLS"
 exec "$UIMG_SUITE_TOOLS/${0##*/}" "$@"
 """
 TOOLS = ("mkimage", "dumpimage")
+# What no image is part of: objects, headers, and what make and the compiler keep of them.
+OBJECTS = re.compile(r".*\.(o|h|s|su)(\.cmd|\.d)?")
 # A program that does nothing, for the trusted firmware.
 FIRMWARE = ".globl _start\n_start: b _start\n.data\n.word 1\n"
 
@@ -131,19 +133,18 @@ class Boards:
         built = f"{self.folder}/{name}"
         if os.path.isdir(kept):
             for path in files(kept):
-                if os.path.exists(f"{built}/{path}"):
+                if os.path.exists(f"{built}/{path}") and not OBJECTS.fullmatch(path):
                     os.remove(f"{built}/{path}")
             return
-        with open(f"{self.suites.folder}/log/board-{name}-first-calls", encoding="utf-8") as file:
-            first = int(file.readline().split("\t")[0])
+        first = int(lines(f"{self.suites.folder}/log/board-{name}-first-calls")[0].split("\t")[0])
         for path in files(built):
-            if os.stat(f"{built}/{path}").st_mtime >= first:
+            if os.stat(f"{built}/{path}").st_ctime >= first and not OBJECTS.fullmatch(path):
                 os.makedirs(os.path.dirname(f"{kept}/{path}"), exist_ok=True)
                 os.rename(f"{built}/{path}", f"{kept}/{path}")
 
     def compare(self, name, kept):
         """Compares all files with those of the first build. Returns the paths by what they are."""
-        built, found = f"{self.folder}/{name}", {"same": [], "tree": [], "other": []}
+        built, found = f"{self.folder}/{name}", {it: [] for it in ("same", "tree", "notes", "other")}
         now = sums(built)
         with open(f"{built}.sums", encoding="utf-8") as file:
             wanted = {path: value for value, path in (line.rstrip("\n").split(" ", 1) for line in file)}
@@ -164,7 +165,8 @@ class Boards:
         ways = [it.split("\t")[0] for it in lines(f"{log}-ways")]
         counts = "".join(f", {ways.count(it)} by {it}" for it in sorted(set(ways)))
         text = f"{name}, {way}: {'made' if ends else 'not made'}; {len(lines(f'{log}-calls'))} calls{counts}; "
-        text += f"{len(found['same'])} files the same, {len(found['tree'])} with the same trees, {len(found['other'])} other"
+        text += f"{len(found['same'])} files the same, {len(found['tree'])} with the same trees, "
+        text += f"{len(found['notes'])} of binman's notes, {len(found['other'])} other"
         text += "".join(f" {it}" for it in found["other"][:20])
         self.suites.notes.append(f"{text}; {times[0]:.0f} s, {times[1]:.0f} s")
 
