@@ -184,7 +184,8 @@ def files(folder):
         for name in names:
             path = os.path.join(place, name)
             short = os.path.relpath(path, folder)
-            if os.path.isfile(path) and not os.path.islink(path) and short not in ("tools/mkimage", "tools/dumpimage"):
+            is_tool = short in [f"tools/{it}" for it in TOOLS]
+            if os.path.isfile(path) and not os.path.islink(path) and not is_tool:
                 yield short
 
 

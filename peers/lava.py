@@ -16,6 +16,8 @@ from trees import compared
 
 ACTIONS = "usr/lib/python3/dist-packages/lava_dispatcher/actions/deploy"
 DATA = {"kernel": 700_000, "dtb": 30_001, "ramdisk": 400_003, "full": 400_007}
+# The parts of each FIT. full is a ramdisk that LAVA has written an overlay into.
+PARTS = ("kernel", "kernel dtb", "kernel ramdisk", "kernel dtb ramdisk", "kernel dtb ramdisk full")
 ADDRESSES = {"arm": "0x80008000", "arm64": "0x44000000", "mips": "0x80100000"}
 
 
@@ -100,7 +102,7 @@ class Lava:
     def images(self):
         """The name of each image, and the function that makes it and returns its path."""
         for architecture in ADDRESSES:
-            for parts in ("kernel", "kernel dtb", "kernel ramdisk", "kernel dtb ramdisk", "kernel dtb ramdisk full"):
+            for parts in PARTS:
                 yield f"FIT {architecture} {parts}", self.fit(architecture, parts.split())
             for xip in (False, True):
                 yield f"kernel {architecture}{' xip' if xip else ''}", self.kernel(architecture, xip)
@@ -121,8 +123,8 @@ class Lava:
 
     def overlay(self, architecture):
         def make(tools):
-            words = (self.ramdisk % (architecture, f"{self.folder}/full", f"{self.folder}/full.uboot")).split(" ")
-            Action().given(self.folder, tools, [], architecture).run_cmd(words)
+            line = self.ramdisk % (architecture, f"{self.folder}/full", f"{self.folder}/full.uboot")
+            Action().given(self.folder, tools, [], architecture).run_cmd(line.split(" "))
             return "full.uboot"
         return make
 
