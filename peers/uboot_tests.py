@@ -1,5 +1,5 @@
 #!/usr/bin/env python3
-"""U-Boot 2023.01's own tests with uimg in the place of its tools: uboot_tests.py PROGRAM [FOLDER]
+"""U-Boot 2023.01's own tests with uimg in the place of its tools: uboot_tests.py PROGRAM [FOLDER [SUITE..]]
 
 In FOLDER (out/uboot) it fetches Debian's source package of U-Boot, compiles the sandbox with its
 tools, and runs these suites with U-Boot's mkimage and dumpimage, with uimg by these names, and with
@@ -9,6 +9,9 @@ the wrappers of wrappers/:
   binman       all tests of binman
   diffoscope   its tests of FIT and uImage
   genimage     its section fit {}, without a folder of keys and with one, if genimage is installed
+  LAVA         the images that LAVA's dispatcher makes for its boards (lava.py)
+  Linux        FITs of Linux for MIPS, by its own rules (mips.py)
+  boards       full builds of boards of U-Boot, by cross compilers (boards.py)
 
 It prints the counts, and which tests end otherwise than with U-Boot's tools. What cannot be fetched
 or compiled is named, and its suite left out. It installs nothing: apt has a configuration of its own
@@ -20,11 +23,16 @@ import re
 import shutil
 import subprocess
 import sys
+import time
+
+from boards import Boards
+from lava import Lava
+from mips import Mips
 
 NEEDED = """build-essential bison flex libssl-dev libgnutls28-dev uuid-dev swig python3-dev
 python3-setuptools python3-pytest python3-pytest-xdist python3-filelock python3-pycryptodome
 python3-pyelftools python3-yaml python3-magic bc xxd device-tree-compiler dpkg-dev cpio genimage lzop
-lz4 zstd xz-utils"""
+lz4 zstd xz-utils gcc-aarch64-linux-gnu gcc-arm-linux-gnueabihf gcc-mips-linux-gnu"""
 PYTHON = "/usr/bin/python3"
 PATHS = "/usr/local/sbin:/usr/sbin:/usr/bin:/sbin:/bin"
 TOOLS = ("mkimage", "dumpimage")
@@ -50,7 +58,7 @@ class Suites:
 
     def __init__(self, program, folder):
         self.program, self.folder = os.path.abspath(program), os.path.abspath(folder)
-        self.built = f"{self.folder}/sandbox"
+        self.built, self.fault, self.notes = f"{self.folder}/sandbox", None, []
         self.ways = {way: f"{self.folder}/{name}" for way, name in WAYS.items()}
         for name in ("log", "home", *WAYS.values(), "uimg"):
             os.makedirs(f"{self.folder}/{name}", exist_ok=True)
@@ -77,6 +85,18 @@ class Suites:
             raise Missing(f"apt-get source {package}")
         return [it for it in glob.glob(f"{self.folder}/{package}-*") if os.path.isdir(it)][0]
 
+    def package(self, name):
+        """The folder of an unpacked binary package, which is fetched once."""
+        place = f"{self.folder}/packages/{name}"
+        if not os.path.isdir(place):
+            if not self.call([*self.apt(), "download", name], f"fetch-{name}"):
+                raise Missing(f"apt-get download {name}")
+            fetched = glob.glob(f"{self.folder}/{name}_*.deb")
+            if not (fetched and self.call(["dpkg-deb", "-x", fetched[0], f"{place}.new"], f"unpack-{name}")):
+                raise Missing(f"unpacking {name}")
+            os.rename(f"{place}.new", place)
+        return place
+
     def apt(self):
         """apt-get with a configuration of its own."""
         here = f"{self.folder}/apt"
@@ -99,17 +119,21 @@ class Suites:
 
     def build(self):
         """Compiles the sandbox once, and puts the caller in the place of its tools."""
+        if self.fault:
+            raise self.fault
         self.uboot = self.source("u-boot")
         if not os.path.exists(f"{self.folder}/original/dumpimage"):
             make = ["make", "-C", self.uboot, f"O={self.built}"]
             if not (self.call([*make, "sandbox_defconfig"], "config")
                     and self.call([*make, "NO_SDL=1", "-j2"], "make")):
-                raise Missing(f"make of the sandbox; it needs {' '.join(NEEDED.split())}")
+                self.fault = Missing(f"make of the sandbox; it needs {' '.join(NEEDED.split())}")
+                raise self.fault
             for tool in TOOLS:
                 shutil.copy2(f"{self.built}/tools/{tool}", f"{self.folder}/original/{tool}")
         for tool in TOOLS:
             os.remove(f"{self.built}/tools/{tool}")
             write(f"{self.built}/tools/{tool}", CALLER)
+        return self
 
     def link(self):
         """Links the names of the other ways to the program and the wrappers."""
@@ -199,7 +223,7 @@ def link(target, path):
     os.symlink(target, path)
 
 
-def row(suite, ends):
+def row(ends):
     """A line of the table: how many tests passed, and what the others did."""
     counts = {}
     for end in ends.values():
@@ -208,35 +232,51 @@ def row(suite, ends):
     return f"{counts.get('PASSED', 0)} of {len(ends)}" + (f" ({others})" if others else "")
 
 
-def main(program, folder="out/uboot"):
+def genimage_of(suites):
+    """The suite of genimage, if it is installed."""
+    if not shutil.which("genimage", path=PATHS):
+        raise Missing("it is not installed")
+    return suites.build().genimage
+
+
+# Each suite, and what returns its function, or fails.
+SUITES = {
+    "test/py": lambda suites: suites.build().test_py,
+    "binman": lambda suites: suites.build().binman,
+    "diffoscope": lambda suites: suites.source("diffoscope") and suites.build().diffoscope,
+    "genimage": genimage_of,
+    "LAVA": lambda suites: Lava(suites.build()).run,
+    "Linux": lambda suites: Mips(suites.build()).run,
+    "boards": lambda suites: Boards(suites).run,
+}
+
+
+def differences(suite, ends):
+    """A line for each test that ends otherwise than with U-Boot's tools."""
+    wanted = ends["U-Boot's tools"]
+    for way, found in ends.items():
+        for name in sorted(set(wanted) | set(found)):
+            if not name.startswith("one ") and wanted.get(name) != found.get(name):
+                yield f"{suite}, {way}: {name}: {found.get(name, 'PASSED')}, not {wanted.get(name, 'PASSED')}"
+
+
+def main(program, folder="out/uboot", *names):
     suites = Suites(program, folder)
     suites.link()
-    ran, missing = {}, []
-    try:
-        suites.build()
-        ran = {"test/py": suites.test_py, "binman": suites.binman}
-    except Missing as error:
-        missing.append(f"test/py and binman were left out: {error}")
-    try:
-        suites.source("diffoscope")
-        ran["diffoscope"] = suites.diffoscope
-    except Missing as error:
-        missing.append(f"diffoscope was left out: {error}")
-    if shutil.which("genimage", path=PATHS):
-        ran["genimage"] = suites.genimage
-    else:
-        missing.append("genimage was left out: it is not installed")
     print(f"| Suite | {' | '.join(WAYS)} |\n|---|{'---|' * len(WAYS)}")
-    differing = []
-    for suite, run in ran.items():
-        ends = {way: run(way) for way in WAYS}
-        print(f"| {suite} | {' | '.join(row(suite, it) for it in ends.values())} |", flush=True)
-        wanted = ends["U-Boot's tools"]
-        for way, found in ends.items():
-            for name in sorted(set(wanted) | set(found)):
-                if not name.startswith("one ") and wanted.get(name) != found.get(name):
-                    differing.append(f"{suite}, {way}: {name}: {found.get(name, 'PASSED')}, not {wanted.get(name, 'PASSED')}")
-    print("\n".join(["", *differing, *missing]).rstrip())
+    differing, missing = [], []
+    for suite in names or SUITES:
+        began = time.time()
+        try:
+            run = SUITES[suite](suites)
+            ends = {way: run(way) for way in WAYS}
+        except Missing as error:
+            missing.append(f"{suite} was left out: {error}")
+            continue
+        print(f"| {suite} | {' | '.join(row(it) for it in ends.values())} |", flush=True)
+        differing += differences(suite, ends)
+        suites.notes.append(f"{suite}: {time.time() - began:.0f} s")
+    print("\n".join(["", *differing, *suites.notes, *missing]).rstrip())
     return 1 if differing or missing else 0
 
 
