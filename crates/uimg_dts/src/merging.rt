@@ -1,51 +1,136 @@
 //! Merging of nodes that are given again, and deletion.
 
+ghost use Rattle.std.specs.Prelude.{◌≡◌, length, OnOk};
+ghost use Rattle.uimg_dts.specs.Tables.{chain, changed_at};
+ghost use Rattle.uimg_dts.specs.Deleting.{entries, deleted_node, deleted_property, without_property, without_properties, without_one, without};
+ghost use Rattle.uimg_dts.specs.Merging.{definitions, replaced, merged_property};
+
 use crate::finding::ROOT;
 use crate::stop::Stop;
 use crate::table::{NONE, NodeEntry, Owner, PropertyEntry, Table};
 use crate::tokens::Piece;
 use std::alloc::Allocator;
 
+/// The most levels of a tree.
+const MOST_LEVELS: u8 = 64;
+
 impl<'t, A: Allocator + Copy> Table<'t, A> {
-    /// Deletes a property.
-    pub(crate) fn delete_property(&mut self, place: usize) {
+    // Marks a property.
+    fn mark_property(&mut self, place: usize)
+        ensures marked { self.new.properties.items ≡ changed_at deleted_property self.old.properties.items place }
+        ensures nodes { self.new.nodes ≡ self.old.nodes }
+        ensures labels { self.new.labels ≡ self.old.labels }
+        ensures values { self.new.values ≡ self.old.values }
+        ensures marks { self.new.marks ≡ self.old.marks }
+        ensures bytes { self.new.bytes ≡ self.old.bytes }
+    {
         if let Some(property) = self.properties.get_mut(place) {
             property.is_deleted = true;
         }
+    }
+
+    /// Deletes a property.
+    pub(crate) fn delete_property(&mut self, place: usize)
+        ensures deleted { (entries self.new.nodes.items self.new.properties.items self.new.labels.items) ≡ without_property (entries self.old.nodes.items self.old.properties.items self.old.labels.items) place }
+        ensures values { self.new.values ≡ self.old.values }
+        ensures marks { self.new.marks ≡ self.old.marks }
+        ensures bytes { self.new.bytes ≡ self.old.bytes }
+    {
+        self.mark_property(place);
         self.delete_labels(Owner::Property(place));
     }
 
-    // Deletes a node's properties and labels, and marks it.
-    fn delete_one(&mut self, place: usize) {
-        let mut property = NONE;
-        if let Some(node) = self.nodes.get_mut(place) {
-            node.is_deleted = true;
-            property = node.first_property;
-        }
+    // Deletes properties, from the first on.
+    fn delete_properties(&mut self, first: usize)
+        ensures deleted { (entries self.new.nodes.items self.new.properties.items self.new.labels.items) ≡ without_properties (entries self.old.nodes.items self.old.properties.items self.old.labels.items) (chain (λ (p : PropertyEntry). p.next) self.old.properties.items (length self.old.properties.items) first) }
+        ensures values { self.new.values ≡ self.old.values }
+        ensures marks { self.new.marks ≡ self.old.marks }
+        ensures bytes { self.new.bytes ≡ self.old.bytes }
+    {
+        let mut place = first;
         for _ in 0..self.properties.len() {
-            let Some(found) = self.property(property) else {
+            let Some(found) = self.property(place) else {
                 break;
             };
-            self.delete_property(property);
-            property = found.next;
+            self.delete_property(place);
+            place = found.next;
         }
+    }
+
+    // Marks a node.
+    fn mark_node(&mut self, place: usize)
+        ensures marked { self.new.nodes.items ≡ changed_at deleted_node self.old.nodes.items place }
+        ensures properties { self.new.properties ≡ self.old.properties }
+        ensures labels { self.new.labels ≡ self.old.labels }
+        ensures values { self.new.values ≡ self.old.values }
+        ensures marks { self.new.marks ≡ self.old.marks }
+        ensures bytes { self.new.bytes ≡ self.old.bytes }
+    {
+        if let Some(node) = self.nodes.get_mut(place) {
+            node.is_deleted = true;
+        }
+    }
+
+    // Deletes a node with its properties and labels.
+    fn delete_one(&mut self, place: usize)
+        ensures deleted { (entries self.new.nodes.items self.new.properties.items self.new.labels.items) ≡ without_one (entries self.old.nodes.items self.old.properties.items self.old.labels.items) place }
+        ensures values { self.new.values ≡ self.old.values }
+        ensures marks { self.new.marks ≡ self.old.marks }
+        ensures bytes { self.new.bytes ≡ self.old.bytes }
+    {
+        let Some(node) = self.node(place) else {
+            return;
+        };
+        self.mark_node(place);
+        self.delete_properties(node.first_property);
         self.delete_labels(Owner::Node(place));
     }
 
-    /// Deletes a node and all below it.
-    pub(crate) fn delete_node(&mut self, top: usize) {
-        let mut place = top;
+    // Deletes a node and all below it, of at most `levels` levels.
+    fn delete_levels(&mut self, levels: u8, top: usize)
+        ensures deleted { (entries self.new.nodes.items self.new.properties.items self.new.labels.items) ≡ without levels (entries self.old.nodes.items self.old.properties.items self.old.labels.items) top }
+        ensures values { self.new.values ≡ self.old.values }
+        ensures marks { self.new.marks ≡ self.old.marks }
+        ensures bytes { self.new.bytes ≡ self.old.bytes }
+    {
+        let Some(node) = self.node(top) else {
+            return;
+        };
+        if levels == 0 {
+            return;
+        }
+        self.delete_one(top);
+        let mut place = node.first_child;
         for _ in 0..self.nodes.len() {
-            self.delete_one(place);
-            match self.following(top, place) {
-                Some(next) => place = next,
-                None => return,
+            let Some(found) = self.node(place) else {
+                return;
+            };
+            if !found.is_deleted {
+                self.delete_levels(levels - 1, place);
             }
+            place = found.next;
         }
     }
 
+    /// Deletes a node and all below it.
+    pub(crate) fn delete_node(&mut self, top: usize)
+        ensures deleted { (entries self.new.nodes.items self.new.properties.items self.new.labels.items) ≡ without 64 (entries self.old.nodes.items self.old.properties.items self.old.labels.items) top }
+        ensures values { self.new.values ≡ self.old.values }
+        ensures marks { self.new.marks ≡ self.old.marks }
+        ensures bytes { self.new.bytes ≡ self.old.bytes }
+    {
+        self.delete_levels(MOST_LEVELS, top);
+    }
+
     // Gives a property the value of another.
-    fn replace(&mut self, place: usize, by: PropertyEntry) {
+    fn replace(&mut self, place: usize, by: PropertyEntry)
+        ensures replaced { self.new.properties.items ≡ changed_at (replaced by) self.old.properties.items place }
+        ensures nodes { self.new.nodes ≡ self.old.nodes }
+        ensures labels { self.new.labels ≡ self.old.labels }
+        ensures values { self.new.values ≡ self.old.values }
+        ensures marks { self.new.marks ≡ self.old.marks }
+        ensures bytes { self.new.bytes ≡ self.old.bytes }
+    {
         if let Some(property) = self.properties.get_mut(place) {
             property.value = by.value;
             property.marks = by.marks;
@@ -61,7 +146,12 @@ impl<'t, A: Allocator + Copy> Table<'t, A> {
         place: usize,
         new: PropertyEntry,
         left: usize,
-    ) -> Result<(), Stop> {
+    ) -> Result<(), Stop>
+        ensures merged { OnOk result (definitions self.new.nodes.items self.new.properties.items ≡ merged_property self.old.bytes.now (definitions self.old.nodes.items self.old.properties.items) node place new) }
+        ensures values { self.new.values ≡ self.old.values }
+        ensures marks { self.new.marks ≡ self.old.marks }
+        ensures bytes { self.new.bytes ≡ self.old.bytes }
+    {
         match self.property_named(node, self.text(new.name)) {
             Some(old) if new.is_deleted => self.delete_property(old),
             Some(old) => {

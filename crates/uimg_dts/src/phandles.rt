@@ -1,5 +1,9 @@
 //! The numbers by which nodes are named, and references.
 
+ghost use Rattle.std.specs.{Prelude.{◌≡◌}, Int.{w32, to_be_bytes}};
+ghost use Rattle.uimg_dts.specs.Tables.{changed_at, written_at};
+ghost use Rattle.uimg_dts.specs.Resolving.{numbered, referenced, referring};
+
 use crate::fault::Refusal;
 use crate::stop::{Stop, at, out_of_memory};
 use crate::table::{MarkEntry, MarkKind, PropertyEntry, Table};
@@ -11,6 +15,16 @@ pub(crate) const PHANDLE: Piece = Piece { start: 0, end: 7 };
 
 /// What they begin with.
 pub(crate) const PREFIX: &[u8] = b"phandle";
+
+// Writes four bytes over others, if there are so many from a place on.
+fn overwrite(values: &mut [u8], place: usize, bytes: [u8; 4])
+    ensures { values.new ≡ written_at values.old place bytes }
+{
+    let end = place.saturating_add(4);
+    if end <= values.len() && place < end {
+        values[place..end].copy_from_slice(&bytes);
+    }
+}
 
 impl<'t, A: Allocator + Copy> Table<'t, A> {
     // Returns the first mark of a kind in a property.
@@ -62,7 +76,14 @@ impl<'t, A: Allocator + Copy> Table<'t, A> {
     }
 
     // Gives a node its number.
-    fn set_number(&mut self, place: usize, number: u32) {
+    fn set_number(&mut self, place: usize, number: u32)
+        ensures nodes { self.new.nodes.items ≡ changed_at (numbered number) self.old.nodes.items place }
+        ensures properties { self.new.properties ≡ self.old.properties }
+        ensures labels { self.new.labels ≡ self.old.labels }
+        ensures values { self.new.values ≡ self.old.values }
+        ensures marks { self.new.marks ≡ self.old.marks }
+        ensures bytes { self.new.bytes ≡ self.old.bytes }
+    {
         if let Some(node) = self.nodes.get_mut(place) {
             node.phandle = number;
         }
@@ -113,11 +134,15 @@ impl<'t, A: Allocator + Copy> Table<'t, A> {
     }
 
     // Writes a number over four bytes of a value.
-    fn put_number(&mut self, place: usize, number: u32) {
-        let end = place.saturating_add(4);
-        if let Some(bytes) = self.values.as_mut_slice().get_mut(place..end) {
-            bytes.copy_from_slice(&number.to_be_bytes());
-        }
+    fn put_number(&mut self, place: usize, number: u32)
+        ensures written { self.new.values.items ≡ written_at self.old.values.items place (to_be_bytes w32 number) }
+        ensures nodes { self.new.nodes ≡ self.old.nodes }
+        ensures properties { self.new.properties ≡ self.old.properties }
+        ensures labels { self.new.labels ≡ self.old.labels }
+        ensures marks { self.new.marks ≡ self.old.marks }
+        ensures bytes { self.new.bytes ≡ self.old.bytes }
+    {
+        overwrite(self.values.as_mut_slice(), place, number.to_be_bytes());
     }
 
     // Resolves the reference that a mark of a value is, given where the value begins.
@@ -145,11 +170,30 @@ impl<'t, A: Allocator + Copy> Table<'t, A> {
         Ok(())
     }
 
-    // Sets the node that a mark refers to.
-    fn refer(&mut self, mark: usize, place: usize) {
+    // Marks a node that a reference means.
+    fn mark_referenced(&mut self, place: usize)
+        ensures nodes { self.new.nodes.items ≡ changed_at referenced self.old.nodes.items place }
+        ensures properties { self.new.properties ≡ self.old.properties }
+        ensures labels { self.new.labels ≡ self.old.labels }
+        ensures values { self.new.values ≡ self.old.values }
+        ensures marks { self.new.marks ≡ self.old.marks }
+        ensures bytes { self.new.bytes ≡ self.old.bytes }
+    {
         if let Some(node) = self.nodes.get_mut(place) {
             node.is_referenced = true;
         }
+    }
+
+    // Sets the node that a mark refers to.
+    fn refer(&mut self, mark: usize, place: usize)
+        ensures nodes { self.new.nodes.items ≡ changed_at referenced self.old.nodes.items place }
+        ensures marks { self.new.marks.items ≡ changed_at (referring place) self.old.marks.items mark }
+        ensures properties { self.new.properties ≡ self.old.properties }
+        ensures labels { self.new.labels ≡ self.old.labels }
+        ensures values { self.new.values ≡ self.old.values }
+        ensures bytes { self.new.bytes ≡ self.old.bytes }
+    {
+        self.mark_referenced(place);
         if let Some(found) = self.marks.get_mut(mark) {
             found.node = place;
         }
