@@ -1,5 +1,5 @@
 -- Look-ups in the lists of a table, one entry at a time.
-use Rattle.std.proofs.Common.{◌≡◌, ℕ, zero, suc, ◌+◌, ◌-◌, ◌<◌, ◌≤◌, List, [], ◌∷◌, Bool, true, false, Option, Some, None, length, refl, arith, subst, sym, ap, ◌∙◌, cond}
+use Rattle.std.proofs.Common.{◌≡◌, ℕ, zero, suc, ◌+◌, ◌-◌, ◌<◌, ◌≤◌, List, [], ◌∷◌, Bool, true, false, Option, Some, None, refl, arith, ◌∙◌}
 use Rattle.std.specs.List.{find, slice_get}
 use Rattle.uimg_dts.specs.Tables.{chain, holds_at}
 

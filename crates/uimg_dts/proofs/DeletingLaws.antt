@@ -1,12 +1,12 @@
 -- Deletion keeps what links the entries.
-use Rattle.std.proofs.Common.{◌≡◌, ℕ, zero, suc, ◌+◌, ◌-◌, ◌<◌, ◌≤◌, List, [], ◌∷◌, Bool, true, false, not, Option, Some, None, length, map, refl, arith, subst, sym, ap, ◌∙◌, cond, set}
+use Rattle.std.proofs.Common.{◌≡◌, ℕ, zero, suc, ◌+◌, ◌-◌, ◌<◌, List, [], ◌∷◌, Bool, true, false, not, Option, Some, None, length, map, refl, arith, subst, sym, ap, ◌∙◌, cond, set}
 use Rattle.std.specs.List.{fold, slice_get}
 use Rattle.std.specs.Option.{option_map}
 use Rattle.std.proofs.lemmas.Option.{slice_get-map}
 use Rattle.std.proofs.lemmas.List.{length-map}
-use Rattle.uimg_dts.specs.declared.table.{NodeEntry.NodeEntry, PropertyEntry.PropertyEntry, LabelEntry.LabelEntry, Owner.TheVariants.Node}
+use Rattle.uimg_dts.specs.declared.table.{NodeEntry.NodeEntry, PropertyEntry.PropertyEntry, Owner.TheVariants.Node}
 use Rattle.uimg_dts.specs.{Tables.{chain, changed_at, holds_at, is_live}, Finding.{children_of, properties_of}}
-use Rattle.uimg_dts.specs.Deleting.{Entries, entries, deleted_node, deleted_property, without_property, without_properties, without_mark, without_owner, without_one, without, without_child}
+use Rattle.uimg_dts.specs.Deleting.{Entries, deleted_node, deleted_property, without_property, without_properties, without_mark, without_owner, without_one, without, without_child}
 use Rattle.uimg_dts.proofs.ChainLaws.{chain_none, chain_step}
 
 -- the chain of a list of links

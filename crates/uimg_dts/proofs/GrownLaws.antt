@@ -1,12 +1,10 @@
 -- Trees that are made of tables, a node or a property at a time.
-use Rattle.std.proofs.Common.{◌≡◌, ℕ, ◌+◌, ◌-◌, ◌<◌, ◌≤◌, List, [], ◌∷◌, ◌++◌, append-nil, append_assoc, Bool, true, false, Option, Some, None, length, map, refl, arith, subst, sym, ap, ◌∙◌, cond}
-use Rattle.std.specs.List.{slice_get, filter, filter_map, cons_option}
-use Rattle.uimg_blob_reading.specs.Plain.{NamedOf, no_node, a_node}
-use Rattle.uimg_blob_writing.specs.{declared.tree.Node.Node, Trees.siblings, Content.Content}
-use Rattle.uimg_dts.specs.declared.table.{NodeEntry.NodeEntry, PropertyEntry.PropertyEntry}
-use Rattle.uimg_dts.specs.{Tables.{chain, is_live}, Finding.{children_of}}
-use Rattle.uimg_dts.specs.Planting.{Ground, live_name, live_name_at, names_at, names, AreGrown, IsGrown, AreGrownNodes}
-use Rattle.uimg_dts.proofs.ChainLaws.{chain_none, chain_step, chain_done}
+use Rattle.std.proofs.Common.{◌≡◌, ℕ, List, [], ◌∷◌, ◌++◌, append-nil, append_assoc, Bool, true, false, Option, Some, None, refl, subst, sym, ap, ◌∙◌, cond}
+use Rattle.std.specs.List.{slice_get, filter, cons_option}
+use Rattle.uimg_blob_writing.specs.{declared.tree.Node.Node, Trees.siblings}
+use Rattle.uimg_dts.specs.declared.table.{PropertyEntry.PropertyEntry}
+use Rattle.uimg_dts.specs.{Tables.{is_live}}
+use Rattle.uimg_dts.specs.Planting.{Ground, live_name, live_name_at, names_at, AreGrown, IsGrown, AreGrownNodes}
 
 pub siblings_grown : {A : Type 0} (g : Ground) (places : List ℕ) (ns : List (Node A)) → AreGrownNodes g places ns → AreGrown g places (siblings ns)
 siblings_grown g [] [] all = tt
@@ -41,7 +39,7 @@ pub names_more : (bytes : List ℕ) (ps : List PropertyEntry) (old new goal : Li
 names_more bytes ps old new goal all rest place p some more named same =
     let at : live_name_at bytes ps place ≡ live_name bytes p = rw (some, live_name_at) in
     let e : names_at bytes ps all ≡ cons_option (live_name bytes p) [] ++ names_at bytes ps rest =
-        ap (names_at bytes ps) more ∙ ap (λ (o : Option (List ℕ)). cons_option o (names_at bytes ps rest)) at ∙ names_cons (live_name bytes p) (names_at bytes ps rest) in
+    ap (names_at bytes ps) more ∙ ap (λ (o : Option (List ℕ)). cons_option o (names_at bytes ps rest)) at ∙ names_cons (live_name bytes p) (names_at bytes ps rest) in
     ap (λ (l : List (List ℕ)). l ++ names_at bytes ps rest) named ∙ append_assoc old (cons_option (live_name bytes p) []) (names_at bytes ps rest) ∙ ap (λ (l : List (List ℕ)). old ++ l) (sym e) ∙ same
 
 pub names_end : (bytes : List ℕ) (ps : List PropertyEntry) (old goal : List (List ℕ)) (all : List ℕ) → all ≡ [] → old ++ names_at bytes ps all ≡ goal → old ≡ goal

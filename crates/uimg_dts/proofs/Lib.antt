@@ -3,5 +3,7 @@ pub mod DeletingLaws
 mod FilesLaws
 pub mod GrownLaws
 pub mod LentLaws
+pub mod MergingLaws
+pub mod NumberLaws
 pub mod PathLaws
 mod SoundLaws

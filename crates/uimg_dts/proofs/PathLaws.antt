@@ -1,5 +1,5 @@
 -- One name of a path.
-use Rattle.std.proofs.Common.{◌≡◌, ℕ, zero, suc, ◌+◌, ◌-◌, ◌<◌, List, [], ◌∷◌, Option, Some, None, length, refl, arith, ◌∙◌, take, drop}
+use Rattle.std.proofs.Common.{◌≡◌, ℕ, suc, ◌+◌, ◌-◌, ◌<◌, List, [], ◌∷◌, Option, Some, length, refl, arith, ◌∙◌, take, drop}
 use Rattle.uimg_dts.specs.declared.table.NodeEntry.{NodeEntry}
 use Rattle.uimg_dts.specs.Finding.{at_names, path_names, passed_slashes, part_length, live_child_of}
 

@@ -1,5 +1,5 @@
 -- Files stand where they may.
-use Rattle.std.proofs.Common.{◌≡◌, ℕ, List, [], ◌∷◌, ◌++◌, Bool, IsTrue, Option, None, Some, subst}
+use Rattle.std.proofs.Common.{ℕ, List, [], ◌∷◌, ◌++◌, Bool, IsTrue, Option, None, Some, subst}
 use Rattle.std.specs.List.{AllByRecursion}
 use Rattle.uimg_base.specs.Named.{FileMap, SameFiles}
 use Rattle.uimg_blob_reading.specs.Plain.{NamedOf, no_node, a_node}

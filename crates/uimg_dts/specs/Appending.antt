@@ -1,5 +1,5 @@
 -- One more at the end of a list in the tables.
-use Rattle.std.specs.Prelude.{ℕ, ◌-◌, ◌^◌, ◌==◌, List, Bool, Option, Some, None, slice_get, if◌then◌else◌}
+use Rattle.std.specs.Prelude.{ℕ, ◌-◌, ◌^◌, ◌==◌, List, Some, None, slice_get, if◌then◌else◌}
 use Rattle.uimg_dts.specs.declared.table.NodeEntry.{NodeEntry}
 use Rattle.uimg_dts.specs.declared.table.PropertyEntry.{PropertyEntry}
 use Rattle.uimg_dts.specs.Tables.{changed_at}
@@ -11,9 +11,9 @@ nowhere = 2 ^ 64 - 1
 -- the place is the last of a node's properties, and the first if it has no other
 abbrev pub with_last_property : ℕ → NodeEntry → NodeEntry
 with_last_property place n = record n {
-    last_property = place;
-    first_property = if n.last_property == nowhere then place else n.first_property;
-  }
+  last_property = place;
+  first_property = if n.last_property == nowhere then place else n.first_property;
+}
 
 abbrev pub last_property_of : List NodeEntry → ℕ → ℕ
 last_property_of nodes owner = elim (slice_get nodes owner) [ None ↦ nowhere | Some n ↦ n.last_property ]
@@ -32,9 +32,9 @@ appended_property nodes properties owner place =
 -- the same for children
 abbrev pub with_last_child : ℕ → NodeEntry → NodeEntry
 with_last_child place n = record n {
-    last_child = place;
-    first_child = if n.last_child == nowhere then place else n.first_child;
-  }
+  last_child = place;
+  first_child = if n.last_child == nowhere then place else n.first_child;
+}
 
 abbrev pub last_child_of : List NodeEntry → ℕ → ℕ
 last_child_of nodes parent = elim (slice_get nodes parent) [ None ↦ nowhere | Some n ↦ n.last_child ]

@@ -1,11 +1,11 @@
 -- What a deletion marks.
-use Rattle.std.specs.Prelude.{◌≡◌, ℕ, zero, suc, ◌==◌, List, map, Bool, true, false, Option, Some, None, slice_get, slice_set, if◌then◌else◌, length}
+use Rattle.std.specs.Prelude.{ℕ, zero, suc, ◌==◌, List, map, Bool, true, false, Some, None, slice_get, if◌then◌else◌}
 use Rattle.std.specs.List.{fold}
 use Rattle.uimg_dts.specs.declared.table.NodeEntry.{NodeEntry}
 use Rattle.uimg_dts.specs.declared.table.PropertyEntry.{PropertyEntry}
 use Rattle.uimg_dts.specs.declared.table.LabelEntry.{LabelEntry}
 use Rattle.uimg_dts.specs.declared.table.Owner.{Owner, TheVariants.{Node, Property}}
-use Rattle.uimg_dts.specs.{Tables.{chain, is_live, changed_at}, Finding.{children_of, properties_of}}
+use Rattle.uimg_dts.specs.{Tables.{is_live, changed_at}, Finding.{children_of, properties_of}}
 
 -- what can be deleted
 pub record Entries : Type 0 where
@@ -38,10 +38,10 @@ without_labels owner labels = map (without_label owner) labels
 -- a property and its labels are deleted, and nothing else
 abbrev pub without_property : Entries → ℕ → Entries
 without_property e place = record {
-    nodes = e.nodes;
-    properties = changed_at deleted_property e.properties place;
-    labels = without_labels (Property place) e.labels;
-  }
+  nodes = e.nodes;
+  properties = changed_at deleted_property e.properties place;
+  labels = without_labels (Property place) e.labels;
+}
 
 -- the properties at these places are deleted, in turn
 abbrev pub without_properties : Entries → List ℕ → Entries
@@ -57,9 +57,9 @@ without_owner e owner = record { nodes = e.nodes; properties = e.properties; lab
 -- table there is none.
 abbrev pub without_one : Entries → ℕ → Entries
 without_one e place = elim (slice_get e.nodes place) [
-      None ↦ e
-    | Some n ↦ without_owner (without_properties (without_mark e place) (properties_of e.nodes e.properties place)) (Node place)
-    ]
+  | None ↦ e
+  | Some n ↦ without_owner (without_properties (without_mark e place) (properties_of e.nodes e.properties place)) (Node place)
+]
 
 -- A node is deleted, and then each of its children that is not deleted, with all below it, of at
 -- most n levels.

@@ -1,5 +1,5 @@
 -- What is found in the tables.
-use Rattle.std.specs.Prelude.{ℕ, zero, suc, ◌+◌, ◌==◌, take, drop, codes, slice_index, List, [], ◌∷◌, length, Bool, true, false, not, ◌&&◌, bytes_eq, is_some, Option, Some, None, slice_get, if◌then◌else◌}
+use Rattle.std.specs.Prelude.{ℕ, zero, suc, ◌==◌, take, drop, codes, slice_index, List, [], ◌∷◌, length, Bool, not, ◌&&◌, bytes_eq, is_some, Option, Some, None, slice_get, if◌then◌else◌}
 use Rattle.std.specs.List.{find, prefix_len}
 use Rattle.std.specs.Option.{option_and_then}
 use Rattle.uimg_dts.specs.declared.table.NodeEntry.{NodeEntry}
@@ -11,16 +11,16 @@ use Rattle.uimg_dts.specs.Tables.{part, chain, holds_at, is_live}
 -- the places of a node's children, deleted or not, in order
 abbrev pub children_of : List NodeEntry → ℕ → List ℕ
 children_of nodes parent = elim (slice_get nodes parent) [
-      None ↦ []
-    | Some n ↦ chain (λ (e : NodeEntry). e.next) nodes (length nodes) n.first_child
-    ]
+  | None ↦ []
+  | Some n ↦ chain (λ (e : NodeEntry). e.next) nodes (length nodes) n.first_child
+]
 
 -- the places of a node's properties, deleted or not, in order
 abbrev pub properties_of : List NodeEntry → List PropertyEntry → ℕ → List ℕ
 properties_of nodes properties owner = elim (slice_get nodes owner) [
-      None ↦ []
-    | Some n ↦ chain (λ (e : PropertyEntry). e.next) properties (length properties) n.first_property
-    ]
+  | None ↦ []
+  | Some n ↦ chain (λ (e : PropertyEntry). e.next) properties (length properties) n.first_property
+]
 
 -- the first child of a name, deleted or not
 abbrev pub child_of : List ℕ → List NodeEntry → ℕ → List ℕ → Option ℕ
@@ -57,9 +57,9 @@ live_child_of bytes nodes name parent =
 -- a label that is not deleted, nor what it names
 abbrev pub is_live_label : List NodeEntry → List PropertyEntry → LabelEntry → Bool
 is_live_label nodes properties l = not l.is_deleted && elim l.owner [
-      Node place ↦ is_live nodes place
-    | Property place ↦ holds_at (λ (p : PropertyEntry). not p.is_deleted && is_live nodes p.node) properties place
-    ]
+  | Node place ↦ is_live nodes place
+  | Property place ↦ holds_at (λ (p : PropertyEntry). not p.is_deleted && is_live nodes p.node) properties place
+]
 
 -- the node that a label names
 abbrev pub owner_node : Owner → Option ℕ

@@ -1,10 +1,9 @@
 -- What it means to give a node again.
-use Rattle.std.specs.Prelude.{ℕ, List, Bool, true, false, Option, Some, None, slice_get, length, if◌then◌else◌}
-use Rattle.std.specs.List.{fold}
+use Rattle.std.specs.Prelude.{◌≡◌, ℕ, zero, suc, List, true, false, MatchBool, MatchOption, Some, None, slice_get, length, if◌then◌else◌}
 use Rattle.uimg_dts.specs.declared.table.NodeEntry.{NodeEntry}
 use Rattle.uimg_dts.specs.declared.table.PropertyEntry.{PropertyEntry}
-use Rattle.uimg_dts.specs.{Tables.{part, chain, changed_at}, Finding.{property_of, properties_of}}
-use Rattle.uimg_dts.specs.{Deleting.{deleted_property}, Appending.{with_last_property, appended_property}}
+use Rattle.uimg_dts.specs.{Tables.{part, changed_at}, Finding.{child_of, property_of}}
+use Rattle.uimg_dts.specs.{Deleting.{Entries, deleted_property, without}, Appending.{nowhere, appended_child, with_last_property, appended_property}}
 
 -- nodes and their properties
 pub record Definitions : Type 0 where
@@ -17,20 +16,20 @@ definitions nodes properties = record { nodes = nodes; properties = properties }
 -- a property with the value of another, which is not deleted
 abbrev pub replaced : PropertyEntry → PropertyEntry → PropertyEntry
 replaced new old = record old {
-    value = new.value;
-    marks = new.marks;
-    is_file = new.is_file;
-    is_deleted = false;
-  }
+  value = new.value;
+  marks = new.marks;
+  is_file = new.is_file;
+  is_deleted = false;
+}
 
 abbrev pub changed_property : Definitions → (PropertyEntry → PropertyEntry) → ℕ → Definitions
 changed_property d change place = record { nodes = d.nodes; properties = changed_at change d.properties place }
 
 abbrev pub with_property : Definitions → ℕ → ℕ → Definitions
 with_property d node place = record {
-    nodes = changed_at (with_last_property place) d.nodes node;
-    properties = appended_property d.nodes d.properties node place;
-  }
+  nodes = changed_at (with_last_property place) d.nodes node;
+  properties = appended_property d.nodes d.properties node place;
+}
 
 -- The property at a place, given again for a node. If the node has one of this name, the first takes
 -- its value at its own place, or is deleted. If it has none, the new one comes last, unless it is
@@ -38,6 +37,46 @@ with_property d node place = record {
 abbrev pub merged_property : List ℕ → Definitions → ℕ → ℕ → PropertyEntry → Definitions
 merged_property bytes d node place new =
     elim (property_of bytes d.nodes d.properties node (part bytes new.name)) [
-      None ↦ if new.is_deleted then d else with_property d node place
-    | Some old ↦ if new.is_deleted then changed_property d deleted_property old else changed_property d (replaced new) old
+      | None ↦ if new.is_deleted then d else with_property d node place
+      | Some old ↦ if new.is_deleted then changed_property d deleted_property old else changed_property d (replaced new) old
     ]
+
+-- The properties of a list, from a place on, given again for a node, one after the other; n at most.
+abbrev pub merged_from : ℕ → List ℕ → Definitions → ℕ → ℕ → Definitions
+merged_from zero bytes d node place = d
+merged_from (suc n) bytes d node place =
+    elim (slice_get d.properties place) [
+      | None ↦ d
+      | Some new ↦ merged_from n bytes (merged_property bytes d node place new) node new.next
+    ]
+
+abbrev pub first_property_of : List NodeEntry → ℕ → ℕ
+first_property_of nodes node = elim (slice_get nodes node) [ None ↦ nowhere | Some n ↦ n.first_property ]
+
+-- a node whose definition was given again for another, and is in no tree
+abbrev pub merged_into : ℕ → NodeEntry → NodeEntry
+merged_into node n = record n { merged = node; is_deleted = true }
+
+abbrev pub revived : NodeEntry → NodeEntry
+revived n = record n { is_deleted = false }
+
+abbrev pub with_nodes : Definitions → List NodeEntry → Definitions
+with_nodes d nodes = record { nodes = nodes; properties = d.properties }
+
+-- A node is given again: it is there, even if it was deleted, the new one is not, and the properties
+-- of the new one are given again for it.
+abbrev pub merged_node : List ℕ → Definitions → ℕ → ℕ → Definitions
+merged_node bytes d old new =
+    merged_from (length d.properties) bytes
+    (with_nodes d (changed_at revived (changed_at (merged_into old) d.nodes new) old))
+    old (first_property_of d.nodes new)
+
+-- A node of a definition is given again below another. If the other has a child of its name, the
+-- node is merged into it, or deletes it; if it has none, the node comes last, unless it is deleted.
+abbrev pub MergesChild : List ℕ → Entries → Entries → ℕ → ℕ → NodeEntry → Type 0
+MergesChild bytes old new parent place node =
+    MatchOption (child_of bytes old.nodes parent (part bytes node.name))
+    ((new.nodes ≡ (if node.is_deleted then old.nodes else appended_child old.nodes parent place)) × (new.properties ≡ old.properties))
+    (λ into. MatchBool node.is_deleted
+    (new ≡ without 64 old into)
+    (definitions new.nodes new.properties ≡ merged_node bytes (definitions old.nodes old.properties) into place))

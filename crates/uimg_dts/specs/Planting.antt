@@ -1,5 +1,5 @@
 -- The tree that the tables hold.
-use Rattle.std.specs.Prelude.{◌≡◌, ℕ, List, [], ◌∷◌, ◌++◌, map, Bool, true, false, Option, MatchOption, Some, None, slice_get, length, ⊤, if◌then◌else◌}
+use Rattle.std.specs.Prelude.{◌≡◌, ℕ, List, [], ◌∷◌, map, true, false, Option, MatchOption, Some, None, slice_get, ⊤, if◌then◌else◌}
 use Rattle.std.specs.{List.{filter, filter_map}, Option.{option_map, option_and_then}}
 use Rattle.uimg_blob_reading.specs.Plain.{NamedOf, no_node, a_node}
 use Rattle.uimg_blob_writing.specs.declared.tree.Node.{Node}

@@ -1,8 +1,7 @@
 -- The lists that the tables hold: entries that name one another by their places.
-use Rattle.std.specs.Prelude.{ℕ, zero, suc, ◌+◌, ◌-◌, ◌++◌, List, [], ◌∷◌, length, take, drop, Bool, true, false, not, ◌&&◌, nat_le, Option, Some, None, slice_get, slice_set, if◌then◌else◌}
+use Rattle.std.specs.Prelude.{ℕ, zero, suc, ◌+◌, ◌-◌, ◌++◌, List, [], ◌∷◌, length, take, drop, Bool, false, not, ◌&&◌, nat_le, Some, None, slice_get, slice_set, if◌then◌else◌}
 use Rattle.uimg_dts.specs.declared.tokens.Piece.{Piece}
 use Rattle.uimg_dts.specs.declared.table.NodeEntry.{NodeEntry}
-use Rattle.uimg_dts.specs.declared.table.PropertyEntry.{PropertyEntry}
 
 -- the bytes of a part: none if it ends before it begins, or after the bytes
 abbrev pub part : List ℕ → Piece → List ℕ
@@ -13,8 +12,8 @@ abbrev pub chain : {E : Type 0} → (E → ℕ) → List E → ℕ → ℕ → L
 chain next entries zero place = []
 chain next entries (suc n) place =
     elim (slice_get entries place) [
-      None ↦ []
-    | Some e ↦ place ∷ chain next entries n (next e)
+      | None ↦ []
+      | Some e ↦ place ∷ chain next entries n (next e)
     ]
 
 -- a test of the entry at a place; there is none at a place outside of the table

@@ -3,7 +3,7 @@
 ghost use Rattle.std.specs.Prelude.{◌≡◌, length, OnOk};
 ghost use Rattle.uimg_dts.specs.Tables.{chain, changed_at};
 ghost use Rattle.uimg_dts.specs.Deleting.{entries, deleted_node, deleted_property, without_property, without_properties, without_one, without};
-ghost use Rattle.uimg_dts.specs.Merging.{definitions, replaced, merged_property};
+ghost use Rattle.uimg_dts.specs.Merging.{definitions, replaced, merged_property, merged_from, merged_node, merged_into, revived, first_property_of, MergesChild};
 
 use crate::finding::ROOT;
 use crate::stop::Stop;
@@ -164,25 +164,69 @@ impl<'t, A: Allocator + Copy> Table<'t, A> {
         Ok(())
     }
 
-    // Merges one node into another, without their children.
-    fn merge_one(&mut self, old: usize, new: usize, left: usize) -> Result<(), Stop> {
-        let mut property = NONE;
-        if let Some(node) = self.nodes.get_mut(new) {
-            node.merged = old;
-            node.is_deleted = true;
-            property = node.first_property;
-        }
-        if let Some(node) = self.nodes.get_mut(old) {
+    // Marks a node that is merged into another. Returns its first property.
+    fn mark_merged(&mut self, place: usize, into: usize) -> usize
+        ensures first { result ≡ first_property_of self.old.nodes.items place }
+        ensures nodes { self.new.nodes.items ≡ changed_at (merged_into into) self.old.nodes.items place }
+        ensures properties { self.new.properties ≡ self.old.properties }
+        ensures labels { self.new.labels ≡ self.old.labels }
+        ensures values { self.new.values ≡ self.old.values }
+        ensures marks { self.new.marks ≡ self.old.marks }
+        ensures bytes { self.new.bytes ≡ self.old.bytes }
+    {
+        let Some(node) = self.nodes.get_mut(place) else {
+            return NONE;
+        };
+        node.merged = into;
+        node.is_deleted = true;
+        node.first_property
+    }
+
+    // Makes a node one that is not deleted.
+    fn revive(&mut self, place: usize)
+        ensures nodes { self.new.nodes.items ≡ changed_at revived self.old.nodes.items place }
+        ensures properties { self.new.properties ≡ self.old.properties }
+        ensures labels { self.new.labels ≡ self.old.labels }
+        ensures values { self.new.values ≡ self.old.values }
+        ensures marks { self.new.marks ≡ self.old.marks }
+        ensures bytes { self.new.bytes ≡ self.old.bytes }
+    {
+        if let Some(node) = self.nodes.get_mut(place) {
             node.is_deleted = false;
         }
-        self.move_labels(Owner::Node(new), Owner::Node(old), left)?;
+    }
+
+    // Merges properties into a node, from the first on.
+    fn merge_properties(&mut self, node: usize, first: usize, left: usize) -> Result<(), Stop>
+        ensures merged { OnOk result (definitions self.new.nodes.items self.new.properties.items ≡
+            merged_from (length self.old.properties.items) self.old.bytes.now (definitions self.old.nodes.items self.old.properties.items) node first) }
+        ensures values { self.new.values ≡ self.old.values }
+        ensures marks { self.new.marks ≡ self.old.marks }
+        ensures bytes { self.new.bytes ≡ self.old.bytes }
+    {
+        let mut place = first;
         for _ in 0..self.properties.len() {
-            let Some(found) = self.property(property) else {
+            let Some(found) = self.property(place) else {
                 break;
             };
-            self.merge_property(old, property, found, left)?;
-            property = found.next;
+            self.merge_property(node, place, found, left)?;
+            place = found.next;
         }
+        Ok(())
+    }
+
+    // Merges one node into another, without their children.
+    fn merge_one(&mut self, old: usize, new: usize, left: usize) -> Result<(), Stop>
+        ensures merged { OnOk result (definitions self.new.nodes.items self.new.properties.items ≡
+            merged_node self.old.bytes.now (definitions self.old.nodes.items self.old.properties.items) old new) }
+        ensures values { self.new.values ≡ self.old.values }
+        ensures marks { self.new.marks ≡ self.old.marks }
+        ensures bytes { self.new.bytes ≡ self.old.bytes }
+    {
+        let first = self.mark_merged(new, old);
+        self.revive(old);
+        self.move_labels(Owner::Node(new), Owner::Node(old), left)?;
+        self.merge_properties(old, first, left)?;
         Ok(())
     }
 
@@ -193,7 +237,12 @@ impl<'t, A: Allocator + Copy> Table<'t, A> {
         place: usize,
         new: NodeEntry,
         left: usize,
-    ) -> Result<(), Stop> {
+    ) -> Result<(), Stop>
+        ensures merged { OnOk result (MergesChild self.old.bytes.now (entries self.old.nodes.items self.old.properties.items self.old.labels.items) (entries self.new.nodes.items self.new.properties.items self.new.labels.items) parent place new) }
+        ensures values { self.new.values ≡ self.old.values }
+        ensures marks { self.new.marks ≡ self.old.marks }
+        ensures bytes { self.new.bytes ≡ self.old.bytes }
+    {
         match self.child_named(parent, new.name) {
             Some(old) if new.is_deleted => self.delete_node(old),
             Some(old) => self.merge_one(old, place, left)?,

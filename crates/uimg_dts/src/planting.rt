@@ -188,10 +188,7 @@ fn push_node<A: Allocator>(nodes: &mut Vec<Node<A>, A>, node: Node<A>) -> Result
 }
 
 // Adds a node, if there is one.
-fn push_found<A: Allocator>(
-    nodes: &mut Vec<Node<A>, A>,
-    found: Option<Node<A>>,
-) -> Result<(), Stop>
+fn push_found<A: Allocator>(nodes: &mut Vec<Node<A>, A>, found: Option<Node<A>>) -> Result<(), Stop>
     ensures sound { OnOk result ((files : FileMap) → AreSoundNodes files nodes.old.items →
         IsSoundIfFound files found → AreSoundNodes files nodes.new.items) }
     ensures grown { OnOk result ((g : Ground) (places : List ℕ) (place : ℕ) →

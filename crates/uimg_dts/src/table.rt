@@ -207,7 +207,13 @@ impl<'t, A: Allocator + Copy> Table<'t, A> {
     }
 
     /// Adds a property without a value to none. Returns its place.
-    pub(crate) fn add_property(&mut self, name: Piece, left: usize) -> Result<usize, Stop> {
+    pub(crate) fn add_property(&mut self, name: Piece, left: usize) -> Result<usize, Stop>
+        ensures nodes { self.new.nodes ≡ self.old.nodes }
+        ensures labels { self.new.labels ≡ self.old.labels }
+        ensures values { self.new.values ≡ self.old.values }
+        ensures marks { self.new.marks ≡ self.old.marks }
+        ensures bytes { self.new.bytes ≡ self.old.bytes }
+    {
         let place = self.properties.len();
         let property = PropertyEntry {
             name,

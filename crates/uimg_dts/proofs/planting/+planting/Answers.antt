@@ -48,11 +48,11 @@ children-returns-clause-grown g t c =
     let on = ground c.args.table.now.bytes.now all c.args.table.now.properties.items in
     let goal_list = filter (is_live all) (chain next all (length all) c.args.first) in
     let done : c.loop.invariant.done ≡ goal_list = elim c.loop-test.branch [
-      children-else-loop-test w ↦
-        let passed : length all ≤ c.loop.counter = omega (arith, w.loop-test.false) in
-        filter_end (is_live all) c.loop.invariant.done (chain next all (length all - c.loop.counter) c.loop.place) goal_list (chain_done next all (length all) c.loop.counter c.loop.place passed) c.loop.invariant.rest
-    | children-then-loop-test+in_default w ↦
-        let none : slice_get all c.loop.place ≡ None = search rules in
-        filter_end (is_live all) c.loop.invariant.done (chain next all (length all - c.loop.counter) c.loop.place) goal_list (chain_none next all (length all - c.loop.counter) c.loop.place none) c.loop.invariant.rest
+      | children-else-loop-test w ↦
+          let passed : length all ≤ c.loop.counter = omega (arith, w.loop-test.false) in
+          filter_end (is_live all) c.loop.invariant.done (chain next all (length all - c.loop.counter) c.loop.place) goal_list (chain_done next all (length all) c.loop.counter c.loop.place passed) c.loop.invariant.rest
+      | children-then-loop-test+in_default w ↦
+          let none : slice_get all c.loop.place ≡ None = search rules in
+          filter_end (is_live all) c.loop.invariant.done (chain next all (length all - c.loop.counter) c.loop.place) goal_list (chain_none next all (length all - c.loop.counter) c.loop.place none) c.loop.invariant.rest
     ] in
     rw (c.of.ensures, ← done) (siblings_grown on c.loop.invariant.done c.loop.nodes.items c.loop.invariant.grown)

@@ -1,4 +1,4 @@
-use Rattle.std.proofs.{Common.{rules, arith, ◌≡◌, ◌-◌, ◌+◌, ◌<◌, ◌≤◌, length, map, Some, None, ◌∙◌}, lemmas.Result.err_from_is_err_and}
+use Rattle.std.proofs.{Common.{rules, arith, ◌≡◌, ◌-◌, ◌+◌, ◌<◌, ◌≤◌, length, map, Some, None}, lemmas.Result.err_from_is_err_and}
 use Rattle.std.specs.List.{slice_get}
 use Rattle.uimg_blob_writing.specs.Properties.{property}
 use Rattle.uimg_dts.specs.{Tables.{chain}, Planting.{names, names_at}}
@@ -31,10 +31,10 @@ returns-clause-named g c =
     let all = c.args.table.now.properties.items in
     let next = λ (p : PropertyEntry). p.next in
     rw c.of.ensures (elim c.loop-test.branch [
-      else-loop-test w ↦
-        let done : length all ≤ c.loop.counter = omega (arith, w.loop-test.false) in
-        names_end c.args.table.now.bytes.now all (names (map property c.loop.props.items)) (names_at c.args.table.now.bytes.now all (chain next all (length all) c.args.first)) (chain next all (length all - c.loop.counter) c.loop.place) (chain_done next all (length all) c.loop.counter c.loop.place done) c.loop.invariant.named
-    | then-loop-test+in_default w ↦
-        let none : slice_get all c.loop.place ≡ None = search rules in
-        names_end c.args.table.now.bytes.now all (names (map property c.loop.props.items)) (names_at c.args.table.now.bytes.now all (chain next all (length all) c.args.first)) (chain next all (length all - c.loop.counter) c.loop.place) (chain_none next all (length all - c.loop.counter) c.loop.place none) c.loop.invariant.named
+      | else-loop-test w ↦
+          let done : length all ≤ c.loop.counter = omega (arith, w.loop-test.false) in
+          names_end c.args.table.now.bytes.now all (names (map property c.loop.props.items)) (names_at c.args.table.now.bytes.now all (chain next all (length all) c.args.first)) (chain next all (length all - c.loop.counter) c.loop.place) (chain_done next all (length all) c.loop.counter c.loop.place done) c.loop.invariant.named
+      | then-loop-test+in_default w ↦
+          let none : slice_get all c.loop.place ≡ None = search rules in
+          names_end c.args.table.now.bytes.now all (names (map property c.loop.props.items)) (names_at c.args.table.now.bytes.now all (chain next all (length all) c.args.first)) (chain next all (length all - c.loop.counter) c.loop.place) (chain_none next all (length all - c.loop.counter) c.loop.place none) c.loop.invariant.named
     ])

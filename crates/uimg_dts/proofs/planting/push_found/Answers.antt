@@ -1,4 +1,4 @@
-use Rattle.std.proofs.Common.{rules, subst, sym, Option}
+use Rattle.std.proofs.Common.{rules, subst, Option}
 use Rattle.uimg_blob_writing.specs.declared.tree.Node.{Node}
 use Rattle.uimg_dts.specs.{FileValues.{IsSoundIfFound}, Planting.{IsGrownIfLive}}
 use Rattle.uimg_dts.proofs.GrownLaws.{found_grown, live_grown}

@@ -1,5 +1,4 @@
 use Rattle.uimg_dts.specs.FileValues.{IsSoundNode}
-use Rattle.uimg_dts.specs.Planting.{Ground}
 use Rattle.uimg_dts.proofs.{SoundLaws.all_push, GrownLaws.grown_push}
 use Rattle.uimg_dts.proofs.planting.push_node.Goals as goal
 

@@ -1,6 +1,6 @@
-use Rattle.std.proofs.Common.{rules, arith, ◌≡◌, ℕ, ◌-◌, ◌+◌, ◌<◌, ◌≤◌, length, map, Some, None, true, false, ap, ◌∙◌, sym, refl, List}
+use Rattle.std.proofs.Common.{rules, arith, ◌≡◌, ◌-◌, ◌+◌, ◌<◌, ◌≤◌, length, map, Some, None, ap, ◌∙◌, sym}
 use Rattle.std.specs.List.{slice_get}
-use Rattle.uimg_dts.specs.{Tables.{chain, is_live}, Deleting.{Entries, entries, without, without_child}}
+use Rattle.uimg_dts.specs.{Tables.{chain}, Deleting.{Entries, entries, without_child}}
 use Rattle.uimg_dts.specs.declared.table.{NodeEntry.NodeEntry}
 use Rattle.uimg_dts.proofs.ChainLaws.{chain_done}
 use Rattle.uimg_dts.proofs.DeletingLaws.{chain_step_same, chain_none_same, fold_more, fold_end, begin, absent, one_links, child_links, child_deleted, child_kept, same_length}
@@ -44,12 +44,12 @@ loop-preserved g t c =
     let lt : c.loop.counter < length first = omega (arith, c.loop.invariant.counted) in
     let some : slice_get now.nodes.items c.loop.place ≡ Some c.in-Some-node.found = search rules in
     let one : entries new.nodes.items new.properties.items new.labels.items ≡ without_child (c.args.levels - 1) old c.loop.place =
-        elim c.if-not-found.branch [
-          then-not-found w ↦ rw w.self-is (w.delete_levels.ensures.deleted ∙ sym (child_deleted (c.args.levels - 1) old c.loop.place c.in-Some-node.found some w.if-not-found.true))
-        | else-not-found w ↦ rw w.self-is (sym (child_kept (c.args.levels - 1) old c.loop.place c.in-Some-node.found some w.if-not-found.false))
-        ] in
+    elim c.if-not-found.branch [
+      | then-not-found w ↦ rw w.self-is (w.delete_levels.ensures.deleted ∙ sym (child_deleted (c.args.levels - 1) old c.loop.place c.in-Some-node.found some w.if-not-found.true))
+      | else-not-found w ↦ rw w.self-is (sym (child_kept (c.args.levels - 1) old c.loop.place c.in-Some-node.found some w.if-not-found.false))
+    ] in
     let links : map (λ (n : NodeEntry). n.next) new.nodes.items ≡ map (λ (n : NodeEntry). n.next) first =
-        ap (λ (e : Entries). map (λ (n : NodeEntry). n.next) e.nodes) one ∙ child_links (c.args.levels - 1) old c.loop.place ∙ c.loop.invariant.links in
+    ap (λ (e : Entries). map (λ (n : NodeEntry). n.next) e.nodes) one ∙ child_links (c.args.levels - 1) old c.loop.place ∙ c.loop.invariant.links in
     let more = chain_step_same (λ (n : NodeEntry). n.next) now.nodes.items first (length first) c.loop.counter c.loop.place c.in-Some-node.found c.loop.invariant.links lt some in
     record {
       deleted = fold_more (without_child (c.args.levels - 1)) old (entries new.nodes.items new.properties.items new.labels.items) c.loop.place (chain (λ (n : NodeEntry). n.next) first (length first - c.loop.counter) c.loop.place) (chain (λ (n : NodeEntry). n.next) first (length first - (c.loop.counter + 1)) c.in-Some-node.found.next) more one c.loop.invariant.deleted;

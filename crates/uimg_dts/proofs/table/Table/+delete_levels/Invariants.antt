@@ -1,6 +1,6 @@
 use Rattle.std.proofs.Common.{◌≡◌, ◌-◌, length, map}
 use Rattle.std.specs.List.{fold}
-use Rattle.uimg_dts.specs.{Tables.{chain}, Deleting.{Entries, entries, without, without_child}}
+use Rattle.uimg_dts.specs.{Tables.{chain}, Deleting.{entries, without, without_child}}
 use Rattle.uimg_dts.specs.declared.table.{NodeEntry.NodeEntry}
 use Rattle.uimg_dts.proofs.table.Table.+delete_levels.Given as goal
 

@@ -1,4 +1,4 @@
-use Rattle.std.proofs.Common.{rules, arith, ◌≡◌, ℕ, ◌<◌, length, take, drop, Some, ap, ◌∙◌, sym, List, subst}
+use Rattle.std.proofs.Common.{rules, arith, ◌≡◌, ℕ, ◌<◌, length, take, drop, Some, ap, ◌∙◌, List, subst}
 use Rattle.uimg_dts.specs.Finding.{live_child_of, part_length, passed_slashes}
 use Rattle.uimg_dts.proofs.PathLaws.{one_name}
 use Rattle.uimg_dts.proofs.table.Table.at_path.Goals as goal

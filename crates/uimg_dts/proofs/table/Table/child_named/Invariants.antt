@@ -1,8 +1,8 @@
-use Rattle.std.proofs.Common.{◌≡◌, ◌-◌, length, Bool, not, ◌&&◌, bytes_eq}
+use Rattle.std.proofs.Common.{◌≡◌, ◌-◌, length, bytes_eq}
 use Rattle.std.specs.List.{find}
-use Rattle.uimg_dts.specs.Finding.{first_live_of, child_of, property_of, live_property_of, live_child_of}
-use Rattle.uimg_dts.specs.Tables.{part, chain, holds_at, is_live}
-use Rattle.uimg_dts.specs.declared.table.{NodeEntry.NodeEntry, PropertyEntry.PropertyEntry}
+use Rattle.uimg_dts.specs.Finding.{child_of}
+use Rattle.uimg_dts.specs.Tables.{part, chain, holds_at}
+use Rattle.uimg_dts.specs.declared.table.{NodeEntry.NodeEntry}
 use Rattle.uimg_dts.proofs.table.Table.child_named.Given as goal
 
 -- what is left gives the same

@@ -1,4 +1,4 @@
-use Rattle.std.proofs.Common.{rules, arith, ◌≡◌, ℕ, ◌-◌, ◌+◌, ◌<◌, length, map, Some, None, ap, ◌∙◌, List}
+use Rattle.std.proofs.Common.{rules, arith, ◌≡◌, ◌-◌, ◌+◌, ◌<◌, length, map, Some, None, ap, ◌∙◌}
 use Rattle.std.specs.List.{slice_get}
 use Rattle.uimg_dts.specs.{Tables.{chain}, Deleting.{Entries, entries, without_property}}
 use Rattle.uimg_dts.specs.declared.table.{PropertyEntry.PropertyEntry}
@@ -13,7 +13,7 @@ loop-preserved g c =
     let lt : c.loop.counter < length first = omega arith in
     let some : slice_get now.properties.items c.loop.place ≡ Some c.in-Some.found = search rules in
     let links : map (λ (p : PropertyEntry). p.next) new.properties.items ≡ map (λ (p : PropertyEntry). p.next) first =
-        ap (λ (e : Entries). map (λ (p : PropertyEntry). p.next) e.properties) c.delete_property.ensures.deleted ∙ property_links (entries now.nodes.items now.properties.items now.labels.items) c.loop.place ∙ c.loop.invariant.links in
+    ap (λ (e : Entries). map (λ (p : PropertyEntry). p.next) e.properties) c.delete_property.ensures.deleted ∙ property_links (entries now.nodes.items now.properties.items now.labels.items) c.loop.place ∙ c.loop.invariant.links in
     let more = chain_step_same (λ (p : PropertyEntry). p.next) now.properties.items first (length first) c.loop.counter c.loop.place c.in-Some.found c.loop.invariant.links lt some in
     record {
       deleted = fold_more without_property (entries now.nodes.items now.properties.items now.labels.items) (entries new.nodes.items new.properties.items new.labels.items) c.loop.place (chain (λ (p : PropertyEntry). p.next) first (length first - c.loop.counter) c.loop.place) (chain (λ (p : PropertyEntry). p.next) first (length first - (c.loop.counter + 1)) c.in-Some.found.next) more c.delete_property.ensures.deleted c.loop.invariant.deleted;

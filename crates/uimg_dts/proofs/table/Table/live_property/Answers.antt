@@ -1,7 +1,7 @@
-use Rattle.std.proofs.Common.{rules, arith, ◌≡◌, ℕ, ◌-◌, ◌<◌, length, Bool, true, false, not, ◌&&◌, bytes_eq, Some}
+use Rattle.std.proofs.Common.{rules, arith, ◌≡◌, ◌<◌, length, not, ◌&&◌, bytes_eq, Some}
 use Rattle.std.specs.List.{slice_get}
 use Rattle.uimg_dts.specs.Tables.{part}
-use Rattle.uimg_dts.specs.declared.table.{NodeEntry.NodeEntry, PropertyEntry.PropertyEntry}
+use Rattle.uimg_dts.specs.declared.table.{PropertyEntry.PropertyEntry}
 use Rattle.uimg_dts.proofs.ChainLaws.{passed}
 use Rattle.uimg_dts.proofs.table.Table.live_property.Goals as goal
 use Rattle.uimg_dts.proofs.table.Table.live_property.Goals.{else-not-property-via-then-not-property+else-eq, else-not-property-via-else-not-property}

@@ -1,4 +1,4 @@
-use Rattle.std.proofs.Common.{rules, arith, ◌≡◌, ℕ, ◌≤◌, length, ap, ◌∙◌, List}
+use Rattle.std.proofs.Common.{arith, ◌≡◌, ℕ, ◌≤◌, length, ap, ◌∙◌, List}
 use Rattle.uimg_dts.specs.Tables.{written_at}
 use Rattle.uimg_dts.proofs.LentLaws.{written_back}
 use Rattle.uimg_dts.proofs.table.Table.put_number.Goals as goal
