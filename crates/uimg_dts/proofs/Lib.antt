@@ -1,5 +1,6 @@
 pub mod ChainLaws
 pub mod DeletingLaws
+mod Examples
 mod FilesLaws
 pub mod GrownLaws
 pub mod LentLaws

@@ -1,8 +1,8 @@
 -- One property after the other.
-use Rattle.std.proofs.Common.{◌≡◌, ℕ, zero, suc, ◌+◌, ◌-◌, ◌<◌, ◌≤◌, List, Some, None, arith, sym, ap, ◌∙◌}
+use Rattle.std.proofs.Common.{◌≡◌, ℕ, zero, suc, ◌+◌, ◌-◌, ◌<◌, ◌≤◌, List, Some, None, refl, arith, sym, ap, subst, ◌∙◌}
 use Rattle.std.specs.List.{slice_get}
 use Rattle.uimg_dts.specs.declared.table.{PropertyEntry.PropertyEntry}
-use Rattle.uimg_dts.specs.Merging.{Definitions, merged_from, merged_property}
+use Rattle.uimg_dts.specs.{Deleting.{Entries}, Merging.{Definitions, merged_from, merged_property, MergesBelow, MergesAll}}
 
 more_suc : (n : ℕ) (bytes : List ℕ) (d : Definitions) (node place : ℕ) (new : PropertyEntry) → slice_get d.properties place ≡ Some new → merged_from (suc n) bytes d node place ≡ merged_from n bytes (merged_property bytes d node place new) node new.next
 more_suc n bytes d node place new some = rw (some, merged_from)
@@ -20,3 +20,14 @@ merged_none {r = r} (suc n) bytes d node place none same =
 pub merged_done : {r : Definitions} (n i : ℕ) (bytes : List ℕ) (d : Definitions) (node place : ℕ) → n ≤ i → merged_from (n - i) bytes d node place ≡ r → d ≡ r
 merged_done n i bytes d node place le same =
     let z : 0 ≡ n - i = omega arith in ap (λ k. merged_from k bytes d node place) z ∙ same
+
+-- one more node, and the end
+pub all_more : (place end : ℕ) (bytes : List ℕ) (old between last : Entries) → place < end → MergesBelow bytes old between place → MergesAll (end - (place + 1)) bytes between last (place + 1) → MergesAll (end - place) bytes old last place
+all_more place end bytes old between last lt one rest =
+    let s : suc (end - (place + 1)) ≡ end - place = omega arith in
+    subst (λ k. MergesAll k bytes old last place) s (between, one, rest)
+
+pub all_end : (place end : ℕ) (bytes : List ℕ) (old : Entries) → end ≤ place → MergesAll (end - place) bytes old old place
+all_end place end bytes old le =
+    let z : 0 ≡ end - place = omega arith in
+    subst (λ k. MergesAll k bytes old old place) z (refl, refl)

@@ -1,5 +1,5 @@
 -- What it means to give a node again.
-use Rattle.std.specs.Prelude.{◌≡◌, ℕ, zero, suc, List, true, false, MatchBool, MatchOption, Some, None, slice_get, length, if◌then◌else◌}
+use Rattle.std.specs.Prelude.{◌≡◌, ◌+◌, ◌-◌, ◌^◌, ◌==◌, min, ℕ, zero, suc, List, true, false, MatchBool, MatchOption, Some, None, slice_get, length, if◌then◌else◌}
 use Rattle.uimg_dts.specs.declared.table.NodeEntry.{NodeEntry}
 use Rattle.uimg_dts.specs.declared.table.PropertyEntry.{PropertyEntry}
 use Rattle.uimg_dts.specs.{Tables.{part, changed_at}, Finding.{child_of, property_of}}
@@ -80,3 +80,29 @@ MergesChild bytes old new parent place node =
     (λ into. MatchBool node.is_deleted
     (new ≡ without 64 old into)
     (definitions new.nodes new.properties ≡ merged_node bytes (definitions old.nodes old.properties) into place))
+
+-- nodes and properties stay
+abbrev pub SameEntries : Entries → Entries → Type 0
+SameEntries old new = (new.nodes ≡ old.nodes) × (new.properties ≡ old.properties)
+
+-- The node at a place is given again below the node that its parent was merged into, if it was.
+abbrev pub MergesBelow : List ℕ → Entries → Entries → ℕ → Type 0
+MergesBelow bytes old new place =
+    MatchOption (slice_get old.nodes place) (SameEntries old new)
+    (λ (n : NodeEntry). MatchOption (slice_get old.nodes n.parent) (SameEntries old new)
+    (λ (p : NodeEntry). MatchBool (p.merged == nowhere) (SameEntries old new)
+    (MergesChild bytes old new p.merged place n)))
+
+-- the same for so many nodes in turn, from a place on
+abbrev pub MergesAll : ℕ → List ℕ → Entries → Entries → ℕ → Type 0
+MergesAll zero bytes old new place = SameEntries old new
+MergesAll (suc n) bytes old new place =
+    (between : Entries) × MergesBelow bytes old between place × MergesAll n bytes between new (place + 1)
+
+-- A definition, whose root is the node at a place and whose other nodes come after it in the table,
+-- is given again for a node.
+pub record Merges (bytes : List ℕ) (old new : Entries) (node place : ℕ) : Type 0 where
+  pub between : Entries
+  pub root : definitions between.nodes between.properties
+      ≡ merged_node bytes (definitions old.nodes old.properties) node place
+  pub below : MergesAll (length between.nodes - min (place + 1) (2 ^ 64 - 1)) bytes between new (min (place + 1) (2 ^ 64 - 1))

@@ -3,7 +3,7 @@
 ghost use Rattle.std.specs.Prelude.{◌≡◌, length, OnOk};
 ghost use Rattle.uimg_dts.specs.Tables.{chain, changed_at};
 ghost use Rattle.uimg_dts.specs.Deleting.{entries, deleted_node, deleted_property, without_property, without_properties, without_one, without};
-ghost use Rattle.uimg_dts.specs.Merging.{definitions, replaced, merged_property, merged_from, merged_node, merged_into, revived, first_property_of, MergesChild};
+ghost use Rattle.uimg_dts.specs.Merging.{definitions, replaced, merged_property, merged_from, merged_node, merged_into, revived, first_property_of, MergesChild, MergesBelow, Merges};
 
 use crate::finding::ROOT;
 use crate::stop::Stop;
@@ -252,20 +252,37 @@ impl<'t, A: Allocator + Copy> Table<'t, A> {
         Ok(())
     }
 
+    // Merges a node of a definition below the node that its parent was merged into, if it was.
+    fn merge_below(&mut self, place: usize, left: usize) -> Result<(), Stop>
+        ensures merged { OnOk result (MergesBelow self.old.bytes.now (entries self.old.nodes.items self.old.properties.items self.old.labels.items) (entries self.new.nodes.items self.new.properties.items self.new.labels.items) place) }
+        ensures values { self.new.values ≡ self.old.values }
+        ensures marks { self.new.marks ≡ self.old.marks }
+        ensures bytes { self.new.bytes ≡ self.old.bytes }
+    {
+        let Some(node) = self.node(place) else {
+            return Ok(());
+        };
+        let Some(parent) = self.node(node.parent) else {
+            return Ok(());
+        };
+        if parent.merged == NONE {
+            return Ok(());
+        }
+        self.merge_child(parent.merged, place, node, left)?;
+        Ok(())
+    }
+
     /// Merges a definition into a node. The definition is the last in the table, from its place on,
     /// each node after the one that it is in.
-    pub(crate) fn merge(&mut self, old: usize, new: usize, left: usize) -> Result<(), Stop> {
+    pub(crate) fn merge(&mut self, old: usize, new: usize, left: usize) -> Result<(), Stop>
+        ensures merged { OnOk result (Merges self.old.bytes.now (entries self.old.nodes.items self.old.properties.items self.old.labels.items) (entries self.new.nodes.items self.new.properties.items self.new.labels.items) old new) }
+        ensures values { self.new.values ≡ self.old.values }
+        ensures marks { self.new.marks ≡ self.old.marks }
+        ensures bytes { self.new.bytes ≡ self.old.bytes }
+    {
         self.merge_one(old, new, left)?;
         for place in new.saturating_add(1)..self.nodes.len() {
-            let Some(node) = self.node(place) else {
-                return Ok(());
-            };
-            let Some(parent) = self.node(node.parent) else {
-                return Ok(());
-            };
-            if parent.merged != NONE {
-                self.merge_child(parent.merged, place, node, left)?;
-            }
+            self.merge_below(place, left)?;
         }
         Ok(())
     }

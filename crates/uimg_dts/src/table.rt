@@ -312,12 +312,12 @@ impl<'t, A: Allocator + Copy> Table<'t, A> {
         let Some(node) = self.nodes.get_mut(owner) else {
             return NONE;
         };
-        let last = node.last_property;
+        let before = node.last_property;
         node.last_property = place;
-        if last == NONE {
+        if before == NONE {
             node.first_property = place;
         }
-        last
+        before
     }
 
     // Makes a property the next of another.
