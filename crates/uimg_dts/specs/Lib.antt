@@ -9,3 +9,4 @@ pub mod Operators
 pub mod Planting
 pub mod Resolving
 pub mod Tables
+pub mod Views

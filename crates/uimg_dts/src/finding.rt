@@ -1,8 +1,8 @@
 //! Look-ups of nodes and properties, and walks over the tree.
 
 ghost use Rattle.std.specs.{Prelude.{◌≡◌, not}, List.prefix_len};
-ghost use Rattle.uimg_dts.specs.Finding.{first_live_of, first_child_of, next_child_of, child_of, property_of, live_property_of, live_child_of, labelled_of, at_path_of, referred_of, is_slash};
-ghost use Rattle.uimg_dts.specs.Tables.{part};
+ghost use Rattle.uimg_dts.specs.Finding.{first_live_of, first_child_of, next_child_of, child_of, live_child_of, at_path_of, is_slash};
+ghost use Rattle.uimg_dts.specs.Views.{word_in, property_in, live_property_in, labelled_in, referred_in};
 
 use crate::bytes::{after, before, byte_at};
 use crate::table::{Owner, Table};
@@ -79,7 +79,7 @@ impl<'t, A: Allocator + Copy> Table<'t, A> {
 
     /// Returns the first child of this name, which may be deleted.
     pub(crate) fn child_named(&self, parent: usize, name: Piece) -> Option<usize>
-        ensures { result ≡ child_of self.now.bytes.now self.now.nodes.items parent (part self.now.bytes.now name) }
+        ensures { result ≡ child_of self.now.bytes.now self.now.nodes.items parent (word_in self.now name) }
     {
         let mut found = self.node(parent)?.first_child;
         for _ in 0..self.nodes.len() {
@@ -94,7 +94,7 @@ impl<'t, A: Allocator + Copy> Table<'t, A> {
 
     /// Returns the first property of this name, which may be deleted.
     pub(crate) fn property_named(&self, owner: usize, name: &[u8]) -> Option<usize>
-        ensures { result ≡ property_of self.now.bytes.now self.now.nodes.items self.now.properties.items owner name.now }
+        ensures { result ≡ property_in self.now owner name.now }
     {
         let mut found = self.node(owner)?.first_property;
         for _ in 0..self.properties.len() {
@@ -109,7 +109,7 @@ impl<'t, A: Allocator + Copy> Table<'t, A> {
 
     /// Returns the first property of this name that is not deleted.
     pub(crate) fn live_property(&self, owner: usize, name: &[u8]) -> Option<usize>
-        ensures { result ≡ live_property_of self.now.bytes.now self.now.nodes.items self.now.properties.items owner name.now }
+        ensures { result ≡ live_property_in self.now owner name.now }
     {
         let mut found = self.node(owner)?.first_property;
         for _ in 0..self.properties.len() {
@@ -161,7 +161,7 @@ impl<'t, A: Allocator + Copy> Table<'t, A> {
 
     // Returns the node of a label.
     fn labelled(&self, name: &[u8]) -> Option<usize>
-        ensures { result ≡ labelled_of self.now.bytes.now self.now.nodes.items self.now.properties.items self.now.labels.items name.now }
+        ensures { result ≡ labelled_in self.now name.now }
     {
         for label in self.labels.as_slice() {
             if let Owner::Node(place) = label.owner {
@@ -175,7 +175,7 @@ impl<'t, A: Allocator + Copy> Table<'t, A> {
 
     /// Returns the node of a reference: a label, or a path, which begins with a slash.
     pub(crate) fn referred(&self, reference: Piece) -> Option<usize>
-        ensures { result ≡ referred_of self.now.bytes.now self.now.nodes.items self.now.properties.items self.now.labels.items (part self.now.bytes.now reference) }
+        ensures { result ≡ referred_in self.now (word_in self.now reference) }
     {
         let text = self.text(reference);
         if text == b"/".as_slice() {

@@ -2,8 +2,9 @@
 
 ghost use Rattle.std.specs.Prelude.{◌≡◌, length, OnOk};
 ghost use Rattle.uimg_dts.specs.Tables.{chain, changed_at};
-ghost use Rattle.uimg_dts.specs.Deleting.{entries, deleted_node, deleted_property, without_property, without_properties, without_one, without};
-ghost use Rattle.uimg_dts.specs.Merging.{definitions, replaced, merged_property, merged_from, merged_node, merged_into, revived, first_property_of, MergesChild, MergesBelow, Merges};
+ghost use Rattle.uimg_dts.specs.Deleting.{deleted_node, deleted_property, without_property, without_properties, without_one, without};
+ghost use Rattle.uimg_dts.specs.Views.{entries_of, definitions_of};
+ghost use Rattle.uimg_dts.specs.Merging.{replaced, merged_property, merged_from, merged_node, merged_into, revived, first_property_of, MergesChild, MergesBelow, Merges};
 
 use crate::finding::ROOT;
 use crate::stop::Stop;
@@ -31,7 +32,7 @@ impl<'t, A: Allocator + Copy> Table<'t, A> {
 
     /// Deletes a property.
     pub(crate) fn delete_property(&mut self, place: usize)
-        ensures deleted { (entries self.new.nodes.items self.new.properties.items self.new.labels.items) ≡ without_property (entries self.old.nodes.items self.old.properties.items self.old.labels.items) place }
+        ensures deleted { entries_of self.new ≡ without_property (entries_of self.old) place }
         ensures values { self.new.values ≡ self.old.values }
         ensures marks { self.new.marks ≡ self.old.marks }
         ensures bytes { self.new.bytes ≡ self.old.bytes }
@@ -42,7 +43,7 @@ impl<'t, A: Allocator + Copy> Table<'t, A> {
 
     // Deletes properties, from the first on.
     fn delete_properties(&mut self, first: usize)
-        ensures deleted { (entries self.new.nodes.items self.new.properties.items self.new.labels.items) ≡ without_properties (entries self.old.nodes.items self.old.properties.items self.old.labels.items) (chain (λ (p : PropertyEntry). p.next) self.old.properties.items (length self.old.properties.items) first) }
+        ensures deleted { entries_of self.new ≡ without_properties (entries_of self.old) (chain (λ (p : PropertyEntry). p.next) self.old.properties.items (length self.old.properties.items) first) }
         ensures values { self.new.values ≡ self.old.values }
         ensures marks { self.new.marks ≡ self.old.marks }
         ensures bytes { self.new.bytes ≡ self.old.bytes }
@@ -73,7 +74,7 @@ impl<'t, A: Allocator + Copy> Table<'t, A> {
 
     // Deletes a node with its properties and labels.
     fn delete_one(&mut self, place: usize)
-        ensures deleted { (entries self.new.nodes.items self.new.properties.items self.new.labels.items) ≡ without_one (entries self.old.nodes.items self.old.properties.items self.old.labels.items) place }
+        ensures deleted { entries_of self.new ≡ without_one (entries_of self.old) place }
         ensures values { self.new.values ≡ self.old.values }
         ensures marks { self.new.marks ≡ self.old.marks }
         ensures bytes { self.new.bytes ≡ self.old.bytes }
@@ -88,7 +89,7 @@ impl<'t, A: Allocator + Copy> Table<'t, A> {
 
     // Deletes a node and all below it, of at most `levels` levels.
     fn delete_levels(&mut self, levels: u8, top: usize)
-        ensures deleted { (entries self.new.nodes.items self.new.properties.items self.new.labels.items) ≡ without levels (entries self.old.nodes.items self.old.properties.items self.old.labels.items) top }
+        ensures deleted { entries_of self.new ≡ without levels (entries_of self.old) top }
         ensures values { self.new.values ≡ self.old.values }
         ensures marks { self.new.marks ≡ self.old.marks }
         ensures bytes { self.new.bytes ≡ self.old.bytes }
@@ -114,7 +115,7 @@ impl<'t, A: Allocator + Copy> Table<'t, A> {
 
     /// Deletes a node and all below it.
     pub(crate) fn delete_node(&mut self, top: usize)
-        ensures deleted { (entries self.new.nodes.items self.new.properties.items self.new.labels.items) ≡ without 64 (entries self.old.nodes.items self.old.properties.items self.old.labels.items) top }
+        ensures deleted { entries_of self.new ≡ without 64 (entries_of self.old) top }
         ensures values { self.new.values ≡ self.old.values }
         ensures marks { self.new.marks ≡ self.old.marks }
         ensures bytes { self.new.bytes ≡ self.old.bytes }
@@ -147,7 +148,7 @@ impl<'t, A: Allocator + Copy> Table<'t, A> {
         new: PropertyEntry,
         left: usize,
     ) -> Result<(), Stop>
-        ensures merged { OnOk result (definitions self.new.nodes.items self.new.properties.items ≡ merged_property self.old.bytes.now (definitions self.old.nodes.items self.old.properties.items) node place new) }
+        ensures merged { OnOk result (definitions_of self.new ≡ merged_property self.old.bytes.now (definitions_of self.old) node place new) }
         ensures values { self.new.values ≡ self.old.values }
         ensures marks { self.new.marks ≡ self.old.marks }
         ensures bytes { self.new.bytes ≡ self.old.bytes }
@@ -198,8 +199,8 @@ impl<'t, A: Allocator + Copy> Table<'t, A> {
 
     // Merges properties into a node, from the first on.
     fn merge_properties(&mut self, node: usize, first: usize, left: usize) -> Result<(), Stop>
-        ensures merged { OnOk result (definitions self.new.nodes.items self.new.properties.items ≡
-            merged_from (length self.old.properties.items) self.old.bytes.now (definitions self.old.nodes.items self.old.properties.items) node first) }
+        ensures merged { OnOk result (definitions_of self.new ≡
+            merged_from (length self.old.properties.items) self.old.bytes.now (definitions_of self.old) node first) }
         ensures values { self.new.values ≡ self.old.values }
         ensures marks { self.new.marks ≡ self.old.marks }
         ensures bytes { self.new.bytes ≡ self.old.bytes }
@@ -217,8 +218,8 @@ impl<'t, A: Allocator + Copy> Table<'t, A> {
 
     // Merges one node into another, without their children.
     fn merge_one(&mut self, old: usize, new: usize, left: usize) -> Result<(), Stop>
-        ensures merged { OnOk result (definitions self.new.nodes.items self.new.properties.items ≡
-            merged_node self.old.bytes.now (definitions self.old.nodes.items self.old.properties.items) old new) }
+        ensures merged { OnOk result (definitions_of self.new ≡
+            merged_node self.old.bytes.now (definitions_of self.old) old new) }
         ensures values { self.new.values ≡ self.old.values }
         ensures marks { self.new.marks ≡ self.old.marks }
         ensures bytes { self.new.bytes ≡ self.old.bytes }
@@ -238,7 +239,7 @@ impl<'t, A: Allocator + Copy> Table<'t, A> {
         new: NodeEntry,
         left: usize,
     ) -> Result<(), Stop>
-        ensures merged { OnOk result (MergesChild self.old.bytes.now (entries self.old.nodes.items self.old.properties.items self.old.labels.items) (entries self.new.nodes.items self.new.properties.items self.new.labels.items) parent place new) }
+        ensures merged { OnOk result (MergesChild self.old.bytes.now (entries_of self.old) (entries_of self.new) parent place new) }
         ensures values { self.new.values ≡ self.old.values }
         ensures marks { self.new.marks ≡ self.old.marks }
         ensures bytes { self.new.bytes ≡ self.old.bytes }
@@ -254,7 +255,7 @@ impl<'t, A: Allocator + Copy> Table<'t, A> {
 
     // Merges a node of a definition below the node that its parent was merged into, if it was.
     fn merge_below(&mut self, place: usize, left: usize) -> Result<(), Stop>
-        ensures merged { OnOk result (MergesBelow self.old.bytes.now (entries self.old.nodes.items self.old.properties.items self.old.labels.items) (entries self.new.nodes.items self.new.properties.items self.new.labels.items) place) }
+        ensures merged { OnOk result (MergesBelow self.old.bytes.now (entries_of self.old) (entries_of self.new) place) }
         ensures values { self.new.values ≡ self.old.values }
         ensures marks { self.new.marks ≡ self.old.marks }
         ensures bytes { self.new.bytes ≡ self.old.bytes }
@@ -275,7 +276,7 @@ impl<'t, A: Allocator + Copy> Table<'t, A> {
     /// Merges a definition into a node. The definition is the last in the table, from its place on,
     /// each node after the one that it is in.
     pub(crate) fn merge(&mut self, old: usize, new: usize, left: usize) -> Result<(), Stop>
-        ensures merged { OnOk result (Merges self.old.bytes.now (entries self.old.nodes.items self.old.properties.items self.old.labels.items) (entries self.new.nodes.items self.new.properties.items self.new.labels.items) old new) }
+        ensures merged { OnOk result (Merges self.old.bytes.now (entries_of self.old) (entries_of self.new) old new) }
         ensures values { self.new.values ≡ self.old.values }
         ensures marks { self.new.marks ≡ self.old.marks }
         ensures bytes { self.new.bytes ≡ self.old.bytes }

@@ -1,8 +1,8 @@
 //! The numbers by which nodes are named, and references.
 
 ghost use Rattle.std.specs.{Prelude.{◌≡◌, ◌≤◌, ◌+◌, ◌-◌, ◌^◌, IfOk, IfSome, OnOk, length, map, min, slice_get}, Int.{w32, to_be_bytes}};
-ghost use Rattle.uimg_dts.specs.Tables.{changed_at, part, written_at};
-ghost use Rattle.uimg_dts.specs.Finding.{referred_of};
+ghost use Rattle.uimg_dts.specs.Tables.{changed_at, written_at};
+ghost use Rattle.uimg_dts.specs.Views.{word_in, referred_in};
 ghost use Rattle.uimg_dts.specs.Resolving.{numbered, referenced, referring, phandle, HasNumber, IsNumberAt, IsResolved};
 
 use crate::fault::Refusal;
@@ -178,7 +178,7 @@ impl<'t, A: Allocator + Copy> Table<'t, A> {
 
     // Resolves a reference, which a mark is. Returns the node that it means.
     fn refer_to(&mut self, mark: usize, name: Piece) -> Result<usize, Stop>
-        ensures means { IfOk result (λ n. referred_of self.old.bytes.now self.old.nodes.items self.old.properties.items self.old.labels.items (part self.old.bytes.now name) ≡ Some n) }
+        ensures means { IfOk result (λ n. referred_in self.old (word_in self.old name) ≡ Some n) }
         ensures marks { IfOk result (λ n. self.new.marks.items ≡ changed_at (referring n) self.old.marks.items mark) }
         ensures properties { self.new.properties ≡ self.old.properties }
         ensures labels { self.new.labels ≡ self.old.labels }
@@ -219,7 +219,7 @@ impl<'t, A: Allocator + Copy> Table<'t, A> {
         next: &mut u32,
     ) -> Result<(), Stop>
         ensures resolved { OnOk result (IfSome (slice_get self.old.marks.items place) (λ m. IsResolved m.kind
-            (referred_of self.old.bytes.now self.old.nodes.items self.old.properties.items self.old.labels.items (part self.old.bytes.now m.name))
+            (referred_in self.old (word_in self.old m.name))
             self.new.nodes.items place self.old.marks.items self.new.marks.items
             (min (start + m.offset) (2 ^ 64 - 1)) self.old.values.items self.new.values.items)) }
         ensures bytes { self.new.bytes ≡ self.old.bytes }

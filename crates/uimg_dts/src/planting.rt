@@ -6,8 +6,8 @@ ghost use Rattle.uimg_base.specs.Named.{FileMap};
 ghost use Rattle.uimg_blob_writing.specs.Properties.{property, content};
 ghost use Rattle.uimg_dts.specs.Answers.{OpensFiles};
 ghost use Rattle.uimg_dts.specs.FileValues.{IsSoundIn, AreSound, IsSoundTree, IsSoundNode, AreSoundNodes, IsSoundIfFound};
-ghost use Rattle.uimg_dts.specs.Planting.{Ground, ground, live_name, names, names_at, AreGrown, IsGrown, IsGrownIfLive, AreGrownNodes};
-ghost use Rattle.uimg_dts.specs.Tables.{chain, is_live};
+ghost use Rattle.uimg_dts.specs.Planting.{Ground, live_name, names, names_at, AreGrown, IsGrown, IsGrownIfLive, AreGrownNodes};
+ghost use Rattle.uimg_dts.specs.{Tables.{chain, is_live}, Views.ground_of};
 ghost use Rattle.uimg_dts.specs.declared.table.{NodeEntry.NodeEntry, PropertyEntry.PropertyEntry};
 
 use crate::bytes::after;
@@ -212,7 +212,7 @@ fn live_node<F: Files, A: Allocator + Copy>(
 ) -> Result<Option<Node<A>>, FileStop>
     ensures opens { OpensFiles F.Opened.steady F.map result files }
     ensures sound { IfOk result (λ x. IsSoundIfFound (F.map files.old) x) }
-    ensures grown { IfOk result (λ x. IsGrownIfLive (ground table.now.bytes.now table.now.nodes.items table.now.properties.items) place x) }
+    ensures grown { IfOk result (λ x. IsGrownIfLive (ground_of table.now) place x) }
 {
     if !table.is_live(place) {
         return Ok(None);
@@ -231,7 +231,7 @@ fn children<F: Files, A: Allocator + Copy>(
 ) -> Result<Nodes<A>, FileStop>
     ensures opens { OpensFiles F.Opened.steady F.map result files }
     ensures sound { IfOk result (λ x. IsSoundTree (F.map files.old) x) }
-    ensures grown { let all = table.now.nodes.items in IfOk result (λ x. AreGrown (ground table.now.bytes.now table.now.nodes.items table.now.properties.items)
+    ensures grown { let all = table.now.nodes.items in IfOk result (λ x. AreGrown (ground_of table.now)
         (filter (is_live all) (chain (λ (n : NodeEntry). n.next) all (length all) first)) x) }
 {
     let mut nodes = Vec::new(table.alloc);
@@ -257,7 +257,7 @@ fn plant<F: Files, A: Allocator + Copy>(
 ) -> Result<Node<A>, FileStop>
     ensures opens { OpensFiles F.Opened.steady F.map result files }
     ensures sound { IfOk result (λ x. IsSoundNode (F.map files.old) x) }
-    ensures grown { IfOk result (λ x. IsGrown (ground table.now.bytes.now table.now.nodes.items table.now.properties.items) place x) }
+    ensures grown { IfOk result (λ x. IsGrown (ground_of table.now) place x) }
 {
     if levels == 0 {
         return refused(at(Refusal::Depth, 0));
@@ -284,7 +284,7 @@ pub(crate) fn planted<F: Files, A: Allocator + Copy>(
     ensures sound { IfOk result (λ x. IsSoundNode (F.map files.old) x) }
     // The root is not deleted, nor is any node or property of the tree, and all others are in it.
     ensures live { IfOk result (λ _. is_live table.now.nodes.items 0 ≡ true) }
-    ensures grown { IfOk result (λ x. IsGrown (ground table.now.bytes.now table.now.nodes.items table.now.properties.items) 0 x) }
+    ensures grown { IfOk result (λ x. IsGrown (ground_of table.now) 0 x) }
 {
     if !table.is_live(ROOT) {
         return refused(at(Refusal::NoRoot, 0));
