@@ -1,11 +1,11 @@
 -- Files stand where they may.
-use Rattle.std.proofs.Common.{◌≡◌, ℕ, List, [], ◌∷◌, ◌++◌, Bool, IsTrue, Option, subst}
+use Rattle.std.proofs.Common.{ℕ, List, [], ◌∷◌, ◌++◌, Bool, IsTrue, Option, None, Some, subst}
 use Rattle.std.specs.List.{AllByRecursion}
 use Rattle.uimg_base.specs.Named.{FileMap, SameFiles}
 use Rattle.uimg_blob_reading.specs.Plain.{NamedOf, no_node, a_node}
 use Rattle.uimg_blob_writing.specs.{declared.tree.Node.Node, Trees.siblings}
 use Rattle.uimg_blob_writing.specs.Content.{Content, Unread, bytes, file, IsKept, AreKept, StandsAtData, FilesAtData}
-use Rattle.uimg_dts.specs.FileValues.{IsSoundValue, AreSound, IsSoundTree, IsSoundNode, AreSoundNodes}
+use Rattle.uimg_dts.specs.FileValues.{IsSoundValue, AreSound, IsSoundTree, IsSoundNode, IsSoundIfFound, AreSoundNodes}
 
 -- one more
 pub all_push : {X : Type 0} (P : X → Type 0) (xs : List X) (x : X) → AllByRecursion P xs → P x → AllByRecursion P (xs ++ x ∷ [])
@@ -61,3 +61,7 @@ node_same a b n same s = (props_same a b n.props same s.0, tree_same a b n.child
 
 pub nodes_same : {A : Type 0} (a b : FileMap) (ns : List (Node A)) → SameFiles a b → AreSoundNodes b ns → AreSoundNodes a ns
 nodes_same {A = A} a b ns same all = all_weaker (λ (n : Node A). IsSoundNode b n) (λ (n : Node A). IsSoundNode a n) (λ n s. node_same a b n same s) ns all
+
+pub found_same : {A : Type 0} (a b : FileMap) (found : Option (Node A)) → SameFiles a b → IsSoundIfFound b found → IsSoundIfFound a found
+found_same a b None same s = s
+found_same a b (Some n) same s = node_same a b n same s

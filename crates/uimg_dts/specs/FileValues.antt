@@ -1,5 +1,5 @@
 -- Which values of a tree may be files.
-use Rattle.std.specs.{Prelude.{◌≡◌, ℕ, List, Bool, IsTrue, Option, codes, ⊤}, List.AllByRecursion}
+use Rattle.std.specs.{Prelude.{◌≡◌, ℕ, List, Bool, IsTrue, Option, MatchOption, codes, ⊤}, List.AllByRecursion}
 use Rattle.uimg_base.specs.Named.{FileMap}
 use Rattle.uimg_blob_reading.specs.Plain.{NamedOf, no_node, a_node}
 use Rattle.uimg_blob_writing.specs.declared.tree.Node.{Node}
@@ -30,3 +30,6 @@ IsSoundNode map n = AreSound map n.props × IsSoundTree map n.children
 
 abbrev pub AreSoundNodes : {A : Type 0} → FileMap → List (Node A) → Type 0
 AreSoundNodes map ns = AllByRecursion (IsSoundNode map) ns
+
+abbrev pub IsSoundIfFound : {A : Type 0} → FileMap → Option (Node A) → Type 0
+IsSoundIfFound map found = MatchOption found ⊤ (λ n. IsSoundNode map n)

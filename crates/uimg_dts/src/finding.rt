@@ -1,6 +1,10 @@
 //! Look-ups of nodes and properties, and walks over the tree.
 
-use crate::bytes::after;
+ghost use Rattle.std.specs.{Prelude.{◌≡◌, not}, List.prefix_len};
+ghost use Rattle.uimg_dts.specs.Finding.{first_live_of, first_child_of, next_child_of, child_of, live_child_of, at_path_of, is_slash};
+ghost use Rattle.uimg_dts.specs.Views.{word_in, property_in, live_property_in, labelled_in, referred_in};
+
+use crate::bytes::{after, before, byte_at};
 use crate::table::{Owner, Table};
 use crate::tokens::Piece;
 use std::alloc::Allocator;
@@ -11,9 +15,25 @@ pub(crate) const ROOT: usize = 0;
 /// More than a tree has levels.
 const LEVELS: u8 = 65;
 
+// Returns how many slashes a path begins with.
+fn slashes_length(path: &[u8]) -> usize
+    ensures { result ≡ prefix_len is_slash path.now }
+{
+    path.iter().take_while(|b| **b == b'/').count()
+}
+
+// Returns how many bytes there are before the first slash of a path.
+fn part_length(path: &[u8]) -> usize
+    ensures { result ≡ prefix_len (λ b. not (is_slash b)) path.now }
+{
+    path.iter().take_while(|b| **b != b'/').count()
+}
+
 impl<'t, A: Allocator + Copy> Table<'t, A> {
     // Returns the first node that is not deleted, of this one and those next to it.
-    fn first_live(&self, place: usize) -> Option<usize> {
+    fn first_live(&self, place: usize) -> Option<usize>
+        ensures { result ≡ first_live_of self.now.nodes.items place }
+    {
         let mut found = place;
         for _ in 0..self.nodes.len() {
             let node = self.node(found)?;
@@ -26,12 +46,16 @@ impl<'t, A: Allocator + Copy> Table<'t, A> {
     }
 
     /// Returns the first child that is not deleted.
-    pub(crate) fn first_child(&self, place: usize) -> Option<usize> {
+    pub(crate) fn first_child(&self, place: usize) -> Option<usize>
+        ensures { result ≡ first_child_of self.now.nodes.items place }
+    {
         self.first_live(self.node(place)?.first_child)
     }
 
     /// Returns the next node with the same parent that is not deleted.
-    pub(crate) fn next_child(&self, place: usize) -> Option<usize> {
+    pub(crate) fn next_child(&self, place: usize) -> Option<usize>
+        ensures { result ≡ next_child_of self.now.nodes.items place }
+    {
         self.first_live(self.node(place)?.next)
     }
 
@@ -54,7 +78,9 @@ impl<'t, A: Allocator + Copy> Table<'t, A> {
     }
 
     /// Returns the first child of this name, which may be deleted.
-    pub(crate) fn child_named(&self, parent: usize, name: Piece) -> Option<usize> {
+    pub(crate) fn child_named(&self, parent: usize, name: Piece) -> Option<usize>
+        ensures { result ≡ child_of self.now.bytes.now self.now.nodes.items parent (word_in self.now name) }
+    {
         let mut found = self.node(parent)?.first_child;
         for _ in 0..self.nodes.len() {
             let node = self.node(found)?;
@@ -67,7 +93,9 @@ impl<'t, A: Allocator + Copy> Table<'t, A> {
     }
 
     /// Returns the first property of this name, which may be deleted.
-    pub(crate) fn property_named(&self, owner: usize, name: &[u8]) -> Option<usize> {
+    pub(crate) fn property_named(&self, owner: usize, name: &[u8]) -> Option<usize>
+        ensures { result ≡ property_in self.now owner name.now }
+    {
         let mut found = self.node(owner)?.first_property;
         for _ in 0..self.properties.len() {
             let property = self.property(found)?;
@@ -80,7 +108,9 @@ impl<'t, A: Allocator + Copy> Table<'t, A> {
     }
 
     /// Returns the first property of this name that is not deleted.
-    pub(crate) fn live_property(&self, owner: usize, name: &[u8]) -> Option<usize> {
+    pub(crate) fn live_property(&self, owner: usize, name: &[u8]) -> Option<usize>
+        ensures { result ≡ live_property_in self.now owner name.now }
+    {
         let mut found = self.node(owner)?.first_property;
         for _ in 0..self.properties.len() {
             let property = self.property(found)?;
@@ -93,36 +123,34 @@ impl<'t, A: Allocator + Copy> Table<'t, A> {
     }
 
     // Returns the child of this name that is not deleted.
-    fn live_child(&self, parent: usize, name: &[u8]) -> Option<usize> {
-        let mut found = self.first_child(parent)?;
+    fn live_child(&self, parent: usize, name: &[u8]) -> Option<usize>
+        ensures { result ≡ live_child_of self.now.bytes.now self.now.nodes.items name.now parent }
+    {
+        let mut found = self.node(parent)?.first_child;
         for _ in 0..self.nodes.len() {
-            if self.text(self.node(found)?.name) == name {
+            let node = self.node(found)?;
+            if !node.is_deleted && self.text(node.name) == name {
                 return Some(found);
             }
-            found = self.next_child(found)?;
+            found = node.next;
         }
         None
     }
 
     // Returns the node of a path, which begins with a slash.
-    fn at_path(&self, path: &[u8]) -> Option<usize> {
+    fn at_path(&self, path: &[u8]) -> Option<usize>
+        ensures { result ≡ at_path_of self.now.bytes.now self.now.nodes.items path.now }
+    {
         let mut found = ROOT;
         let mut rest = path;
         for _ in 0..path.len() {
             if rest.is_empty() {
-                return if self.is_live(found) {
-                    Some(found)
-                } else {
-                    None
-                };
+                break;
             }
-            rest = after(rest, rest.iter().take_while(|b| **b == b'/').count());
-            let length = rest.iter().take_while(|b| **b != b'/').count();
-            found = self.live_child(found, rest.get(..length).unwrap_or(&[]))?;
-            if length == rest.len() {
-                return Some(found);
-            }
-            rest = after(rest, length.saturating_add(1));
+            let name = after(rest, slashes_length(rest));
+            let length = part_length(name);
+            found = self.live_child(found, before(name, length))?;
+            rest = after(after(name, length), 1);
         }
         if self.is_live(found) {
             Some(found)
@@ -132,7 +160,9 @@ impl<'t, A: Allocator + Copy> Table<'t, A> {
     }
 
     // Returns the node of a label.
-    fn labelled(&self, name: &[u8]) -> Option<usize> {
+    fn labelled(&self, name: &[u8]) -> Option<usize>
+        ensures { result ≡ labelled_in self.now name.now }
+    {
         for label in self.labels.as_slice() {
             if let Owner::Node(place) = label.owner {
                 if self.text(label.name) == name && self.is_live_label(*label) {
@@ -144,12 +174,16 @@ impl<'t, A: Allocator + Copy> Table<'t, A> {
     }
 
     /// Returns the node of a reference: a label, or a path, which begins with a slash.
-    pub(crate) fn referred(&self, reference: Piece) -> Option<usize> {
+    pub(crate) fn referred(&self, reference: Piece) -> Option<usize>
+        ensures { result ≡ referred_in self.now (word_in self.now reference) }
+    {
         let text = self.text(reference);
-        match text {
-            b"/" => Some(ROOT),
-            [b'/', ..] => self.at_path(text),
-            _ => self.labelled(text),
+        if text == b"/".as_slice() {
+            Some(ROOT)
+        } else if byte_at(text, 0) == b'/' {
+            self.at_path(text)
+        } else {
+            self.labelled(text)
         }
     }
 

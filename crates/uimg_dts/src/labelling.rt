@@ -1,5 +1,8 @@
 //! Labels.
 
+ghost use Rattle.std.specs.Prelude.{◌≡◌};
+ghost use Rattle.uimg_dts.specs.{Finding.{is_live_label}, Deleting.{without_labels}};
+
 use crate::stop::{Stop, out_of_memory};
 use crate::table::{LabelEntry, Owner, Table};
 use crate::tokens::Piece;
@@ -27,7 +30,13 @@ impl<'t, A: Allocator + Copy> Table<'t, A> {
         name: Piece,
         owner: Owner,
         left: usize,
-    ) -> Result<(), Stop> {
+    ) -> Result<(), Stop>
+        ensures nodes { self.new.nodes ≡ self.old.nodes }
+        ensures properties { self.new.properties ≡ self.old.properties }
+        ensures values { self.new.values ≡ self.old.values }
+        ensures marks { self.new.marks ≡ self.old.marks }
+        ensures bytes { self.new.bytes ≡ self.old.bytes }
+    {
         if let Some(found) = self.label_from(first, name, owner) {
             if let Some(label) = self.labels.get_mut(found) {
                 label.is_deleted = false;
@@ -47,7 +56,13 @@ impl<'t, A: Allocator + Copy> Table<'t, A> {
     }
 
     /// Adds the labels of one thing, deleted or not, to another.
-    pub(crate) fn move_labels(&mut self, from: Owner, to: Owner, left: usize) -> Result<(), Stop> {
+    pub(crate) fn move_labels(&mut self, from: Owner, to: Owner, left: usize) -> Result<(), Stop>
+        ensures nodes { self.new.nodes ≡ self.old.nodes }
+        ensures properties { self.new.properties ≡ self.old.properties }
+        ensures values { self.new.values ≡ self.old.values }
+        ensures marks { self.new.marks ≡ self.old.marks }
+        ensures bytes { self.new.bytes ≡ self.old.bytes }
+    {
         for i in 0..self.labels.len() {
             let Some(label) = self.labels.get(i).copied() else {
                 return Ok(());
@@ -61,7 +76,14 @@ impl<'t, A: Allocator + Copy> Table<'t, A> {
     }
 
     /// Deletes the labels of a thing.
-    pub(crate) fn delete_labels(&mut self, owner: Owner) {
+    pub(crate) fn delete_labels(&mut self, owner: Owner)
+        ensures labels { self.new.labels.items ≡ without_labels owner self.old.labels.items }
+        ensures nodes { self.new.nodes ≡ self.old.nodes }
+        ensures properties { self.new.properties ≡ self.old.properties }
+        ensures values { self.new.values ≡ self.old.values }
+        ensures marks { self.new.marks ≡ self.old.marks }
+        ensures bytes { self.new.bytes ≡ self.old.bytes }
+    {
         for label in self.labels.as_mut_slice() {
             if label.owner == owner {
                 label.is_deleted = true;
@@ -70,7 +92,9 @@ impl<'t, A: Allocator + Copy> Table<'t, A> {
     }
 
     /// Returns whether a label is not deleted, nor what it names.
-    pub(crate) fn is_live_label(&self, label: LabelEntry) -> bool {
+    pub(crate) fn is_live_label(&self, label: LabelEntry) -> bool
+        ensures { result ≡ is_live_label self.now.nodes.items self.now.properties.items label }
+    {
         if label.is_deleted {
             return false;
         }

@@ -2,8 +2,9 @@
 //! `compile_all` is the one call; its documentation says what is proved and what is tested.
 //!
 //! A text goes through `lexing.rt` to words (`gaps.rt`, `words.rt`), and through `statements.rt` and
-//! `bodies.rt` to tables (`table.rt`). `names.rt` and `phandles.rt` check them and resolve
-//! references; `planting.rt` makes the tree.
+//! `bodies.rt` to tables (`table.rt`). `finding.rt` looks up nodes and properties there, and
+//! `merging.rt` deletes them and merges what is given again, both as `specs/` defines. `names.rt`
+//! and `phandles.rt` check the tables and resolve references; `planting.rt` makes the tree.
 #![tactic(auto)]
 
 mod arrays;

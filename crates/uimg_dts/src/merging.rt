@@ -1,51 +1,137 @@
 //! Merging of nodes that are given again, and deletion.
 
+ghost use Rattle.std.specs.Prelude.{◌≡◌, length, OnOk};
+ghost use Rattle.uimg_dts.specs.Tables.{chain, changed_at};
+ghost use Rattle.uimg_dts.specs.Deleting.{deleted_node, deleted_property, without_property, without_properties, without_one, without};
+ghost use Rattle.uimg_dts.specs.Views.{entries_of, definitions_of};
+ghost use Rattle.uimg_dts.specs.Merging.{replaced, merged_property, merged_from, merged_node, merged_into, revived, first_property_of, MergesChild, MergesBelow, Merges};
+
 use crate::finding::ROOT;
 use crate::stop::Stop;
 use crate::table::{NONE, NodeEntry, Owner, PropertyEntry, Table};
 use crate::tokens::Piece;
 use std::alloc::Allocator;
 
+/// The most levels of a tree.
+const MOST_LEVELS: u8 = 64;
+
 impl<'t, A: Allocator + Copy> Table<'t, A> {
-    /// Deletes a property.
-    pub(crate) fn delete_property(&mut self, place: usize) {
+    // Marks a property.
+    fn mark_property(&mut self, place: usize)
+        ensures marked { self.new.properties.items ≡ changed_at deleted_property self.old.properties.items place }
+        ensures nodes { self.new.nodes ≡ self.old.nodes }
+        ensures labels { self.new.labels ≡ self.old.labels }
+        ensures values { self.new.values ≡ self.old.values }
+        ensures marks { self.new.marks ≡ self.old.marks }
+        ensures bytes { self.new.bytes ≡ self.old.bytes }
+    {
         if let Some(property) = self.properties.get_mut(place) {
             property.is_deleted = true;
         }
+    }
+
+    /// Deletes a property.
+    pub(crate) fn delete_property(&mut self, place: usize)
+        ensures deleted { entries_of self.new ≡ without_property (entries_of self.old) place }
+        ensures values { self.new.values ≡ self.old.values }
+        ensures marks { self.new.marks ≡ self.old.marks }
+        ensures bytes { self.new.bytes ≡ self.old.bytes }
+    {
+        self.mark_property(place);
         self.delete_labels(Owner::Property(place));
     }
 
-    // Deletes a node's properties and labels, and marks it.
-    fn delete_one(&mut self, place: usize) {
-        let mut property = NONE;
-        if let Some(node) = self.nodes.get_mut(place) {
-            node.is_deleted = true;
-            property = node.first_property;
-        }
+    // Deletes properties, from the first on.
+    fn delete_properties(&mut self, first: usize)
+        ensures deleted { entries_of self.new ≡ without_properties (entries_of self.old) (chain (λ (p : PropertyEntry). p.next) self.old.properties.items (length self.old.properties.items) first) }
+        ensures values { self.new.values ≡ self.old.values }
+        ensures marks { self.new.marks ≡ self.old.marks }
+        ensures bytes { self.new.bytes ≡ self.old.bytes }
+    {
+        let mut place = first;
         for _ in 0..self.properties.len() {
-            let Some(found) = self.property(property) else {
+            let Some(found) = self.property(place) else {
                 break;
             };
-            self.delete_property(property);
-            property = found.next;
+            self.delete_property(place);
+            place = found.next;
         }
+    }
+
+    // Marks a node.
+    fn mark_node(&mut self, place: usize)
+        ensures marked { self.new.nodes.items ≡ changed_at deleted_node self.old.nodes.items place }
+        ensures properties { self.new.properties ≡ self.old.properties }
+        ensures labels { self.new.labels ≡ self.old.labels }
+        ensures values { self.new.values ≡ self.old.values }
+        ensures marks { self.new.marks ≡ self.old.marks }
+        ensures bytes { self.new.bytes ≡ self.old.bytes }
+    {
+        if let Some(node) = self.nodes.get_mut(place) {
+            node.is_deleted = true;
+        }
+    }
+
+    // Deletes a node with its properties and labels.
+    fn delete_one(&mut self, place: usize)
+        ensures deleted { entries_of self.new ≡ without_one (entries_of self.old) place }
+        ensures values { self.new.values ≡ self.old.values }
+        ensures marks { self.new.marks ≡ self.old.marks }
+        ensures bytes { self.new.bytes ≡ self.old.bytes }
+    {
+        let Some(node) = self.node(place) else {
+            return;
+        };
+        self.mark_node(place);
+        self.delete_properties(node.first_property);
         self.delete_labels(Owner::Node(place));
     }
 
-    /// Deletes a node and all below it.
-    pub(crate) fn delete_node(&mut self, top: usize) {
-        let mut place = top;
+    // Deletes a node and all below it, of at most `levels` levels.
+    fn delete_levels(&mut self, levels: u8, top: usize)
+        ensures deleted { entries_of self.new ≡ without levels (entries_of self.old) top }
+        ensures values { self.new.values ≡ self.old.values }
+        ensures marks { self.new.marks ≡ self.old.marks }
+        ensures bytes { self.new.bytes ≡ self.old.bytes }
+    {
+        let Some(node) = self.node(top) else {
+            return;
+        };
+        if levels == 0 {
+            return;
+        }
+        self.delete_one(top);
+        let mut place = node.first_child;
         for _ in 0..self.nodes.len() {
-            self.delete_one(place);
-            match self.following(top, place) {
-                Some(next) => place = next,
-                None => return,
+            let Some(found) = self.node(place) else {
+                return;
+            };
+            if !found.is_deleted {
+                self.delete_levels(levels - 1, place);
             }
+            place = found.next;
         }
     }
 
+    /// Deletes a node and all below it.
+    pub(crate) fn delete_node(&mut self, top: usize)
+        ensures deleted { entries_of self.new ≡ without 64 (entries_of self.old) top }
+        ensures values { self.new.values ≡ self.old.values }
+        ensures marks { self.new.marks ≡ self.old.marks }
+        ensures bytes { self.new.bytes ≡ self.old.bytes }
+    {
+        self.delete_levels(MOST_LEVELS, top);
+    }
+
     // Gives a property the value of another.
-    fn replace(&mut self, place: usize, by: PropertyEntry) {
+    fn replace(&mut self, place: usize, by: PropertyEntry)
+        ensures replaced { self.new.properties.items ≡ changed_at (replaced by) self.old.properties.items place }
+        ensures nodes { self.new.nodes ≡ self.old.nodes }
+        ensures labels { self.new.labels ≡ self.old.labels }
+        ensures values { self.new.values ≡ self.old.values }
+        ensures marks { self.new.marks ≡ self.old.marks }
+        ensures bytes { self.new.bytes ≡ self.old.bytes }
+    {
         if let Some(property) = self.properties.get_mut(place) {
             property.left = by.left;
             property.value = by.value;
@@ -62,7 +148,12 @@ impl<'t, A: Allocator + Copy> Table<'t, A> {
         place: usize,
         new: PropertyEntry,
         left: usize,
-    ) -> Result<(), Stop> {
+    ) -> Result<(), Stop>
+        ensures merged { OnOk result (definitions_of self.new ≡ merged_property self.old.bytes.now (definitions_of self.old) node place new) }
+        ensures values { self.new.values ≡ self.old.values }
+        ensures marks { self.new.marks ≡ self.old.marks }
+        ensures bytes { self.new.bytes ≡ self.old.bytes }
+    {
         match self.property_named(node, self.text(new.name)) {
             Some(old) if new.is_deleted => self.delete_property(old),
             Some(old) => {
@@ -75,25 +166,69 @@ impl<'t, A: Allocator + Copy> Table<'t, A> {
         Ok(())
     }
 
-    // Merges one node into another, without their children.
-    fn merge_one(&mut self, old: usize, new: usize, left: usize) -> Result<(), Stop> {
-        let mut property = NONE;
-        if let Some(node) = self.nodes.get_mut(new) {
-            node.merged = old;
-            node.is_deleted = true;
-            property = node.first_property;
-        }
-        if let Some(node) = self.nodes.get_mut(old) {
+    // Marks a node that is merged into another. Returns its first property.
+    fn mark_merged(&mut self, place: usize, into: usize) -> usize
+        ensures first { result ≡ first_property_of self.old.nodes.items place }
+        ensures nodes { self.new.nodes.items ≡ changed_at (merged_into into) self.old.nodes.items place }
+        ensures properties { self.new.properties ≡ self.old.properties }
+        ensures labels { self.new.labels ≡ self.old.labels }
+        ensures values { self.new.values ≡ self.old.values }
+        ensures marks { self.new.marks ≡ self.old.marks }
+        ensures bytes { self.new.bytes ≡ self.old.bytes }
+    {
+        let Some(node) = self.nodes.get_mut(place) else {
+            return NONE;
+        };
+        node.merged = into;
+        node.is_deleted = true;
+        node.first_property
+    }
+
+    // Makes a node one that is not deleted.
+    fn revive(&mut self, place: usize)
+        ensures nodes { self.new.nodes.items ≡ changed_at revived self.old.nodes.items place }
+        ensures properties { self.new.properties ≡ self.old.properties }
+        ensures labels { self.new.labels ≡ self.old.labels }
+        ensures values { self.new.values ≡ self.old.values }
+        ensures marks { self.new.marks ≡ self.old.marks }
+        ensures bytes { self.new.bytes ≡ self.old.bytes }
+    {
+        if let Some(node) = self.nodes.get_mut(place) {
             node.is_deleted = false;
         }
-        self.move_labels(Owner::Node(new), Owner::Node(old), left)?;
+    }
+
+    // Merges properties into a node, from the first on.
+    fn merge_properties(&mut self, node: usize, first: usize, left: usize) -> Result<(), Stop>
+        ensures merged { OnOk result (definitions_of self.new ≡
+            merged_from (length self.old.properties.items) self.old.bytes.now (definitions_of self.old) node first) }
+        ensures values { self.new.values ≡ self.old.values }
+        ensures marks { self.new.marks ≡ self.old.marks }
+        ensures bytes { self.new.bytes ≡ self.old.bytes }
+    {
+        let mut place = first;
         for _ in 0..self.properties.len() {
-            let Some(found) = self.property(property) else {
+            let Some(found) = self.property(place) else {
                 break;
             };
-            self.merge_property(old, property, found, left)?;
-            property = found.next;
+            self.merge_property(node, place, found, left)?;
+            place = found.next;
         }
+        Ok(())
+    }
+
+    // Merges one node into another, without their children.
+    fn merge_one(&mut self, old: usize, new: usize, left: usize) -> Result<(), Stop>
+        ensures merged { OnOk result (definitions_of self.new ≡
+            merged_node self.old.bytes.now (definitions_of self.old) old new) }
+        ensures values { self.new.values ≡ self.old.values }
+        ensures marks { self.new.marks ≡ self.old.marks }
+        ensures bytes { self.new.bytes ≡ self.old.bytes }
+    {
+        let first = self.mark_merged(new, old);
+        self.revive(old);
+        self.move_labels(Owner::Node(new), Owner::Node(old), left)?;
+        self.merge_properties(old, first, left)?;
         Ok(())
     }
 
@@ -104,7 +239,12 @@ impl<'t, A: Allocator + Copy> Table<'t, A> {
         place: usize,
         new: NodeEntry,
         left: usize,
-    ) -> Result<(), Stop> {
+    ) -> Result<(), Stop>
+        ensures merged { OnOk result (MergesChild self.old.bytes.now (entries_of self.old) (entries_of self.new) parent place new) }
+        ensures values { self.new.values ≡ self.old.values }
+        ensures marks { self.new.marks ≡ self.old.marks }
+        ensures bytes { self.new.bytes ≡ self.old.bytes }
+    {
         match self.child_named(parent, new.name) {
             Some(old) if new.is_deleted => self.delete_node(old),
             Some(old) => self.merge_one(old, place, left)?,
@@ -114,20 +254,37 @@ impl<'t, A: Allocator + Copy> Table<'t, A> {
         Ok(())
     }
 
+    // Merges a node of a definition below the node that its parent was merged into, if it was.
+    fn merge_below(&mut self, place: usize, left: usize) -> Result<(), Stop>
+        ensures merged { OnOk result (MergesBelow self.old.bytes.now (entries_of self.old) (entries_of self.new) place) }
+        ensures values { self.new.values ≡ self.old.values }
+        ensures marks { self.new.marks ≡ self.old.marks }
+        ensures bytes { self.new.bytes ≡ self.old.bytes }
+    {
+        let Some(node) = self.node(place) else {
+            return Ok(());
+        };
+        let Some(parent) = self.node(node.parent) else {
+            return Ok(());
+        };
+        if parent.merged == NONE {
+            return Ok(());
+        }
+        self.merge_child(parent.merged, place, node, left)?;
+        Ok(())
+    }
+
     /// Merges a definition into a node. The definition is the last in the table, from its place on,
     /// each node after the one that it is in.
-    pub(crate) fn merge(&mut self, old: usize, new: usize, left: usize) -> Result<(), Stop> {
+    pub(crate) fn merge(&mut self, old: usize, new: usize, left: usize) -> Result<(), Stop>
+        ensures merged { OnOk result (Merges self.old.bytes.now (entries_of self.old) (entries_of self.new) old new) }
+        ensures values { self.new.values ≡ self.old.values }
+        ensures marks { self.new.marks ≡ self.old.marks }
+        ensures bytes { self.new.bytes ≡ self.old.bytes }
+    {
         self.merge_one(old, new, left)?;
         for place in new.saturating_add(1)..self.nodes.len() {
-            let Some(node) = self.node(place) else {
-                return Ok(());
-            };
-            let Some(parent) = self.node(node.parent) else {
-                return Ok(());
-            };
-            if parent.merged != NONE {
-                self.merge_child(parent.merged, place, node, left)?;
-            }
+            self.merge_below(place, left)?;
         }
         Ok(())
     }

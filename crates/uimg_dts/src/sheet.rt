@@ -1,5 +1,7 @@
 //! The words of a source as they are collected.
 
+ghost use Rattle.std.specs.Prelude.{◌≡◌};
+
 use crate::bytes::after;
 use crate::fault::Refusal;
 use crate::quoted::next_byte;
@@ -44,7 +46,9 @@ pub(crate) struct Sheet<A: Allocator> {
 
 impl<A: Allocator + Copy> Sheet<A> {
     /// Creates a sheet without words.
-    pub(crate) fn new(alloc: A) -> Sheet<A> {
+    pub(crate) fn new(alloc: A) -> Sheet<A>
+        ensures { result.includes ≡ 0 }
+    {
         Sheet {
             bytes: Vec::new(alloc),
             tokens: Vec::new(alloc),
@@ -54,7 +58,9 @@ impl<A: Allocator + Copy> Sheet<A> {
     }
 
     /// Adds a word.
-    pub(crate) fn add(&mut self, word: Word, left: usize) -> Result<(), Stop> {
+    pub(crate) fn add(&mut self, word: Word, left: usize) -> Result<(), Stop>
+        ensures includes { self.new.includes ≡ self.old.includes }
+    {
         self.mode = mode_after(self.mode, word);
         match self.tokens.push(Token { word, left }) {
             Ok(()) => Ok(()),
@@ -63,7 +69,9 @@ impl<A: Allocator + Copy> Sheet<A> {
     }
 
     /// Copies bytes of a word.
-    pub(crate) fn keep(&mut self, bytes: &[u8], left: usize) -> Result<Piece, Stop> {
+    pub(crate) fn keep(&mut self, bytes: &[u8], left: usize) -> Result<Piece, Stop>
+        ensures includes { self.new.includes ≡ self.old.includes }
+    {
         let start = self.bytes.len();
         match self.bytes.extend_from_slice(bytes) {
             Ok(()) => Ok(Piece {
@@ -75,7 +83,9 @@ impl<A: Allocator + Copy> Sheet<A> {
     }
 
     // Copies a byte.
-    fn keep_byte(&mut self, b: u8, left: usize) -> Result<(), Stop> {
+    fn keep_byte(&mut self, b: u8, left: usize) -> Result<(), Stop>
+        ensures includes { self.new.includes ≡ self.old.includes }
+    {
         match self.bytes.push(b) {
             Ok(()) => Ok(()),
             Err(_) => Err(out_of_memory(left)),
@@ -89,7 +99,9 @@ impl<A: Allocator + Copy> Sheet<A> {
         text: &[u8],
         length: usize,
         left: usize,
-    ) -> Result<Piece, Stop> {
+    ) -> Result<Piece, Stop>
+        ensures includes { self.new.includes ≡ self.old.includes }
+    {
         let start = self.bytes.len();
         let mut place = 0;
         for _ in 0..length {
@@ -113,7 +125,9 @@ impl<A: Allocator + Copy> Sheet<A> {
         folder: Piece,
         name: &[u8],
         left: usize,
-    ) -> Result<Piece, Stop> {
+    ) -> Result<Piece, Stop>
+        ensures includes { self.new.includes ≡ self.old.includes }
+    {
         let start = self.bytes.len();
         if name.first() != Some(&b'/') {
             for i in folder.start..folder.end {

@@ -2,7 +2,9 @@
 //! tables, and a place that is none is `NONE`. `left` is how many bytes of the text remain at the word
 //! that gave an entry.
 
-ghost use Rattle.std.specs.Prelude.{◌≡◌, ◌++◌, OnOk};
+ghost use Rattle.std.specs.Prelude.{◌≡◌, ◌++◌, OnOk, bytes_eq, slice_get};
+ghost use Rattle.uimg_dts.specs.Tables.{part, is_live, changed_at};
+ghost use Rattle.uimg_dts.specs.Appending.{appended_child, last_child_of, with_last_child, followed_node, appended_property, last_property_of, with_last_property, followed_property};
 
 use crate::stop::{Stop, out_of_memory};
 use crate::tokens::{NOTHING, Piece};
@@ -112,30 +114,42 @@ impl<'t, A: Allocator + Copy> Table<'t, A> {
     }
 
     /// Returns the bytes of a word.
-    pub(crate) fn text(&self, piece: Piece) -> &'t [u8] {
+    pub(crate) fn text(&self, piece: Piece) -> &'t [u8]
+        ensures { result.now ≡ part self.now.bytes.now piece }
+    {
         self.bytes.get(piece.start..piece.end).unwrap_or(&[])
     }
 
     /// Returns whether two words have the same bytes.
-    pub(crate) fn same(&self, a: Piece, b: Piece) -> bool {
+    pub(crate) fn same(&self, a: Piece, b: Piece) -> bool
+        ensures { result ≡ bytes_eq (part self.now.bytes.now a) (part self.now.bytes.now b) }
+    {
         self.text(a) == self.text(b)
     }
 
     /// Returns the bytes of a value.
-    pub(crate) fn value(&self, piece: Piece) -> &[u8] {
+    pub(crate) fn value(&self, piece: Piece) -> &[u8]
+        ensures { result.now ≡ part self.now.values.items piece }
+    {
         self.values.get(piece.start..piece.end).unwrap_or(&[])
     }
 
-    pub(crate) fn node(&self, place: usize) -> Option<NodeEntry> {
+    pub(crate) fn node(&self, place: usize) -> Option<NodeEntry>
+        ensures { result ≡ slice_get self.now.nodes.items place }
+    {
         self.nodes.get(place).copied()
     }
 
-    pub(crate) fn property(&self, place: usize) -> Option<PropertyEntry> {
+    pub(crate) fn property(&self, place: usize) -> Option<PropertyEntry>
+        ensures { result ≡ slice_get self.now.properties.items place }
+    {
         self.properties.get(place).copied()
     }
 
     /// Returns whether a node exists and is not deleted.
-    pub(crate) fn is_live(&self, place: usize) -> bool {
+    pub(crate) fn is_live(&self, place: usize) -> bool
+        ensures { result ≡ is_live self.now.nodes.items place }
+    {
         match self.nodes.get(place) {
             Some(node) => !node.is_deleted,
             None => false,
@@ -200,7 +214,13 @@ impl<'t, A: Allocator + Copy> Table<'t, A> {
     }
 
     /// Adds a property without a value to none. Returns its place.
-    pub(crate) fn add_property(&mut self, name: Piece, left: usize) -> Result<usize, Stop> {
+    pub(crate) fn add_property(&mut self, name: Piece, left: usize) -> Result<usize, Stop>
+        ensures nodes { self.new.nodes ≡ self.old.nodes }
+        ensures labels { self.new.labels ≡ self.old.labels }
+        ensures values { self.new.values ≡ self.old.values }
+        ensures marks { self.new.marks ≡ self.old.marks }
+        ensures bytes { self.new.bytes ≡ self.old.bytes }
+    {
         let place = self.properties.len();
         let property = PropertyEntry {
             name,
@@ -219,40 +239,106 @@ impl<'t, A: Allocator + Copy> Table<'t, A> {
     }
 
     /// Makes a node the last child of another.
-    pub(crate) fn append_child(&mut self, parent: usize, child: usize) {
-        let mut last = NONE;
-        if let Some(node) = self.nodes.get_mut(parent) {
-            last = node.last_child;
-            node.last_child = child;
-            if last == NONE {
-                node.first_child = child;
-            }
-        }
-        if let Some(node) = self.nodes.get_mut(last) {
-            node.next = child;
-        }
+    pub(crate) fn append_child(&mut self, parent: usize, child: usize)
+        ensures nodes { self.new.nodes.items ≡ appended_child self.old.nodes.items parent child }
+        ensures properties { self.new.properties ≡ self.old.properties }
+        ensures labels { self.new.labels ≡ self.old.labels }
+        ensures values { self.new.values ≡ self.old.values }
+        ensures marks { self.new.marks ≡ self.old.marks }
+        ensures bytes { self.new.bytes ≡ self.old.bytes }
+    {
+        let last = self.take_last_child(parent, child);
+        self.follow_node(last, child);
         if let Some(node) = self.nodes.get_mut(child) {
             node.parent = parent;
             node.next = NONE;
         }
     }
 
+    // Makes a node the last child of another. Returns the one that was the last.
+    fn take_last_child(&mut self, parent: usize, child: usize) -> usize
+        ensures last { result ≡ last_child_of self.old.nodes.items parent }
+        ensures nodes { self.new.nodes.items ≡ changed_at (with_last_child child) self.old.nodes.items parent }
+        ensures properties { self.new.properties ≡ self.old.properties }
+        ensures labels { self.new.labels ≡ self.old.labels }
+        ensures values { self.new.values ≡ self.old.values }
+        ensures marks { self.new.marks ≡ self.old.marks }
+        ensures bytes { self.new.bytes ≡ self.old.bytes }
+    {
+        let Some(node) = self.nodes.get_mut(parent) else {
+            return NONE;
+        };
+        let last = node.last_child;
+        node.last_child = child;
+        if last == NONE {
+            node.first_child = child;
+        }
+        last
+    }
+
+    // Makes a node the next of another.
+    fn follow_node(&mut self, place: usize, next: usize)
+        ensures nodes { self.new.nodes.items ≡ changed_at (followed_node next) self.old.nodes.items place }
+        ensures properties { self.new.properties ≡ self.old.properties }
+        ensures labels { self.new.labels ≡ self.old.labels }
+        ensures values { self.new.values ≡ self.old.values }
+        ensures marks { self.new.marks ≡ self.old.marks }
+        ensures bytes { self.new.bytes ≡ self.old.bytes }
+    {
+        if let Some(node) = self.nodes.get_mut(place) {
+            node.next = next;
+        }
+    }
+
     /// Makes a property the last of a node.
-    pub(crate) fn append_property(&mut self, owner: usize, place: usize) {
-        let mut last = NONE;
-        if let Some(node) = self.nodes.get_mut(owner) {
-            last = node.last_property;
-            node.last_property = place;
-            if last == NONE {
-                node.first_property = place;
-            }
-        }
-        if let Some(property) = self.properties.get_mut(last) {
-            property.next = place;
-        }
+    pub(crate) fn append_property(&mut self, owner: usize, place: usize)
+        ensures nodes { self.new.nodes.items ≡ changed_at (with_last_property place) self.old.nodes.items owner }
+        ensures properties { self.new.properties.items ≡ appended_property self.old.nodes.items self.old.properties.items owner place }
+        ensures labels { self.new.labels ≡ self.old.labels }
+        ensures values { self.new.values ≡ self.old.values }
+        ensures marks { self.new.marks ≡ self.old.marks }
+        ensures bytes { self.new.bytes ≡ self.old.bytes }
+    {
+        let last = self.take_last_property(owner, place);
+        self.follow_property(last, place);
         if let Some(property) = self.properties.get_mut(place) {
             property.node = owner;
             property.next = NONE;
+        }
+    }
+
+    // Makes a property the last of a node. Returns the one that was the last.
+    fn take_last_property(&mut self, owner: usize, place: usize) -> usize
+        ensures last { result ≡ last_property_of self.old.nodes.items owner }
+        ensures nodes { self.new.nodes.items ≡ changed_at (with_last_property place) self.old.nodes.items owner }
+        ensures properties { self.new.properties ≡ self.old.properties }
+        ensures labels { self.new.labels ≡ self.old.labels }
+        ensures values { self.new.values ≡ self.old.values }
+        ensures marks { self.new.marks ≡ self.old.marks }
+        ensures bytes { self.new.bytes ≡ self.old.bytes }
+    {
+        let Some(node) = self.nodes.get_mut(owner) else {
+            return NONE;
+        };
+        let before = node.last_property;
+        node.last_property = place;
+        if before == NONE {
+            node.first_property = place;
+        }
+        before
+    }
+
+    // Makes a property the next of another.
+    fn follow_property(&mut self, place: usize, next: usize)
+        ensures properties { self.new.properties.items ≡ changed_at (followed_property next) self.old.properties.items place }
+        ensures nodes { self.new.nodes ≡ self.old.nodes }
+        ensures labels { self.new.labels ≡ self.old.labels }
+        ensures values { self.new.values ≡ self.old.values }
+        ensures marks { self.new.marks ≡ self.old.marks }
+        ensures bytes { self.new.bytes ≡ self.old.bytes }
+    {
+        if let Some(property) = self.properties.get_mut(place) {
+            property.next = next;
         }
     }
 }

@@ -1,5 +1,7 @@
 //! The word at the start of a text.
 
+ghost use Rattle.std.specs.Prelude.{◌≡◌};
+
 use crate::bytes::{after, before, byte_at, is_name_byte, label_length, name_length, path_length};
 use crate::fault::Refusal;
 use crate::literals::{hex_pair, read_literal};
@@ -64,7 +66,9 @@ fn add_string<A: Allocator + Copy>(
     sheet: &mut Sheet<A>,
     text: &[u8],
     left: usize,
-) -> Result<usize, Stop> {
+) -> Result<usize, Stop>
+    ensures includes { sheet.new.includes ≡ sheet.old.includes }
+{
     let Some(length) = string_length(after(text, 1)) else {
         return Err(at(Refusal::BadToken, left));
     };
@@ -78,7 +82,9 @@ fn add_character<A: Allocator + Copy>(
     sheet: &mut Sheet<A>,
     text: &[u8],
     left: usize,
-) -> Result<usize, Stop> {
+) -> Result<usize, Stop>
+    ensures includes { sheet.new.includes ≡ sheet.old.includes }
+{
     let Some(length) = character_length(after(text, 1)) else {
         return Err(at(Refusal::BadToken, left));
     };
@@ -96,7 +102,9 @@ fn add_ampersand<A: Allocator + Copy>(
     sheet: &mut Sheet<A>,
     text: &[u8],
     left: usize,
-) -> Result<usize, Stop> {
+) -> Result<usize, Stop>
+    ensures includes { sheet.new.includes ≡ sheet.old.includes }
+{
     let label = label_length(after(text, 1));
     let path = path_length(after(text, 2));
     if text.starts_with(b"&{/") && byte_at(text, path.saturating_add(2)) == b'}' {
@@ -117,7 +125,9 @@ fn add_mark<A: Allocator + Copy>(
     sheet: &mut Sheet<A>,
     text: &[u8],
     left: usize,
-) -> Result<usize, Stop> {
+) -> Result<usize, Stop>
+    ensures includes { sheet.new.includes ≡ sheet.old.includes }
+{
     if let Some(double) = double_of(text) {
         sheet.add(Word::Double(double), left)?;
         return Ok(2);
@@ -131,7 +141,9 @@ fn add_number<A: Allocator + Copy>(
     sheet: &mut Sheet<A>,
     text: &[u8],
     left: usize,
-) -> Result<usize, Stop> {
+) -> Result<usize, Stop>
+    ensures includes { sheet.new.includes ≡ sheet.old.includes }
+{
     let found = read_literal(text);
     match found.value {
         Some(value) => {
@@ -147,7 +159,9 @@ fn add_by_mode<A: Allocator + Copy>(
     sheet: &mut Sheet<A>,
     text: &[u8],
     left: usize,
-) -> Result<usize, Stop> {
+) -> Result<usize, Stop>
+    ensures includes { sheet.new.includes ≡ sheet.old.includes }
+{
     let name = escaped_name_length(text);
     let first = byte_at(text, 0);
     match sheet.mode {
@@ -176,7 +190,9 @@ pub(crate) fn add_word<A: Allocator + Copy>(
     folder: Piece,
     text: &[u8],
     left: usize,
-) -> Result<usize, Stop> {
+) -> Result<usize, Stop>
+    ensures includes { sheet.new.includes ≡ sheet.old.includes }
+{
     let label = label_length(text);
     match byte_at(text, 0) {
         b'/' => {
