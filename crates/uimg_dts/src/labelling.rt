@@ -56,7 +56,7 @@ impl<'t, A: Allocator + Copy> Table<'t, A> {
     }
 
     /// Adds the labels of one thing, deleted or not, to another.
-    pub(crate) fn move_labels(&mut self, from: Owner, to: Owner, left: usize) -> Result<(), Stop>
+    pub(crate) fn move_labels(&mut self, from: Owner, to: Owner) -> Result<(), Stop>
         ensures nodes { self.new.nodes ≡ self.old.nodes }
         ensures properties { self.new.properties ≡ self.old.properties }
         ensures values { self.new.values ≡ self.old.values }
@@ -68,7 +68,7 @@ impl<'t, A: Allocator + Copy> Table<'t, A> {
                 return Ok(());
             };
             if label.owner == from {
-                self.add_label(0, label.name, to, left)?;
+                self.add_label(0, label.name, to, label.left)?;
             }
         }
         self.delete_labels(from);

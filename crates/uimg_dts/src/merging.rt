@@ -142,13 +142,7 @@ impl<'t, A: Allocator + Copy> Table<'t, A> {
     }
 
     // Merges a property into a node.
-    fn merge_property(
-        &mut self,
-        node: usize,
-        place: usize,
-        new: PropertyEntry,
-        left: usize,
-    ) -> Result<(), Stop>
+    fn merge_property(&mut self, node: usize, place: usize, new: PropertyEntry) -> Result<(), Stop>
         ensures merged { OnOk result (definitions_of self.new ≡ merged_property self.old.bytes.now (definitions_of self.old) node place new) }
         ensures values { self.new.values ≡ self.old.values }
         ensures marks { self.new.marks ≡ self.old.marks }
@@ -157,7 +151,7 @@ impl<'t, A: Allocator + Copy> Table<'t, A> {
         match self.property_named(node, self.text(new.name)) {
             Some(old) if new.is_deleted => self.delete_property(old),
             Some(old) => {
-                self.move_labels(Owner::Property(place), Owner::Property(old), left)?;
+                self.move_labels(Owner::Property(place), Owner::Property(old))?;
                 self.replace(old, new);
             }
             None if new.is_deleted => {}
@@ -199,7 +193,7 @@ impl<'t, A: Allocator + Copy> Table<'t, A> {
     }
 
     // Merges properties into a node, from the first on.
-    fn merge_properties(&mut self, node: usize, first: usize, left: usize) -> Result<(), Stop>
+    fn merge_properties(&mut self, node: usize, first: usize) -> Result<(), Stop>
         ensures merged { OnOk result (definitions_of self.new ≡
             merged_from (length self.old.properties.items) self.old.bytes.now (definitions_of self.old) node first) }
         ensures values { self.new.values ≡ self.old.values }
@@ -211,14 +205,14 @@ impl<'t, A: Allocator + Copy> Table<'t, A> {
             let Some(found) = self.property(place) else {
                 break;
             };
-            self.merge_property(node, place, found, left)?;
+            self.merge_property(node, place, found)?;
             place = found.next;
         }
         Ok(())
     }
 
     // Merges one node into another, without their children.
-    fn merge_one(&mut self, old: usize, new: usize, left: usize) -> Result<(), Stop>
+    fn merge_one(&mut self, old: usize, new: usize) -> Result<(), Stop>
         ensures merged { OnOk result (definitions_of self.new ≡
             merged_node self.old.bytes.now (definitions_of self.old) old new) }
         ensures values { self.new.values ≡ self.old.values }
@@ -227,19 +221,13 @@ impl<'t, A: Allocator + Copy> Table<'t, A> {
     {
         let first = self.mark_merged(new, old);
         self.revive(old);
-        self.move_labels(Owner::Node(new), Owner::Node(old), left)?;
-        self.merge_properties(old, first, left)?;
+        self.move_labels(Owner::Node(new), Owner::Node(old))?;
+        self.merge_properties(old, first)?;
         Ok(())
     }
 
     // Merges a node of a definition into the child of this name, or adds it as a child.
-    fn merge_child(
-        &mut self,
-        parent: usize,
-        place: usize,
-        new: NodeEntry,
-        left: usize,
-    ) -> Result<(), Stop>
+    fn merge_child(&mut self, parent: usize, place: usize, new: NodeEntry) -> Result<(), Stop>
         ensures merged { OnOk result (MergesChild self.old.bytes.now (entries_of self.old) (entries_of self.new) parent place new) }
         ensures values { self.new.values ≡ self.old.values }
         ensures marks { self.new.marks ≡ self.old.marks }
@@ -247,7 +235,7 @@ impl<'t, A: Allocator + Copy> Table<'t, A> {
     {
         match self.child_named(parent, new.name) {
             Some(old) if new.is_deleted => self.delete_node(old),
-            Some(old) => self.merge_one(old, place, left)?,
+            Some(old) => self.merge_one(old, place)?,
             None if new.is_deleted => {}
             None => self.append_child(parent, place),
         }
@@ -255,7 +243,7 @@ impl<'t, A: Allocator + Copy> Table<'t, A> {
     }
 
     // Merges a node of a definition below the node that its parent was merged into, if it was.
-    fn merge_below(&mut self, place: usize, left: usize) -> Result<(), Stop>
+    fn merge_below(&mut self, place: usize) -> Result<(), Stop>
         ensures merged { OnOk result (MergesBelow self.old.bytes.now (entries_of self.old) (entries_of self.new) place) }
         ensures values { self.new.values ≡ self.old.values }
         ensures marks { self.new.marks ≡ self.old.marks }
@@ -270,21 +258,21 @@ impl<'t, A: Allocator + Copy> Table<'t, A> {
         if parent.merged == NONE {
             return Ok(());
         }
-        self.merge_child(parent.merged, place, node, left)?;
+        self.merge_child(parent.merged, place, node)?;
         Ok(())
     }
 
     /// Merges a definition into a node. The definition is the last in the table, from its place on,
     /// each node after the one that it is in.
-    pub(crate) fn merge(&mut self, old: usize, new: usize, left: usize) -> Result<(), Stop>
+    pub(crate) fn merge(&mut self, old: usize, new: usize) -> Result<(), Stop>
         ensures merged { OnOk result (Merges self.old.bytes.now (entries_of self.old) (entries_of self.new) old new) }
         ensures values { self.new.values ≡ self.old.values }
         ensures marks { self.new.marks ≡ self.old.marks }
         ensures bytes { self.new.bytes ≡ self.old.bytes }
     {
-        self.merge_one(old, new, left)?;
+        self.merge_one(old, new)?;
         for place in new.saturating_add(1)..self.nodes.len() {
-            self.merge_below(place, left)?;
+            self.merge_below(place)?;
         }
         Ok(())
     }

@@ -96,7 +96,7 @@ fn merged<'a, F: Files, A: Allocator + Copy>(
     let levels = MOST_LEVELS.saturating_sub(table.level_of(new));
     let rest = body(files, table, levels, new, tokens)?;
     if new != ROOT {
-        table.merge(into, new, left)?;
+        table.merge(into, new)?;
     }
     Ok(rest)
 }
