@@ -19,8 +19,8 @@ ARM, ARM64, MIPS = "arm-linux-gnueabihf-", "aarch64-linux-gnu-", "mips-linux-gnu
 BOARDS = {
     "am65x_evm_a53": ARM64,  # FITs by -f auto -E and by a source and -E
     "pine64_plus": ARM64,  # sunxi_egon, FITs by -f auto -E and by binman and -F
-    "rockpro64-rk3399": ARM64,  # rksd and rkspi, and FITs by binman
-    "wandboard": ARM,  # imximage, and a FIT of several device trees
+    "rockpro64-rk3399": ARM64,  # rksd, FITs by -f auto -E and by a source with -E -B
+    "wandboard": ARM,  # imximage, and FITs by -f auto -E, one of /dev/null with -B
     "am335x_evm": ARM,  # omapimage, and a FIT of several device trees
     "socfpga_de10_nano": ARM,  # socfpgaimage, and a legacy image
     "xilinx_zynq_virt": ARM,  # zynqimage, and FITs
@@ -32,8 +32,8 @@ printf '%s\\t%s\\n' "$(date +%s)" "${0##*/} $*" >> "$UIMG_SUITE_CALLS"
 exec "$UIMG_SUITE_TOOLS/${0##*/}" "$@"
 """
 TOOLS = ("mkimage", "dumpimage")
-# What no image is part of: objects, headers, and what make and the compiler keep of them.
-OBJECTS = re.compile(r".*\.(o|h|s|su)(\.cmd|\.d)?")
+# What no image is part of: objects, headers, and what the compiler keeps of them.
+OBJECTS = re.compile(r".*\.(o|h|s|su)(\.d)?")
 # A program that does nothing, for the trusted firmware.
 FIRMWARE = ".globl _start\n_start: b _start\n.data\n.word 1\n"
 
@@ -179,13 +179,14 @@ def lines(path):
 
 
 def files(folder):
-    """The paths of the regular files in a folder, without the tools that are replaced."""
+    """The paths of the regular files in a folder, without the tools that are replaced, and without
+    make's notes of the commands."""
     for place, _, names in os.walk(folder):
         for name in names:
             path = os.path.join(place, name)
             short = os.path.relpath(path, folder)
-            is_tool = short in [f"tools/{it}" for it in TOOLS]
-            if os.path.isfile(path) and not os.path.islink(path) and not is_tool:
+            is_left_out = short in [f"tools/{it}" for it in TOOLS] or name.endswith(".cmd")
+            if os.path.isfile(path) and not os.path.islink(path) and not is_left_out:
                 yield short
 
 
