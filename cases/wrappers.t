@@ -77,6 +77,15 @@ Board formats go to the original whole:
   $ way mkimage -T imximage -f kernel.its out
   uimg
 
+So does a source, or an image to update, with the algorithm that uimg does not have:
+
+  $ sed 's/"crc32"/"crc16-ccitt"/' kernel.its > crc16.its && way mkimage -f crc16.its out
+  original: -f crc16.its out
+  original
+  $ sed 's/crc32/crc16-ccitt/' image.itb > crc16.itb && way mkimage -F crc16.itb && rm crc16.itb
+  original: -F crc16.itb
+  original
+
 An image with signatures is made by uimg without placement, then signed and placed by the original under a temporary
 name. What that prints has the image's name:
 
