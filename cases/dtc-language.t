@@ -75,6 +75,12 @@ A fault has the line of the source, and leaves what is there:
   $ printf '/dts-v1/;\n/ {\n  a { phandle = <(1)>; };\n  b { phandle = <1>; };\n};\n' > bad.its && mkimage -f bad.its whole.itb
   mkimage: bad.its: bad phandle at line 4
   [1]
+  $ printf '/dts-v1/;\n/ {\n  z = <(1)>;\n  x: a {\n    p = <x: 1>;\n  };\n  x: d { };\n};\n' > bad.its && mkimage -f bad.its whole.itb
+  mkimage: bad.its: duplicate name at line 5
+  [1]
+  $ printf '/dts-v1/;\n/ {\n  a { phandle = <(1)>; };\n  b {\n    c;\n    phandle = <1>; };\n};\n' > bad.its && mkimage -f bad.its whole.itb
+  mkimage: bad.its: bad phandle at line 6
+  [1]
   $ printf '/dts-v1/;\n/memreserve/ 0 1;\n/ { };\n' > reserved.its && mkimage -f reserved.its whole.itb
   mkimage: reserved.its: /memreserve/ is not supported
   [1]
@@ -111,7 +117,24 @@ Files in other folders, and what would be looked for in another order than dtc's
   $ mkimage -D '-@ -i more' -q -f search.its found.itb
   mkimage: -D: -@ is not supported for a source with labels; use mkimage of u-boot-tools
   [2]
-  $ rm -r more b.dtsi search.its
+  $ mkdir -p d inc/d && printf good > inc/p.bin && printf evil > inc/d/p.bin
+  $ cat > d/a.dtsi << 'END'
+  > / { images { k { description = "k"; data = /incbin/("p.bin"); type = "kernel"; arch = "arm"; os = "linux";
+  >   compression = "none"; load = <0>; entry = <0>; }; };
+  >   configurations { default = "c"; c { description = "c"; kernel = "k"; }; }; };
+  > END
+  $ printf '/dts-v1/;\n/ { description = "x"; #address-cells = <1>; };\n/include/ "d/a.dtsi"\n' > top.its
+  $ mkimage -D '-i inc' -q -f top.its found.itb && dumpimage -p 0 -o part found.itb && cat part; echo
+  good
+  $ printf near > d/p.bin && mkimage -D '-i inc' -q -f top.its found.itb && dumpimage -p 0 -o part found.itb && cat part; echo
+  near
+  $ rm d/p.bin inc/p.bin && mkimage -D '-i inc' -q -f top.its found.itb
+  mkimage: top.its: cannot read p.bin, which line 3 names
+  [3]
+  $ mkimage -q -f top.its /dev/null
+  mkimage: top.its: cannot read p.bin, which line 3 names
+  [3]
+  $ rm -r d inc found.itb top.its more b.dtsi search.its
   $ mkimage -l whole.itb | head -n 1 && ls
   FIT description: of a part
   abc.bin

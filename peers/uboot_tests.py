@@ -261,6 +261,8 @@ def differences(suite, ends):
 
 
 def main(program, folder="out/uboot", *names):
+    if not os.access(program, os.X_OK):
+        sys.exit(f"uboot_tests: {program} is no program")
     suites = Suites(program, folder)
     suites.link()
     print(f"| Suite | {' | '.join(WAYS)} |\n|---|{'---|' * len(WAYS)}")
@@ -273,6 +275,8 @@ def main(program, folder="out/uboot", *names):
         except Missing as error:
             missing.append(f"{suite} was left out: {error}")
             continue
+        if "PASSED" not in ends["U-Boot's tools"].values():
+            missing.append(f"{suite}: nothing passes with U-Boot's tools")
         print(f"| {suite} | {' | '.join(row(it) for it in ends.values())} |", flush=True)
         differing += differences(suite, ends)
         suites.notes.append(f"{suite}: {time.time() - began:.0f} s")

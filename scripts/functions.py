@@ -15,6 +15,8 @@ BLOCK = re.compile(r"(?:pub(?:\([a-z]+\))? )?(?:unsafe )?(impl|trait)\b")
 ITEM = re.compile(r"(?:pub(?:\([a-z]+\))? )?(?:const|static|struct|enum|mod|use|type|ghost|macro_rules!)\b")
 # The header of an impl, before its brace.
 HEADER = re.compile(r"(?:unsafe )?impl(?:<(.*?)>)? (?:([\w:]+)(?:<([^<>]*)>)? for )?([\w:]+)(?:<([^<>]*)>)?(?: where .*)?")
+# What a file brings in from its crate.
+IMPORTED = re.compile(r"^use crate::([\w:]+)::(?:\{([^}]*)\}|(\w+));", re.M)
 
 
 class Function:
@@ -42,7 +44,14 @@ def owner_of(header):
     return kind + (found[2] or "").split("::")[-1]
 
 
-def functions_in(file, module):
+def homes_of(text):
+    """Returns the modules of what a file brings in from its crate. The prover names a method by the
+    module of its type, wherever the impl is."""
+    found = [(it[2] or it[3], it[1].split("::")) for it in IMPORTED.finditer(text)]
+    return {name.strip(): module for names, module in found for name in names.split(",")}
+
+
+def functions_in(file, module, homes):
     """Yields the functions of a file of a module, and the text between them."""
     begin, owner, header, is_in_cycle = 0, None, None, False
     for line in file:
@@ -59,7 +68,7 @@ def functions_in(file, module):
         owner = owner if header is not None else None
         found = FUNCTION.match(line)
         if found and (header is not None or not found[1]):
-            parts = [*module, owner, found[2]] if found[1] else [*module, found[2]]
+            parts = [*homes.get(owner, module), owner, found[2]] if found[1] else [*module, found[2]]
             yield Function(begin, None if owner == "" and found[1] else "::".join(parts), found[2], is_in_cycle)
             is_in_cycle = False
         is_in_cycle = is_in_cycle or line.lstrip().startswith("#[cycle(")
@@ -69,10 +78,10 @@ def functions_in(file, module):
 def functions_of_text(text, name):
     """Returns the functions of a file's text; the name is the file's below the crate's folder."""
     module = name[len("src/") : -len(".rt")].split("/")
-    found = list(functions_in(text.splitlines(True), [] if module == ["lib"] else module))
+    found = list(functions_in(text.splitlines(True), [] if module == ["lib"] else module, homes_of(text)))
     for it, end in zip(found, [*(after.begin for after in found[1:]), len(text)]):
         # One that calls itself is a cycle of its own.
-        it.is_in_cycle = it.is_in_cycle or bool(re.search(rf"(?<!fn )(?<![.\w:]){it.name}\(", text[it.begin : end]))
+        it.is_in_cycle = it.is_in_cycle or bool(re.search(rf"(?<!fn )(?:(?<![.\w:])|\bself\.){it.name}\(", text[it.begin : end]))
     return found
 
 

@@ -187,14 +187,6 @@ impl<'t, A: Allocator + Copy> Table<'t, A> {
         }
     }
 
-    /// Returns how many bytes of the text remain at the name of a node.
-    pub(crate) fn left_of(&self, place: usize) -> usize {
-        match self.node(place) {
-            Some(node) => node.left,
-            None => 0,
-        }
-    }
-
     /// Returns the level of a node.
     pub(crate) fn level_of(&self, place: usize) -> u8 {
         match self.node(place) {

@@ -181,27 +181,32 @@ impl<'t, A: Allocator + Copy> Table<'t, A> {
         Ok(names)
     }
 
-    // Returns the first label of a name, from a place on.
-    fn label_named(&self, names: &[Labelled], first: usize, name: Piece) -> Option<Labelled> {
-        for i in first..names.len() {
-            match names.get(i) {
-                Some(other) if self.same(other.name, name) => return Some(*other),
-                _ => {}
+    // Returns how many bytes of the text remain at the second label of a name, of two or more.
+    fn second(&self, names: &[Labelled], name: Piece) -> Option<usize> {
+        let mut first = None;
+        let mut second = None;
+        for label in names {
+            if self.same(label.name, name) {
+                match first {
+                    Some(left) if left >= label.left => {
+                        second = Some(usize::max(second.unwrap_or(0), label.left))
+                    }
+                    _ => {
+                        second = first;
+                        first = Some(label.left);
+                    }
+                }
             }
         }
-        None
+        second
     }
 
     /// Refuses a label that names two things.
     pub(crate) fn check_labels(&self) -> Result<(), Stop> {
         let names = self.label_names()?;
-        for (i, label) in names.as_slice().iter().enumerate() {
-            if let Some(later) = self.label_named(
-                names.as_slice(),
-                i.saturating_add(1),
-                label.name,
-            ) {
-                return Err(at(Refusal::Duplicate, usize::min(label.left, later.left)));
+        for label in names.as_slice() {
+            if let Some(left) = self.second(names.as_slice(), label.name) {
+                return Err(at(Refusal::Duplicate, left));
             }
         }
         Ok(())

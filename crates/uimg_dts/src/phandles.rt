@@ -90,6 +90,21 @@ impl<'t, A: Allocator + Copy> Table<'t, A> {
         }
     }
 
+    // Returns how many bytes of the text remain at the property with a node's number.
+    fn left_of_number(&self, place: usize) -> usize {
+        let found = match self.live_property(place, b"phandle") {
+            Some(found) => self.property(found),
+            None => match self.live_property(place, b"linux,phandle") {
+                Some(found) => self.property(found),
+                None => None,
+            },
+        };
+        match found {
+            Some(property) => property.left,
+            None => 0,
+        }
+    }
+
     /// Gives the nodes of the tree the numbers that their properties have.
     pub(crate) fn give_numbers(&mut self, order: &[usize]) -> Result<(), Stop> {
         for place in order {
@@ -98,7 +113,7 @@ impl<'t, A: Allocator + Copy> Table<'t, A> {
             let number = if own == 0 { other } else { own };
             let differ = own != 0 && other != 0 && own != other;
             if differ || (number != 0 && self.is_taken(order, number)) {
-                return Err(at(Refusal::BadPhandle, self.left_of(*place)));
+                return Err(at(Refusal::BadPhandle, self.left_of_number(*place)));
             }
             self.set_number(*place, number);
         }

@@ -9,6 +9,10 @@ use crate::stop::{Stop, at, out_of_memory};
 use crate::tokens::{Piece, Token, Word};
 use std::alloc::Allocator;
 
+/// What stands between a folder and the name of a file in it. The path is the same, and what follows
+/// the last one is what the source calls the file.
+pub(crate) const IN_FOLDER: &[u8] = b"./";
+
 /// Which words may begin: dtc's start conditions.
 #[derive(Clone, Copy, Debug, PartialEq, Eq)]
 pub(crate) enum Mode {
@@ -136,6 +140,9 @@ impl<A: Allocator + Copy> Sheet<A> {
                     None => 0,
                 };
                 self.keep_byte(b, left)?;
+            }
+            if folder.start < folder.end {
+                self.keep(IN_FOLDER, left)?;
             }
         }
         let end = self.keep(name, left)?.end;

@@ -7,6 +7,7 @@ use crate::expressions::number;
 use crate::fault::Refusal;
 use crate::opening::{Range, WHOLE, read_file, size_of};
 use crate::reading::{begins, behind, expect, left_at, unexpected, word_at};
+use crate::sheet::IN_FOLDER;
 use crate::stop::{FileStop, Stop, at, out_of_memory, refused};
 use crate::table::{MarkKind, Table};
 use crate::tokens::{Piece, Token, Word};
@@ -33,6 +34,14 @@ fn labels<'a, A: Allocator + Copy>(
     Ok(rest)
 }
 
+// Appends bytes to a path.
+fn add<A: Allocator>(path: &mut Vec<u8, A>, bytes: &[u8], left: usize) -> Result<(), Stop> {
+    match path.extend_from_slice(bytes) {
+        Ok(()) => Ok(()),
+        Err(_) => Err(out_of_memory(left)),
+    }
+}
+
 // Returns the name of a file from its folder and what the source calls it.
 fn path_of<A: Allocator + Copy>(
     table: &Table<'_, A>,
@@ -41,15 +50,13 @@ fn path_of<A: Allocator + Copy>(
     left: usize,
 ) -> Result<Vec<u8, A>, Stop> {
     let text = table.text(name);
-    let before = if text.first() == Some(&b'/') {
-        &[]
-    } else {
-        table.text(folder)
-    };
     let mut path = Vec::new(table.alloc);
-    if path.extend_from_slice(before).is_err() || path.extend_from_slice(text).is_err() {
-        return Err(out_of_memory(left));
+    let before = table.text(folder);
+    if !before.is_empty() && text.first() != Some(&b'/') {
+        add(&mut path, before, left)?;
+        add(&mut path, IN_FOLDER, left)?;
     }
+    add(&mut path, text, left)?;
     Ok(path)
 }
 

@@ -62,8 +62,11 @@ abbrev pub old_words_status : OldFault → ℕ
 old_words_status old.OutOfMemory = 3
 old_words_status fault = 2
 
--- a trouble with the files of an image: its names and its limits are refused
+-- A trouble with the files of an image: its names and its limits are refused. To write or remove the
+-- image itself is a wrong command line.
 abbrev pub trouble_status : Trouble → ℕ
+trouble_status (trouble.IsImage path) = 2
+trouble_status (trouble.RemovesImage path) = 2
 trouble_status trouble.NoName = 1
 trouble_status (trouble.TooManyFiles most) = 1
 trouble_status (trouble.TooManyBytes most) = 1

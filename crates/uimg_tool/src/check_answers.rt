@@ -67,11 +67,7 @@ impl Names {
 }
 
 /// Returns the result for a file that could not be opened.
-pub(crate) fn answer_of_unread<'a, R: Files>(
-    rt: &R,
-    path: &str,
-    names: &'a mut Names,
-) -> Answer<'a>
+pub(crate) fn answer_of_unread<'a, R: Files>(rt: &R, path: &str, names: &'a mut Names) -> Answer<'a>
     ensures { AnswersLine false result }
 {
     match reason_unread(rt, path) {

@@ -1,6 +1,7 @@
 //! Checks many images, with a line for each.
 
-ghost use Rattle.std.specs.Prelude.{◌≡◌, ◌≤◌};
+ghost use Rattle.std.specs.Prelude.{◌≡◌, ◌≤◌, max};
+ghost use Rattle.uimg_checks.specs.Answers.{answer_status};
 ghost use Rattle.uimg_tool.specs.Statuses.{Grows};
 
 use crate::check_answers::{NOT_UTF8, Names, answer_of, answer_of_unread};
@@ -174,12 +175,19 @@ impl<'a, W: Write> Checks<'a, W> {
             Ok(path) => self.answer(rt, request, path, &mut names),
             Err(_) => NOT_UTF8,
         };
-        self.greatest = u8::max(self.greatest, answer.status());
-        self.has_checked = true;
+        self.note(&answer);
         if request.is_quiet && answer.word() == "ok" {
             return Ok(());
         }
         self.put_answer(rt.alloc(), request.as_json, path, &answer)
+    }
+
+    // Notes the status of a result.
+    fn note(&mut self, answer: &Answer<'_>)
+        ensures { self.new.greatest ≡ max self.old.greatest (answer_status answer.now) }
+    {
+        self.greatest = u8::max(self.greatest, answer.status());
+        self.has_checked = true;
     }
 
     // Writes the line of a result, and flushes it.

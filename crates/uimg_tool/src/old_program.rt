@@ -146,10 +146,10 @@ pub(crate) fn make_image<R: Files + AllocGlobal, W: Write, V: Write>(
     let tool = called.tool;
     match writing_of(rt, request.outfile) {
         Ok(Writing::InPlace) => {
-            let outfile = request.outfile;
+            let (source, outfile) = (request.source, request.outfile);
             let request = Request::Make(request);
             let end = carry_out_by(rt, &request, called, out);
-            tell_end(rt, tool, &end, outfile, err)
+            tell_end(rt, tool, &end, about_end(&end, source, outfile), err)
         }
         Ok(Writing::Beside(file, path)) => {
             make_beside(rt, called, request, Begun { file, path: &path }, out, err)

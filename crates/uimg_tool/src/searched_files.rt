@@ -1,6 +1,6 @@
 //! Files that are looked for in several folders.
 
-ghost use Rattle.std.specs.Prelude.{None, false, IfOk};
+ghost use Rattle.std.specs.Prelude.{◌≡◌, None, false, IfOk};
 ghost use Rattle.uimg_base.specs.Device.{IsFresh};
 
 use std::alloc::Global;
@@ -13,6 +13,10 @@ use uimg_unpacking::FileId;
 /// The files of a folder, and of others for what is not there. The file that is left out is found
 /// in none of them.
 ///
+/// A name may have the folder of the file that names it, then `/./`, and then what that file calls
+/// it. As dtc does, the others are searched for the last part alone, and if a file that was found in
+/// one of them may name this one, for the whole name too.
+///
 /// No contract says what a file has, so the files are not claimed to be honest.
 #[derive(Drop)]
 pub(crate) struct SearchedFiles<'a, R: rt::Files + AllocGlobal> {
@@ -22,9 +26,9 @@ pub(crate) struct SearchedFiles<'a, R: rt::Files + AllocGlobal> {
     others: &'a [&'a str],
     left_out: &'a str,
     has_met_left_out: bool,
-    // Whether a file was found in one of the others.
-    has_searched: bool,
-    // Whether a file was in several folders after that.
+    // The folders, by their names, of the files that were found in the others.
+    searched: Vec<Vec<u8>>,
+    // Whether a file that one of those may name was in several folders.
     is_ambiguous: bool,
     // The name of the last file that was not opened.
     missing: Option<Vec<u8>>,
@@ -47,15 +51,15 @@ impl<'a, R: rt::Files + AllocGlobal> SearchedFiles<'a, R> {
             others,
             left_out,
             has_met_left_out: false,
-            has_searched: false,
+            searched: Vec::new(rt.alloc()),
             is_ambiguous: false,
             missing: None,
             refusals: 0,
         }
     }
 
-    /// Returns whether a file was in several folders after another was found in one of the others.
-    /// If that one names it, dtc looks in its folder first.
+    /// Returns whether a file was in several folders, and another that may name it was found in one of
+    /// the others. If that one names it, dtc looks in its folder first.
     pub(crate) fn is_ambiguous(&self) -> bool {
         self.is_ambiguous
     }
@@ -72,6 +76,43 @@ impl<'a, R: rt::Files + AllocGlobal> SearchedFiles<'a, R> {
     pub(crate) fn has_met_left_out(&self) -> bool {
         self.files.has_met_left_out() || self.has_met_left_out
     }
+
+    // Returns whether a file of this folder was found in one of the others.
+    fn has_searched(&self, folder: &[u8]) -> bool {
+        self.searched
+            .as_slice()
+            .iter()
+            .any(|it| it.as_slice() == folder)
+    }
+
+    // Opens a file in one of the others, by what the source calls it, or, if a file that was found
+    // there may name it, by its whole name.
+    fn search(
+        &mut self,
+        name: &[u8],
+        own: &[u8],
+        is_by_searched: bool,
+    ) -> Result<FileSource<R::File>, SourceFault>
+        ensures fresh { IfOk result (λ source. IsFresh (⟦<FileSource<R::File> as Source>⟧.device source)) }
+        ensures same { self.new.refusals ≡ self.old.refusals }
+    {
+        let left_out = self.left_out;
+        let met = &mut self.has_met_left_out;
+        let found = match open_in_others(self.rt, self.others, own, left_out, met) {
+            Err(_) if is_by_searched => open_in_others(self.rt, self.others, name, left_out, met),
+            found => found,
+        }?;
+        let folder = folder_of(name);
+        if !self.has_searched(folder) {
+            let Some(folder) = copied(self.rt.alloc(), folder) else {
+                return Err(SourceFault);
+            };
+            if self.searched.push(folder).is_err() {
+                return Err(SourceFault);
+            }
+        }
+        Ok(found)
+    }
 }
 
 impl<'a, R: rt::Files + AllocGlobal> Files for SearchedFiles<'a, R> {
@@ -87,25 +128,17 @@ impl<'a, R: rt::Files + AllocGlobal> Files for SearchedFiles<'a, R> {
     /// Opens the file of this name in the first folder that has one. Returns `SourceFault` if none
     /// has, or as `DiskFiles::open` does.
     fn open(&mut self, name: &[u8]) -> Result<FileSource<R::File>, SourceFault> {
-        if self.has_searched && is_in_several(self.rt, self.folder, self.others, name) {
+        let own = own_name(name);
+        let is_by_searched = self.has_searched(folder_before(name, own));
+        if is_by_searched && is_in_several(self.rt, self.folder, self.others, name, own) {
             self.is_ambiguous = true;
         }
         let opened = match self.files.open(name) {
             Ok(source) => Ok(source),
-            Err(_) => {
-                let found = open_in_others(
-                    self.rt,
-                    self.others,
-                    name,
-                    self.left_out,
-                    &mut self.has_met_left_out,
-                );
-                self.has_searched = self.has_searched || found.is_ok();
-                found
-            }
+            Err(_) => self.search(name, own, is_by_searched),
         };
         if opened.is_err() {
-            self.missing = copied(self.rt.alloc(), name);
+            self.missing = copied(self.rt.alloc(), own);
             self.refusals = self.refusals.saturating_add(1);
         }
         opened
@@ -134,21 +167,47 @@ fn open_in_others<R: rt::Files + AllocGlobal>(
     Err(SourceFault)
 }
 
-// Returns whether a name is that of several files in a folder and others. A file that is met again,
-// by another path of its folder, is one.
+// Returns what the source calls a file: the name after the last `/./`.
+fn own_name(name: &[u8]) -> &[u8] {
+    let mut own = name;
+    for i in 0..name.len() {
+        if name.get(i..).unwrap_or(&[]).starts_with(b"/./") {
+            own = name.get(i.saturating_add(3)..).unwrap_or(&[]);
+        }
+    }
+    own
+}
+
+// Returns the folder in a name, with its last slash.
+fn folder_of(name: &[u8]) -> &[u8] {
+    let own = name.iter().rev().take_while(|b| **b != b'/').count();
+    name.get(..name.len().saturating_sub(own)).unwrap_or(&[])
+}
+
+// Returns the folder of the file that names another: what is before `./` and what it calls that.
+fn folder_before<'n>(name: &'n [u8], own: &[u8]) -> &'n [u8] {
+    let length = name.len().saturating_sub(own.len()).saturating_sub(2);
+    name.get(..length).unwrap_or(&[])
+}
+
+// Returns whether a name in a folder, and both names in others, are those of several files. A file
+// that is met again, by another path of its folder, is one.
 fn is_in_several<R: rt::Files + AllocGlobal>(
     rt: &R,
     folder: &str,
     others: &[&str],
     name: &[u8],
+    own: &[u8],
 ) -> bool {
     let mut first = file_in(rt, folder, name);
     for other in others {
-        let found = file_in(rt, other, name);
-        if first.is_none() {
-            first = found;
-        } else if found.is_some() && found != first {
-            return true;
+        for name in [name, own] {
+            let found = file_in(rt, other, name);
+            if first.is_none() {
+                first = found;
+            } else if found.is_some() && found != first {
+                return true;
+            }
         }
     }
     false

@@ -4,7 +4,7 @@ ghost use Rattle.std.specs.Prelude.{◌≡◌};
 ghost use Rattle.uimg_tool.specs.{Statuses.trouble_status, CheckEnds.AnswersEnding};
 
 use crate::check_answers::{Names, answer_of_fault, answer_of_line, answer_of_unread};
-use crate::request_fault::{FAILED, REFUSED};
+use crate::request_fault::{FAILED, REFUSED, WRONG_LINE};
 use std::rt::Files;
 use uimg_base::Status;
 use uimg_checks::{Answer, Checked};
@@ -84,6 +84,8 @@ pub(crate) fn status_of_trouble(trouble: &Trouble) -> u8
     ensures { result ≡ trouble_status trouble.now }
 {
     match trouble {
+        Trouble::IsImage(_) => WRONG_LINE,
+        Trouble::RemovesImage(_) => WRONG_LINE,
         Trouble::NoName => REFUSED,
         Trouble::TooManyFiles(_) => REFUSED,
         Trouble::TooManyBytes(_) => REFUSED,

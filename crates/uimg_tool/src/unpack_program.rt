@@ -7,7 +7,7 @@ use crate::info_program::put_object;
 use crate::json_lines::JsonOut;
 use crate::main_program::{tell, tell_unprinted, tell_unread};
 use crate::reasons::is_pipe;
-use crate::request_fault::{DONE, FAILED, REFUSED, RequestFault, WRONG_LINE, status_of};
+use crate::request_fault::{DONE, FAILED, REFUSED, RequestFault, status_of};
 use crate::unpack_answers::{Ending, answer_of_ending, status_of_trouble};
 use std::io::{BufWriter, Write};
 use std::rt::Files;
@@ -177,7 +177,6 @@ fn tell_trouble<V: Write>(trouble: Trouble, err: &mut V) -> u8
 {
     match trouble {
         Trouble::Closed => FAILED,
-        Trouble::IsImage(_) | Trouble::RemovesImage(_) => tell(err, &trouble, WRONG_LINE),
         trouble => {
             let status = status_of_trouble(&trouble);
             tell(err, &trouble, status)
