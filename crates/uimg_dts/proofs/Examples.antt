@@ -19,6 +19,7 @@ piece start end = record { start = start; end = end }
 abbrev node : Piece → ℕ → ℕ → ℕ → ℕ → ℕ → ℕ → NodeEntry
 node name parent next first_child last_child first_property last_property = record {
   name = name;
+  left = 0;
   parent = parent;
   next = next;
   first_child = first_child;
@@ -37,6 +38,7 @@ node name parent next first_child last_child first_property last_property = reco
 abbrev property : Piece → ℕ → ℕ → ℕ → PropertyEntry
 property name owner next end = record {
   name = name;
+  left = 0;
   node = owner;
   next = next;
   value = piece 0 end;
@@ -46,7 +48,7 @@ property name owner next end = record {
 }
 
 abbrev label : Piece → Owner → Bool → LabelEntry
-label name owner is_deleted = record { name = name; owner = owner; is_deleted = is_deleted }
+label name owner is_deleted = record { name = name; left = 0; owner = owner; is_deleted = is_deleted }
 
 abbrev words : List ℕ
 words = codes "abc"
