@@ -14,6 +14,7 @@ use crate::old_tools::Tool;
 use crate::reasons::{Watched, is_pipe, reason_of_code, reason_unread};
 use crate::request_fault::{DONE, FAILED, REFUSED, RequestFault, WRONG_LINE, status_of};
 use crate::unpack_program::unpack_image;
+use std::alloc::Global;
 use std::cell::Cell;
 use std::fmt::Display;
 use std::io::{BufWriter, ErrorKind, Write};
@@ -61,10 +62,22 @@ fn carry_out_words<R: Files + AllocGlobal, W: Write, V: Write>(
 ) -> u8
     ensures { result ≤ 3 }
 {
-    match read_words(rt.alloc(), words, epoch, now) {
+    match asked_by(rt.alloc(), words, epoch, now) {
         Ok(asked) => carry_out_asked(rt, &asked, out, err),
         Err(fault) => tell_words_fault(&fault, err),
     }
+}
+
+// Reads the words. Not inlined, so that what this takes of the stack is free when the request is
+// carried out.
+#[inline(never)]
+fn asked_by<'a>(
+    alloc: Global,
+    words: &'a [&'a str],
+    epoch: Option<&str>,
+    now: u32,
+) -> Result<Asked<'a>, WordsFault> {
+    read_words(alloc, words, epoch, now)
 }
 
 // Carries out a request.

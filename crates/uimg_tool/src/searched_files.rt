@@ -85,8 +85,19 @@ impl<'a, R: rt::Files + AllocGlobal> SearchedFiles<'a, R> {
             .any(|it| it.as_slice() == folder)
     }
 
+    // Opens a file in the first folder. Not inlined, as the next one, so that only one of them is on
+    // the stack.
+    #[inline(never)]
+    fn open_here(&mut self, name: &[u8]) -> Result<FileSource<R::File>, SourceFault>
+        ensures fresh { IfOk result (λ source. IsFresh (⟦<FileSource<R::File> as Source>⟧.device source)) }
+        ensures same { self.new.refusals ≡ self.old.refusals }
+    {
+        self.files.open(name)
+    }
+
     // Opens a file in one of the others, by what the source calls it, or, if a file that was found
     // there may name it, by its whole name.
+    #[inline(never)]
     fn search(
         &mut self,
         name: &[u8],
@@ -133,7 +144,7 @@ impl<'a, R: rt::Files + AllocGlobal> Files for SearchedFiles<'a, R> {
         if is_by_searched && is_in_several(self.rt, self.folder, self.others, name, own) {
             self.is_ambiguous = true;
         }
-        let opened = match self.files.open(name) {
+        let opened = match self.open_here(name) {
             Ok(source) => Ok(source),
             Err(_) => self.search(name, own, is_by_searched),
         };
@@ -192,6 +203,7 @@ fn folder_before<'n>(name: &'n [u8], own: &[u8]) -> &'n [u8] {
 
 // Returns whether a name in a folder, and both names in others, are those of several files. A file
 // that is met again, by another path of its folder, is one.
+#[inline(never)]
 fn is_in_several<R: rt::Files + AllocGlobal>(
     rt: &R,
     folder: &str,
