@@ -43,7 +43,9 @@ impl<'t, A: Allocator + Copy> Table<'t, A> {
 
     // Deletes properties, from the first on.
     fn delete_properties(&mut self, first: usize)
-        ensures deleted { entries_of self.new ≡ without_properties (entries_of self.old) (chain (λ (p : PropertyEntry). p.next) self.old.properties.items (length self.old.properties.items) first) }
+        ensures deleted { entries_of self.new ≡ without_properties (entries_of self.old)
+            (chain (λ (p : PropertyEntry). p.next) self.old.properties.items
+            (length self.old.properties.items) first) }
         ensures values { self.new.values ≡ self.old.values }
         ensures marks { self.new.marks ≡ self.old.marks }
         ensures bytes { self.new.bytes ≡ self.old.bytes }
@@ -143,7 +145,8 @@ impl<'t, A: Allocator + Copy> Table<'t, A> {
 
     // Merges a property into a node.
     fn merge_property(&mut self, node: usize, place: usize, new: PropertyEntry) -> Result<(), Stop>
-        ensures merged { OnOk result (definitions_of self.new ≡ merged_property self.old.bytes.now (definitions_of self.old) node place new) }
+        ensures merged { OnOk result (definitions_of self.new
+            ≡ merged_property self.old.bytes.now (definitions_of self.old) node place new) }
         ensures values { self.new.values ≡ self.old.values }
         ensures marks { self.new.marks ≡ self.old.marks }
         ensures bytes { self.new.bytes ≡ self.old.bytes }
@@ -228,7 +231,8 @@ impl<'t, A: Allocator + Copy> Table<'t, A> {
 
     // Merges a node of a definition into the child of this name, or adds it as a child.
     fn merge_child(&mut self, parent: usize, place: usize, new: NodeEntry) -> Result<(), Stop>
-        ensures merged { OnOk result (MergesChild self.old.bytes.now (entries_of self.old) (entries_of self.new) parent place new) }
+        ensures merged { OnOk result (MergesChild self.old.bytes.now (entries_of self.old)
+            (entries_of self.new) parent place new) }
         ensures values { self.new.values ≡ self.old.values }
         ensures marks { self.new.marks ≡ self.old.marks }
         ensures bytes { self.new.bytes ≡ self.old.bytes }
@@ -244,7 +248,8 @@ impl<'t, A: Allocator + Copy> Table<'t, A> {
 
     // Merges a node of a definition below the node that its parent was merged into, if it was.
     fn merge_below(&mut self, place: usize) -> Result<(), Stop>
-        ensures merged { OnOk result (MergesBelow self.old.bytes.now (entries_of self.old) (entries_of self.new) place) }
+        ensures merged { OnOk result (MergesBelow self.old.bytes.now (entries_of self.old)
+            (entries_of self.new) place) }
         ensures values { self.new.values ≡ self.old.values }
         ensures marks { self.new.marks ≡ self.old.marks }
         ensures bytes { self.new.bytes ≡ self.old.bytes }

@@ -194,7 +194,8 @@ impl<'t, A: Allocator + Copy> Table<'t, A> {
     // Resolves a reference, which a mark is. Returns the node that it means.
     fn refer_to(&mut self, mark: usize, name: Piece, left: usize) -> Result<usize, Stop>
         ensures means { IfOk result (λ n. referred_in self.old (word_in self.old name) ≡ Some n) }
-        ensures marks { IfOk result (λ n. self.new.marks.items ≡ changed_at (referring n) self.old.marks.items mark) }
+        ensures marks { IfOk result (λ n. self.new.marks.items
+            ≡ changed_at (referring n) self.old.marks.items mark) }
         ensures properties { self.new.properties ≡ self.old.properties }
         ensures labels { self.new.labels ≡ self.old.labels }
         ensures values { self.new.values ≡ self.old.values }
@@ -215,7 +216,8 @@ impl<'t, A: Allocator + Copy> Table<'t, A> {
         place: usize,
         next: &mut u32,
     ) -> Result<(), Stop>
-        ensures number { OnOk result (IsNumberAt self.new.nodes.items node place self.old.values.items self.new.values.items) }
+        ensures number { OnOk result (IsNumberAt self.new.nodes.items node place
+            self.old.values.items self.new.values.items) }
         ensures labels { self.new.labels ≡ self.old.labels }
         ensures marks { self.new.marks ≡ self.old.marks }
         ensures bytes { self.new.bytes ≡ self.old.bytes }

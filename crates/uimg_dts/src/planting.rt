@@ -178,7 +178,8 @@ fn properties<F: Files, A: Allocator + Copy>(
 fn push_node<A: Allocator>(nodes: &mut Vec<Node<A>, A>, node: Node<A>) -> Result<(), Stop>
     ensures sound { OnOk result ((files : FileMap) → AreSoundNodes files nodes.old.items →
         IsSoundNode files node → AreSoundNodes files nodes.new.items) }
-    ensures grown { OnOk result ((g : Ground) (places : List ℕ) (place : ℕ) → AreGrownNodes g places nodes.old.items →
+    ensures grown { OnOk result ((g : Ground) (places : List ℕ) (place : ℕ) →
+        AreGrownNodes g places nodes.old.items →
         IsGrown g place node → AreGrownNodes g (places ++ place ∷ []) nodes.new.items) }
 {
     let Ok(()) = nodes.push(node) else {

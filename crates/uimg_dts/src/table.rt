@@ -293,7 +293,8 @@ impl<'t, A: Allocator + Copy> Table<'t, A> {
     /// Makes a property the last of a node.
     pub(crate) fn append_property(&mut self, owner: usize, place: usize)
         ensures nodes { self.new.nodes.items ≡ changed_at (with_last_property place) self.old.nodes.items owner }
-        ensures properties { self.new.properties.items ≡ appended_property self.old.nodes.items self.old.properties.items owner place }
+        ensures properties { self.new.properties.items
+            ≡ appended_property self.old.nodes.items self.old.properties.items owner place }
         ensures labels { self.new.labels ≡ self.old.labels }
         ensures values { self.new.values ≡ self.old.values }
         ensures marks { self.new.marks ≡ self.old.marks }
@@ -330,7 +331,8 @@ impl<'t, A: Allocator + Copy> Table<'t, A> {
 
     // Makes a property the next of another.
     fn follow_property(&mut self, place: usize, next: usize)
-        ensures properties { self.new.properties.items ≡ changed_at (followed_property next) self.old.properties.items place }
+        ensures properties { self.new.properties.items
+            ≡ changed_at (followed_property next) self.old.properties.items place }
         ensures nodes { self.new.nodes ≡ self.old.nodes }
         ensures labels { self.new.labels ≡ self.old.labels }
         ensures values { self.new.values ≡ self.old.values }
