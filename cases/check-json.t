@@ -176,14 +176,6 @@ Lines that cannot be written, and that nobody reads:
   $ cat said
   status 3
 
-An object is made in memory before it is written; without enough for one with a path of 20 MB, the check ends before its line:
-
-  $ { echo kernel.img; head -c 20000000 /dev/zero | tr '\0' x; echo; echo kernel.img; } > long
-  $ (ulimit -v 61440; uimg check --json --files-from long)
-  {"path":"kernel.img","status":0,"verdict":"ok","format":"legacy","checksums":2}
-  uimg: out of memory
-  [3]
-
 Wrong command lines:
 
   $ uimg check --json

@@ -221,6 +221,19 @@ A file of paths that cannot be read:
   uimg: cannot read folder: Is a directory (os error 21)
   [3]
 
+Paths of at most 65536 bytes are read, far more than the system's have, so that no file takes all the memory:
+
+  $ { echo kernel.img; head -c 65536 /dev/zero | tr '\0' x; echo; echo kernel.img; } > long
+  $ uimg check --files-from long | awk '{ sub(/^x+:/, length($1) - 1 ":"); print }'
+  kernel.img: ok 2 checksums
+  65536: failed cannot read: File name too long (os error 36)
+  kernel.img: ok 2 checksums
+  $ { echo kernel.img; head -c 20000000 /dev/zero | tr '\0' x; echo; echo kernel.img; } > long
+  $ (ulimit -v 61440; uimg check --files-from long)
+  kernel.img: ok 2 checksums
+  uimg: cannot read long: a path in it has more than 65536 bytes
+  [3]
+
 Lines that cannot be written, and that nobody reads:
 
   $ uimg check kernel.img > /dev/full

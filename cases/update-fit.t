@@ -57,6 +57,22 @@ Or into it again, each in its old place:
   $ mkimage -q -E -p 1000 -F image.itb && cmp image.itb at.itb
   $ cp aligned.itb image.itb && mkimage -q -F image.itb && cmp image.itb wanted.itb
 
+A blob that needs more bytes gets 1024, as mkimage gives them. What does not need them is packed:
+
+  $ sed 's/value/valux/' wanted.itb > bare.itb && wc -c < bare.itb
+  760
+  $ mkimage -q -F bare.itb && wc -c < bare.itb && head -c 8 bare.itb | od -An -tx1
+  1784
+   d0 0d fe ed 00 00 06 f8
+  $ tail -c 896 bare.itb | tr -d '\0' | wc -c
+  0
+  $ mkimage -q -F bare.itb && wc -c < bare.itb && uimg verify bare.itb
+  888
+  kernel hash-1 crc32 ok
+  kernel hash-2 md5 ok
+  kernel hash-3 sha1 ok
+  kernel hash-4 sha256 ok
+
 All other properties and nodes stay, in their order, and signature nodes as they are:
 
   $ sed 's/hash-1 { algo = "crc32"; };/odd,one = <1 2>; hash-1 { odd; algo = "crc32"; value = [00]; last = "x"; };/

@@ -11,6 +11,7 @@ the wrappers of wrappers/:
   genimage     its section fit {}, without a folder of keys and with one, if genimage is installed
   LAVA         the images that LAVA's dispatcher makes for its boards (lava.py)
   Linux        FITs of Linux for MIPS, by its own rules (mips.py)
+  documents    the command lines in U-Boot's documents (documents.py)
   boards       full builds of boards of U-Boot, by cross compilers (boards.py)
 
 It prints the counts, and which tests end otherwise than with U-Boot's tools. What cannot be fetched
@@ -26,6 +27,7 @@ import sys
 import time
 
 from boards import Boards
+from documents import Documents
 from lava import Lava
 from mips import Mips
 
@@ -247,6 +249,7 @@ SUITES = {
     "genimage": genimage_of,
     "LAVA": lambda suites: Lava(suites.build()).run,
     "Linux": lambda suites: Mips(suites.build()).run,
+    "documents": lambda suites: Documents(suites.build(), SOURCE).run,
     "boards": lambda suites: Boards(suites).run,
 }
 

@@ -1,8 +1,9 @@
 -- What an update makes of a FIT image.
-use Rattle.std.specs.Prelude.{◌≡◌, ℕ, List, Option, Some, None, Ok}
+use Rattle.std.specs.Prelude.{◌≡◌, ℕ, ◌+◌, ◌-◌, ◌*◌, ◌/◌, List, Option, Some, None, Ok}
+use Rattle.std.specs.Prelude.{nat_le, if◌then◌else◌}
 use Rattle.uimg_texts.specs.Numbers.{be32}
 use Rattle.uimg_blob_reading.specs.{Blob.tree, Grammar.Siblings, Spots.spots}
-use Rattle.uimg_blob_writing.specs.Content.{Unread, bytes}
+use Rattle.uimg_blob_writing.specs.{Content.{Unread, bytes}, Layouts.{plan_of, totalsize}}
 use Rattle.uimg_fit_building.specs.Filling.{each, with_images, filled_image_by}
 use Rattle.uimg_fit_building.specs.{PayloadSums.{no_files, in_memory}, UnreadTrees.filled_unread}
 use Rattle.uimg_fit_updating.specs.{Importing.imported, Reading.{held, ReservesNothing}}
@@ -12,14 +13,29 @@ abbrev pub refilled : Option ℕ → Unread → Unread
 refilled None t = with_images (each (filled_image_by in_memory bytes)) t
 refilled (Some time) t = filled_unread no_files time t
 
+-- the tree of a file with its payloads in it
+abbrev pub whole : List ℕ → Siblings → Unread
+whole file t = with_images (each (imported file (be32 file 4))) (held (spots t))
+
 -- the tree of a file with its payloads in it, filled again
 abbrev pub updated : List ℕ → Option ℕ → Siblings → Unread
-updated file time t =
-    refilled time (with_images (each (imported file (be32 file 4))) (held (spots t)))
+updated file time t = refilled time (whole file t)
 
--- The nodes are those of a file's tree, updated; its reservation block has no entry.
-pub record IsUpdated (file : List ℕ) (time : Option ℕ) (nodes : Unread) : Type 0 where
+-- the size in bytes of a tree's blob, without free room
+abbrev pub packed_size : Unread → ℕ
+packed_size t = totalsize (plan_of 4 t)
+
+-- the size of a blob that was packed and then needs another, with the room that mkimage gives it:
+-- if it needs more, as many times 1024 bytes
+abbrev pub with_room : ℕ → ℕ → ℕ
+with_room packed needed =
+    if nat_le needed packed then needed else packed + (needed - packed + 1023) / 1024 * 1024
+
+-- The nodes are those of a file's tree, updated, and the size is that of their blob with its room;
+-- the file's reservation block has no entry.
+pub record IsUpdated (file : List ℕ) (time : Option ℕ) (nodes : Unread) (size : ℕ) : Type 0 where
   pub found : Siblings
   pub read : tree file ≡ Ok found
   pub reserves : ReservesNothing file
   pub is : nodes ≡ updated file time found
+  pub room : size ≡ with_room (packed_size (whole file found)) (packed_size nodes)

@@ -8,4 +8,4 @@ mod updating;
 
 pub use fault::UpdateFault;
 pub use reading::read_fit;
-pub use updating::update;
+pub use updating::{Updated, update};

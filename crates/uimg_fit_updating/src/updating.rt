@@ -5,16 +5,20 @@ ghost use Rattle.uimg_base.specs.{Device.SameDevice, Honest.HonestSource};
 ghost use Rattle.uimg_blob_reading.specs.Plain.{AllValues};
 ghost use Rattle.uimg_blob_writing.specs.{Content.IsBytes, Trees.node_of};
 ghost use Rattle.uimg_fit_building.specs.{PayloadSums.no_files, UnreadTrees.filled_unread};
-ghost use Rattle.uimg_fit_updating.specs.Updating.{refilled, IsUpdated};
+ghost use Rattle.uimg_fit_updating.specs.Updating.{refilled, packed_size, with_room, IsUpdated};
 
 use crate::fault::UpdateFault;
 use crate::importing::import;
 use crate::reading::read_fit;
 use std::alloc::{Allocator, Global};
 use uimg_base::{MemFiles, Room, Source};
-use uimg_blob_writing::{Node, Tree, copy_properties};
-use uimg_fit_base::FitFault;
+use uimg_blob_reading::BlobFault;
+use uimg_blob_writing::{Node, Tree, copy_properties, measure};
+use uimg_fit_base::{Fault, FitFault};
 use uimg_fit_building::fill;
+
+// The bytes by which mkimage makes a blob longer until all fits.
+const ROOM: u64 = 1024;
 
 // Fills a tree without files.
 fn fill_in_memory(alloc: Global, tree: Tree<Global>, time: u32) -> Result<Tree<Global>, FitFault>
@@ -65,24 +69,69 @@ fn fill_again(
     }
 }
 
+/// The tree of a FIT image that was updated.
+#[derive(Drop)]
+pub struct Updated {
+    /// Its nodes and properties.
+    pub tree: Tree<Global>,
+
+    /// The size in bytes of its blob with the free room that mkimage leaves. If the blob needs more
+    /// bytes than before the update, packed and with its payloads in it, that is the size before
+    /// and as many times 1024 bytes.
+    pub roomy_size: u32,
+}
+
+// Returns the size in bytes of a tree's blob.
+fn packed_size(alloc: Global, tree: &Tree<Global>) -> Result<u32, UpdateFault>
+    ensures { IfOk result (λ size. size ≡ packed_size (node_of tree.now.root)) }
+{
+    match measure(alloc, tree) {
+        Ok(layout) => Ok(layout.totalsize()),
+        Err(BlobFault::TooLarge) => Err(UpdateFault::Fit(Fault::Fit(FitFault::TooLarge))),
+        Err(BlobFault::OutOfMemory) => Err(UpdateFault::OutOfMemory),
+        Err(fault) => Err(UpdateFault::Fit(Fault::Blob(fault, 0))),
+    }
+}
+
+// Returns the size of a packed blob that needs to have another, with the room that mkimage gives it.
+fn with_room(packed: u32, needed: u32) -> Result<u32, UpdateFault>
+    ensures { IfOk result (λ size. size ≡ with_room packed needed) }
+{
+    if needed <= packed {
+        return Ok(needed);
+    }
+    let more = u64::from(needed - packed);
+    match u32::try_from(u64::from(packed) + (more + ROOM - 1) / ROOM * ROOM) {
+        Ok(size) => Ok(size),
+        Err(_) => Err(UpdateFault::Fit(Fault::Fit(FitFault::TooLarge))),
+    }
+}
+
 /// Reads a FIT image to a tree, takes the payloads that are after its blob into it, and fills it:
 /// the `value` of each hash node is set, and the root's `timestamp` if there is a time, in seconds
 /// since 1970. An existing property is replaced in its place, a new one is appended; all other nodes
 /// and properties stay, but for `data-offset`, `data-size` and `data-position` of images.
 ///
 /// Returns the faults of `read_fit`, of payloads outside the file (`DataOutside`) or of more bytes
-/// than it (`TooLarge`), and of `uimg_fit::fill`.
+/// than it (`TooLarge`), of a blob that would have more than 4294967295 bytes (`TooLarge`) or a name
+/// of more than 255 bytes (`BadNodeName` or `BadPropertyName`, at offset 0), and of `uimg_fit::fill`.
 pub fn update<S: Source, A: Allocator>(
     alloc: Global,
     source: &mut S,
     room: &mut Room<A>,
     time: Option<u32>,
-) -> Result<Tree<Global>, UpdateFault>
+) -> Result<Updated, UpdateFault>
     ensures same { SameDevice (S.device source.old) (S.device source.new) }
-    ensures told { HonestSource S.device source → IfOk result (λ tree.
-        IsUpdated (S.device source.old).bytes time (node_of tree.root)) }
+    ensures told { HonestSource S.device source → IfOk result (λ updated.
+        IsUpdated (S.device source.old).bytes time (node_of updated.tree.root) updated.roomy_size) }
 {
     let (tree, totalsize) = read_fit(alloc, source, room)?;
     let tree = import(alloc, source, room, totalsize, tree)?;
-    fill_again(alloc, tree, time)
+    let packed = packed_size(alloc, &tree)?;
+    let tree = fill_again(alloc, tree, time)?;
+    let needed = packed_size(alloc, &tree)?;
+    Ok(Updated {
+        tree,
+        roomy_size: with_room(packed, needed)?,
+    })
 }

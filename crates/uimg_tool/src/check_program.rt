@@ -7,6 +7,7 @@ ghost use Rattle.uimg_tool.specs.Statuses.{Grows};
 use crate::check_answers::{NOT_UTF8, Names, answer_of, answer_of_unread};
 use crate::json_lines::put_json;
 use crate::main_program::{tell, tell_unprinted};
+use crate::path_list::PathList;
 use crate::reasons::is_pipe;
 use crate::request_fault::{DONE, FAILED, RequestFault, WRONG_LINE};
 use crate::strict_answers::{answer_of_fit, answer_of_legacy};
@@ -133,10 +134,10 @@ impl<'a, W: Write> Checks<'a, W> {
             Ok(file) => file,
             Err(error) => return Err(Stop::NoNames(path, error)),
         };
-        let Ok(names) = BufReader::new(rt.alloc(), file) else {
+        let end = if request.has_nuls { 0 } else { b'\n' };
+        let Ok(names) = BufReader::new(rt.alloc(), PathList::new(file, end)) else {
             return Err(Stop::NoMemory);
         };
-        let end = if request.has_nuls { 0 } else { b'\n' };
         for name in names.split(rt.alloc(), end) {
             match name {
                 Ok(name) => self.check_unless_empty(rt, request, name.as_slice())?,

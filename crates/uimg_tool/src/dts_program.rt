@@ -62,6 +62,7 @@ pub(crate) fn make_beyond<'x, R: rt::Files + AllocGlobal, W: Write, V: Write>(
                 source: making.source,
                 image: making.outfile,
                 placement: request.placement,
+                roomy_size: None,
                 manner: request.manner,
                 is_quiet: request.is_quiet,
             };

@@ -2,6 +2,7 @@
 #![tactic(auto)]
 
 mod auto_program;
+mod blob_room;
 mod body_source;
 mod check_answers;
 mod check_program;
@@ -17,6 +18,7 @@ mod moments;
 mod new_shelf;
 mod old_program;
 mod old_tools;
+mod path_list;
 mod progress;
 mod reasons;
 mod request_fault;

@@ -2,6 +2,7 @@
 
 ghost use Rattle.std.specs.Prelude.{◌≤◌};
 
+use crate::blob_room::set_blob_size;
 use crate::new_shelf::NewShelf;
 use crate::old_program::{Begun, about_end, tell, tell_unprinted, tell_unwritten, tell_written};
 use crate::old_tools::Tool;
@@ -19,13 +20,15 @@ use uimg_engine::{Fault, TreeManner, make_tree};
 use uimg_fit_base::Placement;
 use uimg_requests::Manner;
 
-/// The image that is made of a tree: by which tool, of the file at which path, at which path and how.
+/// The image that is made of a tree: by which tool, of the file at which path, at which path and how,
+/// and the size of its blob if that has free room.
 #[derive(Clone, Copy)]
 pub(crate) struct TreeRequest<'a> {
     pub(crate) tool: Tool,
     pub(crate) source: &'a str,
     pub(crate) image: &'a str,
     pub(crate) placement: Placement,
+    pub(crate) roomy_size: Option<u32>,
     pub(crate) manner: Manner,
     pub(crate) is_quiet: bool,
 }
@@ -84,6 +87,13 @@ fn make_beside<'a, R: rt::Files + AllocGlobal, F: Files, W: Write>(
     let end = match NewShelf::new(rt, path.new.as_str(), file) {
         Ok(shelf) => make_on(rt, request, tree, files, shelf, &mut gathered),
         Err(_) => Err(RequestFault::OutOfMemory),
+    };
+    let end = match (end, request.roomy_size) {
+        (Ok(status), Some(size)) => match set_blob_size(rt, path.new.as_str(), size) {
+            Ok(()) => Ok(status),
+            Err(reason) => Err(RequestFault::NotPut(request.image, reason)),
+        },
+        (end, _) => end,
     };
     let written = gathered.flush();
     // A failed write leaves text in the buffer, which its drop would try to write again.

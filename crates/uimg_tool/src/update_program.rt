@@ -12,7 +12,8 @@ use std::rt::Files;
 use uimg_base::{FileSource, MemFiles, Room};
 use uimg_compat::{OldFault, UpdateRequest};
 use uimg_engine::Fault;
-use uimg_fit_updating::{UpdateFault, update};
+use uimg_fit_base::Placement;
+use uimg_fit_updating::{UpdateFault, Updated, update};
 use uimg_printing::Printed;
 
 /// Updates an image: makes the new one beside its name, which it gets when it is complete.
@@ -33,18 +34,28 @@ pub(crate) fn update_image<R: Files + AllocGlobal, W: Write, V: Write>(
     };
     let time = request.sets_time.then_some(request.manner.time);
     match update(rt.alloc(), &mut source, &mut Room::new(rt.alloc()), time) {
-        Ok(tree) => {
+        Ok(updated) => {
             let making = TreeRequest {
                 tool,
                 source: request.image,
                 image: request.image,
                 placement: request.placement,
+                roomy_size: roomy_size(request.placement, &updated),
                 manner: request.manner,
                 is_quiet: request.is_quiet,
             };
-            write_image(rt, making, &tree, &mut MemFiles::new(&[]), out, err)
+            write_image(rt, making, &updated.tree, &mut MemFiles::new(&[]), out, err)
         }
         Err(fault) => tell_fault(rt, tool, request.image, fault, err),
+    }
+}
+
+// Returns the size of a blob that has free room; one with payloads after it has none.
+fn roomy_size(placement: Placement, updated: &Updated) -> Option<u32> {
+    match placement {
+        Placement::Inside => Some(updated.roomy_size),
+        Placement::After => None,
+        Placement::At(_) => None,
     }
 }
 
