@@ -73,7 +73,7 @@ impl<W: Write> Out<W> {
     {
         match self.writer.write(bytes) {
             Ok(0) | Err(_) => {
-                self.faults = self.faults.saturating_add(1);
+                self.faults = u64::saturating_add(self.faults, 1);
                 Err(PutFault)
             }
             Ok(count) => Ok(count),

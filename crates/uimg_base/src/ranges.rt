@@ -74,13 +74,11 @@ pub(crate) fn put_some_fed<M: Sums, W: Write>(
     ensures fed { IfOk result (λ n. M.fed sums.old sums.new (take n bytes.now)) }
     ensures none { OnErr result (AppendsPrefix out.old out.new []) }
 {
-    match out.put_some(bytes) {
-        Ok(count) => {
-            sums.feed_all(&bytes[..count]);
-            Ok(count)
-        }
-        Err(_) => Err(MoveFault::Put),
-    }
+    let Ok(count) = out.put_some(bytes) else {
+        return Err(MoveFault::Put);
+    };
+    sums.feed_all(&bytes[..count]);
+    Ok(count)
 }
 
 /// Copies `len` bytes at offset `at` of the source to the output, and feeds the same bytes to sums.
