@@ -1,9 +1,10 @@
 -- What is given of what was read ahead.
 use Rattle.std.proofs.Common.{◌≡◌, ◌≤◌, ◌-◌, ◌+◌, ℕ, List, length, take, drop, Option, Some, None, ap, sym, ◌∙◌, arith}
-use Rattle.std.proofs.lemmas.List.{drop-take, take-take, drop-drop}
+use Rattle.std.proofs.lemmas.List.{drop-take, take-take, drop-drop, length-take-le}
 use Rattle.uimg_texts.specs.Slices.{slice}
 use Rattle.uimg_base.specs.declared.{piece.Piece.Piece, windows.Window.Window}
 use Rattle.uimg_base.specs.{Streams.{Stream, HoldsFrom}, Ahead.{IsAhead, IsPieceAhead}}
+use Rattle.uimg_base.proofs.Slices.{take-slice}
 
 -- a part of the front of a list
 of_front : (xs : List ℕ) (c start len : ℕ) → start + len ≤ c → slice xs start len ≡ slice (take c xs) start len
@@ -30,3 +31,9 @@ piece_gives_from p None at start to ahead within there is = tt
 piece_gives_from p (Some stream) at start to ahead within there is =
     is ∙ ap (λ xs. slice xs start (length to)) ahead
     ∙ of_part stream.bytes p.at (length p.bytes.items) start (length to) within ∙ ap (λ k. slice stream.bytes k (length to)) (sym there)
+
+-- the first of bytes that are the file's are
+pub first_from : (s : Option Stream) (at n : ℕ) (to : List ℕ) → n ≤ length to → HoldsFrom at s to → HoldsFrom at s (take n to)
+first_from None at n to few held = tt
+first_from (Some stream) at n to few held =
+    ap (take n) held ∙ take-slice stream.bytes at (length to) n few ∙ ap (slice stream.bytes at) (sym (length-take-le n to few))

@@ -45,3 +45,15 @@ taken_right {s = s} {t = t} p honest = subst (AppendsAll s t) (p.sums.right hone
 pub taken_if : {T X E : Type 0} {fed : T → T → List ℕ → Type 0} {d : Device} {at len : ℕ} {a b : T} (s t : Sink) → (all : SumsRange fed d at len a b) → (result : Result X E) → OnOk result (AppendsAll s t all.piece) → OnOk result (TakesRange fed d at len a b s t)
 taken_if s t all (Ok x) wrote = record { sums = all; wrote = wrote }
 taken_if s t all (Err fault) wrote = tt
+
+-- what was taken of a device was taken of one with the same bytes
+pub taken_of_same : {T : Type 0} {fed : T → T → List ℕ → Type 0} {d e : Device} {at len : ℕ} {a b : T} {s t : Sink} → SameDevice d e → TakesRange fed e at len a b s t → TakesRange fed d at len a b s t
+taken_of_same {at = at} {len = len} same p = record {
+  sums = record {
+    piece = p.sums.piece;
+    size = p.sums.size;
+    summed = p.sums.summed;
+    right = λ honest. subst (λ (xs : List ℕ). p.sums.piece ≡ slice xs at len) same.bytes (p.sums.right (subst (λ (x : Bool). IsTrue x) (sym same.honest) honest));
+  };
+  wrote = p.wrote;
+}

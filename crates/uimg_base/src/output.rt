@@ -1,8 +1,8 @@
 //! A writer with a count of failed writes.
 
-ghost use Rattle.std.specs.Prelude.{◌≡◌, ◌+◌, ◌-◌, ◌^◌, ◌≤◌, min, length, take, IfSome, is_err, if◌then◌else◌};
+ghost use Rattle.std.specs.Prelude.{◌≡◌, ◌+◌, ◌-◌, ◌^◌, ◌≤◌, min, length, take, [], IfOk, IfSome, OnErr, is_err, if◌then◌else◌};
 ghost use Rattle.std.specs.{Io.KnownBytes.Appends, List.flat_map};
-ghost use Rattle.uimg_base.specs.Writing.{Writes};
+ghost use Rattle.uimg_base.specs.{Device.RisesIf, Sink.{AppendsAll, AppendsPrefix}, Writing.Writes};
 
 use std::io::Write;
 use std::marker::Model;
@@ -60,6 +60,23 @@ impl<W: Write> Out<W> {
         } else {
             self.faults = self.faults.saturating_add(1);
             Err(PutFault)
+        }
+    }
+
+    // Writes at least one of the bytes, as many as the writer accepts at once. Returns how many.
+    // Returns `PutFault` as `put_all` does; then nothing was written.
+    pub(crate) fn put_some(&mut self, bytes: &[u8]) -> Result<usize, PutFault>
+        ensures faults { RisesIf (is_err result) self.old.faults self.new.faults }
+        ensures count { IfOk result (λ n. (1 ≤ n) × (n ≤ length bytes.now)) }
+        ensures put { IfOk result (λ n. AppendsAll self.old self.new (take n bytes.now)) }
+        ensures none { OnErr result (AppendsPrefix self.old self.new []) }
+    {
+        match self.writer.write(bytes) {
+            Ok(0) | Err(_) => {
+                self.faults = u64::saturating_add(self.faults, 1);
+                Err(PutFault)
+            }
+            Ok(count) => Ok(count),
         }
     }
 

@@ -82,6 +82,26 @@ impl Piece {
         &self.bytes[start..start + len]
     }
 
+    // Returns the bytes from an offset on, at most `most`; the piece has `len` of them.
+    pub(crate) fn up_to(&self, at: u64, len: usize, most: u64) -> &[u8]
+        requires has { HasPiece at len self.now }
+        requires most { len ≤ most }
+        ensures least { len ≤ length result.now }
+        ensures most { length result.now ≤ most }
+        ensures part { (s : Option Stream) → IsPieceAhead self.now s → HoldsFrom at s result.now }
+    {
+        let left = self.bytes.len() - (at - self.at) as usize;
+        self.part(at, u64::min(most, left as u64) as usize)
+    }
+
+    // Notes that a long read ended at an offset.
+    pub(crate) fn end_at(&mut self, end: u64)
+        ensures at { self.new.at ≡ self.old.at }
+        ensures bytes { self.new.bytes ≡ self.old.bytes }
+    {
+        self.next = end;
+    }
+
     // Frees the memory, and so drops the bytes, if a read of `len` bytes reaches the end of the file.
     pub(crate) fn free_at_end(&mut self, left: u64, len: usize)
         ensures ahead { (s : Option Stream) → IsPieceAhead self.old s → IsPieceAhead self.new s }

@@ -1,6 +1,6 @@
-//! Ranges of a source, copied to an output or fed to a sum, one window at a time.
+//! Ranges of a source, copied to an output or fed to a sum, one window or piece at a time.
 
-ghost use Rattle.std.specs.Prelude.{◌≡◌, ◌+◌, ◌≤◌, ⊤, false, length, OnOk, OnErr, IfOk, is_err};
+ghost use Rattle.std.specs.Prelude.{◌≡◌, ◌+◌, ◌≤◌, ⊤, false, length, take, [], OnOk, OnErr, IfOk, is_err};
 ghost use Rattle.uimg_base.specs.{Honest.HonestSource, Device.{RisesIf, asked_more}};
 ghost use Rattle.uimg_base.specs.{Sink.{AppendsPrefix, AppendsAll}, Using.{Asks, AsksAll}};
 ghost use Rattle.uimg_base.specs.Ranges.{is_read, is_put, Copies, SumsRange, TakesRange};
@@ -60,6 +60,27 @@ pub(crate) fn put_fed<M: Sums, W: Write>(
     }
 }
 
+/// Writes at least one of the bytes, as many as the writer accepts at once, and feeds these to sums.
+/// Returns how many. Returns `MoveFault::Put` if a write failed; then nothing was written.
+pub(crate) fn put_some_fed<M: Sums, W: Write>(
+    bytes: &[u8],
+    sums: &mut M,
+    out: &mut Out<W>,
+) -> Result<usize, MoveFault>
+    ensures read { is_read result ≡ false }
+    ensures faults { RisesIf (is_put result) out.old.faults out.new.faults }
+    ensures count { IfOk result (λ n. (1 ≤ n) × (n ≤ length bytes.now)) }
+    ensures put { IfOk result (λ n. AppendsAll out.old out.new (take n bytes.now)) }
+    ensures fed { IfOk result (λ n. M.fed sums.old sums.new (take n bytes.now)) }
+    ensures none { OnErr result (AppendsPrefix out.old out.new []) }
+{
+    let Ok(count) = out.put_some(bytes) else {
+        return Err(MoveFault::Put);
+    };
+    sums.feed_all(&bytes[..count]);
+    Ok(count)
+}
+
 /// Copies `len` bytes at offset `at` of the source to the output, and feeds the same bytes to sums.
 ///
 /// The range must be inside the source. Returns `MoveFault::Read` if and only if a read failed,
@@ -87,9 +108,7 @@ pub fn take_through<S: Source, M: Sums, W: Write>(
 {
     let mut done = 0;
     while done < len {
-        let next = u64::min(len - done, WINDOW as u64);
-        source.take_at(at + done, &mut window[..next as usize], sums, out)?;
-        done += next;
+        done += source.take_some(at + done, len - done, &mut window[..], sums, out)?;
     }
     Ok(())
 }

@@ -94,9 +94,49 @@ impl Reading {
         ensures failures { self.new.failures ≡ self.old.failures }
         ensures holds { IsTrue result → HasPiece at len self.new.piece }
     {
+        self.count_asked(len);
+        self.has(file, at, len)
+    }
+
+    // Counts `len` requested bytes.
+    pub(crate) fn count_asked(&mut self, len: usize)
+        ensures same { self.new ≡ record self.old { asked = self.new.asked } }
+        ensures asked { self.new.asked ≡ asked_more self.old.asked len }
+    {
         self.asked = self.asked.saturating_add(len as u128);
+    }
+
+    // Returns whether the piece has `len` bytes at an offset, which is read ahead if this read
+    // follows the one before.
+    pub(crate) fn has<F: SeekRead>(&mut self, file: &mut F, at: u64, len: usize) -> bool
+        requires stands { StandsAt self.old.position (F.stream file.old) }
+        requires ahead { AreAhead self.old.windows (F.stream file.old) }
+        requires piece { IsPieceAhead self.old.piece (F.stream file.old) }
+        requires whole { HasLength self.old.length (F.stream file.old) }
+        ensures stands { StandsAt self.new.position (F.stream file.new) }
+        ensures ahead { AreAhead self.new.windows (F.stream file.new) }
+        ensures piece { IsPieceAhead self.new.piece (F.stream file.new) }
+        ensures same { SameBytes (F.stream file.old) (F.stream file.new) }
+        ensures length { self.new.length ≡ self.old.length }
+        ensures asked { self.new.asked ≡ self.old.asked }
+        ensures failures { self.new.failures ≡ self.old.failures }
+        ensures holds { IsTrue result → HasPiece at len self.new.piece }
+    {
         let left = self.length.saturating_sub(at);
         self.piece.hold(file, &mut self.position, at, left, len)
+    }
+
+    // Counts `len` requested bytes, those at an offset that the piece gave. Frees it at the end of
+    // the file.
+    pub(crate) fn gave(&mut self, at: u64, len: usize)
+        ensures same { self.new ≡ record self.old { asked = self.new.asked; piece = self.new.piece } }
+        ensures asked { self.new.asked ≡ asked_more self.old.asked len }
+        ensures piece { (s : Option Stream) → IsPieceAhead self.old.piece s →
+            IsPieceAhead self.new.piece s }
+    {
+        self.count_asked(len);
+        self.piece.end_at(at.saturating_add(len as u64));
+        self.free_at_end(at, len);
     }
 
     // Frees the piece if `len` bytes at an offset reach the end of the file.

@@ -8,7 +8,7 @@ ghost use Rattle.uimg_base.specs.Ahead.{IsAhead, IsPieceAhead};
 ghost use Rattle.uimg_base.specs.Streams.{StandsAt, HasLength, stream_bytes_of, short_bytes};
 
 use crate::output::Out;
-use crate::ranges::{MoveFault, put_fed};
+use crate::ranges::{MoveFault, put_fed, put_some_fed};
 use crate::reading::Reading;
 use crate::seek_read::SeekRead;
 use crate::source::{Source, SourceFault};
@@ -23,9 +23,9 @@ use uimg_sums::Sums;
 ///
 /// Reads of fewer than 4096 bytes are served from two windows of 4096 bytes that are read ahead. If
 /// two longer ones follow one another, 128 KiB are read ahead, to memory that is freed at the end of
-/// the file, and from which sums are fed; without this memory only the requested bytes are read. It never reads past the length,
-/// nor ahead by more than one such piece. If a read ahead fails or is short, only the requested
-/// bytes are read.
+/// the file, and from which sums are fed and bytes are written; without this memory only the
+/// requested bytes are read. It never reads past the length, nor ahead by more than one such piece.
+/// If a read ahead fails or is short, only the requested bytes are read.
 #[derive(Drop)]
 pub struct SeekSource<F: SeekRead> {
     file: F,
@@ -113,6 +113,24 @@ impl<F: SeekRead> Source for SeekSource<F> {
         let put = put_fed(self.reading.piece.part(at, window.len()), sums, out);
         self.reading.free_at_end(at, window.len());
         put
+    }
+
+    fn take_some<M: Sums, W: Write>(
+        &mut self,
+        at: u64,
+        most: u64,
+        window: &mut [u8],
+        sums: &mut M,
+        out: &mut Out<W>,
+    ) -> Result<u64, MoveFault> {
+        let next = u64::min(most, window.len() as u64) as usize;
+        if !self.reading.has(&mut self.file, at, next) {
+            self.take_at(at, &mut window[..next], sums, out)?;
+            return Ok(next as u64);
+        }
+        let taken = put_some_fed(self.reading.piece.up_to(at, next, most), sums, out)?;
+        self.reading.gave(at, taken);
+        Ok(taken as u64)
     }
 
     fn asked(&self) -> u128 {

@@ -1,6 +1,6 @@
 //! Sources: devices with a fixed list of bytes, read at any offset; and a slice as a source.
 
-ghost use Rattle.std.specs.Prelude.{◌≡◌, ◌+◌, ◌^◌, ◌<◌, ◌≤◌, Bool, true, false, length, IsTrue, OnOk, IfOk, is_err};
+ghost use Rattle.std.specs.Prelude.{◌≡◌, ◌+◌, ◌^◌, ◌<◌, ◌≤◌, Bool, true, false, length, min, IsTrue, OnOk, OnErr, IfOk, is_err};
 ghost use Rattle.std.proofs.Common.{refl};
 ghost use Rattle.uimg_base.specs.Device.{Device, RisesIf, SameDevice, asked_more};
 ghost use Rattle.uimg_base.specs.{Sink.AppendsPrefix, Using.Uses};
@@ -105,6 +105,41 @@ pub trait Source: Drop {
             return Err(MoveFault::Read);
         }
         put_fed(window, sums, out)
+    }
+
+    /// Feeds to sums, and writes, bytes from the offset `at`: at least one, and at most `most`.
+    /// Returns how many.
+    ///
+    /// They are read to `window`, as many as it has, unless the source has them in memory. The range
+    /// of `most` bytes must be inside the source; neither it nor the window is empty. As many bytes
+    /// are requested as are returned; at a fault at most as many as `window` has. Returns
+    /// `MoveFault` as `take_at` does.
+    fn take_some<M: Sums, W: Write>(
+        &mut self,
+        at: u64,
+        most: u64,
+        window: &mut [u8],
+        sums: &mut M,
+        out: &mut Out<W>,
+    ) -> Result<u64, MoveFault>
+        requires inside { at + most ≤ length (device self.old).bytes }
+        requires some { 1 ≤ most }
+        requires room { 1 ≤ length window.old }
+        ensures uses { Uses (is_read result) (device self.old) (device self.new) }
+        ensures count { IfOk result (λ n. (1 ≤ n) × (n ≤ most)) }
+        ensures asked { IfOk result (λ n. (device self.new).asked
+            ≡ asked_more (device self.old).asked n) }
+        ensures ahead { OnErr result ((device self.new).asked
+            ≤ (device self.old).asked + min most (length window.old)) }
+        ensures faults { RisesIf (is_put result) out.old.faults out.new.faults }
+        ensures prefix { IsTrue (device self.old).honest → OnErr result (AppendsPrefix out.old
+            out.new (slice (device self.old).bytes at (min most (length window.old)))) }
+        ensures taken { IfOk result (λ n. TakesRange M.fed (device self.old) at n
+            sums.old sums.new out.old out.new) }
+    {
+        let next = u64::min(most, window.len() as u64);
+        self.take_at(at, &mut window[..next as usize], sums, out)?;
+        Ok(next)
     }
 
     /// Returns how many bytes were requested, failed calls included. It saturates.
