@@ -1,1 +1,6 @@
+pub mod Asked
+pub mod CNumbers
+pub mod Dumpimage
 pub mod Getopt
+pub mod Names
+pub mod Wrong

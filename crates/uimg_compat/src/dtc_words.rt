@@ -102,9 +102,9 @@ impl<'a> DtcWords<'a> {
             None => (text, None),
         };
         match (option_by_name(&DTC_OPTIONS, name), joined) {
-            (Some((option, true)), Some(value)) => self.take_value(option, value, word),
-            (Some((option, true)), None) => Ok(Some(option)),
-            (Some((option, false)), None) => {
+            (Some((option, _, true)), Some(value)) => self.take_value(option, value, word),
+            (Some((option, _, true)), None) => Ok(Some(option)),
+            (Some((option, _, false)), None) => {
                 self.take_flag(option);
                 Ok(None)
             }

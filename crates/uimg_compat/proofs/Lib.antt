@@ -1,0 +1,4 @@
+-- Lemmas.
+mod Letters
+mod Numerals
+mod Strips

@@ -1,0 +1,7 @@
+use Rattle.std.proofs.Common.{sym, subst}
+use Rattle.uimg_compat.specs.Dumpimage.{Steps, dumping_of, step}
+use Rattle.uimg_compat.specs.Getopt.{told_of}
+use Rattle.uimg_compat.proofs.dumpimage.Settings.take.Goals as goal
+
+pub returns-in-Value : goal.returns-in-Value
+returns-in-Value c = rw c.in-Value.is c.take_value.ensures
