@@ -8,6 +8,7 @@ use Rattle.uimg_compat.specs.Asked.{Asked, Run, Shown, help, names, plain_run, r
 use Rattle.uimg_compat.specs.CNumbers.{low_32}
 use Rattle.uimg_compat.specs.Getopt.{Reading, Row, Text, Told, all_read, flag, mistaken, operand, reading, told, value}
 use Rattle.uimg_compat.specs.Names.{form_asked, name_asked}
+use Rattle.uimg_compat.specs.Steps.{Step, asked_after, asks, first_of, refuses, sets, sets_by}
 use Rattle.uimg_compat.specs.Wrong.{Wrong, and_then, misused, no_image, no_number, no_outfile, or_wrong, out_of_memory, part_to_output, wrong_of}
 use Rattle.uimg_compat.specs.declared.{dumpimage.Settings.Settings, fault.OldFault.OldFault, names.Named.Named, request.Show.Show}
 use Rattle.uimg_compat.specs.declared.names.Named.TheVariants as named
@@ -55,59 +56,36 @@ nothing_set = record {
   is_list = false;
 }
 
--- One more thing is set, or a text is asked for, or a word is refused.
-pub data Step : Type 0 where
-  sets : Dumping → Step
-  asks : Shown → Step
-  refuses : Wrong → Step
-
--- The first operand is the image.
-abbrev pub first_of : Option Text → Text → Text
-first_of None word = word
-first_of (Some image) word = image
-
 -- a position is decimal
 abbrev pub position_asked : Text → Result ℕ Wrong
 position_asked word = or_wrong (no_number 112 word) (low_32 10 word)
 
-abbrev pub position_step : Dumping → Result ℕ Wrong → Step
-position_step dumping (Err wrong) = refuses wrong
-position_step dumping (Ok position) = sets (record dumping { position = position })
-
-abbrev pub type_step : Text → Dumping → Result Named Wrong → Step
+abbrev pub type_step : Text → Dumping → Result Named Wrong → Step Dumping
 type_step word dumping (Err wrong) = refuses wrong
 type_step word dumping (Ok named.List) = asks (names Kind)
 type_step word dumping (Ok (named.Code kind)) =
     sets (record dumping { kind = Some kind; kind_name = word })
 
 -- -h, -V and -l
-abbrev pub flag_step : ℕ → Dumping → Step
+abbrev pub flag_step : ℕ → Dumping → Step Dumping
 flag_step letter dumping = if letter == 104 then asks help
     else (if letter == 86 then asks version
     else (if letter == 108 then sets (record dumping { is_list = true })
     else sets dumping))
 
 -- -o, -p and -T
-abbrev pub value_step : ℕ → Text → Dumping → Step
+abbrev pub value_step : ℕ → Text → Dumping → Step Dumping
 value_step letter word dumping = if letter == 111 then sets (record dumping { outfile = Some word })
-    else (if letter == 112 then position_step dumping (position_asked word)
+    else (if letter == 112
+    then sets_by (position_asked word) (λ position. record dumping { position = position })
     else (if letter == 84 then type_step word dumping (name_asked Kind word)
     else sets dumping))
 
 -- what an option or an operand sets: of a repeated option the last counts
-abbrev pub step : Told → Dumping → Step
+abbrev pub step : Told → Dumping → Step Dumping
 step (operand word) dumping = sets (record dumping { image = Some (first_of dumping.image word) })
 step (flag letter) dumping = flag_step letter dumping
 step (value letter word) dumping = value_step letter word dumping
-
-abbrev pub IsRefused : Step → Wrong → Type 0
-IsRefused asked out_of_memory = ⊤
-IsRefused asked wrong = asked ≡ refuses wrong
-
-abbrev pub Steps : Step → Dumping → Result (Option Show) OldFault → Type 0
-Steps asked after (Ok None) = asked ≡ sets after
-Steps asked after (Ok (Some show)) = asked ≡ asks (shown_of show)
-Steps asked after (Err fault) = IsRefused asked (wrong_of fault)
 
 -- With -l the image is listed, and an outfile does not count.
 abbrev pub action_asked : Dumping → Result (Action × Option Text) Wrong
@@ -130,15 +108,7 @@ request_asked dumping = elim dumping.image [
   | Some image ↦ run_asked dumping image
   ]
 
--- What words request behind what is set so far. A text is asked for there and then.
-abbrev pub asked_after : Reading → Dumping → Result Asked Wrong
-asked_after all_read dumping = request_asked dumping
-asked_after (mistaken mistake) dumping = Err (misused mistake)
-asked_after (told given rest) dumping = elim (step given dumping) [
-  | sets next ↦ asked_after rest next
-  | asks shown ↦ Ok (shows shown)
-  | refuses wrong ↦ Err wrong
-  ]
-
+-- what the words behind dumpimage's name request
 abbrev pub dumpimage_asked : List Text → Result Asked Wrong
-dumpimage_asked words = asked_after (reading dumpimage_rows words) nothing_set
+dumpimage_asked words =
+    asked_after step request_asked (reading dumpimage_rows words) nothing_set

@@ -2,8 +2,9 @@
 
 ghost use Rattle.std.specs.Prelude.{◌≡◌, map, option_map, Ok};
 ghost use Rattle.uimg_compat.specs.Asked.{asked_of};
-ghost use Rattle.uimg_compat.specs.Dumpimage.{Steps, action_asked, dumpimage_asked, dumping_of, flag_step, position_asked, request_asked, step, value_step};
+ghost use Rattle.uimg_compat.specs.Dumpimage.{action_asked, dumpimage_asked, dumping_of, flag_step, position_asked, request_asked, step, value_step};
 ghost use Rattle.uimg_compat.specs.Getopt.{told_of};
+ghost use Rattle.uimg_compat.specs.Steps.{Steps};
 ghost use Rattle.uimg_compat.specs.Wrong.{Tells};
 
 use crate::c_numbers::{low_half, unsigned_long};

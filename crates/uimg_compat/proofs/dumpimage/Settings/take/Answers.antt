@@ -1,6 +1,3 @@
-use Rattle.std.proofs.Common.{sym, subst}
-use Rattle.uimg_compat.specs.Dumpimage.{Steps, dumping_of, step}
-use Rattle.uimg_compat.specs.Getopt.{told_of}
 use Rattle.uimg_compat.proofs.dumpimage.Settings.take.Goals as goal
 
 pub returns-in-Value : goal.returns-in-Value
