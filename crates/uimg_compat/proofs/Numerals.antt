@@ -1,9 +1,9 @@
 -- A number as a fact of its digits and as a function of them.
-use Rattle.std.proofs.Common.{◌≡◌, ◌∙◌, ◌<◌, ℕ, Bool, true, false, refl, sym, ap, List, [], ◌∷◌, length, Option, Some, None, SomeIff, true≢false, nat_lt, lt-ltb, ltb-true, rules, arith}
+use Rattle.std.proofs.Common.{◌≡◌, ◌∙◌, ◌<◌, ◌≤◌, ◌*◌, ◌+◌, ℕ, Bool, true, false, refl, sym, ap, List, [], ◌∷◌, length, Option, Some, None, SomeIff, true≢false, nat_lt, lt-ltb, ltb-true, rules, arith}
 use Rattle.std.specs.Char.{digit_value}
 use Rattle.std.specs.List.{list_all}
-use Rattle.std.specs.Str.Parse.{AllDigits, digits_value}
-use Rattle.uimg_compat.specs.CNumbers.{IsIn64Bits, in_64_bits, is_numeral, without_blanks, behind_blank, is_blank}
+use Rattle.std.specs.Str.Parse.{AllDigits, digits_value, digits_value_after}
+use Rattle.uimg_compat.specs.CNumbers.{IsIn64Bits, at_most, in_64_bits, is_numeral, without_blanks, behind_blank, is_blank}
 
 digits_from : (base : ℕ) (ds : List ℕ) → list_all (λ d. nat_lt (digit_value d) base) ds ≡ true → AllDigits base ds
 digits_from base [] e = tt
@@ -35,3 +35,10 @@ no_blank (code ∷ rest) h = go (is_blank code) refl
     go : (b : Bool) → is_blank code ≡ b → code ∷ rest ≡ without_blanks (code ∷ rest)
     go false t = rw t refl
     go true t = let some : behind_blank (code ∷ rest) ≡ Some rest = rw t refl in cc
+
+pub grows : (n : ℕ) (ds : List ℕ) → n ≤ digits_value_after 10 n ds
+grows n [] = search (rules, arith)
+grows n (d ∷ ds) = let more = grows (n * 10 + digit_value d) ds in omega (arith, more)
+
+pub passed : (bound n : ℕ) (ds : List ℕ) (total : ℕ) → bound < n → digits_value_after 10 n ds ≡ total → None ≡ at_most bound total
+passed bound n ds total over is = rw (lt-ltb bound total (omega (arith, over, grows n ds, is))) refl

@@ -1,4 +1,4 @@
--- Numbers as strtoull of the GNU C library reads them.
+-- Numbers as strtoull and strtol of the GNU C library read them.
 use Rattle.std.specs.Prelude.{ℕ, ◌-◌, ◌<◌, ◌^◌, ◌%◌, ◌==◌, ◌||◌, ◌&&◌, Bool, true, false, List, [], ◌∷◌, length, nat_lt, Option, Some, None, is_some, unwrap_or, option_map, SomeIff, if◌then◌else◌}
 use Rattle.std.specs.{Char.digit_value, List.list_all, Str.Parse.{IsNumeral, digits_value}}
 use Rattle.uimg_compat.specs.Getopt.{Text, behind}
@@ -68,3 +68,34 @@ unsigned_long base text = if nat_lt 0 (length text) then number_of_digits base
 -- its low 32 bits
 abbrev pub low_32 : ℕ → Text → Option ℕ
 low_32 base text = option_map (λ number. number % 4294967296) (unsigned_long base text)
+
+-- the decimal digits that a text begins with
+abbrev pub leading_digits : Text → Text
+leading_digits [] = []
+leading_digits (code ∷ rest) =
+    if nat_lt (digit_value code) 10 then code ∷ leading_digits rest else []
+
+-- The most seconds before and after 1970 that gmtime has a year of 32 bits for.
+abbrev pub most : Bool → ℕ
+most true = 67768040609740800
+most false = 67768036191676799
+
+-- the low 32 bits of a number, or of what it is below 0
+abbrev pub low_of : Bool → ℕ → ℕ
+low_of false number = number % 4294967296
+low_of true number =
+    if number % 4294967296 == 0 then 0 else 4294967296 - number % 4294967296
+
+abbrev pub seconds : Bool → ℕ → Option ℕ
+seconds is_negative number =
+    if nat_lt (most is_negative) number then None else Some (low_of is_negative number)
+
+-- a number unless it is more than these
+abbrev pub at_most : ℕ → ℕ → Option ℕ
+at_most bound number = if nat_lt bound number then None else Some number
+
+-- The number that a text begins with: blanks, a sign and digits. Without a digit it is 0. What
+-- follows is left out.
+abbrev pub long_prefix : Text → Option ℕ
+long_prefix text = seconds (is_some (behind 45 (without_blanks text)))
+    (digits_value 10 (leading_digits (without_sign (without_blanks text))))

@@ -4,5 +4,6 @@ pub mod Dumpimage
 pub mod Getopt
 pub mod Mkimage
 pub mod Names
+pub mod Requests
 pub mod Steps
 pub mod Wrong

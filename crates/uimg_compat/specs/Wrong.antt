@@ -4,8 +4,8 @@ use Rattle.uimg_compat.specs.Getopt.{Mistake, Text, mistake_of}
 use Rattle.uimg_compat.specs.declared.fault.OldFault.{OldFault}
 use Rattle.uimg_compat.specs.declared.fault.OldFault.TheVariants as fault
 
--- Each refusal of words, with the letter of the option and the word that is refused. The word of -D
--- is dtc's. No definition asks for `out_of_memory`.
+-- Each refusal of words, with the letter of the option and the word that is refused. No
+-- definition asks for `out_of_memory` and `dtc_words`, a fault of the words of -D, which are dtc's.
 pub data Wrong : Type 0 where
   misused : Mistake → Wrong
   unknown_name : ℕ → Text → Wrong
@@ -61,6 +61,7 @@ wrong_of fault.OutOfMemory = out_of_memory
 
 abbrev pub IsWrong : {X : Type 0} → Result X Wrong → Wrong → Type 0
 IsWrong asked out_of_memory = ⊤
+IsWrong asked dtc_words = ⊥
 IsWrong asked wrong = asked ≡ Err wrong
 
 -- The answer is the one asked for, unless memory ran out.

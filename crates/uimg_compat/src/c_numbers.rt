@@ -1,8 +1,9 @@
 //! Reads numbers as strtoull and strtol of the C library do.
 
-ghost use Rattle.std.specs.Prelude.{true, ◌≡◌, ◌≤◌, ◌<◌, ◌^◌, ◌%◌, option_map, length, IfSome};
+ghost use Rattle.std.specs.Prelude.{true, ◌==◌, ◌-◌, if◌then◌else◌, ◌≡◌, ◌≤◌, ◌<◌, ◌^◌, ◌%◌, option_map, length, IfSome};
 ghost use Rattle.std.specs.Bool.{OnTrue};
-ghost use Rattle.uimg_compat.specs.CNumbers.{IsIn64Bits, behind_blank, behind_mark, in_64_bits, is_blank, is_numeral, opposite, unsigned_long, without_blanks, without_mark, without_sign};
+ghost use Rattle.std.specs.Str.Parse.{digits_value};
+ghost use Rattle.uimg_compat.specs.CNumbers.{IsIn64Bits, at_most, leading_digits, long_prefix, behind_blank, behind_mark, in_64_bits, is_blank, is_numeral, opposite, unsigned_long, without_blanks, without_mark, without_sign};
 
 use crate::getopt::behind;
 
@@ -38,29 +39,55 @@ pub fn unsigned_long(text: &str, base: u32) -> Option<u64>
 /// Reads the beginning of a text as strtol does in base 10: blanks, a sign and digits; without a
 /// digit it is 0. Returns the low 32 bits, or `None` for seconds since 1970 in no year of gmtime,
 /// whose years have 32 bits.
-pub fn long_prefix(text: &str) -> Option<u32> {
+pub fn long_prefix(text: &str) -> Option<u32>
+    ensures { result ≡ long_prefix text.now }
+{
     let signed = without_blanks(text);
-    let unsigned = without_sign(signed);
-    let rest = unsigned.trim_start_matches(is_digit);
-    let digits = unsigned.strip_suffix(rest).unwrap_or("");
-    if digits.is_empty() {
-        return Some(0);
+    let number = leading_number(without_sign(signed).as_bytes())?;
+    match behind(signed, '-') {
+        Some(_) => Some(low_opposite(low_half(number))),
+        None if number > MOST_AFTER => None,
+        None => Some(low_half(number)),
     }
-    let value = digits.parse::<u64>().ok()?;
-    let most = if signed.starts_with('-') {
-        MOST_BEFORE
-    } else {
-        MOST_AFTER
-    };
-    if value > most {
-        return None;
+}
+
+// Returns the number of the digits that a text begins with, if it is at most `MOST_BEFORE`.
+fn leading_number(text: &[u8]) -> Option<u64>
+    ensures { result ≡ at_most 67768040609740800 (digits_value 10 (leading_digits text.now)) }
+{
+    let mut number = 0u64;
+    for byte in text {
+        if number > MOST_BEFORE {
+            return None;
+        }
+        let Some(digit) = char::from(*byte).to_digit(10) else {
+            return Some(number);
+        };
+        number = number * 10 + u64::from(digit);
     }
-    let low = low_half(value);
-    Some(if signed.starts_with('-') {
-        low.wrapping_neg()
+    small(number)
+}
+
+// Returns a number, if it is at most `MOST_BEFORE`.
+fn small(number: u64) -> Option<u64>
+    ensures { result ≡ at_most 67768040609740800 number }
+{
+    if number > MOST_BEFORE {
+        None
     } else {
-        low
-    })
+        Some(number)
+    }
+}
+
+// Returns a number counted from 2^32 down.
+fn low_opposite(number: u32) -> u32
+    ensures { result ≡ if number == 0 then 0 else 4294967296 - number }
+{
+    if number == 0 {
+        0
+    } else {
+        u32::MAX - (number - 1)
+    }
 }
 
 /// Returns the low 32 bits of a number.
@@ -184,8 +211,4 @@ fn is_blank(letter: char) -> bool
     ensures ascii { OnTrue result (letter < 128) }
 {
     letter == ' ' || ('\t' <= letter && letter <= '\r')
-}
-
-fn is_digit(letter: char) -> bool {
-    letter.is_ascii_digit()
 }

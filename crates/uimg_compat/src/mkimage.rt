@@ -2,9 +2,10 @@
 
 mod requests;
 
-ghost use Rattle.std.specs.Prelude.{◌≡◌, Ok};
+ghost use Rattle.std.specs.Prelude.{◌≡◌, map, option_map, Ok};
 ghost use Rattle.uimg_compat.specs.Getopt.{told_of};
 ghost use Rattle.uimg_compat.specs.Mkimage.{address_asked, flag_step, name_step, number_step, setting_of, step, value_step, with_word};
+ghost use Rattle.uimg_compat.specs.Requests.{Answers, mkimage_asked};
 ghost use Rattle.uimg_compat.specs.Steps.{Steps, done};
 ghost use Rattle.uimg_compat.specs.Wrong.{Tells};
 
@@ -12,7 +13,7 @@ use crate::c_numbers::{low_half, unsigned_long};
 use crate::fault::OldFault;
 use crate::getopt::{Given, Words};
 use crate::helps::MKIMAGE_HELP;
-use crate::mkimage_options::MKIMAGE_OPTIONS;
+use crate::mkimage_options::take_option;
 use crate::names::{Named, name_of};
 use crate::request::{OldRequest, Show};
 use std::alloc::Global;
@@ -52,12 +53,15 @@ struct Settings<'a> {
 
 /// Reads the words after mkimage's name. `epoch` is SOURCE_DATE_EPOCH if it is set, and `now` the
 /// current time in seconds since 1970.
+#[tactic(auto, using(crate::proofs::Telling::answers))]
 pub fn read_mkimage<'a>(
     alloc: Global,
     words: &'a [&'a str],
     epoch: Option<&str>,
     now: u32,
-) -> Result<OldRequest<'a>, OldFault<'a>> {
+) -> Result<OldRequest<'a>, OldFault<'a>>
+    ensures { Answers (mkimage_asked (map (λ word. word.now) words.now) (option_map (λ text. text.now) epoch.entry) now) result }
+{
     let mut settings = Settings {
         arch: 7,
         os: 5,
@@ -87,7 +91,7 @@ pub fn read_mkimage<'a>(
         has_no_data: false,
     };
     let mut unread = Words::new(words);
-    while let Some(given) = unread.take(&MKIMAGE_OPTIONS)? {
+    while let Some(given) = take_option(&mut unread)? {
         if let Some(show) = settings.take(alloc, given)? {
             return Ok(OldRequest::Show(show));
         }

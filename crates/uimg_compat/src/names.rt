@@ -95,14 +95,6 @@ fn unknown_name<'a>(alloc: Global, field: Field, word: &'a str) -> OldFault<'a>
     }
 }
 
-/// Refuses a type, by its name, whose images are not made from data.
-pub(crate) fn check_made(kind: u8, name: &str) -> Result<(), OldFault<'_>> {
-    if is_made(kind) {
-        return Ok(());
-    }
-    Err(OldFault::OtherImages(Printed(name.as_bytes())))
-}
-
 /// Returns the format of the images of a type, by its name. The type `invalid` counts as none. A
 /// type of other images is refused.
 pub(crate) fn format_of(kind: Option<u8>, name: &str) -> Result<Form, OldFault<'_>>
@@ -119,8 +111,8 @@ pub(crate) fn format_of(kind: Option<u8>, name: &str) -> Result<Form, OldFault<'
     }
 }
 
-// Returns whether images of a type are legacy or FIT images.
-fn is_made(kind: u8) -> bool
+/// Returns whether images of a type are legacy or FIT images.
+pub(crate) fn is_made(kind: u8) -> bool
     ensures { result ≡ is_made kind }
 {
     kind <= FLAT_DT || kind == KERNEL_NOLOAD
