@@ -1,8 +1,8 @@
 -- The letters of a word, one after another.
-use Rattle.std.proofs.Common.{◌≡◌, ◌∙◌, ◌==◌, ◌<◌, ℕ, Bool, true, false, refl, ap, sym, subst, cond, rules, arith, List, [], ◌∷◌, Option, Some, None, length, find, option_map, true≢false, eqb-true, lt-ltb, nat_lt, Result}
+use Rattle.std.proofs.Common.{◌≡◌, ◌∙◌, ◌==◌, ◌<◌, ℕ, Bool, true, false, refl, ap, sym, subst, arith, List, [], ◌∷◌, Option, Some, None, length, find, option_map, eqb-true, lt-ltb, Result}
 use Rattle.std.specs.Str.{bytes_eq}
 use Rattle.std.specs.Prelude.{codes}
-use Rattle.uimg_compat.specs.Getopt.{Row, Text, Behind, Reading, Waiting, Takes, behind, met, with_letter, lettered, valued, first_letter, mistaken, unknown_letter, letter_without_value, told, flag, value, operand, all_read, read, opened, hyphened, optioned, long}
+use Rattle.uimg_compat.specs.Getopt.{Row, Text, Behind, Reading, Waiting, Takes, behind, met, with_letter, lettered, valued, first_letter, mistaken, unknown_letter, letter_without_value, told, flag, value, operand, all_read, read, opened, optioned, long}
 use Rattle.uimg_compat.specs.declared.getopt.{Given.Given, Misuse.Misuse}
 
 cut_off : (letter : ℕ) (letters rest : Text) → Some rest ≡ behind letter letters → letters ≡ letter ∷ rest
@@ -52,7 +52,7 @@ abbrev raw : List Row → Text → Text → Behind → Option Row → Reading
 raw rows letters rest next o = elim o [
   | None ↦ mistaken (unknown_letter (first_letter letters))
   | Some row ↦ elim row.has_value [ true ↦ valued row.letter rest next | false ↦ told (flag row.letter) (lettered rows rest next) ]
-  ]
+]
 
 one_letter : (rows : List Row) (x : ℕ) (rest : Text) (next : Behind)
     → lettered rows (x ∷ rest) next ≡ raw rows (x ∷ rest) rest next (with_letter x rows)

@@ -1,14 +1,10 @@
 -- What the request for a legacy image asks for.
-use Rattle.std.proofs.Common.{◌≡◌, ℕ, List, Bool, refl, ap₂}
+use Rattle.std.proofs.Common.{◌≡◌, ℕ, List, ap₂}
 use Rattle.uimg_legacy.specs.declared.options.Options.{Options}
-use Rattle.uimg_names.specs.declared.naming.Naming.TheVariants.{All}
-use Rattle.uimg_requests.specs.Names.{part_names}
-use Rattle.uimg_requests.specs.Plain.{IsPlain}
 use Rattle.uimg_requests.specs.Requests.{AsksParts}
-use Rattle.uimg_requests.specs.declared.make_command.{MakeCommand.MakeCommand, Manner.Manner}
+use Rattle.uimg_requests.specs.declared.make_command.{MakeCommand.MakeCommand}
 use Rattle.uimg_requests.specs.declared.make_command.MakeCommand.TheVariants.{Parts, Tree}
-use Rattle.uimg_compat.specs.Asked.{Making, material_of, parts}
-use Rattle.uimg_compat.specs.Requests.{making_by, manner_by}
+use Rattle.uimg_compat.specs.Asked.{material_of, parts}
 
 pub parts_made : (command : MakeCommand) (folder : List ℕ) (options : Options) (names : List (List ℕ)) → AsksParts command options names
     → material_of folder command ≡ parts options names

@@ -1,5 +1,5 @@
 -- What follows the letter that a text begins with.
-use Rattle.std.proofs.Common.{◌≡◌, ◌≢◌, ◌==◌, ◌<◌, ◌+◌, ℕ, Bool, true, false, refl, sym, ap, rules, arith, List, [], ◌∷◌, Option, Some, None, length, option_map, drop, MatchOption}
+use Rattle.std.proofs.Common.{◌≡◌, ◌≢◌, ◌==◌, ◌<◌, ◌+◌, ℕ, Bool, true, false, refl, ap, rules, arith, [], ◌∷◌, Option, Some, None, length, option_map, drop, MatchOption}
 use Rattle.std.specs.Borrow.{Bor}
 use Rattle.std.specs.Str.Pattern.{FindsCharPrefix}
 use Rattle.std.proofs.lemmas.Str.Pattern.{strip_prefix_char}

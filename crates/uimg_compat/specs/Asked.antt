@@ -1,5 +1,5 @@
 -- What the words of mkimage and dumpimage request, as plain values.
-use Rattle.std.specs.Prelude.{ℕ, Bool, List, map, ◌++◌, Option, option_map}
+use Rattle.std.specs.Prelude.{Bool, List, map, ◌++◌, Option, option_map}
 use Rattle.uimg_fit_base.specs.declared.placement.Placement.{Placement}
 use Rattle.uimg_legacy.specs.declared.options.Options.{Options}
 use Rattle.uimg_names.specs.declared.{field.Field.Field, naming.Naming.Naming}

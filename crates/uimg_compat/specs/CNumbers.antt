@@ -1,5 +1,5 @@
 -- Numbers as strtoull and strtol of the GNU C library read them.
-use Rattle.std.specs.Prelude.{ℕ, ◌-◌, ◌<◌, ◌^◌, ◌%◌, ◌==◌, ◌||◌, ◌&&◌, Bool, true, false, List, [], ◌∷◌, length, nat_lt, Option, Some, None, is_some, unwrap_or, option_map, SomeIff, if◌then◌else◌}
+use Rattle.std.specs.Prelude.{ℕ, ◌-◌, ◌<◌, ◌^◌, ◌%◌, ◌==◌, ◌&&◌, Bool, true, false, [], ◌∷◌, length, nat_lt, Option, Some, None, is_some, unwrap_or, option_map, SomeIff, if◌then◌else◌}
 use Rattle.std.specs.{Char.digit_value, List.list_all, Str.Parse.{IsNumeral, digits_value}}
 use Rattle.uimg_compat.specs.Getopt.{Text, behind}
 
@@ -24,15 +24,17 @@ abbrev pub behind_mark : Text → Text
 behind_mark text = elim (behind 48 text) [
   | None ↦ []
   | Some rest ↦ unwrap_or (behind 120 rest) (unwrap_or (behind 88 rest) [])
-  ]
+]
 
 -- In base 16 the digits may follow `0x` or `0X`.
 abbrev pub without_mark : ℕ → Text → Text
-without_mark base text = if base == 16 && nat_lt 0 (length (behind_mark text)) then behind_mark text else text
+without_mark base text = if base == 16 && nat_lt 0 (length (behind_mark text)) then behind_mark
+    text else text
 
 -- one or more digits of a base
 abbrev pub is_numeral : ℕ → Text → Bool
-is_numeral base text = if nat_lt 0 (length text) then list_all (λ digit. nat_lt (digit_value digit) base) text else false
+is_numeral base text = if nat_lt 0 (length text) then list_all
+    (λ digit. nat_lt (digit_value digit) base) text else false
 
 -- the number that digits write, if it has 64 bits
 abbrev pub in_64_bits : ℕ → Text → Option ℕ
@@ -43,7 +45,8 @@ in_64_bits base digits =
 -- the same as a fact
 abbrev pub IsIn64Bits : ℕ → Text → Option ℕ → Type 0
 IsIn64Bits base digits result =
-    SomeIff result (IsNumeral base digits × (digits_value base digits < 2 ^ 64)) (digits_value base digits)
+    SomeIff result (IsNumeral base digits × (digits_value base digits < 2 ^ 64))
+    (digits_value base digits)
 
 -- a number counted from 2^64 down
 abbrev pub opposite : ℕ → ℕ

@@ -1,16 +1,16 @@
 -- The words of dumpimage [-l] [-T TYPE] [-p POSITION] [-o OUTFILE] IMAGE.
-use Rattle.std.specs.Prelude.{◌≡◌, ◌==◌, ℕ, Bool, true, false, List, [], ◌∷◌, Option, Some, None, option_map, Result, Ok, Err, ⊤, codes, if◌then◌else◌}
+use Rattle.std.specs.Prelude.{◌==◌, ℕ, Bool, true, false, List, [], ◌∷◌, Option, Some, None, option_map, Result, Ok, Err, codes, if◌then◌else◌}
 use Rattle.std.specs.Str.{bytes_eq}
 use Rattle.uimg_names.specs.declared.field.Field.TheVariants.{Kind}
 use Rattle.uimg_requests.specs.declared.command.Action.{Action}
 use Rattle.uimg_requests.specs.declared.command.Action.TheVariants as action
-use Rattle.uimg_compat.specs.Asked.{Asked, Run, Shown, help, names, plain_run, runs, shown_of, shows, version}
+use Rattle.uimg_compat.specs.Asked.{Asked, help, names, plain_run, runs, version}
 use Rattle.uimg_compat.specs.CNumbers.{low_32}
-use Rattle.uimg_compat.specs.Getopt.{Reading, Row, Text, Told, all_read, flag, mistaken, operand, reading, told, value}
+use Rattle.uimg_compat.specs.Getopt.{Row, Text, Told, flag, operand, reading, value}
 use Rattle.uimg_compat.specs.Names.{form_asked, name_asked}
 use Rattle.uimg_compat.specs.Steps.{Step, asked_after, asks, first_of, refuses, sets, sets_by}
-use Rattle.uimg_compat.specs.Wrong.{Wrong, and_then, misused, no_image, no_number, no_outfile, or_wrong, out_of_memory, part_to_output, wrong_of}
-use Rattle.uimg_compat.specs.declared.{dumpimage.Settings.Settings, fault.OldFault.OldFault, names.Named.Named, request.Show.Show}
+use Rattle.uimg_compat.specs.Wrong.{Wrong, and_then, no_image, no_number, no_outfile, or_wrong, part_to_output}
+use Rattle.uimg_compat.specs.declared.{dumpimage.Settings.Settings, names.Named.Named}
 use Rattle.uimg_compat.specs.declared.names.Named.TheVariants as named
 
 abbrev pub letter_row : ℕ → Bool → Row
@@ -91,9 +91,9 @@ step (value letter word) dumping = value_step letter word dumping
 abbrev pub action_asked : Dumping → Result (Action × Option Text) Wrong
 action_asked dumping = if dumping.is_list then Ok (action.List, None)
     else elim dumping.outfile [
-    | None ↦ Err no_outfile
-    | Some path ↦ if bytes_eq path (codes "-") then Err part_to_output
-        else Ok (action.Extract dumping.position, Some path)
+      | None ↦ Err no_outfile
+      | Some path ↦ if bytes_eq path (codes "-") then Err part_to_output
+          else Ok (action.Extract dumping.position, Some path)
     ]
 
 abbrev pub run_asked : Dumping → Text → Result Asked Wrong
@@ -106,7 +106,7 @@ abbrev pub request_asked : Dumping → Result Asked Wrong
 request_asked dumping = elim dumping.image [
   | None ↦ Err no_image
   | Some image ↦ run_asked dumping image
-  ]
+]
 
 -- what the words behind dumpimage's name request
 abbrev pub dumpimage_asked : List Text → Result Asked Wrong

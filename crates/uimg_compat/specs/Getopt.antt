@@ -1,5 +1,5 @@
 -- What the words of a command line give, as getopt_long of the GNU C library reads them.
-use Rattle.std.specs.Prelude.{◌≡◌, ◌==◌, ◌+◌, ℕ, suc, Bool, true, false, List, [], ◌∷◌, length, map, filter, find, take, drop, Option, Some, None, option_and_then, option_map, ◌&&◌, Result, Ok, Err, codes, if◌then◌else◌, nat_lt}
+use Rattle.std.specs.Prelude.{◌≡◌, ◌==◌, ◌+◌, ℕ, suc, Bool, true, false, List, [], ◌∷◌, length, map, filter, find, take, drop, Option, Some, None, option_map, ◌&&◌, Result, Ok, Err, codes, if◌then◌else◌, nat_lt}
 use Rattle.std.specs.{List.{sum_by, starts_with, position_or_len, prefix_len, before_first, after_first}, Str.bytes_eq, Borrow.Bor}
 use Rattle.uimg_compat.specs.declared.getopt.{Words.Words, Given.Given, Misuse.Misuse}
 use Rattle.uimg_compat.specs.declared.getopt.Given.TheVariants as code
@@ -75,8 +75,8 @@ lettered rows (letter ∷ rest) next = elim (with_letter letter rows) [
   | Some row ↦ elim row.has_value [
     | true ↦ valued row.letter rest next
     | false ↦ told (flag row.letter) (lettered rows rest next)
-    ]
   ]
+]
 
 -- the option that has this long name
 abbrev pub called : List Row → Text → Option Row
@@ -103,7 +103,7 @@ abbrev pub named : List Row → Text → Result Row Mistake
 named rows text = elim (called rows text) [
   | Some row ↦ Ok row
   | None ↦ only text (filter (is_begun text) rows)
-  ]
+]
 
 -- an option by a long name: a value is joined to the name, or else the next word
 abbrev pub long_option : Row → Text → Option Text → Behind → Reading
@@ -111,12 +111,12 @@ long_option row name joined next = elim row.has_value [
   | false ↦ elim joined [
     | None ↦ told (flag row.letter) (next None)
     | Some text ↦ mistaken (unwanted_value name)
-    ]
+  ]
   | true ↦ elim joined [
     | None ↦ next (Some (record { letter = row.letter; missing = name_without_value name }))
     | Some text ↦ told (value row.letter text) (next None)
-    ]
   ]
+]
 
 -- what is before the first `=`, and what is behind it
 abbrev pub name_in : Text → Text
@@ -130,7 +130,7 @@ abbrev pub long : List Row → Text → Behind → Reading
 long rows text next = elim (named rows (name_in text)) [
   | Err mistake ↦ mistaken mistake
   | Ok row ↦ long_option row (name_in text) (joined_in text) next
-  ]
+]
 
 -- what follows a letter that a text begins with
 abbrev pub behind : ℕ → Text → Option Text
@@ -142,7 +142,7 @@ abbrev pub optioned : List Row → Text → Behind → Reading
 optioned rows text next = elim (behind 45 text) [
   | None ↦ lettered rows text next
   | Some name ↦ long rows name next
-  ]
+]
 
 -- A word of a hyphen and a text, that no option waits for: a lone hyphen is an operand, behind two
 -- hyphens there are only operands, a name follows two hyphens, and letters follow one.
@@ -154,7 +154,7 @@ abbrev pub opened : List Row → Text → (Bool → Behind) → Reading
 opened rows word next = elim (behind 45 word) [
   | None ↦ told (operand word) (next false None)
   | Some text ↦ hyphened rows word text next
-  ]
+]
 
 -- What words give, where all are operands or not, and an option waits for its value or not.
 abbrev pub read : List Row → List Text → Bool → Behind

@@ -184,7 +184,7 @@ number_step letter word s =
     else (if letter == 112
     then sets_by (address_asked 112 word) (λ number. record s { position = number })
     else (if letter == 66 then sets_by (address_asked 66 word)
-        (λ number. record s { alignment = number; alignment_word = word })
+    (λ number. record s { alignment = number; alignment_word = word })
     else sets s)))
 
 -- -n, -d, -f, -i, -D, -g and -o, and the options of keys -G, -k, -K and -N

@@ -1,5 +1,5 @@
 -- What mkimage requests, once all words are read.
-use Rattle.std.specs.Prelude.{◌≡◌, ◌==◌, ◌&&◌, ◌+◌, ◌%◌, ℕ, Bool, true, false, not, List, [], ◌∷◌, Option, Some, None, is_some, unwrap_or, Result, Ok, Err, ⊤, codes, if◌then◌else◌}
+use Rattle.std.specs.Prelude.{◌≡◌, ◌==◌, ◌&&◌, ◌+◌, ◌%◌, ℕ, Bool, false, not, List, Option, Some, None, is_some, unwrap_or, Result, Ok, Err, ⊤, codes, if◌then◌else◌}
 use Rattle.std.specs.Str.{bytes_eq}
 use Rattle.uimg_fit_base.specs.declared.placement.Placement.{Placement}
 use Rattle.uimg_fit_base.specs.declared.placement.Placement.TheVariants.{After, At, Inside}
@@ -104,7 +104,8 @@ auto_by s words file signature = record {
 abbrev pub auto_source_asked : Setting → List Text → Option Text → Result Auto Wrong
 auto_source_asked s words None = Err no_data
 auto_source_asked s words (Some file) =
-    and_then (signature_by s.key_name s.algorithm) (λ signature. Ok (auto_by s words file signature))
+    and_then (signature_by s.key_name s.algorithm)
+    (λ signature. Ok (auto_by s words file signature))
 
 abbrev pub auto_making_by : Setting → Text → Auto → Manner → Asked
 auto_making_by s image source manner = makes_auto (record {
@@ -178,7 +179,7 @@ abbrev pub timed_asked : Setting → List Text → Text → ℕ → Result Asked
 timed_asked s words image time = elim s.source [
   | None ↦ if s.is_update then update_asked s image time else data_asked s time image s.file
   | Some source ↦ sourced_asked s words source time image
-  ]
+]
 
 abbrev pub image_asked : Setting → List Text → Option Text → ℕ → Text → Result Asked Wrong
 image_asked s words epoch moment image = if s.is_list then listing_asked s image
@@ -189,7 +190,7 @@ abbrev pub request_asked : List Text → Option Text → ℕ → Setting → Res
 request_asked words epoch moment s = elim s.image [
   | None ↦ Err no_image
   | Some image ↦ image_asked s words epoch moment image
-  ]
+]
 
 -- what the words behind mkimage's name request
 abbrev pub mkimage_asked : List Text → Option Text → ℕ → Result Asked Wrong

@@ -1,7 +1,7 @@
 -- What an option or an operand does.
 use Rattle.std.specs.Prelude.{◌≡◌, ℕ, List, Option, Some, None, Result, Ok, Err, ⊤}
 use Rattle.uimg_compat.specs.Asked.{Asked, Shown, shown_of, shows}
-use Rattle.uimg_compat.specs.Getopt.{Mistake, Reading, Told, all_read, mistaken, told}
+use Rattle.uimg_compat.specs.Getopt.{Reading, Told, all_read, mistaken, told}
 use Rattle.uimg_compat.specs.Wrong.{Wrong, dtc_words, misused, out_of_memory, wrong_of}
 use Rattle.uimg_compat.specs.declared.{fault.OldFault.OldFault, request.Show.Show}
 
@@ -32,7 +32,7 @@ asked_after step request (told given rest) settings = elim (step given settings)
   | sets next ↦ asked_after step request rest next
   | asks shown ↦ Ok (shows shown)
   | refuses wrong ↦ Err wrong
-  ]
+]
 
 -- The first operand counts.
 abbrev pub first_of : Option (List ℕ) → List ℕ → List ℕ

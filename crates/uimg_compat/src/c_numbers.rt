@@ -1,9 +1,13 @@
 //! Reads numbers as strtoull and strtol of the C library do.
 
-ghost use Rattle.std.specs.Prelude.{true, ◌==◌, ◌-◌, if◌then◌else◌, ◌≡◌, ◌≤◌, ◌<◌, ◌^◌, ◌%◌, option_map, length, IfSome};
+ghost use Rattle.std.specs.Prelude.{true, ◌==◌, ◌-◌, if◌then◌else◌, ◌≡◌, ◌≤◌, ◌<◌, ◌^◌, ◌%◌};
+ghost use Rattle.std.specs.Prelude.{option_map, length, IfSome};
 ghost use Rattle.std.specs.Bool.{OnTrue};
 ghost use Rattle.std.specs.Str.Parse.{digits_value};
-ghost use Rattle.uimg_compat.specs.CNumbers.{IsIn64Bits, at_most, leading_digits, long_prefix, behind_blank, behind_mark, in_64_bits, is_blank, is_numeral, opposite, unsigned_long, without_blanks, without_mark, without_sign};
+ghost use Rattle.uimg_compat.specs.CNumbers.{IsIn64Bits, at_most, leading_digits, long_prefix};
+ghost use Rattle.uimg_compat.specs.CNumbers.{behind_blank, behind_mark, in_64_bits, is_blank};
+ghost use Rattle.uimg_compat.specs.CNumbers.{is_numeral, opposite, unsigned_long, without_blanks};
+ghost use Rattle.uimg_compat.specs.CNumbers.{without_mark, without_sign};
 
 use crate::getopt::behind;
 

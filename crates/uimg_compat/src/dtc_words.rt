@@ -54,10 +54,7 @@ pub struct Silenced {
 
 /// Reads the words of -D, which are separated by blanks. Refuses those that a shell would change,
 /// and those with which dtc would make another image or none.
-pub(crate) fn read_dtc_words<'a>(
-    alloc: Global,
-    text: &'a str,
-) -> Result<DtcWords<'a>, OldFault<'a>>
+pub(crate) fn read_dtc_words<'a>(alloc: Global, text: &'a str) -> Result<DtcWords<'a>, OldFault<'a>>
     ensures { IfErr result (λ fault. IsOfDtc (wrong_of fault)) }
 {
     let mut read = DtcWords {

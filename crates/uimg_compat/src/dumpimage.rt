@@ -2,7 +2,8 @@
 
 ghost use Rattle.std.specs.Prelude.{◌≡◌, map, option_map, Ok};
 ghost use Rattle.uimg_compat.specs.Asked.{asked_of};
-ghost use Rattle.uimg_compat.specs.Dumpimage.{action_asked, dumpimage_asked, dumping_of, flag_step, position_asked, request_asked, step, value_step};
+ghost use Rattle.uimg_compat.specs.Dumpimage.{action_asked, dumpimage_asked, dumping_of, flag_step};
+ghost use Rattle.uimg_compat.specs.Dumpimage.{position_asked, request_asked, step, value_step};
 ghost use Rattle.uimg_compat.specs.Getopt.{told_of};
 ghost use Rattle.uimg_compat.specs.Steps.{Steps};
 ghost use Rattle.uimg_compat.specs.Wrong.{Tells};
@@ -66,7 +67,8 @@ pub fn read_dumpimage<'a>(
 impl<'a> Settings<'a> {
     // Takes the next option or operand, or returns the requested text.
     fn take(&mut self, alloc: Global, given: Given<'a>) -> Result<Option<Show>, OldFault<'a>>
-        ensures { Steps (step (told_of given.entry) (dumping_of self.old)) (dumping_of self.new) result }
+        ensures { Steps (step (told_of given.entry) (dumping_of self.old)) (dumping_of self.new)
+            result }
     {
         match given {
             Given::Operand(word) => {
@@ -96,7 +98,8 @@ impl<'a> Settings<'a> {
         option: char,
         word: &'a str,
     ) -> Result<Option<Show>, OldFault<'a>>
-        ensures { Steps (value_step option word.entry.now (dumping_of self.old)) (dumping_of self.new) result }
+        ensures { Steps (value_step option word.entry.now (dumping_of self.old))
+            (dumping_of self.new) result }
     {
         match option {
             'o' => self.outfile = Some(word),
@@ -136,7 +139,8 @@ impl<'a> Settings<'a> {
 
     // Returns what is done with the image, and the file that it writes.
     fn action(&self) -> Result<(Action, Option<&'a str>), OldFault<'a>>
-        ensures { Tells (λ by. (by.0, option_map (λ path. path.now) by.1)) (action_asked (dumping_of self.now)) result }
+        ensures { Tells (λ by. (by.0, option_map (λ path. path.now) by.1))
+            (action_asked (dumping_of self.now)) result }
     {
         if self.is_list {
             return Ok((Action::List, None));

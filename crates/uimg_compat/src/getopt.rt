@@ -4,10 +4,16 @@
 //! letter or is the next word; the value of a long option comes after a `=` or is the next word.
 //! All words after `--` are operands. A long name may be cut to a beginning that no other has.
 
-ghost use Rattle.std.specs.Prelude.{List, ◌≡◌, ◌+◌, ◌<◌, ◌≤◌, [], ◌∷◌, length, map, find, IfOk, IfSome, MatchOption, option_map, ◌==◌, ◌&&◌, nat_lt, filter, false, true, None};
+ghost use Rattle.std.specs.Prelude.{List, ◌≡◌, ◌+◌, ◌<◌, ◌≤◌, [], ◌∷◌, length, map, find, IfOk};
+ghost use Rattle.std.specs.Prelude.{IfSome, MatchOption, option_map, ◌==◌, ◌&&◌, nat_lt, filter};
+ghost use Rattle.std.specs.Prelude.{false, true, None};
 ghost use Rattle.std.specs.Result.{result_map_both};
 ghost use Rattle.std.specs.List.{starts_with};
-ghost use Rattle.uimg_compat.specs.Getopt.{Row, only, Takes, behind, behind_word, first_letter, left, lettered, long, name_in, joined_in, met, mistake_of, named, optioned, is_begun, called, continues, reading, row_of, unread, with_letter, words_left};
+ghost use Rattle.uimg_compat.specs.Getopt.{Row, only, Takes, behind, behind_word, first_letter};
+ghost use Rattle.uimg_compat.specs.Getopt.{left, lettered, long, name_in, joined_in, met};
+ghost use Rattle.uimg_compat.specs.Getopt.{mistake_of, named, optioned, is_begun, called};
+ghost use Rattle.uimg_compat.specs.Getopt.{continues, reading, row_of, unread, with_letter};
+ghost use Rattle.uimg_compat.specs.Getopt.{words_left};
 
 use thiserror::Error;
 use uimg_printing::Printed;
@@ -69,7 +75,8 @@ impl<'a> Words<'a> {
     /// Returns the words after the program's name, all unread.
     #[tactic(auto, unfolding(crate::specs::Getopt::lettered))]
     pub fn new(words: &'a [&'a str]) -> Words<'a>
-        ensures { (rows : List Row) → unread rows result ≡ reading rows (map (λ word. word.now) words.now) }
+        ensures { (rows : List Row) → unread rows result ≡ reading rows
+            (map (λ word. word.now) words.now) }
     {
         Words {
             words,
@@ -82,7 +89,8 @@ impl<'a> Words<'a> {
     /// Takes the next option of these rows, or operand. Returns `None` at the end.
     pub fn take(&mut self, rows: &[OptionRow]) -> Result<Option<Given<'a>>, Misuse<'a>>
         ensures less { IfOk result (λ given. IfSome given (λ _. left self.new < left self.old)) }
-        ensures next { Takes result (unread (map row_of rows.now) self.old) (unread (map row_of rows.now) self.new) }
+        ensures next { Takes result (unread (map row_of rows.now) self.old)
+            (unread (map row_of rows.now) self.new) }
     {
         if !self.letters.is_empty() {
             return self.take_letter(rows);
@@ -116,8 +124,10 @@ impl<'a> Words<'a> {
         requires some { 0 < length text.now }
         requires between { self.now.letters.now ≡ [] }
         requires options { self.now.has_operands_alone ≡ false }
-        ensures less { IfOk result (λ given. IfSome given (λ _. left self.new < left self.old + length text.now)) }
-        ensures next { Takes result (optioned (map row_of rows.now) text.now (behind_word (map row_of rows.now) self.old)) (unread (map row_of rows.now) self.new) }
+        ensures less { IfOk result
+            (λ given. IfSome given (λ _. left self.new < left self.old + length text.now)) }
+        ensures next { Takes result (optioned (map row_of rows.now) text.now
+            (behind_word (map row_of rows.now) self.old)) (unread (map row_of rows.now) self.new) }
     {
         match behind(text, '-') {
             Some(name) => self.take_long(rows, name),
@@ -132,7 +142,8 @@ impl<'a> Words<'a> {
     fn take_word(&mut self) -> Option<&'a str>
         ensures letters { self.new.letters ≡ self.old.letters }
         ensures alone { self.new.has_operands_alone ≡ self.old.has_operands_alone }
-        ensures word { MatchOption result (words_left self.old ≡ []) (λ word. words_left self.old ≡ word.now ∷ words_left self.new) }
+        ensures word { MatchOption result (words_left self.old ≡ [])
+            (λ word. words_left self.old ≡ word.now ∷ words_left self.new) }
         ensures less { IfSome result (λ word. left self.new + length word.now < left self.old) }
     {
         let word = *self.words.get(self.next)?;
@@ -144,7 +155,8 @@ impl<'a> Words<'a> {
     fn take_letter(&mut self, rows: &[OptionRow]) -> Result<Option<Given<'a>>, Misuse<'a>>
         requires some { 0 < length self.now.letters.now }
         ensures less { IfOk result (λ given. IfSome given (λ _. left self.new < left self.old)) }
-        ensures next { Takes result (unread (map row_of rows.now) self.old) (unread (map row_of rows.now) self.new) }
+        ensures next { Takes result (unread (map row_of rows.now) self.old)
+            (unread (map row_of rows.now) self.new) }
     {
         let letters = self.letters;
         let Some(((option, _, has_value), rest)) = option_by_letter(rows, letters) else {
@@ -174,7 +186,9 @@ impl<'a> Words<'a> {
     ) -> Result<Option<Given<'a>>, Misuse<'a>>
         ensures letters { self.new.letters ≡ self.old.letters }
         ensures more { IfOk result (λ given. IfSome given (λ _. left self.new ≤ left self.old)) }
-        ensures next { Takes result (long (map row_of rows.now) text.now (behind_word (map row_of rows.now) self.old)) (behind_word (map row_of rows.now) self.new None) }
+        ensures next { Takes result (long (map row_of rows.now) text.now
+            (behind_word (map row_of rows.now) self.old))
+            (behind_word (map row_of rows.now) self.new None) }
     {
         let (name, joined) = name_and_value(text);
         let (option, _, has_value) = option_of(rows, name)?;
@@ -222,7 +236,8 @@ fn continues(byte: u8) -> bool
 
 // Returns the option of the first letter, and the letters after it.
 fn option_by_letter<'a>(rows: &[OptionRow], letters: &'a str) -> Option<(OptionRow, &'a str)>
-    ensures met { option_map (λ found. (row_of found.0, found.1.now)) result ≡ met (map row_of rows.now) letters.now }
+    ensures met { option_map (λ found. (row_of found.0, found.1.now)) result ≡ met
+        (map row_of rows.now) letters.now }
     ensures letter { IfSome result (λ found. letters.now ≡ found.0.0 ∷ found.1.now) }
     ensures shorter { IfSome result (λ found. length found.1.now < length letters.now) }
 {
@@ -284,7 +299,8 @@ pub(crate) fn option_by_name(rows: &[OptionRow], name: &str) -> Option<OptionRow
 
 // Returns the only option whose long name begins so.
 fn option_by_beginning<'a>(rows: &[OptionRow], text: &'a str) -> Result<OptionRow, Misuse<'a>>
-    ensures { result_map_both row_of mistake_of result ≡ only text.now (filter (is_begun text.now) (map row_of rows.now)) }
+    ensures { result_map_both row_of mistake_of result ≡ only text.now
+        (filter (is_begun text.now) (map row_of rows.now)) }
 {
     let mut found = None;
     for row in rows {
@@ -303,7 +319,8 @@ fn option_by_beginning<'a>(rows: &[OptionRow], text: &'a str) -> Result<OptionRo
 
 // Returns whether a name that is not empty begins with a text.
 fn is_begun(name: &str, text: &str) -> bool
-    ensures { result ≡ (nat_lt 0 (length name.now) && starts_with (λ a b. a == b) name.now text.now) }
+    ensures { result ≡
+        (nat_lt 0 (length name.now) && starts_with (λ a b. a == b) name.now text.now) }
 {
     !name.is_empty() && name.as_bytes().starts_with(text.as_bytes())
 }

@@ -4,7 +4,8 @@ mod requests;
 
 ghost use Rattle.std.specs.Prelude.{◌≡◌, map, option_map, Ok};
 ghost use Rattle.uimg_compat.specs.Getopt.{told_of};
-ghost use Rattle.uimg_compat.specs.Mkimage.{address_asked, flag_step, name_step, number_step, setting_of, step, value_step, with_word};
+ghost use Rattle.uimg_compat.specs.Mkimage.{address_asked, flag_step, name_step, number_step};
+ghost use Rattle.uimg_compat.specs.Mkimage.{setting_of, step, value_step, with_word};
 ghost use Rattle.uimg_compat.specs.Requests.{Answers, mkimage_asked};
 ghost use Rattle.uimg_compat.specs.Steps.{Steps, done};
 ghost use Rattle.uimg_compat.specs.Wrong.{Tells};
@@ -60,7 +61,8 @@ pub fn read_mkimage<'a>(
     epoch: Option<&str>,
     now: u32,
 ) -> Result<OldRequest<'a>, OldFault<'a>>
-    ensures { Answers (mkimage_asked (map (λ word. word.now) words.now) (option_map (λ text. text.now) epoch.entry) now) result }
+    ensures { Answers (mkimage_asked (map (λ word. word.now) words.now)
+        (option_map (λ text. text.now) epoch.entry) now) result }
 {
     let mut settings = Settings {
         arch: 7,
@@ -102,7 +104,8 @@ pub fn read_mkimage<'a>(
 impl<'a> Settings<'a> {
     // Takes the next option or operand, or returns the requested text.
     fn take(&mut self, alloc: Global, given: Given<'a>) -> Result<Option<Show>, OldFault<'a>>
-        ensures { Steps (step (told_of given.entry) (setting_of self.old)) (setting_of self.new) result }
+        ensures { Steps (step (told_of given.entry) (setting_of self.old)) (setting_of self.new)
+            result }
     {
         match given {
             Given::Operand(word) => {
@@ -138,7 +141,8 @@ impl<'a> Settings<'a> {
         option: char,
         value: &'a str,
     ) -> Result<Option<Show>, OldFault<'a>>
-        ensures { Steps (value_step option value.entry.now (setting_of self.old)) (setting_of self.new) result }
+        ensures { Steps (value_step option value.entry.now (setting_of self.old))
+            (setting_of self.new) result }
     {
         match option {
             'A' => return self.take_name(alloc, Field::Architecture, value),
@@ -155,7 +159,8 @@ impl<'a> Settings<'a> {
     }
 
     fn take_number(&mut self, option: char, value: &'a str) -> Result<(), OldFault<'a>>
-        ensures { Steps (number_step option value.entry.now (setting_of self.old)) (setting_of self.new) (done result) }
+        ensures { Steps (number_step option value.entry.now (setting_of self.old))
+            (setting_of self.new) (done result) }
     {
         match option {
             'a' => self.load = address('a', value)?,
@@ -195,7 +200,8 @@ impl<'a> Settings<'a> {
         field: Field,
         word: &'a str,
     ) -> Result<Option<Show>, OldFault<'a>>
-        ensures { Steps (name_step field word.entry.now (setting_of self.old)) (setting_of self.new) result }
+        ensures { Steps (name_step field word.entry.now (setting_of self.old))
+            (setting_of self.new) result }
     {
         let code = match name_of(alloc, field, word)? {
             Named::List => return Ok(Some(Show::Names(field))),

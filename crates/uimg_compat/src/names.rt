@@ -56,11 +56,7 @@ pub(crate) enum Named {
 }
 
 /// Returns the meaning of an option's word: the code of a name, in any case, or the list.
-pub(crate) fn name_of<'a>(
-    alloc: Global,
-    field: Field,
-    word: &'a str,
-) -> Result<Named, OldFault<'a>>
+pub(crate) fn name_of<'a>(alloc: Global, field: Field, word: &'a str) -> Result<Named, OldFault<'a>>
     ensures { Tells (λ named. named) (name_asked field word.entry.now) result }
 {
     if word == "list" {
@@ -74,7 +70,8 @@ pub(crate) fn name_of<'a>(
 
 // Returns why a word is no name of a field.
 fn unknown_name<'a>(alloc: Global, field: Field, word: &'a str) -> OldFault<'a>
-    ensures { IsWrong {X = Named} (Err (unknown_name (letter_of field) word.entry.now)) (wrong_of result) }
+    ensures { IsWrong {X = Named} (Err (unknown_name (letter_of field) word.entry.now))
+        (wrong_of result) }
 {
     let letter = letter_of(field);
     let title = title_of(field);

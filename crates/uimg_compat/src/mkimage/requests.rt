@@ -3,7 +3,11 @@
 ghost use Rattle.std.specs.Prelude.{◌≡◌, true, map, option_map, Ok};
 ghost use Rattle.uimg_compat.specs.Asked.{asked_of, auto_of, making_of};
 ghost use Rattle.uimg_compat.specs.Mkimage.{setting_of};
-ghost use Rattle.uimg_compat.specs.Requests.{Answers, align_asked, auto_asked, auto_source_asked, data_asked, default_entry, listing_asked, making_by, manner_asked, options_of, placed, request_asked, signature_by, source_asked, sourced_asked, time_asked, timed_asked, whole_asked, unsigned, update_asked};
+ghost use Rattle.uimg_compat.specs.Requests.{Answers, align_asked, auto_asked, auto_source_asked};
+ghost use Rattle.uimg_compat.specs.Requests.{data_asked, default_entry, listing_asked, making_by};
+ghost use Rattle.uimg_compat.specs.Requests.{manner_asked, options_of, placed, request_asked};
+ghost use Rattle.uimg_compat.specs.Requests.{signature_by, source_asked, sourced_asked, time_asked};
+ghost use Rattle.uimg_compat.specs.Requests.{timed_asked, whole_asked, unsigned, update_asked};
 ghost use Rattle.uimg_compat.specs.Wrong.{Tells};
 
 use crate::auto_source::AutoSource;
@@ -40,7 +44,8 @@ impl<'a> Settings<'a> {
         epoch: Option<&str>,
         now: u32,
     ) -> Result<OldRequest<'a>, OldFault<'a>>
-        ensures { Answers (request_asked (map (λ word. word.now) words.entry.now) (option_map (λ text. text.now) epoch.entry) now (setting_of self.entry)) result }
+        ensures { Answers (request_asked (map (λ word. word.now) words.entry.now)
+            (option_map (λ text. text.now) epoch.entry) now (setting_of self.entry)) result }
     {
         let Some(image) = self.image else {
             return Err(OldFault::NoImage);
@@ -63,7 +68,8 @@ impl<'a> Settings<'a> {
         image: &'a str,
         time: u32,
     ) -> Result<OldRequest<'a>, OldFault<'a>>
-        ensures { Answers (timed_asked (setting_of self.entry) (map (λ word. word.now) words.entry.now) image.entry.now time) result }
+        ensures { Answers (timed_asked (setting_of self.entry)
+            (map (λ word. word.now) words.entry.now) image.entry.now time) result }
     {
         match self.source {
             Some(source) => self.sourced(alloc, words, source, time, image),
@@ -82,7 +88,8 @@ impl<'a> Settings<'a> {
         time: u32,
         image: &'a str,
     ) -> Result<OldRequest<'a>, OldFault<'a>>
-        ensures { Answers (sourced_asked (setting_of self.entry) (map (λ word. word.now) words.entry.now) source.entry.now time image.entry.now) result }
+        ensures { Answers (sourced_asked (setting_of self.entry)
+            (map (λ word. word.now) words.entry.now) source.entry.now time image.entry.now) result }
     {
         if source == AUTO {
             return self.making_of_auto(words, time, image);
@@ -141,7 +148,8 @@ impl<'a> Settings<'a> {
         time: u32,
         image: &'a str,
     ) -> Result<OldRequest<'a>, OldFault<'a>>
-        ensures { Tells asked_of (auto_asked (setting_of self.entry) (map (λ word. word.now) words.entry.now) time image.entry.now) result }
+        ensures { Tells asked_of (auto_asked (setting_of self.entry)
+            (map (λ word. word.now) words.entry.now) time image.entry.now) result }
     {
         self.check_signing()?;
         Ok(OldRequest::MakeAuto(AutoRequest {
@@ -161,7 +169,8 @@ impl<'a> Settings<'a> {
         time: u32,
         image: &'a str,
     ) -> Result<OldRequest<'a>, OldFault<'a>>
-        ensures { Answers (source_asked (setting_of self.entry) source.entry.now time image.entry.now) result }
+        ensures { Answers
+            (source_asked (setting_of self.entry) source.entry.now time image.entry.now) result }
     {
         self.check_signing()?;
         Ok(OldRequest::MakeFit(FitRequest {
@@ -191,7 +200,9 @@ impl<'a> Settings<'a> {
         time: u32,
         image: &'a str,
     ) -> Result<OldRequest<'a>, OldFault<'a>>
-        ensures { Tells asked_of (data_asked (setting_of self.entry) time image.entry.now (setting_of self.entry).file) result }
+        ensures { Tells asked_of
+            (data_asked (setting_of self.entry) time image.entry.now (setting_of self.entry).file)
+            result }
     {
         let Some(data) = self.data else {
             return Err(OldFault::NothingToMake);
@@ -213,7 +224,8 @@ impl<'a> Settings<'a> {
         time: u32,
         image: &'a str,
     ) -> Result<OldRequest<'a>, OldFault<'a>>
-        ensures { Tells asked_of (whole_asked (setting_of self.entry) data.entry.now time image.entry.now) result }
+        ensures { Tells asked_of
+            (whole_asked (setting_of self.entry) data.entry.now time image.entry.now) result }
     {
         let options = self.options();
         if self.is_xip && has_parts(options.kind) {
@@ -228,7 +240,8 @@ impl<'a> Settings<'a> {
     }
 
     fn auto_source(&self, words: &'a [&'a str]) -> Result<AutoSource<'a>, OldFault<'a>>
-        ensures { Tells auto_of (auto_source_asked (setting_of self.now) (map (λ word. word.now) words.entry.now) (setting_of self.now).file) result }
+        ensures { Tells auto_of (auto_source_asked (setting_of self.now)
+            (map (λ word. word.now) words.entry.now) (setting_of self.now).file) result }
     {
         let Some(data) = self.data else {
             return Err(OldFault::NoData);
@@ -245,7 +258,8 @@ impl<'a> Settings<'a> {
 
     // Returns the key's name and the algorithm of the signatures of -f auto.
     fn signature(&self) -> Result<Option<(&'a str, &'a str)>, OldFault<'a>>
-        ensures { Tells (option_map (λ both. (both.0.now, both.1.now))) (signature_by (setting_of self.now).key_name (setting_of self.now).algorithm) result }
+        ensures { Tells (option_map (λ both. (both.0.now, both.1.now)))
+            (signature_by (setting_of self.now).key_name (setting_of self.now).algorithm) result }
     {
         match (self.key_name, self.algorithm) {
             (None, _) => Ok(None),
@@ -349,7 +363,8 @@ fn made_of_parts<'a>(
 
 // Returns the time by SOURCE_DATE_EPOCH, if it is set, else the current time.
 fn time<'a>(epoch: Option<&str>, now: u32) -> Result<u32, OldFault<'a>>
-    ensures { Tells (λ time. time) (time_asked (option_map (λ text. text.now) epoch.entry) now) result }
+    ensures { Tells (λ time. time) (time_asked (option_map (λ text. text.now) epoch.entry) now)
+        result }
 {
     match epoch {
         None => Ok(now),

@@ -1,6 +1,6 @@
-use Rattle.std.proofs.Common.{rules, arith, map, ◌∙◌, ◌≡◌, ◌∷◌, [], sym, ap, true, false}
-use Rattle.uimg_compat.specs.Getopt.{row_of, behind_word, words_left, read, told, value, mistaken, letter_without_value}
-use Rattle.uimg_compat.proofs.Letters.{unknown, flag_next, value_next, waits_next, waited, waited_in_vain, no_letters}
+use Rattle.std.proofs.Common.{rules, arith, ◌∙◌}
+use Rattle.uimg_compat.specs.Getopt.{words_left}
+use Rattle.uimg_compat.proofs.Letters.{unknown, flag_next, value_next, waits_next, waited, waited_in_vain}
 use Rattle.uimg_compat.proofs.getopt.Words.take_letter.Goals as goal
 
 pub returns-in_default-clause-next : goal.returns-in_default-clause-next
@@ -17,7 +17,7 @@ pub returns-in-Some-take_word-clause-next : goal.returns-in-Some-take_word-claus
 returns-in-Some-take_word-clause-next c =
     waits_next _ _ _ _ _ c.requires.some c.in-Some.ensures.met (search rules) c.in-Some.ensures.letter (search (rules, arith))
     ∙ waited _ _ _ _ c.in-Some-take_word.value.now (words_left c.take_word.new.self) c.take_word.new.self.letters.now c.take_word.new.self.has_operands_alone
-        (search rules) (search rules) (search rules)
+    (search rules) (search rules) (search rules)
 
 pub returns-in-None-clause-next : goal.returns-in-None-clause-next
 returns-in-None-clause-next c =

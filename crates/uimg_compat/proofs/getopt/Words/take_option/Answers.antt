@@ -1,5 +1,5 @@
-use Rattle.std.proofs.Common.{rules, arith, map, ◌∙◌, ◌≡◌, ◌∷◌, [], sym, ap, true, false, Some, None}
-use Rattle.uimg_compat.specs.Getopt.{row_of, behind_word, words_left, read, optioned, long, unread, behind}
+use Rattle.std.proofs.Common.{rules, map}
+use Rattle.uimg_compat.specs.Getopt.{row_of, behind_word}
 use Rattle.uimg_compat.proofs.Letters.{takes_as, leaves_as, no_letters, is_long}
 use Rattle.uimg_compat.proofs.getopt.Words.take_option.Goals as goal
 
