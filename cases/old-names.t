@@ -46,6 +46,7 @@ An image with each way to write its options, the same as uimg makes:
   $ made -Aarm -a1000 -nname -dd out
   $ made -qAarm -va0x1000 -nname -ddd -dd -- out
   $ made --architecture arm --load-address=1000 --config=name --image d out
+  $ made --arch arm --load=1000 --conf=name --im d out
   $ made -A ARM -O Linux -T KERNEL -C GZip -a 1000 -n name -d d out
   $ made -A arm -a 1000 -n name -d d out and what is behind it
   $ made -t -R second -c comment -B 4 -A arm -a 1000 -n name -d d out
@@ -346,7 +347,22 @@ Requests that fail:
   mkimage: unknown option '-Z'
   [2]
   $ mkimage --arch=arm
-  mkimage: unknown option '--arch'
+  mkimage: no image given
+  [2]
+  $ mkimage --a=arm -d d out
+  mkimage: option '--a' is ambiguous
+  [2]
+  $ mkimage --=arm -d d out
+  mkimage: option '--' is ambiguous
+  [2]
+  $ mkimage --architectures=arm -d d out
+  mkimage: unknown option '--architectures'
+  [2]
+  $ mkimage --qui=yes
+  mkimage: option '--qui' takes no value
+  [2]
+  $ mkimage out --load
+  mkimage: option '--load' needs a value
   [2]
   $ mkimage -A "$(printf '\033[31m')" -d kernel.bin out
   mkimage: -A: unknown architecture '\x1b[31m'; mkimage -A list prints all names

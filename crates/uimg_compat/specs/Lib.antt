@@ -1,1 +1,9 @@
+pub mod Asked
+pub mod CNumbers
+pub mod Dumpimage
 pub mod Getopt
+pub mod Mkimage
+pub mod Names
+pub mod Requests
+pub mod Steps
+pub mod Wrong

@@ -4,7 +4,7 @@ ghost use Rattle.std.specs.Prelude.{◌<◌, IfSome};
 ghost use Rattle.uimg_compat.specs.Getopt.{left};
 
 use crate::getopt::{Given, Words};
-use crate::mkimage_options::MKIMAGE_OPTIONS;
+use crate::mkimage_options::take_option;
 use crate::quoted::Quoted;
 use std::fmt;
 use std::fmt::{Display, Formatter, Write};
@@ -193,7 +193,7 @@ impl<'a> TreePaths<'a> {
     pub fn take(&mut self) -> Option<&'a str>
         ensures less { IfSome result (λ _. left self.new.words < left self.old.words) }
     {
-        while let Ok(Some(given)) = self.words.take(&MKIMAGE_OPTIONS) {
+        while let Ok(Some(given)) = take_option(&mut self.words) {
             if let Given::Value('b', path) = given {
                 return Some(path);
             }

@@ -1,5 +1,9 @@
 //! The words of -D, which are dtc's.
 
+ghost use Rattle.std.specs.Prelude.{IfErr};
+ghost use Rattle.uimg_compat.specs.Requests.{IsOfDtc};
+ghost use Rattle.uimg_compat.specs.Wrong.{wrong_of};
+
 use crate::dtc_checks::is_check;
 use crate::fault::OldFault;
 use crate::getopt::{OptionRow, option_by_name};
@@ -50,10 +54,9 @@ pub struct Silenced {
 
 /// Reads the words of -D, which are separated by blanks. Refuses those that a shell would change,
 /// and those with which dtc would make another image or none.
-pub(crate) fn read_dtc_words<'a>(
-    alloc: Global,
-    text: &'a str,
-) -> Result<DtcWords<'a>, OldFault<'a>> {
+pub(crate) fn read_dtc_words<'a>(alloc: Global, text: &'a str) -> Result<DtcWords<'a>, OldFault<'a>>
+    ensures { IfErr result (λ fault. IsOfDtc (wrong_of fault)) }
+{
     let mut read = DtcWords {
         folders: Vec::new(alloc),
         silenced: Silenced {
@@ -84,7 +87,9 @@ impl<'a> DtcWords<'a> {
         &mut self,
         waiting: Option<char>,
         word: &'a str,
-    ) -> Result<Option<char>, OldFault<'a>> {
+    ) -> Result<Option<char>, OldFault<'a>>
+        ensures { IfErr result (λ fault. IsOfDtc (wrong_of fault)) }
+    {
         if word.contains(is_special) {
             return Err(OldFault::DtcWord(Printed(word.as_bytes())));
         }
@@ -96,15 +101,17 @@ impl<'a> DtcWords<'a> {
     }
 
     // Takes a long option, whose text follows two dashes.
-    fn take_long(&mut self, text: &'a str, word: &'a str) -> Result<Option<char>, OldFault<'a>> {
+    fn take_long(&mut self, text: &'a str, word: &'a str) -> Result<Option<char>, OldFault<'a>>
+        ensures { IfErr result (λ fault. IsOfDtc (wrong_of fault)) }
+    {
         let (name, joined) = match text.split_once('=') {
             Some((name, value)) => (name, Some(value)),
             None => (text, None),
         };
         match (option_by_name(&DTC_OPTIONS, name), joined) {
-            (Some((option, true)), Some(value)) => self.take_value(option, value, word),
-            (Some((option, true)), None) => Ok(Some(option)),
-            (Some((option, false)), None) => {
+            (Some((option, _, true)), Some(value)) => self.take_value(option, value, word),
+            (Some((option, _, true)), None) => Ok(Some(option)),
+            (Some((option, _, false)), None) => {
                 self.take_flag(option);
                 Ok(None)
             }
@@ -113,7 +120,9 @@ impl<'a> DtcWords<'a> {
     }
 
     // Takes a word of joined letters: options without a value, then at most one with a value.
-    fn take_letters(&mut self, word: &'a str) -> Result<Option<char>, OldFault<'a>> {
+    fn take_letters(&mut self, word: &'a str) -> Result<Option<char>, OldFault<'a>>
+        ensures { IfErr result (λ fault. IsOfDtc (wrong_of fault)) }
+    {
         let letters = word.strip_prefix('-').unwrap_or("");
         let rest = letters.trim_start_matches(is_flag);
         for flag in letters.chars() {
@@ -142,7 +151,9 @@ impl<'a> DtcWords<'a> {
         option: char,
         value: &'a str,
         word: &'a str,
-    ) -> Result<Option<char>, OldFault<'a>> {
+    ) -> Result<Option<char>, OldFault<'a>>
+        ensures { IfErr result (λ fault. IsOfDtc (wrong_of fault)) }
+    {
         let number = number_of(value);
         let is_taken = match (option, number) {
             ('I', _) => value == "dts",

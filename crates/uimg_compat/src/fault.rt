@@ -1,5 +1,8 @@
 //! Why the words of a command line request nothing.
 
+ghost use Rattle.std.specs.Prelude.{◌≡◌};
+ghost use Rattle.uimg_compat.specs.declared.fault.OldFault.TheVariants.{Misused, OutOfMemory};
+
 use crate::getopt::Misuse;
 use std::alloc::AllocError;
 use thiserror::Error;
@@ -128,12 +131,16 @@ pub enum OldFault<'a> {
 }
 
 impl<'a> From<AllocError> for OldFault<'a> {
+    ghost from_gives = { λ _ fault. fault ≡ OutOfMemory };
+
     fn from(_error: AllocError) -> OldFault<'a> {
         OldFault::OutOfMemory
     }
 }
 
 impl<'a> From<Misuse<'a>> for OldFault<'a> {
+    ghost from_gives = { λ misuse fault. fault ≡ Misused misuse };
+
     fn from(misuse: Misuse<'a>) -> OldFault<'a> {
         OldFault::Misused(misuse)
     }

@@ -2,11 +2,19 @@
 
 mod requests;
 
+ghost use Rattle.std.specs.Prelude.{◌≡◌, map, option_map, Ok};
+ghost use Rattle.uimg_compat.specs.Getopt.{told_of};
+ghost use Rattle.uimg_compat.specs.Mkimage.{address_asked, flag_step, name_step, number_step};
+ghost use Rattle.uimg_compat.specs.Mkimage.{setting_of, step, value_step, with_word};
+ghost use Rattle.uimg_compat.specs.Requests.{Answers, mkimage_asked};
+ghost use Rattle.uimg_compat.specs.Steps.{Steps, done};
+ghost use Rattle.uimg_compat.specs.Wrong.{Tells};
+
 use crate::c_numbers::{low_half, unsigned_long};
 use crate::fault::OldFault;
 use crate::getopt::{Given, Words};
 use crate::helps::MKIMAGE_HELP;
-use crate::mkimage_options::MKIMAGE_OPTIONS;
+use crate::mkimage_options::take_option;
 use crate::names::{Named, name_of};
 use crate::request::{OldRequest, Show};
 use std::alloc::Global;
@@ -46,12 +54,16 @@ struct Settings<'a> {
 
 /// Reads the words after mkimage's name. `epoch` is SOURCE_DATE_EPOCH if it is set, and `now` the
 /// current time in seconds since 1970.
+#[tactic(auto, using(crate::proofs::Telling::answers))]
 pub fn read_mkimage<'a>(
     alloc: Global,
     words: &'a [&'a str],
     epoch: Option<&str>,
     now: u32,
-) -> Result<OldRequest<'a>, OldFault<'a>> {
+) -> Result<OldRequest<'a>, OldFault<'a>>
+    ensures { Answers (mkimage_asked (map (λ word. word.now) words.now)
+        (option_map (λ text. text.now) epoch.entry) now) result }
+{
     let mut settings = Settings {
         arch: 7,
         os: 5,
@@ -81,7 +93,7 @@ pub fn read_mkimage<'a>(
         has_no_data: false,
     };
     let mut unread = Words::new(words);
-    while let Some(given) = unread.take(&MKIMAGE_OPTIONS)? {
+    while let Some(given) = take_option(&mut unread)? {
         if let Some(show) = settings.take(alloc, given)? {
             return Ok(OldRequest::Show(show));
         }
@@ -91,23 +103,26 @@ pub fn read_mkimage<'a>(
 
 impl<'a> Settings<'a> {
     // Takes the next option or operand, or returns the requested text.
-    fn take(&mut self, alloc: Global, given: Given<'a>) -> Result<Option<Show>, OldFault<'a>> {
+    fn take(&mut self, alloc: Global, given: Given<'a>) -> Result<Option<Show>, OldFault<'a>>
+        ensures { Steps (step (told_of given.entry) (setting_of self.old)) (setting_of self.new)
+            result }
+    {
         match given {
             Given::Operand(word) => {
-                if self.image.is_none() {
-                    self.image = Some(word);
-                }
+                self.image = Some(self.image.unwrap_or(word));
                 Ok(None)
             }
-            Given::Flag(option) => self.take_flag(option),
+            Given::Flag(option) => Ok(self.take_flag(option)),
             Given::Value(option, value) => self.take_value(alloc, option, value),
         }
     }
 
-    fn take_flag(&mut self, option: char) -> Result<Option<Show>, OldFault<'a>> {
+    fn take_flag(&mut self, option: char) -> Option<Show>
+        ensures { Steps (flag_step option (setting_of self.old)) (setting_of self.new) (Ok result) }
+    {
         match option {
-            'h' => return Ok(Some(Show::Help(MKIMAGE_HELP))),
-            'V' => return Ok(Some(Show::Version)),
+            'h' => return Some(Show::Help(MKIMAGE_HELP)),
+            'V' => return Some(Show::Version),
             'E' => self.is_external = true,
             'l' => self.is_list = true,
             'q' => self.is_quiet = true,
@@ -117,7 +132,7 @@ impl<'a> Settings<'a> {
             'x' => self.is_xip = true,
             _ => {}
         }
-        Ok(None)
+        None
     }
 
     fn take_value(
@@ -125,30 +140,58 @@ impl<'a> Settings<'a> {
         alloc: Global,
         option: char,
         value: &'a str,
-    ) -> Result<Option<Show>, OldFault<'a>> {
+    ) -> Result<Option<Show>, OldFault<'a>>
+        ensures { Steps (value_step option value.entry.now (setting_of self.old))
+            (setting_of self.new) result }
+    {
         match option {
             'A' => return self.take_name(alloc, Field::Architecture, value),
             'O' => return self.take_name(alloc, Field::System, value),
             'T' => return self.take_name(alloc, Field::Kind, value),
             'C' => return self.take_name(alloc, Field::Compression, value),
+            'a' => self.take_number('a', value)?,
+            'e' => self.take_number('e', value)?,
+            'p' => self.take_number('p', value)?,
+            'B' => self.take_number('B', value)?,
+            _ => self.take_word(option, value),
+        }
+        Ok(None)
+    }
+
+    fn take_number(&mut self, option: char, value: &'a str) -> Result<(), OldFault<'a>>
+        ensures { Steps (number_step option value.entry.now (setting_of self.old))
+            (setting_of self.new) (done result) }
+    {
+        match option {
             'a' => self.load = address('a', value)?,
             'e' => self.entry = Some(address('e', value)?),
             'p' => self.position = address('p', value)?,
-            'n' => self.name = value,
-            'd' => self.data = Some(value),
-            'f' => self.source = Some(value),
-            'i' => self.ramdisk = Some(value),
             'B' => {
                 self.alignment = address('B', value)?;
                 self.alignment_word = value;
             }
+            _ => {}
+        }
+        Ok(())
+    }
+
+    fn take_word(&mut self, option: char, value: &'a str)
+        ensures { setting_of self.new ≡ with_word option value.entry.now (setting_of self.old) }
+    {
+        match option {
+            'n' => self.name = value,
+            'd' => self.data = Some(value),
+            'f' => self.source = Some(value),
+            'i' => self.ramdisk = Some(value),
             'D' => self.dtc_words = value,
             'g' => self.key_name = Some(value),
             'o' => self.algorithm = Some(value),
-            'G' | 'k' | 'K' | 'N' => self.signing = Some(option),
+            'G' => self.signing = Some('G'),
+            'k' => self.signing = Some('k'),
+            'K' => self.signing = Some('K'),
+            'N' => self.signing = Some('N'),
             _ => {}
         }
-        Ok(None)
     }
 
     fn take_name(
@@ -156,7 +199,10 @@ impl<'a> Settings<'a> {
         alloc: Global,
         field: Field,
         word: &'a str,
-    ) -> Result<Option<Show>, OldFault<'a>> {
+    ) -> Result<Option<Show>, OldFault<'a>>
+        ensures { Steps (name_step field word.entry.now (setting_of self.old))
+            (setting_of self.new) result }
+    {
         let code = match name_of(alloc, field, word)? {
             Named::List => return Ok(Some(Show::Names(field))),
             Named::Code(code) => code,
@@ -175,7 +221,9 @@ impl<'a> Settings<'a> {
 }
 
 // Reads the low 32 bits of a hexadecimal number.
-fn address(letter: char, word: &str) -> Result<u32, OldFault<'_>> {
+fn address(letter: char, word: &str) -> Result<u32, OldFault<'_>>
+    ensures { Tells (λ number. number) (address_asked letter word.now) result }
+{
     match unsigned_long(word, 16) {
         Some(number) => Ok(low_half(number)),
         None => Err(OldFault::NoNumber {

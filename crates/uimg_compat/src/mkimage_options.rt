@@ -1,9 +1,13 @@
 //! The options of mkimage 2023.01.
 
-use crate::getopt::OptionRow;
+ghost use Rattle.std.specs.Prelude.{◌<◌, IfOk, IfSome};
+ghost use Rattle.uimg_compat.specs.Getopt.{Takes, left, unread};
+ghost use Rattle.uimg_compat.specs.Mkimage.{mkimage_rows};
+
+use crate::getopt::{Given, Misuse, OptionRow, Words};
 
 /// The options, by their letters and long names.
-pub(crate) const MKIMAGE_OPTIONS: [OptionRow; 33] = [
+const MKIMAGE_OPTIONS: [OptionRow; 33] = [
     ('a', "load-address", true),
     ('A', "architecture", true),
     ('b', "device-tree", true),
@@ -38,3 +42,12 @@ pub(crate) const MKIMAGE_OPTIONS: [OptionRow; 33] = [
     ('V', "version", false),
     ('x', "xip", false),
 ];
+
+/// Takes mkimage's next option, or operand. Returns `None` at the end.
+#[tactic(auto, unfolding(crate::specs::Mkimage::mkimage_rows))]
+pub(crate) fn take_option<'a>(words: &mut Words<'a>) -> Result<Option<Given<'a>>, Misuse<'a>>
+    ensures less { IfOk result (λ given. IfSome given (λ _. left words.new < left words.old)) }
+    ensures next { Takes result (unread mkimage_rows words.old) (unread mkimage_rows words.new) }
+{
+    words.take(&MKIMAGE_OPTIONS)
+}

@@ -1,5 +1,10 @@
 //! The names that the words of -A, -O, -T and -C may be.
 
+ghost use Rattle.std.specs.Prelude.{◌≡◌, Result, Err};
+ghost use Rattle.uimg_compat.specs.Names.{form_asked, is_made, letter_of, name_asked};
+ghost use Rattle.uimg_compat.specs.Wrong.{IsWrong, Tells, Wrong, unknown_name, wrong_of};
+ghost use Rattle.uimg_compat.specs.declared.names.Named.{Named};
+
 use crate::fault::OldFault;
 use crate::nearest::nearest;
 use std::alloc::Global;
@@ -19,7 +24,9 @@ const FIRMWARE_IVT: u8 = 32;
 const ANY_FORMAT: [u8; 6] = [17, 20, 29, 31, 33, 39];
 
 /// Returns the letter of the option for a field.
-pub(crate) fn letter_of(field: Field) -> char {
+pub(crate) fn letter_of(field: Field) -> char
+    ensures { result ≡ letter_of field }
+{
     match field {
         Field::Architecture => 'A',
         Field::System => 'O',
@@ -49,63 +56,61 @@ pub(crate) enum Named {
 }
 
 /// Returns the meaning of an option's word: the code of a name, in any case, or the list.
-pub(crate) fn name_of<'a>(
-    alloc: Global,
-    field: Field,
-    word: &'a str,
-) -> Result<Named, OldFault<'a>> {
+pub(crate) fn name_of<'a>(alloc: Global, field: Field, word: &'a str) -> Result<Named, OldFault<'a>>
+    ensures { Tells (λ named. named) (name_asked field word.entry.now) result }
+{
     if word == "list" {
         return Ok(Named::List);
     }
     match Naming::All.code_named(field, word.as_bytes()) {
         Some(code) => Ok(Named::Code(code)),
-        None => Err(unknown_name(alloc, field, word)?),
+        None => Err(unknown_name(alloc, field, word)),
     }
 }
 
-fn unknown_name<'a>(
-    alloc: Global,
-    field: Field,
-    word: &'a str,
-) -> Result<OldFault<'a>, OldFault<'a>> {
+// Returns why a word is no name of a field.
+fn unknown_name<'a>(alloc: Global, field: Field, word: &'a str) -> OldFault<'a>
+    ensures { IsWrong {X = Named} (Err (unknown_name (letter_of field) word.entry.now))
+        (wrong_of result) }
+{
     let letter = letter_of(field);
     let title = title_of(field);
-    Ok(match nearest(alloc, field, word)? {
-        Some(nearest) => OldFault::NearName {
+    let shown = Printed(word.as_bytes());
+    match nearest(alloc, field, word) {
+        Ok(Some(nearest)) => OldFault::NearName {
             letter,
             title,
-            word: Printed(word.as_bytes()),
+            word: shown,
             nearest,
         },
-        None => OldFault::UnknownName {
+        Ok(None) => OldFault::UnknownName {
             letter,
             title,
-            word: Printed(word.as_bytes()),
+            word: shown,
         },
-    })
-}
-
-/// Refuses a type, by its name, whose images are not made from data.
-pub(crate) fn check_made(kind: u8, name: &str) -> Result<(), OldFault<'_>> {
-    if is_made(kind) {
-        return Ok(());
+        Err(_) => OldFault::OutOfMemory,
     }
-    Err(OldFault::OtherImages(Printed(name.as_bytes())))
 }
 
 /// Returns the format of the images of a type, by its name. The type `invalid` counts as none. A
 /// type of other images is refused.
-pub(crate) fn format_of(kind: Option<u8>, name: &str) -> Result<Form, OldFault<'_>> {
+pub(crate) fn format_of(kind: Option<u8>, name: &str) -> Result<Form, OldFault<'_>>
+    ensures { Tells (λ form. form) (form_asked kind name.now) result }
+{
     match kind {
-        None | Some(0) => Ok(Form::Guess),
+        None => Ok(Form::Guess),
+        Some(0) => Ok(Form::Guess),
         Some(FLAT_DT) => Ok(Form::Fit),
-        Some(code) if is_made(code) || code == FIRMWARE_IVT => Ok(Form::Legacy),
+        Some(code) if is_made(code) => Ok(Form::Legacy),
+        Some(FIRMWARE_IVT) => Ok(Form::Legacy),
         Some(code) if ANY_FORMAT.contains(&code) => Ok(Form::Guess),
         Some(_) => Err(OldFault::OtherImages(Printed(name.as_bytes()))),
     }
 }
 
-// Returns whether images of a type are legacy or FIT images.
-fn is_made(kind: u8) -> bool {
+/// Returns whether images of a type are legacy or FIT images.
+pub(crate) fn is_made(kind: u8) -> bool
+    ensures { result ≡ is_made kind }
+{
     kind <= FLAT_DT || kind == KERNEL_NOLOAD
 }

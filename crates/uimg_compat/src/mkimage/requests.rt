@@ -1,16 +1,26 @@
 //! What the words of mkimage request.
 
+ghost use Rattle.std.specs.Prelude.{◌≡◌, true, map, option_map, Ok};
+ghost use Rattle.uimg_compat.specs.Asked.{asked_of, auto_of, making_of};
+ghost use Rattle.uimg_compat.specs.Mkimage.{setting_of};
+ghost use Rattle.uimg_compat.specs.Requests.{Answers, align_asked, auto_asked, auto_source_asked};
+ghost use Rattle.uimg_compat.specs.Requests.{data_asked, default_entry, listing_asked, making_by};
+ghost use Rattle.uimg_compat.specs.Requests.{manner_asked, options_of, placed, request_asked};
+ghost use Rattle.uimg_compat.specs.Requests.{signature_by, source_asked, sourced_asked, time_asked};
+ghost use Rattle.uimg_compat.specs.Requests.{timed_asked, whole_asked, unsigned, update_asked};
+ghost use Rattle.uimg_compat.specs.Wrong.{Tells};
+
 use crate::auto_source::AutoSource;
 use crate::c_numbers::long_prefix;
 use crate::dtc_words::read_dtc_words;
 use crate::fault::OldFault;
 use crate::mkimage::Settings;
-use crate::names::{check_made, format_of};
+use crate::names::{format_of, is_made};
 use crate::request::{AutoRequest, FitRequest, OldRequest, UpdateRequest};
 use std::alloc::Global;
-use uimg_base::{FLAT_DT, MULTI, SCRIPT};
+use uimg_base::FLAT_DT;
 use uimg_fit_base::{Placement, WORD_ALIGNMENT};
-use uimg_legacy::{Options, name_field};
+use uimg_legacy::{Options, has_parts, name_field};
 use uimg_names::Naming;
 use uimg_printing::Printed;
 use uimg_requests::{Action, Command, MakeRequest, Manner, RunRequest};
@@ -26,38 +36,74 @@ const NO_DATA: &str = "/dev/null";
 
 impl<'a> Settings<'a> {
     /// Returns the request, once all words are read.
+    #[tactic(auto, using(crate::proofs::Telling::answers))]
     pub(super) fn request(
         self,
         alloc: Global,
         words: &'a [&'a str],
         epoch: Option<&str>,
         now: u32,
-    ) -> Result<OldRequest<'a>, OldFault<'a>> {
+    ) -> Result<OldRequest<'a>, OldFault<'a>>
+        ensures { Answers (request_asked (map (λ word. word.now) words.entry.now)
+            (option_map (λ text. text.now) epoch.entry) now (setting_of self.entry)) result }
+    {
         let Some(image) = self.image else {
             return Err(OldFault::NoImage);
         };
         if self.is_list {
             return self.listing(image);
         }
-        let time = match epoch {
-            Some(text) => long_prefix(text).ok_or(OldFault::BadEpoch)?,
-            None => now,
-        };
-        if self.is_update && self.source.is_none() {
-            return self.update(image, time);
-        }
-        match (self.data, self.source) {
-            (_, Some(AUTO)) => self.making_of_auto(words, time, image),
-            (None, None) => Err(OldFault::NothingToMake),
-            (Some(_), Some(_)) => Err(OldFault::DataWithSource),
-            (None, Some(source)) => self.making_of_source(alloc, source, time, image),
-            (Some(_), None) if self.kind == Some(FLAT_DT) => Err(OldFault::NoSource),
-            (Some(data), None) => self.making_of_parts(alloc, data, time, image),
+        match time(epoch, now) {
+            Ok(time) => self.timed(alloc, words, image, time),
+            Err(fault) => Err(fault),
         }
     }
 
+    // Returns the request of an update or a making at a time.
+    #[tactic(auto, using(crate::proofs::Telling::answers))]
+    fn timed(
+        self,
+        alloc: Global,
+        words: &'a [&'a str],
+        image: &'a str,
+        time: u32,
+    ) -> Result<OldRequest<'a>, OldFault<'a>>
+        ensures { Answers (timed_asked (setting_of self.entry)
+            (map (λ word. word.now) words.entry.now) image.entry.now time) result }
+    {
+        match self.source {
+            Some(source) => self.sourced(alloc, words, source, time, image),
+            None if self.is_update => self.update(image, time),
+            None => self.making_of_data(alloc, time, image),
+        }
+    }
+
+    // Returns the request of a making with a source.
+    #[tactic(auto, using(crate::proofs::Telling::answers))]
+    fn sourced(
+        self,
+        alloc: Global,
+        words: &'a [&'a str],
+        source: &'a str,
+        time: u32,
+        image: &'a str,
+    ) -> Result<OldRequest<'a>, OldFault<'a>>
+        ensures { Answers (sourced_asked (setting_of self.entry)
+            (map (λ word. word.now) words.entry.now) source.entry.now time image.entry.now) result }
+    {
+        if source == AUTO {
+            return self.making_of_auto(words, time, image);
+        }
+        if self.data.is_some() {
+            return Err(OldFault::DataWithSource);
+        }
+        self.making_of_source(alloc, source, time, image)
+    }
+
     // Returns the request of an update.
-    fn update(self, image: &'a str, time: u32) -> Result<OldRequest<'a>, OldFault<'a>> {
+    fn update(self, image: &'a str, time: u32) -> Result<OldRequest<'a>, OldFault<'a>>
+        ensures { Tells asked_of (update_asked (setting_of self.entry) image.entry.now time) result }
+    {
         self.check_signing()?;
         if self.data.is_some() {
             return Err(OldFault::DataWithUpdate);
@@ -71,7 +117,9 @@ impl<'a> Settings<'a> {
         }))
     }
 
-    fn listing(self, image: &'a str) -> Result<OldRequest<'a>, OldFault<'a>> {
+    fn listing(self, image: &'a str) -> Result<OldRequest<'a>, OldFault<'a>>
+        ensures { Tells asked_of (listing_asked (setting_of self.entry) image.entry.now) result }
+    {
         if self.is_update {
             return Err(OldFault::ListWithUpdate);
         }
@@ -99,7 +147,10 @@ impl<'a> Settings<'a> {
         words: &'a [&'a str],
         time: u32,
         image: &'a str,
-    ) -> Result<OldRequest<'a>, OldFault<'a>> {
+    ) -> Result<OldRequest<'a>, OldFault<'a>>
+        ensures { Tells asked_of (auto_asked (setting_of self.entry)
+            (map (λ word. word.now) words.entry.now) time image.entry.now) result }
+    {
         self.check_signing()?;
         Ok(OldRequest::MakeAuto(AutoRequest {
             source: self.auto_source(words)?,
@@ -117,7 +168,10 @@ impl<'a> Settings<'a> {
         source: &'a str,
         time: u32,
         image: &'a str,
-    ) -> Result<OldRequest<'a>, OldFault<'a>> {
+    ) -> Result<OldRequest<'a>, OldFault<'a>>
+        ensures { Answers
+            (source_asked (setting_of self.entry) source.entry.now time image.entry.now) result }
+    {
         self.check_signing()?;
         Ok(OldRequest::MakeFit(FitRequest {
             source,
@@ -131,11 +185,36 @@ impl<'a> Settings<'a> {
     }
 
     // Refuses the options of keys, which only legacy images ignore.
-    fn check_signing(&self) -> Result<(), OldFault<'a>> {
+    fn check_signing(&self) -> Result<(), OldFault<'a>>
+        ensures { Tells (λ _. true) (unsigned (setting_of self.now).signing (Ok true)) result }
+    {
         match self.signing {
             Some(option) => Err(OldFault::Signs(option)),
             None => Ok(()),
         }
+    }
+
+    fn making_of_data(
+        self,
+        alloc: Global,
+        time: u32,
+        image: &'a str,
+    ) -> Result<OldRequest<'a>, OldFault<'a>>
+        ensures { Tells asked_of
+            (data_asked (setting_of self.entry) time image.entry.now (setting_of self.entry).file)
+            result }
+    {
+        let Some(data) = self.data else {
+            return Err(OldFault::NothingToMake);
+        };
+        let kind = self.kind.unwrap_or(0);
+        if kind == FLAT_DT {
+            return Err(OldFault::NoSource);
+        }
+        if !is_made(kind) {
+            return Err(OldFault::OtherImages(Printed(self.kind_name.as_bytes())));
+        }
+        self.making_of_parts(alloc, data, time, image)
     }
 
     fn making_of_parts(
@@ -144,26 +223,26 @@ impl<'a> Settings<'a> {
         data: &'a str,
         time: u32,
         image: &'a str,
-    ) -> Result<OldRequest<'a>, OldFault<'a>> {
-        check_made(self.kind.unwrap_or(0), self.kind_name)?;
+    ) -> Result<OldRequest<'a>, OldFault<'a>>
+        ensures { Tells asked_of
+            (whole_asked (setting_of self.entry) data.entry.now time image.entry.now) result }
+    {
         let options = self.options();
         if self.is_xip && has_parts(options.kind) {
             return Err(OldFault::XipOfParts);
         }
         let data = if self.has_no_data { NO_DATA } else { data };
-        let mut request = MakeRequest::of_parts(alloc, options, data, time, image)?;
-        request.manner = Manner {
-            naming: Naming::All,
-            ..request.manner
-        };
-        request.is_xip = self.is_xip && !self.has_no_data;
+        let is_xip = self.is_xip && !self.has_no_data;
         Ok(OldRequest::Make {
-            request,
+            request: made_of_parts(alloc, options, data, time, is_xip, image)?,
             is_quiet: self.is_quiet,
         })
     }
 
-    fn auto_source(&self, words: &'a [&'a str]) -> Result<AutoSource<'a>, OldFault<'a>> {
+    fn auto_source(&self, words: &'a [&'a str]) -> Result<AutoSource<'a>, OldFault<'a>>
+        ensures { Tells auto_of (auto_source_asked (setting_of self.now)
+            (map (λ word. word.now) words.entry.now) (setting_of self.now).file) result }
+    {
         let Some(data) = self.data else {
             return Err(OldFault::NoData);
         };
@@ -178,7 +257,10 @@ impl<'a> Settings<'a> {
     }
 
     // Returns the key's name and the algorithm of the signatures of -f auto.
-    fn signature(&self) -> Result<Option<(&'a str, &'a str)>, OldFault<'a>> {
+    fn signature(&self) -> Result<Option<(&'a str, &'a str)>, OldFault<'a>>
+        ensures { Tells (option_map (λ both. (both.0.now, both.1.now)))
+            (signature_by (setting_of self.now).key_name (setting_of self.now).algorithm) result }
+    {
         match (self.key_name, self.algorithm) {
             (None, _) => Ok(None),
             (Some(key), Some(algorithm)) => Ok(Some((key, algorithm))),
@@ -187,7 +269,9 @@ impl<'a> Settings<'a> {
     }
 
     // Returns where the payloads go.
-    fn placement(&self) -> Placement {
+    fn placement(&self) -> Placement
+        ensures { result ≡ placed self.now.is_external self.now.position }
+    {
         match (self.is_external, self.position) {
             (false, _) => Placement::Inside,
             (true, 0) => Placement::After,
@@ -196,7 +280,9 @@ impl<'a> Settings<'a> {
     }
 
     // Returns how a FIT image is made at a time.
-    fn manner(&self, time: u32) -> Result<Manner, OldFault<'a>> {
+    fn manner(&self, time: u32) -> Result<Manner, OldFault<'a>>
+        ensures { Tells (λ manner. manner) (manner_asked (setting_of self.now) time) result }
+    {
         Ok(Manner {
             time,
             naming: Naming::All,
@@ -206,7 +292,9 @@ impl<'a> Settings<'a> {
 
     // Returns the alignment of payloads after the tree, at which readers of the image find them. It
     // is ignored if they are in the tree.
-    fn align(&self) -> Result<u32, OldFault<'a>> {
+    fn align(&self) -> Result<u32, OldFault<'a>>
+        ensures { Tells (λ align. align) (align_asked (setting_of self.now)) result }
+    {
         if !self.is_external {
             return Ok(WORD_ALIGNMENT);
         }
@@ -218,7 +306,9 @@ impl<'a> Settings<'a> {
     }
 
     // Returns the default entry point: after the header of an image that runs in place.
-    fn default_entry(&self) -> u32 {
+    fn default_entry(&self) -> u32
+        ensures { result ≡ default_entry (setting_of self.now) }
+    {
         if self.is_xip {
             self.load.wrapping_add(HEADER_BYTES)
         } else {
@@ -227,9 +317,12 @@ impl<'a> Settings<'a> {
     }
 
     // Returns the fields of the header. The type `invalid` counts as none.
-    fn options(&self) -> Options {
+    fn options(&self) -> Options
+        ensures { result ≡ options_of (setting_of self.now) }
+    {
         let kind = match self.kind {
-            None | Some(0) => 2,
+            None => 2,
+            Some(0) => 2,
             Some(kind) => kind,
         };
         Options {
@@ -245,7 +338,39 @@ impl<'a> Settings<'a> {
     }
 }
 
-// Returns whether images of a type have parts, with a table of their sizes.
-fn has_parts(kind: u8) -> bool {
-    kind == MULTI || kind == SCRIPT
+// Returns the request for a legacy image of the files in a word.
+#[tactic(auto, using(crate::proofs::MakingLaws::parts_made))]
+fn made_of_parts<'a>(
+    alloc: Global,
+    options: Options,
+    data: &str,
+    time: u32,
+    is_xip: bool,
+    image: &'a str,
+) -> Result<MakeRequest<'a>, OldFault<'a>>
+    ensures { Tells making_of (Ok (making_by options data.now time is_xip image.entry.now)) result }
+{
+    let Ok(mut request) = MakeRequest::of_parts(alloc, options, data, time, image) else {
+        return Err(OldFault::OutOfMemory);
+    };
+    request.manner = Manner {
+        naming: Naming::All,
+        ..request.manner
+    };
+    request.is_xip = is_xip;
+    Ok(request)
+}
+
+// Returns the time by SOURCE_DATE_EPOCH, if it is set, else the current time.
+fn time<'a>(epoch: Option<&str>, now: u32) -> Result<u32, OldFault<'a>>
+    ensures { Tells (λ time. time) (time_asked (option_map (λ text. text.now) epoch.entry) now)
+        result }
+{
+    match epoch {
+        None => Ok(now),
+        Some(text) => match long_prefix(text) {
+            Some(time) => Ok(time),
+            None => Err(OldFault::BadEpoch),
+        },
+    }
 }

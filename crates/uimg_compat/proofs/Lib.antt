@@ -1,0 +1,6 @@
+-- Lemmas.
+mod Letters
+mod MakingLaws
+mod Numerals
+mod Strips
+mod Telling
