@@ -61,7 +61,10 @@ pub(crate) fn put_fault_line(fault: u32, text: &mut [u8]) -> usize
         return put_line(&own, text);
     }
     match loose_of(fault) {
-        Some(why) => put_line(&format_args!("S{} {}", number_of_loose(why), why.word()), text),
+        Some(why) => put_line(
+            &format_args!("S{} {}", number_of_loose(why), why.word()),
+            text,
+        ),
         None => 0,
     }
 }

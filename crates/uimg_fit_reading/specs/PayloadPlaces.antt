@@ -1,6 +1,6 @@
 -- Where the payload of an image is, by the four properties that say it.
 use Rattle.std.specs.Prelude.{◌≡◌, ◌≤◌, ◌<◌, ◌+◌, ◌^◌, ℕ, List, codes, false, Option, Some, None}
-use Rattle.std.specs.Prelude.{Result, Ok, Err, IfOk, IfSome, IfErr}
+use Rattle.std.specs.Prelude.{Result, Err, IfOk, IfSome, IfErr}
 use Rattle.std.specs.{List.slice_get, Option.{option_map, option_and_then}}
 use Rattle.uimg_texts.specs.Numbers.{up4}
 use Rattle.uimg_base.specs.{Results.◌>>=◌, declared.spans.Span.Span}

@@ -1,6 +1,5 @@
-use Rattle.std.proofs.Common.{rules, ◌≡◌, ℕ, List, Ok, Result, IfOk, subst, sym}
+use Rattle.std.proofs.Common.{rules, ◌≡◌, ℕ, List, Ok, IfOk, subst, sym}
 use Rattle.uimg_fit_reading.specs.Nodes.{HasTree, IsRead}
-use Rattle.uimg_base.specs.declared.spans.Span.{Span}
 use Rattle.uimg_fit_base.specs.Places.{TellsPlace, place}
 use Rattle.uimg_fit_reading.proofs.ExtractionLaws.{gives_payload, found_place}
 use Rattle.uimg_fit_reading.proofs.extraction.locate.Goals as goal
