@@ -1,5 +1,5 @@
 -- A look-up in a list from an index on.
-use Rattle.std.proofs.Common.{◌≡◌, ◌<◌, ◌+◌, ℕ, zero, suc, List, [], ◌∷◌, length, drop, get_or, cond, Bool, true, false, Option, Some, ap, sym, ◌∙◌, arith}
+use Rattle.std.proofs.Common.{◌≡◌, ◌<◌, ◌+◌, ℕ, zero, suc, List, [], ◌∷◌, length, drop, get_or, cond, Bool, true, false, Some, ap, sym, ◌∙◌, arith}
 use Rattle.std.specs.Prelude.{find}
 
 -- the element at the index passes

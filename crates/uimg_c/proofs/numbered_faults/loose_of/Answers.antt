@@ -1,4 +1,4 @@
-use Rattle.std.proofs.Common.{rules, ◌≡◌, ◌+◌, ◌*◌, ◌==◌, ◌∙◌, sym}
+use Rattle.std.proofs.Common.{rules, ◌+◌, ◌*◌, ◌==◌, ◌∙◌, sym}
 use Rattle.uimg_c.specs.{Strict.loose_number, Numbers.loosenesses}
 use Rattle.uimg_strict.specs.declared.loose.Looseness.TheVariants.{NoDescription}
 use Rattle.uimg_c.proofs.FindLaws.{found_at, found_past}
