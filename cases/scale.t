@@ -103,6 +103,23 @@ A part with a path of 405 bytes, a source with a name of 244, and an address wit
   $ uimg verify hashed.itb | grep -c 'md5 ok$'
   1500
 
+2000 images with a configuration, and a value of 70000 bytes with names:
+
+  $ { echo '/dts-v1/; / { description = "d"; images {'
+  >   for i in $(seq 0 1999); do echo "i$i { description = \"k\"; type = \"kernel\"; data = \"$i\"; hash { algo = \"crc32\"; }; };"; done
+  >   echo "}; configurations { c { loadables = \"i1999\"$(repeat 11666 ', "i1999"'); }; }; };"; } > named.its
+  $ uimg mkimage -f named.its named.itb > listing
+  $ uimg check named.itb && uimg check --strict named.itb
+  named.itb: ok 2000 payloads, 2000 hashes
+  named.itb: ok 2000 payloads, 2000 hashes
+  $ uimg info named.itb | grep -o '"name":"i[0-9]*"' | wc -l
+  2000
+  $ uimg map named.itb | grep -c 'payload of i'
+  2000
+  $ mkdir named && uimg unpack -C named named.itb | tail -n 1 && ls named | wc -l
+  i1999: 5 bytes, crc32 f27e82a5
+  2000
+
 A file of the source that cannot be read to its end is reported as one (those of sysfs have fewer bytes than their size):
 
   $ echo '/dts-v1/; / { images { k { data = "x", /incbin/("/sys/kernel/mm/transparent_hugepage/enabled"); }; }; };' > short.its

@@ -156,6 +156,18 @@ def told(call):
         return None, str(refused)
 
 
+def peaks_of_places(image):
+    """Returns the peak memory of the calls that find a payload or a name, and of a count."""
+    pointer, size, _keep = uimg._passed(image)
+    word, length, _kept = uimg._passed(b"k1")
+    at, named, name, count = uimg._Payload(), uimg._Payload(), uimg._Payload(), uimg._Count()
+    uimg._library.uimg_payload_at(pointer, size, 0, ctypes.byref(at))
+    uimg._library.uimg_payload_named(pointer, size, word, length, ctypes.byref(named))
+    uimg._library.uimg_payload_name(pointer, size, 0, ctypes.byref(name))
+    uimg._library.uimg_payload_count(pointer, size, ctypes.byref(count))
+    return [it.peak for it in (at, named, name, count)]
+
+
 def check_counts():
     """The counts of images and parts, and the peak memory of a call: 8192 bytes, and 128 for
     each node."""
@@ -167,6 +179,7 @@ def check_counts():
         case("the peak of a legacy image", [it(image).peak for it in (uimg.listing, uimg.verify, uimg.check)] == [8192] * 3)
     five = made(ONE % "".join(IMAGE % (number, "") for number in (1, 2, 3)))
     case("the peak of five nodes", [it(five).peak for it in (uimg.listing, uimg.verify, uimg.check)] == [8192 + 128 * 5] * 3)
+    case("the peak of five nodes by place", peaks_of_places(five) == [8192 + 128 * 5] * 4)
 
 
 def count_by_positions(lines):

@@ -1,1 +1,2 @@
 pub mod StrictLaws
+pub mod FindLaws

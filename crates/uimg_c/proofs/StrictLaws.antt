@@ -1,11 +1,11 @@
 -- What a strict check without a refusal says.
-use Rattle.std.proofs.Common.{◌≡◌, ℕ, Bool, true, List, Option, Some, None, Result, Ok, Err, refl, sym, ap, subst, ◌∙◌, arith}
+use Rattle.std.proofs.Common.{◌≡◌, ℕ, Bool, true, List, Option, Some, None, Result, Ok, Err, refl, ap, subst, ◌∙◌, arith}
 use Rattle.uimg_sums.specs.declared.algo.Algo.{Algo}
 use Rattle.uimg_blob_reading.specs.declared.fault.BlobFault.{BlobFault}
 use Rattle.uimg_blob_reading.specs.declared.fault.BlobFault.TheVariants as blob
 use Rattle.uimg_fit_base.specs.declared.fault.Fault.{Fault as FitEngineFault}
 use Rattle.uimg_fit_base.specs.declared.fault.Fault.TheVariants as of
-use Rattle.uimg_engine.specs.{declared.fault.Fault.Fault, Headline.is_fit, Faults.of_fit}
+use Rattle.uimg_engine.specs.{Headline.is_fit, Faults.of_fit}
 use Rattle.uimg_engine.specs.declared.fault.Fault.TheVariants.{Blob}
 use Rattle.uimg_checks.specs.Finding.{found_in_fit}
 use Rattle.uimg_fit_checking.specs.Checks.{NamedFinding, check_of}

@@ -4,6 +4,7 @@ use Rattle.std.specs.Prelude.{Some, None, Result, Ok, Err}
 use Rattle.uimg_sums.specs.declared.algo.Algo.{Algo}
 use Rattle.uimg_texts.specs.Slices.{slice}
 use Rattle.uimg_base.specs.{Outcome.{Outcome, End, done, not_right, refused}, Held.held_bytes}
+use Rattle.uimg_base.specs.declared.spans.Span.{Span}
 use Rattle.uimg_base.specs.declared.status.Status.{Status, TheVariants.{Done, NotRight}}
 use Rattle.uimg_c.specs.declared.{codes.Code.Code, reports.UimgReport.UimgReport}
 use Rattle.uimg_c.specs.declared.reports.{UimgPayload.UimgPayload, UimgCount.UimgCount}
@@ -37,6 +38,19 @@ pub record ReportsText (o : Outcome Fault) (old new : List ℕ) (report : UimgRe
 abbrev pub no_report : UimgReport
 no_report = record { status = 3; fault = 0; place = 0; needed = 0; written = 0; peak = 0 }
 
+-- The report of a result with this text: its numbers, the length of the text, and as much of it as
+-- the caller has memory for. If memory was refused, nothing is written, and a report says nothing.
+abbrev pub ReportsEnd : Option Code → List ℕ → List ℕ → List ℕ → ℕ → UimgReport → Type 0
+ReportsEnd None whole old new peak report = (report ≡ no_report) × (new ≡ old)
+ReportsEnd (Some code) whole old new peak report = (report ≡ record {
+  status = code.status;
+  fault = code.fault;
+  place = code.place;
+  needed = length whole;
+  written = min (length whole) (length old);
+  peak = peak;
+}) × (new ≡ take report.written whole ++ drop report.written old)
+
 -- A call that writes the text of an outcome of an image, read in a format, returns the status that
 -- it reports.
 pub record ReportsOn (o : Outcome Fault) (format : Form) (image : List ℕ) (returned : ℕ)
@@ -54,6 +68,10 @@ pub record ReportsOn (o : Outcome Fault) (format : Form) (image : List ℕ) (ret
 abbrev pub outcome_by : Action → List ℕ → Outcome Fault
 outcome_by action image =
     outcome_of Profile (record { action = action; form = form.Guess }) image
+
+-- the span that is reported
+abbrev pub span_in : UimgPayload → Span
+span_in payload = record { place = payload.start; length = payload.size }
 
 -- A payload has the end of an extraction's outcome, and the span of the bytes in the image.
 pub record HasBytes (o : Outcome Fault) (image : List ℕ) (payload : UimgPayload) : Type 0 where
@@ -79,6 +97,8 @@ pub record Located (P : UimgPayload → Type 0) (format : Form) (image : List �
   pub inside : payload.start + payload.size ≤ length image
   -- it has no bytes if none was found
   pub nowhere : returned ≢ 0 → (payload.start ≡ 0) × (payload.size ≡ 0)
+  -- and no fault if memory was refused
+  pub no_fault : returned ≡ 3 → (payload.fault ≡ 0) × (payload.place ≡ 0)
   pub peak : payload.peak ≤ table_most format image
 
 -- the end that a finding means, or the fault that refuses the image

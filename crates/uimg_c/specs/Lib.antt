@@ -1,3 +1,4 @@
 pub mod Codes
+pub mod Numbers
 pub mod Answers
 pub mod Strict

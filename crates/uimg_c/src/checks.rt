@@ -36,6 +36,7 @@ pub(crate) fn report_of(code: Option<Code>, peak: u64) -> UimgReport
     ensures memory { result.status ≡ 3 → result ≡ no_report }
     ensures no_text { (result.needed ≡ 0) × (result.written ≡ 0) }
     ensures peak { result.peak ≤ peak }
+    ensures taken { result.status ≢ 3 → result.peak ≡ peak }
 {
     match code {
         Some(code) => UimgReport {

@@ -18,6 +18,7 @@ pub(crate) fn payload_count(alloc: Global, image: &[u8], count: &mut UimgCount) 
     ensures told { result ≢ 3 → ReportsCount (count_of (is_fit form.Guess image.now) image.now) count.new }
     ensures status { result ≡ count.new.status }
     ensures nothing { result ≢ 0 → count.new.count ≡ 0 }
+    ensures no_fault { result ≡ 3 → (count.new.fault ≡ 0) × (count.new.place ≡ 0) }
     ensures legacy { is_fit form.Guess image.now ≡ false → result ≢ 3 }
     ensures peak { count.new.peak ≤ table_most form.Guess image.now }
 {

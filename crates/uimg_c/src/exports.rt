@@ -7,13 +7,14 @@
 //! tests show that it is not less than what was taken, other than by a strict check, which takes
 //! memory for the names in one node, too.
 
-ghost use Rattle.std.specs.Prelude.{◌≡◌, ◌≢◌, ◌≤◌, true, false};
+ghost use Rattle.std.specs.Prelude.{◌≡◌, ◌≢◌, ◌≤◌, true, false, Ok};
 ghost use Rattle.uimg_requests.specs.declared.command.Action.TheVariants as action;
 ghost use Rattle.uimg_requests.specs.declared.command.Form.TheVariants as form;
 ghost use Rattle.uimg_checks.specs.Counting.{count_of};
-ghost use Rattle.uimg_engine.specs.Headline.{is_fit};
-ghost use Rattle.uimg_fit_checking.specs.Named.{name_at, payload_named};
-ghost use Rattle.uimg_c.specs.Answers.{ReportsCheck, ReportsCount, HasBytes, FindsNamed, Located, ReportsOn, no_report, outcome_by, table_most};
+ghost use Rattle.uimg_engine.specs.{Headline.is_fit, Locating.IsSpanOf};
+ghost use Rattle.uimg_fit_checking.specs.Named.{name_at, payload_named, place_named};
+ghost use Rattle.uimg_c.specs.Answers.{ReportsCheck, ReportsCount, HasBytes, FindsNamed, Located, ReportsOn, no_report, outcome_by, span_in, table_most};
+ghost use Rattle.uimg_c.specs.Numbers.{IsNoFault};
 ghost use Rattle.uimg_c.specs.Strict.{ReportsStrict};
 ghost use Rattle.uimg_uboot.specs.Readings.{ReadAsChecked};
 
@@ -106,6 +107,8 @@ pub extern "C" fn uimg_payload_at(
 ) -> u32
     ensures located { Located (HasBytes (outcome_by (action.Extract position) image.now) image.now)
         form.Guess image.now result payload.new }
+    ensures span { result ≡ 0 →
+        IsSpanOf (is_fit form.Guess image.now) position image.now (span_in payload.new) }
     ensures legacy { is_fit form.Guess image.now ≡ false → result ≢ 3 }
 {
     payload_at(alloc, image, position, payload)
@@ -119,8 +122,9 @@ pub extern "C" fn uimg_payload_named(
     name: &[u8],
     payload: &mut UimgPayload,
 ) -> u32
-    ensures { Located (FindsNamed (payload_named image.now name.now) image.now)
+    ensures located { Located (FindsNamed (payload_named image.now name.now) image.now)
         form.Fit image.now result payload.new }
+    ensures span { result ≡ 0 → place_named image.now name.now ≡ Ok (span_in payload.new) }
 {
     payload_named(alloc, image, name, payload)
 }
@@ -145,6 +149,7 @@ pub extern "C" fn uimg_payload_count(alloc: Global, image: &[u8], count: &mut Ui
     ensures told { result ≢ 3 → ReportsCount (count_of (is_fit form.Guess image.now) image.now) count.new }
     ensures status { result ≡ count.new.status }
     ensures nothing { result ≢ 0 → count.new.count ≡ 0 }
+    ensures no_fault { result ≡ 3 → (count.new.fault ≡ 0) × (count.new.place ≡ 0) }
     ensures legacy { is_fit form.Guess image.now ≡ false → result ≢ 3 }
     ensures peak { count.new.peak ≤ table_most form.Guess image.now }
 {
@@ -155,7 +160,8 @@ pub extern "C" fn uimg_payload_count(alloc: Global, image: &[u8], count: &mut Ui
 /// line in bytes: 0 for a number without a fault.
 #[unsafe(no_mangle)]
 pub extern "C" fn uimg_fault_line(fault: u32, text: &mut [u8]) -> usize
-    ensures { result ≤ 64 }
+    ensures length { result ≤ 64 }
+    ensures none { IsNoFault fault → (result ≡ 0) × (text.new ≡ text.old) }
 {
     put_fault_line(fault, text)
 }

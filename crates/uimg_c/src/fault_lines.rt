@@ -1,77 +1,12 @@
 //! The lines of faults, by their numbers.
 
-ghost use Rattle.std.specs.Prelude.{◌≤◌};
+ghost use Rattle.std.specs.Prelude.{◌≡◌, ◌≤◌};
+ghost use Rattle.uimg_c.specs.Numbers.{IsNoFault};
 
 use crate::fronts::copy_front;
+use crate::numbered_faults::{blob_of, fit_of, legacy_of, loose_of, number_of_loose};
 use std::fmt;
 use std::fmt::{Display, Write};
-use uimg_blob_reading::BlobFault;
-use uimg_fit_base::FitFault;
-use uimg_legacy::LegacyFault;
-use uimg_strict::Looseness;
-
-/// L1 to L10.
-const LEGACY_FAULTS: [LegacyFault; 10] = [
-    LegacyFault::TooShort,
-    LegacyFault::BadMagic,
-    LegacyFault::BadHeaderCrc,
-    LegacyFault::Truncated,
-    LegacyFault::BadDataCrc,
-    LegacyFault::NoTableEnd,
-    LegacyFault::PartOutside,
-    LegacyFault::NoSuchPart,
-    LegacyFault::EmptyPart,
-    LegacyFault::TooLarge,
-];
-
-/// B1 to B11.
-const BLOB_FAULTS: [BlobFault; 11] = [
-    BlobFault::TooShort,
-    BlobFault::BadMagic,
-    BlobFault::BadVersion,
-    BlobFault::BlockOutside,
-    BlobFault::BadToken,
-    BlobFault::Truncated,
-    BlobFault::BadNodeName,
-    BlobFault::BadNesting,
-    BlobFault::BadPropertyName,
-    BlobFault::TooLarge,
-    BlobFault::OutOfMemory,
-];
-
-/// F1 to F10.
-const FIT_FAULTS: [FitFault; 10] = [
-    FitFault::NoImages,
-    FitFault::NoData,
-    FitFault::DataOutside,
-    FitFault::NoSuchImage,
-    FitFault::UnknownAlgo,
-    FitFault::PositionTooLow,
-    FitFault::TooLarge,
-    FitFault::OutOfMemory,
-    FitFault::NoFile,
-    FitFault::ReadFailed,
-];
-
-/// S1 to S16.
-const LOOSENESS: [Looseness; 16] = [
-    Looseness::NoDescription,
-    Looseness::NoTimestamp,
-    Looseness::UnitAddress,
-    Looseness::DoubledNode,
-    Looseness::DoubledProperty,
-    Looseness::IgnoredHash,
-    Looseness::OddCell,
-    Looseness::TwoPayloads,
-    Looseness::HalfPlace,
-    Looseness::UnsoundBlob,
-    Looseness::Misplaced,
-    Looseness::EmptyData,
-    Looseness::UnknownType,
-    Looseness::UnknownArchitecture,
-    Looseness::UnknownSystem,
-    Looseness::UnknownCompression,
-];
 
 // A line of at most 64 bytes.
 #[derive(Drop)]
@@ -95,13 +30,10 @@ impl Write for Line {
     }
 }
 
-// Writes the line of a fault, if there is one.
-fn put_line<F: Display>(fault: Option<&F>, text: &mut [u8]) -> usize
+// Writes the line of a fault.
+fn put_line<F: Display>(fault: &F, text: &mut [u8]) -> usize
     ensures { result ≤ 64 }
 {
-    let Some(fault) = fault else {
-        return 0;
-    };
     let mut line = Line {
         bytes: [0; 64],
         length: 0,
@@ -114,29 +46,25 @@ fn put_line<F: Display>(fault: Option<&F>, text: &mut [u8]) -> usize
 }
 
 /// Writes the line of a fault, by its letter and number, to `text`, and returns the length of the
-/// whole line in bytes.
+/// whole line in bytes; 0 if no fault has the number.
 pub(crate) fn put_fault_line(fault: u32, text: &mut [u8]) -> usize
-    ensures { result ≤ 64 }
+    ensures length { result ≤ 64 }
+    ensures none { IsNoFault fault → (result ≡ 0) × (text.new ≡ text.old) }
 {
-    let number = (fault % 256) as usize;
-    let letter = fault / 256;
-    if number == 0 {
-        return 0;
+    if let Some(own) = legacy_of(fault) {
+        return put_line(&own, text);
     }
-    if letter == b'L' as u32 {
-        return put_line(LEGACY_FAULTS.get(number - 1), text);
+    if let Some(own) = blob_of(fault) {
+        return put_line(&own, text);
     }
-    if letter == b'B' as u32 {
-        return put_line(BLOB_FAULTS.get(number - 1), text);
+    if let Some(own) = fit_of(fault) {
+        return put_line(&own, text);
     }
-    if letter == b'F' as u32 {
-        return put_line(FIT_FAULTS.get(number - 1), text);
+    match loose_of(fault) {
+        Some(why) => put_line(
+            &format_args!("S{} {}", number_of_loose(why), why.word()),
+            text,
+        ),
+        None => 0,
     }
-    if letter == b'S' as u32 {
-        let Some(why) = LOOSENESS.get(number - 1) else {
-            return 0;
-        };
-        return put_line(Some(&format_args!("S{number} {}", why.word())), text);
-    }
-    0
 }

@@ -10,6 +10,7 @@ mod counts;
 mod exports;
 mod fault_lines;
 mod fronts;
+mod numbered_faults;
 mod payloads;
 mod peaks;
 mod reports;

@@ -1,11 +1,11 @@
 //! Where a payload is in an image in memory.
 
-ghost use Rattle.std.specs.Prelude.{◌≡◌, ◌≢◌, length, false, Some, None};
+ghost use Rattle.std.specs.Prelude.{◌≡◌, ◌≢◌, length, false, Some, None, Ok};
 ghost use Rattle.uimg_requests.specs.declared.command.Action.TheVariants as action;
 ghost use Rattle.uimg_requests.specs.declared.command.Form.TheVariants as form;
-ghost use Rattle.uimg_engine.specs.Headline.{is_fit};
-ghost use Rattle.uimg_fit_checking.specs.Named.{name_at, payload_named};
-ghost use Rattle.uimg_c.specs.Answers.{HasBytes, FindsNamed, Located, outcome_by};
+ghost use Rattle.uimg_engine.specs.{Headline.is_fit, Locating.IsSpanOf};
+ghost use Rattle.uimg_fit_checking.specs.Named.{name_at, payload_named, place_named};
+ghost use Rattle.uimg_c.specs.Answers.{HasBytes, FindsNamed, Located, outcome_by, span_in};
 ghost use Rattle.uimg_c.specs.Codes.{code_of_fault};
 
 use crate::codes::{DONE, NO_MEMORY, fault_code};
@@ -25,6 +25,7 @@ fn unfound(fault: Fault, peak: u64) -> UimgPayload
       place = result.place;
     }) }
     ensures memory { result.status ≡ 3 → code_of_fault fault ≡ None }
+    ensures no_fault { result.status ≡ 3 → (result.fault ≡ 0) × (result.place ≡ 0) }
     ensures not_found { result.status ≢ 0 }
     ensures nowhere { (result.start ≡ 0) × (result.size ≡ 0) }
     ensures peak { result.peak ≡ peak }
@@ -72,6 +73,8 @@ pub(crate) fn payload_at(
 ) -> u32
     ensures located { Located (HasBytes (outcome_by (action.Extract position) image.now) image.now)
         form.Guess image.now result payload.new }
+    ensures span { result ≡ 0 →
+        IsSpanOf (is_fit form.Guess image.now) position image.now (span_in payload.new) }
     ensures legacy { is_fit form.Guess image.now ≡ false → result ≢ 3 }
 {
     let mut room = Room::new(alloc);
@@ -91,8 +94,9 @@ pub(crate) fn payload_named(
     name: &[u8],
     payload: &mut UimgPayload,
 ) -> u32
-    ensures { Located (FindsNamed (payload_named image.now name.now) image.now)
+    ensures located { Located (FindsNamed (payload_named image.now name.now) image.now)
         form.Fit image.now result payload.new }
+    ensures span { result ≡ 0 → place_named image.now name.now ≡ Ok (span_in payload.new) }
 {
     let mut room = Room::new(alloc);
     let located = locate_named(name, image, &mut room);

@@ -1,10 +1,11 @@
 -- The making of an image, as plain values.
-use Rattle.std.specs.Prelude.{ℕ, List, Bool, false, map, ◌++◌}
+use Rattle.std.specs.Prelude.{ℕ, List, [], Bool, false, map, ◌++◌}
 use Rattle.clap.specs.Walk.{Text}
 use Rattle.uimg_fit_base.specs.declared.placement.Placement.{Placement}
 use Rattle.uimg_legacy.specs.declared.options.Options.{Options}
 use Rattle.uimg_names.specs.declared.naming.Naming.{Naming}
 use Rattle.uimg_names.specs.declared.naming.Naming.TheVariants.{Profile}
+use Rattle.uimg_requests.specs.Requests.{folder_of}
 use Rattle.uimg_requests.specs.declared.make_command.MakeCommand.{MakeCommand}
 use Rattle.uimg_requests.specs.declared.make_command.MakeCommand.TheVariants.{Parts, Tree}
 use Rattle.uimg_requests.specs.declared.requests.MakeRequest.{MakeRequest}
@@ -17,6 +18,8 @@ pub data Material : Type 0 where
 
 pub record Making : Type 0 where
   pub material : Material
+  pub source : Text
+  pub folder : Text
   pub time : ℕ
   pub naming : Naming
   pub align : ℕ
@@ -33,6 +36,8 @@ material_of folder (Tree name placement) = source (folder ++ name.items) placeme
 abbrev pub making_of : MakeRequest → Making
 making_of request = record {
   material = material_of request.folder.now request.command;
+  source = request.source.now;
+  folder = request.folder.now;
   time = request.manner.time;
   naming = request.manner.naming;
   align = request.manner.align;
@@ -41,10 +46,18 @@ making_of request = record {
   is_xip = request.is_xip;
 }
 
--- An image is made with the names of the profile, its payloads padded to multiples of 4 bytes.
+-- the path of a source; none of data
+abbrev pub path_of : Material → Text
+path_of (parts options files) = []
+path_of (source path placement) = path
+
+-- An image is made with the names of the profile, its payloads padded to multiples of 4 bytes. The
+-- files of a source are in its folder, those of data in the current one.
 abbrev pub plain_making : Material → ℕ → Text → Making
 plain_making material time path = record {
   material = material;
+  source = path_of material;
+  folder = folder_of (path_of material);
   time = time;
   naming = Profile;
   align = 4;

@@ -1,6 +1,7 @@
 //! The files of a folder.
 
-ghost use Rattle.std.specs.{Prelude.{◌≡◌, None, false, IfOk}, Path.{path_buf_bytes, path_join}};
+ghost use Rattle.std.specs.{Prelude.{◌≡◌, ◌||◌, Some, None, true, false, IfOk, IsErr}, Option.option_map};
+ghost use Rattle.std.specs.Path.{path_buf_bytes, path_join};
 ghost use Rattle.uimg_base.specs.Device.{IsFresh};
 
 use crate::same_files::is_same_file;
@@ -27,7 +28,10 @@ impl<'a, R: rt::Files + AllocGlobal> DiskFiles<'a, R> {
     /// Returns the files of a folder, with no refused open yet. An empty text is the current
     /// folder.
     pub fn new(rt: &'a R, folder: &'a str) -> DiskFiles<'a, R>
-        ensures { (⟦<DiskFiles<'a, R> as Files>⟧.map result).refusals ≡ 0 }
+        ensures refusals { (⟦<DiskFiles<'a, R> as Files>⟧.map result).refusals ≡ 0 }
+        ensures folder { result.folder.now ≡ folder.entry.now }
+        ensures left_out { result.left_out ≡ None }
+        ensures unmet { result.has_met_left_out ≡ false }
     {
         DiskFiles {
             rt,
@@ -40,7 +44,10 @@ impl<'a, R: rt::Files + AllocGlobal> DiskFiles<'a, R> {
 
     /// Returns the files of a folder without the file at a path, whose open is refused.
     pub fn without(rt: &'a R, folder: &'a str, path: &'a str) -> DiskFiles<'a, R>
-        ensures { (⟦<DiskFiles<'a, R> as Files>⟧.map result).refusals ≡ 0 }
+        ensures refusals { (⟦<DiskFiles<'a, R> as Files>⟧.map result).refusals ≡ 0 }
+        ensures folder { result.folder.now ≡ folder.entry.now }
+        ensures left_out { option_map (λ text. text.now) result.left_out ≡ Some path.entry.now }
+        ensures unmet { result.has_met_left_out ≡ false }
     {
         DiskFiles {
             left_out: Some(path),
@@ -49,7 +56,9 @@ impl<'a, R: rt::Files + AllocGlobal> DiskFiles<'a, R> {
     }
 
     /// Returns whether the file that is left out was requested, and so refused.
-    pub fn has_met_left_out(&self) -> bool {
+    pub fn has_met_left_out(&self) -> bool
+        ensures { result ≡ self.now.has_met_left_out }
+    {
         self.has_met_left_out
     }
 }
@@ -70,12 +79,15 @@ impl<'a, R: rt::Files + AllocGlobal> Files for DiskFiles<'a, R> {
     /// file is the one that is left out, or if `FileSource::open` does.
     fn open(&mut self, name: &[u8]) -> Result<FileSource<R::File>, SourceFault> {
         let opened = match path_in(self.rt.alloc(), self.folder, name) {
-            Ok(path) => open_other(
-                self.rt,
-                path.as_str(),
-                self.left_out,
-                &mut self.has_met_left_out,
-            ),
+            Ok(path) => {
+                let is_left_out = is_left_out(self.rt, path.as_str(), self.left_out);
+                open_other(
+                    self.rt,
+                    path.as_str(),
+                    is_left_out,
+                    &mut self.has_met_left_out,
+                )
+            }
             Err(fault) => Err(fault),
         };
         if opened.is_err() {
@@ -85,18 +97,29 @@ impl<'a, R: rt::Files + AllocGlobal> Files for DiskFiles<'a, R> {
     }
 }
 
-// Opens the file at a path, unless it is the one that is left out.
+// Returns whether a path leads to the file that is left out.
+fn is_left_out<R: rt::Files>(rt: &R, path: &str, left_out: Option<&str>) -> bool
+    ensures { left_out.entry ≡ None → result ≡ false }
+{
+    match left_out {
+        Some(other) => is_same_file(rt, path, other),
+        None => false,
+    }
+}
+
+// Opens the file at a path, unless it is left out. Notes whether it is.
 fn open_other<R: rt::Files + AllocGlobal>(
     rt: &R,
     path: &str,
-    left_out: Option<&str>,
+    is_left_out: bool,
     has_met_left_out: &mut bool,
 ) -> Result<FileSource<R::File>, SourceFault>
-    ensures { IfOk result (λ source. IsFresh (⟦<FileSource<R::File> as Source>⟧.device source)) }
+    ensures fresh { IfOk result
+        (λ source. IsFresh (⟦<FileSource<R::File> as Source>⟧.device source)) }
+    ensures refused { is_left_out ≡ true → IsErr result }
+    ensures noted { has_met_left_out.new ≡ (is_left_out || has_met_left_out.old) }
 {
-    if let Some(other) = left_out
-        && is_same_file(rt, path, other)
-    {
+    if is_left_out {
         *has_met_left_out = true;
         return Err(SourceFault);
     }

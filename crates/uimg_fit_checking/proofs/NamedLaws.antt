@@ -1,5 +1,5 @@
 -- The first image of a name, among those that are left.
-use Rattle.std.proofs.Common.{◌≡◌, ℕ, List, ◌∷◌, Option, Some, None, true, false, Result, Ok, ap, sym, ◌∙◌, subst, refl}
+use Rattle.std.proofs.Common.{◌≡◌, ℕ, List, ◌∷◌, Option, Some, None, true, false, Result, Ok, Err, IfOk, ap, sym, ◌∙◌, subst, refl}
 use Rattle.std.specs.List.{slice_get}
 use Rattle.std.specs.Str.{bytes_eq}
 use Rattle.uimg_texts.specs.Slices.{slice}
@@ -13,10 +13,11 @@ use Rattle.uimg_blob_reading.specs.Spots.{Spot, spots}
 use Rattle.uimg_fit_base.specs.declared.fault.Fault.{Fault}
 use Rattle.uimg_fit_base.specs.Extraction.{of_images, payload_of}
 use Rattle.uimg_fit_base.specs.Faults.{Gives}
-use Rattle.uimg_fit_base.specs.Places.{payload, TellsPlace}
+use Rattle.uimg_fit_base.specs.Places.{payload, place, TellsPlace}
 use Rattle.uimg_fit_base.proofs.FileLaws.{images_are}
-use Rattle.uimg_fit_checking.specs.Named.{named, payload_named, image_name, name_at, HasNamed, LacksNamed}
+use Rattle.uimg_fit_checking.specs.Named.{named, payload_named, place_named, image_name, name_at, HasNamed, LacksNamed}
 use Rattle.uimg_fit_reading.specs.Nodes.{IsNode, AreFrom, HasImages, HasImage}
+use Rattle.uimg_fit_reading.specs.PayloadPlaces.{place_of}
 use Rattle.uimg_fit_reading.proofs.ExtractionLaws.{by_answer}
 use Rattle.uimg_fit_reading.proofs.ImageLaws.{front, none_left}
 
@@ -80,6 +81,17 @@ pub gives_named : (file : List ℕ) (t : Siblings) (name : List ℕ) (number : �
     → ((found : NodeOf Spot) → IsNode t in_images number found → TellsPlace file found result) → Gives (λ (p : Span). slice file p.place p.length) result (payload_named file name)
 gives_named file t name number result is h tells =
     subst (λ (r : Result (List ℕ) Fault). Gives (λ (p : Span). slice file p.place p.length) result r) (sym (payload_is file t name number is h)) (by_answer file h.image result (tells h.image h.node))
+
+-- the span of the payload of that image
+place_is : (file : List ℕ) (t : Siblings) (name : List ℕ) (number : ℕ) → tree file ≡ Ok t → (h : HasNamed t name number) → place_named file name ≡ of_images (place file h.image)
+place_is file t name number is h =
+    ap (λ (r : Result (List (NodeOf Spot)) Fault). r >>= (λ found. of_images (place_of file (named name found)))) (images_are file t (Some h.found) is h.is)
+    ∙ ap (λ (o : Option (NodeOf Spot)). of_images (place_of file o)) h.has
+
+pub found_named : (file : List ℕ) (t : Siblings) (name : List ℕ) (number : ℕ) (result : Result Span Fault) → tree file ≡ Ok t → HasNamed t name number
+    → ((found : NodeOf Spot) → IsNode t in_images number found → IfOk result (λ p. place file found ≡ Ok p)) → IfOk result (λ p. place_named file name ≡ Ok p)
+found_named file t name number (Ok p) is h tells = place_is file t name number is h ∙ ap of_images (tells h.image h.node)
+found_named file t name number (Err fault) is h tells = tt
 
 -- the name of the image at a position
 name_is : (file : List ℕ) (t : Siblings) (position number : ℕ) → tree file ≡ Ok t → (h : HasImage t position number) → name_at file position ≡ Ok h.image.name

@@ -3,7 +3,7 @@ use Rattle.std.specs.Prelude.{◌≡◌, ℕ, List, [], ◌∷◌, Option, Some,
 use Rattle.std.specs.Prelude.{if◌then◌else◌}
 use Rattle.std.specs.List.{slice_get}
 use Rattle.std.specs.Str.{bytes_eq}
-use Rattle.uimg_base.specs.Results.{◌>>=◌}
+use Rattle.uimg_base.specs.{Results.◌>>=◌, declared.spans.Span.Span}
 use Rattle.uimg_blob_reading.specs.Grammar.{Siblings}
 use Rattle.uimg_blob_reading.specs.LookUps.{NodeOf, images}
 use Rattle.uimg_blob_reading.specs.Roles.{in_images}
@@ -13,7 +13,7 @@ use Rattle.uimg_fit_base.specs.declared.fault.FitFault.{FitFault}
 use Rattle.uimg_fit_base.specs.declared.fault.FitFault.TheVariants.{NoImages, NoSuchImage}
 use Rattle.uimg_fit_base.specs.Extraction.{of_images, payload_of}
 use Rattle.uimg_fit_base.specs.Files.{images_of}
-use Rattle.uimg_fit_reading.specs.Nodes.{IsNode}
+use Rattle.uimg_fit_reading.specs.{Nodes.IsNode, PayloadPlaces.place_of}
 
 -- the first image of a name
 unfoldable pub named : List ℕ → List (NodeOf Spot) → Option (NodeOf Spot)
@@ -25,6 +25,12 @@ abbrev pub payload_named : List ℕ → List ℕ → Result (List ℕ) Fault
 payload_named file name = do
   found ← images_of file
   of_images (payload_of file (named name found))
+
+-- the span of that payload, which may end after the file, or the first fault before it
+abbrev pub place_named : List ℕ → List ℕ → Result Span Fault
+place_named file name = do
+  found ← images_of file
+  of_images (place_of file (named name found))
 
 -- the name of an image, or `NoSuchImage`
 abbrev pub image_name : Option (NodeOf Spot) → Result (List ℕ) FitFault

@@ -1,6 +1,6 @@
 //! The payload of an image by its name, and the name of an image, in memory.
 
-ghost use Rattle.std.specs.Prelude.{◌≡◌, ◌+◌, ◌<◌, ◌≤◌, false, length, IfErr, IfOk};
+ghost use Rattle.std.specs.Prelude.{◌≡◌, ◌+◌, ◌<◌, ◌≤◌, false, length, Ok, IfErr, IfOk};
 ghost use Rattle.std.specs.Str.{bytes_eq};
 ghost use Rattle.uimg_base.specs.Honest.{HonestSource, IfHonest};
 ghost use Rattle.uimg_texts.specs.Slices.{slice};
@@ -9,7 +9,7 @@ ghost use Rattle.uimg_blob_reading.specs.LookUps.{NodeOf};
 ghost use Rattle.uimg_blob_reading.specs.Roles.{in_images};
 ghost use Rattle.uimg_blob_reading.specs.Spots.{Spot};
 ghost use Rattle.uimg_fit_base.specs.Faults.{of_making, Gives};
-ghost use Rattle.uimg_fit_checking.specs.Named.{TellsNamed, name_at, payload_named};
+ghost use Rattle.uimg_fit_checking.specs.Named.{TellsNamed, name_at, payload_named, place_named};
 ghost use Rattle.uimg_fit_reading.specs.Nodes.{InFile, IsNode, IsRead};
 ghost use Rattle.uimg_fit_reading.specs.Values.{in_span};
 ghost use Rattle.uimg_fit_reading.specs.Rooms.{ReadsAny, ReadsInMemory};
@@ -85,6 +85,8 @@ fn locate_in<S: Source, A: Allocator>(
     ensures inside { IfOk result (λ p. p.place + p.length ≤ length file.now) }
     ensures told { HonestSource S.device source →
         Gives (in_span file.now) result (payload_named file.now name.now) }
+    ensures span { HonestSource S.device source →
+        IfOk result (λ span. place_named file.now name.now ≡ Ok span) }
 {
     let blob = read_tree(source, room)?;
     let image = image_named(file, &blob, room, name)?;
@@ -104,6 +106,7 @@ pub fn locate_named<A: Allocator>(
     ensures memory { ReadsInMemory file.now result room }
     ensures inside { IfOk result (λ p. p.place + p.length ≤ length file.now) }
     ensures told { Gives (in_span file.now) result (payload_named file.now name.now) }
+    ensures span { IfOk result (λ span. place_named file.now name.now ≡ Ok span) }
 {
     let mut source = MemSource::new(file);
     locate_in(name, file, &mut source, room)

@@ -1,5 +1,5 @@
 -- What an extraction finds.
-use Rattle.std.proofs.Common.{◌≡◌, ◌≤◌, ◌+◌, ℕ, List, length, Bool, true, false, Option, Some, Ok, Err, Result, IsTrue, refl, ap, sym, ◌∙◌, subst, arith}
+use Rattle.std.proofs.Common.{◌≡◌, ◌≤◌, ◌+◌, ℕ, List, length, Bool, true, false, Option, Some, Ok, Err, Result, IfOk, IsTrue, refl, ap, sym, ◌∙◌, subst, arith}
 use Rattle.std.specs.List.{slice_get}
 use Rattle.uimg_texts.specs.Slices.{slice}
 use Rattle.uimg_base.specs.{Device.{Device, RisesIf}, Held.Held, Ranges.{Copies, ReadsAhead}}
@@ -13,12 +13,13 @@ use Rattle.uimg_base.specs.declared.ranges.MoveFault.TheVariants as move
 use Rattle.uimg_blob_reading.{specs.{Faults.refuses_memory, Blob.tree}, proofs.PhaseLaws.by_bool}
 use Rattle.uimg_blob_reading.specs.{Grammar.Siblings, Roles.in_images, LookUps.NodeOf, Spots.Spot}
 use Rattle.uimg_blob_reading.specs.Indexed.{TakesNodes}
-use Rattle.uimg_fit_base.specs.{declared.fault.Fault.Fault, Places.{payload, TellsPlace}}
+use Rattle.uimg_fit_base.specs.{declared.fault.Fault.Fault, Places.{payload, place, TellsPlace}}
 use Rattle.uimg_fit_base.specs.declared.fault.Fault.TheVariants.{Blob as OfBlob, Fit, Read, Put}
 use Rattle.uimg_fit_base.specs.Faults.{Gives, of_move, end_of, is_refused}
 use Rattle.uimg_fit_base.specs.Extraction.{of_images, payload_of, payload_at, extract_of}
 use Rattle.uimg_fit_base.proofs.FileLaws.{images_are}
 use Rattle.uimg_fit_reading.specs.{Nodes.{IsNode, HasImage}, Work.{list_work, extract_work}}
+use Rattle.uimg_fit_reading.specs.PayloadPlaces.{place_of, place_at}
 use Rattle.uimg_fit_reading.specs.Rooms.{InspectsBetween, DeliversBetween}
 
 -- the payload at the position of an image
@@ -39,6 +40,17 @@ pub gives_payload : (file : List ℕ) (t : Siblings) (position number : ℕ) (re
     → ((found : NodeOf Spot) → IsNode t in_images number found → TellsPlace file found result) → Gives (λ (p : Span). slice file p.place p.length) result (payload_at file position)
 gives_payload file t position number result is h tells =
     subst (λ (r : Result (List ℕ) Fault). Gives (λ (p : Span). slice file p.place p.length) result r) (sym (payload_is file t position number is h)) (by_answer file h.image result (tells h.image h.node))
+
+-- the span of the payload at the position of an image
+place_is : (file : List ℕ) (t : Siblings) (position number : ℕ) → tree file ≡ Ok t → (h : HasImage t position number) → place_at file position ≡ of_images (place file h.image)
+place_is file t position number is h =
+    ap (λ (r : Result (List (NodeOf Spot)) Fault). r >>= (λ found. of_images (place_of file (slice_get found position)))) (images_are file t (Some h.found) is h.is)
+    ∙ ap (λ (o : Option (NodeOf Spot)). of_images (place_of file o)) h.has
+
+pub found_place : (file : List ℕ) (t : Siblings) (position number : ℕ) (result : Result Span Fault) → tree file ≡ Ok t → HasImage t position number
+    → ((found : NodeOf Spot) → IsNode t in_images number found → IfOk result (λ p. place file found ≡ Ok p)) → IfOk result (λ p. place_at file position ≡ Ok p)
+found_place file t position number (Ok p) is h tells = place_is file t position number is h ∙ ap of_images (tells h.image h.node)
+found_place file t position number (Err fault) is h tells = tt
 
 pub at_least : (n more : ℕ) → n ≤ n + more
 at_least n more = omega arith

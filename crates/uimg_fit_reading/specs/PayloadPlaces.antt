@@ -1,12 +1,14 @@
 -- Where the payload of an image is, by the four properties that say it.
-use Rattle.std.specs.Prelude.{◌≡◌, ◌≤◌, ◌<◌, ◌+◌, ◌^◌, ℕ, List, codes, false, Option, Result, IfOk}
-use Rattle.std.specs.{Prelude.{IfSome, IfErr}, Option.{option_map, option_and_then}}
+use Rattle.std.specs.Prelude.{◌≡◌, ◌≤◌, ◌<◌, ◌+◌, ◌^◌, ℕ, List, codes, false, Option, Some, None}
+use Rattle.std.specs.Prelude.{Result, Err, IfOk, IfSome, IfErr}
+use Rattle.std.specs.{List.slice_get, Option.{option_map, option_and_then}}
 use Rattle.uimg_texts.specs.Numbers.{up4}
-use Rattle.uimg_base.specs.declared.spans.Span.{Span}
+use Rattle.uimg_base.specs.{Results.◌>>=◌, declared.spans.Span.Span}
 use Rattle.uimg_blob_reading.specs.{Indexed.value_span, LookUps.{NodeOf, first}, Spots.Spot}
 use Rattle.uimg_fit_base.specs.{declared.fault.FitFault.FitFault, Faults.of_making}
-use Rattle.uimg_fit_base.specs.Files.{value_bytes, bytes_in, number}
-use Rattle.uimg_fit_base.specs.Places.{external, embedded, or_else}
+use Rattle.uimg_fit_base.specs.declared.fault.{Fault.Fault, FitFault.TheVariants.NoSuchImage}
+use Rattle.uimg_fit_base.specs.{Extraction.of_images, Files.{value_bytes, bytes_in, number}}
+use Rattle.uimg_fit_base.specs.{Files.images_of, Places.{external, embedded, or_else, place}}
 use Rattle.uimg_fit_reading.specs.declared.places.PayloadFacts.{PayloadFacts}
 
 -- What an image says about where its payload is. Of the value `data` only the span counts.
@@ -40,6 +42,18 @@ place_said totalsize said =
     (external (up4 totalsize) (option_and_then number said.offset)
     (option_and_then number said.size))
     (embedded said.embedded)
+
+-- the span of the payload of an image, or that there is no image
+abbrev pub place_of : List ℕ → Option (NodeOf Spot) → Result Span FitFault
+place_of file (Some image) = place file image
+place_of file None = Err NoSuchImage
+
+-- The span of the payload of the image at a position, or the first fault before it. It may end after
+-- the file.
+abbrev pub place_at : List ℕ → ℕ → Result Span Fault
+place_at file position = do
+  found ← images_of file
+  of_images (place_of file (slice_get found position))
 
 -- A value, if it is present, ends within `size` bytes.
 abbrev pub Ends : ℕ → Option Span → Type 0

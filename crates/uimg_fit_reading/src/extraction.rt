@@ -1,10 +1,11 @@
 //! Extraction: finds the payload of an image and writes it.
 
-ghost use Rattle.std.specs.Prelude.{◌≡◌, ◌+◌, ◌≤◌, length, IsTrue, IfOk};
+ghost use Rattle.std.specs.Prelude.{◌≡◌, ◌+◌, ◌≤◌, length, Ok, IsTrue, IfOk};
 ghost use Rattle.uimg_base.specs.Honest.{IfHonest};
 ghost use Rattle.uimg_fit_base.specs.Extraction.{payload_at, extract_of};
 ghost use Rattle.uimg_fit_base.specs.Faults.{is_refused, Gives};
 ghost use Rattle.uimg_fit_reading.specs.{Work.{list_work, extract_work}, Values.in_span};
+ghost use Rattle.uimg_fit_reading.specs.PayloadPlaces.{place_at};
 ghost use Rattle.uimg_fit_reading.specs.Rooms.{Inspects, Delivers, TellsOf, KeepsAhead};
 
 use crate::images::image_at;
@@ -28,6 +29,8 @@ pub fn locate<S: Source, A: Allocator>(
     ensures inside { IfOk result (λ p. p.place + p.length ≤ length (S.device source.old).bytes) }
     ensures gives { IfHonest S.device source (λ file.
         Gives (in_span file) result (payload_at file position)) }
+    ensures span { IfHonest S.device source (λ file.
+        IfOk result (λ span. place_at file position ≡ Ok span)) }
 {
     let blob = read_tree(source, room)?;
     let image = image_at(&blob, room, position)?;

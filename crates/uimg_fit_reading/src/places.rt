@@ -1,6 +1,6 @@
 //! Where the payload of an image is.
 
-ghost use Rattle.std.specs.Prelude.{◌≡◌, false, ◌+◌, ◌<◌, ◌≤◌, ◌^◌, length, is_err, IfOk, IfSome, IfErr};
+ghost use Rattle.std.specs.Prelude.{◌≡◌, false, ◌+◌, ◌<◌, ◌≤◌, ◌^◌, length, is_err, Ok, IfOk, IfSome, IfErr};
 ghost use Rattle.uimg_base.specs.{Honest.HonestSource, Using.Asks};
 ghost use Rattle.uimg_blob_reading.specs.{LookUps.NodeOf, Grammar.Siblings, Roles.in_images};
 ghost use Rattle.uimg_blob_reading.specs.Spots.{Spot};
@@ -160,6 +160,10 @@ pub fn payload_place<S: Source, A: Allocator>(
     ensures told { HonestSource S.device source → (t : Siblings) →
         IsRead (S.device source.old).bytes blob.now room.now.entries t → (found : NodeOf Spot) →
         IsNode t in_images image found → TellsPlace (S.device source.old).bytes found result }
+    ensures place { HonestSource S.device source → (t : Siblings) →
+        IsRead (S.device source.old).bytes blob.now room.now.entries t → (found : NodeOf Spot) →
+        IsNode t in_images image found →
+        IfOk result (λ p. place (S.device source.old).bytes found ≡ Ok p) }
 {
     let span = find_place(source, blob, room, image)??;
     if span.place + span.length > source.size()? {

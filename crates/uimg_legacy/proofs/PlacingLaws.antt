@@ -1,9 +1,13 @@
 -- The places of parts, one at a time.
-use Rattle.std.proofs.Common.{◌≡◌, ◌<◌, ◌≤◌, ◌+◌, ◌-◌, ℕ, zero, suc, List, [], ◌∷◌, ◌++◌, append_assoc, append-nil, add-one, refl, ap, sym, ◌∙◌, arith, Bool, true, false, Result, Ok, Err}
+use Rattle.std.proofs.Common.{◌≡◌, ◌<◌, ◌≤◌, ◌+◌, ◌-◌, ℕ, zero, suc, List, [], ◌∷◌, ◌++◌, append_assoc, append-nil, add-one, get_or, refl, ap, sym, ◌∙◌, arith, Bool, true, false, Result, Ok, Err}
 use Rattle.uimg_base.specs.declared.spans.Span.{Span}
 use Rattle.uimg_legacy.specs.declared.fault.LegacyFault.{LegacyFault, TheVariants.PartOutside}
-use Rattle.uimg_legacy.specs.Parts.{is_outside}
+use Rattle.uimg_legacy.specs.Parts.{start, is_outside}
 use Rattle.uimg_legacy.specs.Placing.{spans_before, span_of_part, place_step, places}
+
+-- the span of a part whose start and size were read
+pub place_is : (table : List ℕ) (i at n : ℕ) → at ≡ start table i → n ≡ get_or table i 0 → record { place = 64 + at; length = n } ≡ span_of_part table i
+place_is table i at n a e = ap (λ (k : ℕ). record { place = 64 + k; length = n }) a ∙ ap (λ (k : ℕ). record { place = 64 + start table i; length = k }) e
 
 places_suc : (payload table : List ℕ) (n m i : ℕ) → n ≡ suc m → places payload table n i ≡ place_step (is_outside payload table i) (span_of_part table i) (places payload table m (i + 1))
 unfolding places

@@ -1,11 +1,12 @@
 -- Where all parts of an image are in its file.
 use Rattle.std.specs.Prelude.{◌≡◌, ℕ, zero, suc, ◌+◌, ⊤, List, [], ◌∷◌, ◌++◌, length, slice_index}
-use Rattle.std.specs.Prelude.{nat_lt, if◌then◌else◌, Result, Ok, Err, Bool, true, false, IsTrue}
+use Rattle.std.specs.Prelude.{nat_lt, if◌then◌else◌, Result, Ok, Err, Bool, true, false, IsTrue, IfOk}
 use Rattle.uimg_texts.specs.Slices.{slice}
 use Rattle.uimg_base.specs.{Lent.Lent, Device.Device, Results.◌>>=◌, declared.spans.Span.Span}
 use Rattle.uimg_legacy.specs.declared.{fault.LegacyFault.LegacyFault, header.Header.Header}
+use Rattle.uimg_legacy.specs.declared.fault.Fault.{Fault}
 use Rattle.uimg_legacy.specs.declared.fault.LegacyFault.TheVariants.{PartOutside, Truncated}
-use Rattle.uimg_legacy.specs.{declared.placing.PartsFault.PartsFault, Image.payload}
+use Rattle.uimg_legacy.specs.{declared.placing.PartsFault.PartsFault, Image.{payload, legacy}}
 use Rattle.uimg_legacy.specs.declared.placing.PartsFault.TheVariants.{Stopped, OutOfMemory}
 use Rattle.uimg_legacy.specs.Parts.{has_parts, sizes, part_sizes, start, is_outside}
 use Rattle.uimg_legacy.specs.declared.fault.Fault.TheVariants as of
@@ -13,6 +14,18 @@ use Rattle.uimg_legacy.specs.declared.fault.Fault.TheVariants as of
 -- the span of a part in the file
 abbrev pub span_of_part : List ℕ → ℕ → Span
 span_of_part table i = record { place = 64 + start table i; length = slice_index table i }
+
+-- the span of the part at a position: one of the table for a type with parts, for any other that of
+-- the data
+abbrev pub span_in : Bool → List ℕ → ℕ → ℕ → Span
+span_in true payload size position = span_of_part (sizes payload) position
+span_in false payload size position = record { place = 64; length = size }
+
+-- the same in an image, or why it is refused
+abbrev pub span_at : List ℕ → ℕ → Result Span LegacyFault
+span_at image position = do
+  it ← legacy image
+  Ok (span_in (has_parts it.header.kind) it.payload it.header.size position)
 
 -- spans before others, unless these are refused
 abbrev pub spans_before : List Span → Result (List Span) LegacyFault
@@ -44,6 +57,20 @@ unfoldable pub spans_of_parts : List ℕ → Header → Result (List Span) Legac
 spans_of_parts image h =
     if nat_lt (length image) (64 + h.size) then Err Truncated else places_in (has_parts h.kind)
     (payload image h) h.size
+
+-- A found part of a table with `count` sizes has the span of the part at a position.
+abbrev pub ListsSpan : ℕ → ℕ → ℕ → List ℕ → Result Span Fault → Type 0
+ListsSpan size count position image result = count ≡ length (sizes (slice image 64 size))
+    → IfOk result (λ span. span ≡ span_of_part (sizes (slice image 64 size)) position)
+
+-- A found part of an image with this header has the span of the part at a position.
+abbrev pub FindsSpan : Header → ℕ → List ℕ → Result Span Fault → Type 0
+FindsSpan h position image result =
+    IfOk result (λ span. span ≡ span_in (has_parts h.kind) (payload image h) h.size position)
+
+-- the same for an image whose header is read first
+abbrev pub LocatesSpan : ℕ → List ℕ → Result Span Fault → Type 0
+LocatesSpan position image result = IfOk result (λ span. span_at image position ≡ Ok span)
 
 -- the result is a failed read
 abbrev pub is_unread : {X : Type 0} → Result X PartsFault → Bool

@@ -4,6 +4,7 @@ ghost use Rattle.std.specs.Prelude.{◌≡◌, IsTrue};
 ghost use Rattle.uimg_base.specs.{Honest.IfHonest, Using.UsesAtMost};
 ghost use Rattle.uimg_legacy.specs.{Extraction.extract_of, Work.{list_work, extract_work}};
 ghost use Rattle.uimg_legacy.specs.{Reading.{Reads, LocatesPart, EndsInFile}, Faults.is_refused};
+ghost use Rattle.uimg_legacy.specs.Placing.{LocatesSpan};
 ghost use Rattle.uimg_legacy.specs.Commands.{Inspects, Delivers, TellsOf, KeepsAhead};
 
 use crate::fault::Fault;
@@ -21,6 +22,7 @@ fn locate_part<S: Source, A: Allocator>(
 ) -> Result<Span, Fault>
     ensures reads { Reads UsesAtMost list_work (LocatesPart position) result S.device source room }
     ensures inside { EndsInFile result S.device source }
+    ensures span { IfHonest S.device source (λ file. LocatesSpan position file result) }
 {
     let header = read_image(source, room)?;
     find_part(source, room, &header, position)
@@ -38,6 +40,7 @@ pub fn locate<S: Source, A: Allocator>(
     ensures inspects { Inspects list_work result S.device source room }
     ensures inside { EndsInFile result S.device source }
     ensures told { IfHonest S.device source (λ file. LocatesPart position file result) }
+    ensures span { IfHonest S.device source (λ file. LocatesSpan position file result) }
 {
     room.clear();
     locate_part(source, room, position)

@@ -2,6 +2,7 @@
 
 ghost use Rattle.std.specs.Prelude.{◌≡◌, ◌+◌, ◌*◌, ◌≤◌, ◌<◌, length, IfOk, is_err};
 ghost use Rattle.uimg_base.specs.{Honest.IfHonest, Using.{Asks, UsesAtMost}};
+ghost use Rattle.uimg_legacy.specs.Placing.{ListsSpan, FindsSpan};
 ghost use Rattle.uimg_legacy.specs.{Parts.has_parts, Work.table_work, Tables.{Counts, sizes_work}};
 ghost use Rattle.uimg_legacy.specs.Reading.{Reads, FindsPart, ListsPart, IsWordAt};
 
@@ -69,6 +70,7 @@ pub(crate) fn listed_part<S: Source, A: Allocator>(
     ensures reads { Reads Asks (λ _. 4 * (position + 1)) (ListsPart size count position) result
         S.device source room }
     ensures inside { IfOk result (λ span. span.place + span.length ≤ 64 + size) }
+    ensures span { IfHonest S.device source (λ file. ListsSpan size count position file result) }
 {
     let start = 4 * (count as u64 + 1) + sum_first(source, room, position)?;
     let len = size_at(source, position)?;
@@ -93,6 +95,7 @@ pub(crate) fn find_part<S: Source, A: Allocator>(
     ensures reads { Reads UsesAtMost (table_work header.now) (FindsPart header.now position) result
         S.device source room }
     ensures inside { IfOk result (λ span. span.place + span.length ≤ 64 + header.now.size) }
+    ensures span { IfHonest S.device source (λ file. FindsSpan header.now position file result) }
 {
     if !has_parts(header.kind) {
         if position != 0 {

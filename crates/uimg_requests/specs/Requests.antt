@@ -1,5 +1,5 @@
 -- What a making requests.
-use Rattle.std.specs.Prelude.{◌≡◌, ◌++◌, ℕ, List, map}
+use Rattle.std.specs.{Prelude.{◌≡◌, ◌++◌, ◌==◌, ℕ, List, [], ◌∷◌, map, if◌then◌else◌}, List.list_any}
 use Rattle.uimg_fit_base.specs.declared.placement.Placement.{Placement}
 use Rattle.uimg_legacy.specs.declared.options.Options.{Options}
 use Rattle.uimg_requests.specs.declared.make_command.MakeCommand.{MakeCommand}
@@ -16,3 +16,9 @@ abbrev pub AsksSource : MakeCommand → List ℕ → List ℕ → Placement → 
 AsksSource (Parts options files) folder path place = ⊥
 AsksSource (Tree source placement) folder path place =
     (folder ++ source.items ≡ path) × (placement ≡ place)
+
+-- the bytes of a path up to its last slash, and that slash; none if it has no slash
+unfoldable pub folder_of : List ℕ → List ℕ
+folder_of [] = []
+folder_of (byte ∷ more) =
+    if list_any (λ b. b == 47) (byte ∷ more) then byte ∷ folder_of more else []

@@ -1,7 +1,7 @@
 //! Requests of a command line, with the paths that it names.
 
 ghost use Rattle.std.specs.Prelude.{◌≡◌, ◌++◌, [], IfOk};
-ghost use Rattle.uimg_requests.specs.{Names.part_names, Requests.{AsksParts, AsksSource}};
+ghost use Rattle.uimg_requests.specs.{Names.part_names, Requests.{AsksParts, AsksSource, folder_of}};
 ghost use Rattle.uimg_requests.specs.Commands.{HasFitNames, has_fit_names_prop};
 
 use crate::command::Command;
@@ -59,7 +59,7 @@ pub struct MakeRequest<'a> {
 }
 
 impl<'a> MakeRequest<'a> {
-    ghost use Rattle.uimg_requests.specs.Plain.{IsPlain};
+    ghost use Rattle.uimg_requests.specs.Plain.{IsAt, IsPlain};
 
     /// Returns the request for a legacy image from the files in the word of -d, listed with the
     /// names of the profile. Memory for the files' names may be refused.
@@ -73,6 +73,7 @@ impl<'a> MakeRequest<'a> {
     ) -> Result<MakeRequest<'a>, AllocError>
         ensures asks { IfOk result (λ request. AsksParts request.command options
             (part_names options.kind word.now)) }
+        ensures place { IfOk result (λ request. IsAt request [] []) }
         ensures plain { IfOk result (λ request. IsPlain request time outfile.entry.now) }
     {
         let files = file_names(alloc, options.kind, word)?;
@@ -93,8 +94,8 @@ impl<'a> MakeRequest<'a> {
 
     /// Returns the request for a FIT image from the source at a path, with files in the source's
     /// folder, listed with the names of the profile, and with payloads padded to multiples of 4.
-    /// Memory for its name may be refused. Folder and name together are the path; tests show that
-    /// the folder ends at the last slash.
+    /// Memory for its name may be refused. Folder and name together are the path; the folder ends
+    /// with the last slash.
     pub fn of_source(
         alloc: Global,
         path: &'a str,
@@ -104,6 +105,8 @@ impl<'a> MakeRequest<'a> {
     ) -> Result<MakeRequest<'a>, AllocError>
         ensures asks { IfOk result (λ request. AsksSource request.command request.folder.now
             path.entry.now placement) }
+        ensures place { IfOk result (λ request.
+            IsAt request path.entry.now (folder_of path.entry.now)) }
         ensures plain { IfOk result (λ request. IsPlain request time outfile.entry.now) }
     {
         let (folder, name) = cut_behind_folder(path);
@@ -123,7 +126,7 @@ impl<'a> MakeRequest<'a> {
     ) -> Result<MakeRequest<'a>, AllocError>
         ensures asks { IfOk result (λ request. AsksSource request.command request.folder.now
             path.entry.now placement) }
-        ensures folder { IfOk result (λ request. request.folder.now ≡ []) }
+        ensures place { IfOk result (λ request. IsAt request path.entry.now []) }
         ensures plain { IfOk result (λ request. IsPlain request time outfile.entry.now) }
     {
         let source = Vec::from_slice(alloc, path.as_bytes())?;
@@ -145,7 +148,8 @@ impl<'a> MakeRequest<'a> {
 
 // Cuts a path after its last slash.
 fn cut_behind_folder(path: &str) -> (&str, &str)
-    ensures { result.0.now ++ result.1.now ≡ path.now }
+    ensures whole { result.0.now ++ result.1.now ≡ path.now }
+    ensures folder { result.0.now ≡ folder_of path.now }
 {
     match path.rfind('/') {
         Some(slash) => path.split_at(slash + 1),

@@ -24,3 +24,6 @@ returns-clause-told g c = λ honest t read found n.
     let file = (g.S.Source.device c.args.source.now).bytes in
     let is : Ok c.in_ok-span.span ≡ place file found = sym c.in_ok-span.was ∙ c.in_ok-find_place.ensures.place honest t read found n in
     payload_inside file found c.in_ok-span.span is (search rules)
+
+pub returns-clause-place : goal.returns-clause-place
+returns-clause-place g c = λ honest t read found n. sym (c.in_ok-find_place.ensures.place honest t read found n) ∙ c.in_ok-span.was

@@ -18,3 +18,10 @@ returns-clause-reads g c =
     let counts = c.in_ok-count.ensures.reads.answer honest in
     let first = c.count_sizes.ensures.reads.uses.same in
     rw (has, counts.0) ((rw first.bytes at c.listed_part.ensures.reads.answer (honest_still first honest)) counts.1))
+
+pub returns-clause-span : goal.returns-clause-span
+returns-clause-span g c = λ honest.
+    let has : has_parts c.args.header.now.kind ≡ true = sym c.has_parts.ensures ∙ c.if-not-has_parts.false in
+    let counts = c.in_ok-count.ensures.reads.answer honest in
+    let first = c.count_sizes.ensures.reads.uses.same in
+    rw has ((rw first.bytes at c.listed_part.ensures.span (honest_still first honest)) counts.1)

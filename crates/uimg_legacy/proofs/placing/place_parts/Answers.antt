@@ -1,19 +1,16 @@
 use Rattle.std.proofs.Common.{◌≡◌, ◌<◌, ◌≤◌, length, get_or, ◌+◌, ◌-◌, ◌*◌, ◌∙◌, ap, refl, ℕ, List, [], sym, arith, rules}
 use Rattle.uimg_texts.specs.{Slices.slice, Numbers.{be32, up4}}
 use Rattle.uimg_base.{proofs.Slices.length-slice, specs.declared.spans.Span.Span}
-use Rattle.uimg_legacy.specs.{Parts.{sizes, start}, Placing.{spans_before, places, span_of_part}}
+use Rattle.uimg_legacy.specs.{Parts.{sizes, start}, Placing.{spans_before, places}}
 use Rattle.uimg_legacy.proofs.SourceLaws.{honest_still, same_still}
 use Rattle.uimg_legacy.proofs.PartsLaws.{table_words, start_first, start_more, up4_bound}
 use Rattle.uimg_legacy.proofs.LinesLaws.{outside_yes, outside_no}
-use Rattle.uimg_legacy.proofs.PlacingLaws.{before_none, place_one, place_outside, place_all}
+use Rattle.uimg_legacy.proofs.PlacingLaws.{before_none, place_is, place_one, place_outside, place_all}
 use Rattle.uimg_legacy.proofs.placing.place_parts.Goals as goal
 
 -- the size of a part, as it was read
 size_read : (image now : List ℕ) (size i n count : ℕ) → now ≡ image → 64 + size ≤ length image → count ≡ length (sizes (slice image 64 size)) → i < count → n ≡ be32 now (64 + 4 * i) → n ≡ get_or (sizes (slice image 64 size)) i 0
 size_read image now size i n count same inside counts there word = rw same at word ∙ sym (table_words image size inside i (omega (arith, counts)))
-
-place_is : (table : List ℕ) (i at n : ℕ) → at ≡ start table i → n ≡ get_or table i 0 → record { place = 64 + at; length = n } ≡ span_of_part table i
-place_is table i at n a e = ap (λ (k : ℕ). record { place = 64 + k; length = n }) a ∙ ap (λ (k : ℕ). record { place = 64 + start table i; length = k }) e
 
 pub loop-i-init : goal.loop-i-init
 loop-i-init g c = record {
