@@ -18,8 +18,8 @@ abbrev pub located_end : Result Span Fault → Option (End Fault)
 located_end (Ok span) = Some done
 located_end (Err fault) = end_of (Err fault)
 
--- The span is that of the payload of the FIT image's image, or of the part of the legacy image, at a
--- position. It counts for a part without bytes, too.
+-- The span is that of the payload of the FIT image's image, or of the part of the legacy image, at
+-- a position, also if it has no bytes.
 abbrev pub IsSpanOf : Bool → ℕ → List ℕ → Span → Type 0
 IsSpanOf true position file span = place_at file position ≡ Ok span
 IsSpanOf false position file span = span_at file position ≡ Ok span

@@ -48,8 +48,8 @@ abbrev pub place_of : List ℕ → Option (NodeOf Spot) → Result Span FitFault
 place_of file (Some image) = place file image
 place_of file None = Err NoSuchImage
 
--- The span of the payload of the image at a position, or the first fault before it. It may end after
--- the file.
+-- The span of the payload of the image at a position, or the first fault before it. It may end
+-- after the file.
 abbrev pub place_at : List ℕ → ℕ → Result Span Fault
 place_at file position = do
   found ← images_of file
