@@ -1,3 +1,4 @@
+pub mod Deeds
 pub mod FileNames
 pub mod Lines
 pub mod Plan
