@@ -1,4 +1,10 @@
+pub mod Allowing
 pub mod Deeds
 pub mod FileNames
+pub mod Kinds
 pub mod Lines
+pub mod Naming
+pub mod Places
 pub mod Plan
+pub mod Refusing
+pub mod Sizes

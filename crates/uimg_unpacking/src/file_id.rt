@@ -21,3 +21,28 @@ impl FileId {
         })
     }
 }
+
+impl FileId {
+    ghost use Rattle.std.specs.Prelude.{◌≡◌};
+    ghost use Rattle.uimg_unpacking.specs.Allowing.{is_same};
+
+    // Returns whether another file is this one.
+    fn is_same(self, other: FileId) -> bool
+        ensures { result ≡ is_same self other }
+    {
+        self.device == other.device && self.inode == other.inode
+    }
+
+    ghost use Rattle.uimg_unpacking.specs.Allowing.{is_image};
+
+    /// Returns whether a file that was found is that of an image.
+    pub(crate) fn is_image(found: Option<FileId>, image: Option<FileId>) -> bool
+        ensures { result ≡ is_image found image }
+    {
+        match (found, image) {
+            (Some(found), Some(image)) => found.is_same(image),
+            (Some(_), None) => false,
+            (None, _) => false,
+        }
+    }
+}

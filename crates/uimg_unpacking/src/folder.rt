@@ -1,9 +1,13 @@
 //! The folder for payloads and parts, and the paths of their files.
 
+ghost use Rattle.std.specs.Prelude.{◌≡◌, ◌++◌, codes, IfOk, string_bytes, decimal, true, ℕ, List, Bool};
+ghost use Rattle.uimg_unpacking.specs.Allowing.{Allows};
+ghost use Rattle.uimg_unpacking.specs.Places.{is_temporary_folder, stays_within};
+ghost use Rattle.uimg_unpacking.specs.Refusing.{refused_of};
+
 use crate::disk_world::DiskWorld;
 use crate::file_id::FileId;
 use crate::kind::Kind;
-use crate::naming::is_there;
 use crate::trouble::{ShownPath, Trouble};
 use crate::world::World;
 use std::alloc::{AllocError, Global};
@@ -32,20 +36,33 @@ pub struct Folder<'a> {
 
 impl<'a> Folder<'a> {
     /// Returns the path of a file in it. Fails if memory for it is refused.
-    pub(crate) fn path_of(&self, alloc: Global, name: &str) -> Result<String, AllocError> {
+    pub(crate) fn path_of(&self, alloc: Global, name: &str) -> Result<String, AllocError>
+        ensures { IfOk result (λ path. string_bytes path
+            ≡ self.now.path.now ++ codes "/" ++ name.now) }
+    {
         format!(in alloc; "{}/{name}", self.path)
     }
 
     /// Returns a path, if it is free, or a file to replace exists there, which is not the image.
-    pub(crate) fn allows<W: World>(&self, world: &mut W, path: String) -> Result<String, Trouble> {
+    pub(crate) fn allows<W: World>(&self, world: &mut W, path: String) -> Result<String, Trouble>
+        ensures told { Allows self.now.image self.now.is_forced (string_bytes path)
+            (refused_of result) (W.trace world.old) (W.trace world.new) }
+        ensures same { IfOk result (λ it. it ≡ path) }
+        ensures within { (folder : List ℕ) → (is_naming : Bool) →
+            stays_within folder is_naming (W.trace world.new)
+            ≡ stays_within folder is_naming (W.trace world.old) }
+    {
         let found = world.file_at(path.as_str());
-        if found.is_some() & (found == self.image) {
+        if FileId::is_image(found, self.image) {
             return Err(Trouble::IsImage(ShownPath(path)));
         }
-        match world.kind_at(path.as_str()) {
-            Kind::Folder => Err(Trouble::IsFolder(ShownPath(path))),
-            Kind::File | Kind::Link if !self.is_forced => Err(Trouble::Exists(ShownPath(path))),
-            _ => Ok(path),
+        match (world.kind_at(path.as_str()), self.is_forced) {
+            (Kind::Nothing, _) => Ok(path),
+            (Kind::Folder, _) => Err(Trouble::IsFolder(ShownPath(path))),
+            (Kind::File, true) => Ok(path),
+            (Kind::File, false) => Err(Trouble::Exists(ShownPath(path))),
+            (Kind::Link, true) => Ok(path),
+            (Kind::Link, false) => Err(Trouble::Exists(ShownPath(path))),
         }
     }
 
@@ -55,7 +72,13 @@ impl<'a> Folder<'a> {
         &self,
         world: &mut W,
         alloc: Global,
-    ) -> Result<io::Result<String>, AllocError> {
+    ) -> Result<io::Result<String>, AllocError>
+        ensures made { IfOk result (λ made. IfOk made (λ path.
+            is_temporary_folder self.now.path.now (string_bytes path) ≡ true)) }
+        ensures within { (is_naming : Bool) →
+            stays_within self.now.path.now is_naming (W.trace world.new)
+            ≡ stays_within self.now.path.now is_naming (W.trace world.old) }
+    {
         for number in 1..=TRIED {
             let path = self.unnamed(alloc, number)?;
             match world.create_dir(path.as_str()) {
@@ -68,7 +91,10 @@ impl<'a> Folder<'a> {
     }
 
     // Returns a path in it for what has no name yet. Fails if memory for it is refused.
-    fn unnamed(&self, alloc: Global, number: u32) -> Result<String, AllocError> {
+    fn unnamed(&self, alloc: Global, number: u32) -> Result<String, AllocError>
+        ensures { IfOk result (λ path. string_bytes path
+            ≡ self.now.path.now ++ codes "/.uimg-new" ++ decimal number) }
+    {
         format!(in alloc; "{}/.uimg-new{number}", self.path)
     }
 
@@ -118,7 +144,7 @@ fn is_or_has<W: World>(world: &mut W, path: &str, image: Option<&str>) -> bool {
     };
     let found = world.canonicalize(path);
     let (Ok(path), Ok(image)) = (found, world.canonicalize(image)) else {
-        return is_no_link(world, path) && is_there(world, image);
+        return is_no_link(world, path) && world.kind_at(image).is_something();
     };
     match image.as_str().strip_prefix(path.as_str()) {
         Some(rest) => rest.is_empty() || rest.starts_with('/'),

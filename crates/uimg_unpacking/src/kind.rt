@@ -15,3 +15,20 @@ pub enum Kind {
     /// A symbolic link.
     Link,
 }
+
+impl Kind {
+    ghost use Rattle.std.specs.Prelude.{◌≡◌};
+    ghost use Rattle.uimg_unpacking.specs.Kinds.{is_something};
+
+    /// Returns whether anything exists, even a symbolic link without a target.
+    pub(crate) fn is_something(self) -> bool
+        ensures { result ≡ is_something self }
+    {
+        match self {
+            Kind::Nothing => false,
+            Kind::File => true,
+            Kind::Folder => true,
+            Kind::Link => true,
+        }
+    }
+}

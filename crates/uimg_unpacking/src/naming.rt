@@ -1,5 +1,8 @@
 //! Gives files their names, and takes names back.
 
+ghost use Rattle.uimg_unpacking.specs.Deeds.{answer_of};
+ghost use Rattle.uimg_unpacking.specs.Naming.{GivesName, KeepsAs, PutsBack};
+
 use crate::disk_world::DiskWorld;
 use crate::kind::Kind;
 use crate::world::World;
@@ -18,13 +21,16 @@ pub fn give_name<R: Files + AllocGlobal>(
     name_file(&mut DiskWorld::new(rt), path, whole, replaces)
 }
 
-/// As `give_name`.
+/// As `give_name`, in a world.
 pub(crate) fn name_file<W: World>(
     world: &mut W,
     path: &str,
     whole: &str,
     replaces: bool,
-) -> io::Result<()> {
+) -> io::Result<()>
+    ensures { GivesName path.now whole.now replaces (answer_of result)
+        (W.trace world.old) (W.trace world.new) }
+{
     if replaces {
         return world.rename(path, whole);
     }
@@ -38,14 +44,18 @@ pub(crate) fn name_file<W: World>(
             ErrorKind::AlreadyExists => Err(error),
             _ => match world.kind_at(whole) {
                 Kind::Nothing => world.rename(path, whole),
-                _ => Err(error),
+                Kind::File => Err(error),
+                Kind::Folder => Err(error),
+                Kind::Link => Err(error),
             },
         },
     }
 }
 
 /// Gives a file another name too; on a file system without links it loses the first one.
-pub(crate) fn keep_as<W: World>(world: &mut W, whole: &str, old: &str) -> io::Result<()> {
+pub(crate) fn keep_as<W: World>(world: &mut W, whole: &str, old: &str) -> io::Result<()>
+    ensures { KeepsAs whole.now old.now (answer_of result) (W.trace world.old) (W.trace world.new) }
+{
     match world.hard_link(whole, old) {
         Ok(()) => Ok(()),
         Err(_) => world.rename(whole, old),
@@ -54,22 +64,18 @@ pub(crate) fn keep_as<W: World>(world: &mut W, whole: &str, old: &str) -> io::Re
 
 /// Puts back what was kept under another name; if there is nothing, removes what got the name.
 /// Returns whether that is done.
-pub(crate) fn put_back<W: World>(world: &mut W, whole: &str, old: &str, has_name: bool) -> bool {
-    if !is_there(world, old) {
+pub(crate) fn put_back<W: World>(world: &mut W, whole: &str, old: &str, has_name: bool) -> bool
+    ensures { PutsBack whole.now old.now has_name result (W.trace world.old) (W.trace world.new) }
+{
+    if !world.kind_at(old).is_something() {
         return !has_name || world.remove_file(whole).is_ok();
     }
-    if world.rename(old, whole).is_err() {
-        return false;
-    }
-    // Two links to one file are left by a rename.
-    let _ = world.remove_file(old);
-    true
-}
-
-/// Returns whether anything exists at a path, even a symbolic link without a target.
-pub(crate) fn is_there<W: World>(world: &mut W, path: &str) -> bool {
-    match world.kind_at(path) {
-        Kind::Nothing => false,
-        Kind::File | Kind::Folder | Kind::Link => true,
+    match world.rename(old, whole) {
+        Ok(()) => {
+            // Two links to one file are left by a rename.
+            let _ = world.remove_file(old);
+            true
+        }
+        Err(_) => false,
     }
 }

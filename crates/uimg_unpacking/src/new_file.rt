@@ -1,7 +1,8 @@
 //! A file that gets its name when it is complete.
 
-ghost use Rattle.std.specs.Prelude.{◌≡◌, [], OnOk};
+ghost use Rattle.std.specs.Prelude.{◌≡◌, [], OnOk, IfOk};
 ghost use Rattle.std.specs.Io.{WritesAtMost};
+ghost use Rattle.uimg_unpacking.specs.Sizes.{accepted};
 ghost use Rattle.std.specs.Io.Buffered.{writer_buffer, writer_contents};
 ghost use Rattle.std.specs.Io.KnownBytes.{Keeps, WriteAppends};
 
@@ -19,13 +20,15 @@ pub(crate) type ErrorCode = Cell<Option<i32>>;
 #[derive(Drop)]
 pub struct NewFile<'a, F: Write + OpenFile + Drop> {
     file: BufWriter<F, Global>,
-    size: u64,
+    pub(crate) size: u64,
     code: &'a ErrorCode,
 }
 
 impl<'a, F: Write + OpenFile + Drop> NewFile<'a, F> {
     /// Returns a file to which nothing was written, and which notes its errors here.
-    pub(crate) fn new(file: BufWriter<F, Global>, code: &'a ErrorCode) -> NewFile<'a, F> {
+    pub(crate) fn new(file: BufWriter<F, Global>, code: &'a ErrorCode) -> NewFile<'a, F>
+        ensures { result.size ≡ 0 }
+    {
         NewFile {
             file,
             size: 0,
@@ -35,7 +38,9 @@ impl<'a, F: Write + OpenFile + Drop> NewFile<'a, F> {
 
     /// Writes what is buffered, to the disk too if `is_synced`, and closes the file. Returns its
     /// length in bytes.
-    pub(crate) fn close(self, is_synced: bool) -> io::Result<u64> {
+    pub(crate) fn close(self, is_synced: bool) -> io::Result<u64>
+        ensures { IfOk result (λ size. size ≡ self.entry.size) }
+    {
         let NewFile {
             mut file,
             size,
@@ -54,6 +59,7 @@ impl<'a, F: Write + OpenFile + Drop> Write for NewFile<'a, F> {
     ghost contents = { λ s. writer_contents F.contents s.file };
 
     fn write(&mut self, buf: &[u8]) -> io::Result<usize>
+        ensures size { self.new.size ≡ accepted self.old.size result }
         ensures bound { WritesAtMost result buf.now }
         ensures bytes { WriteAppends (writer_contents F.contents self.old.file)
             (writer_contents F.contents self.new.file) result buf.now }

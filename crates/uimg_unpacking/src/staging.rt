@@ -1,10 +1,13 @@
 //! Files that are written in a folder of their own, and get their names together.
 
-ghost use Rattle.std.specs.Prelude.{◌≡◌, None, length};
+ghost use Rattle.std.specs.Prelude.{◌≡◌, ◌++◌, [], None, length, map, ℕ, List, is_ok, true, false, codes, decimal, IfOk, OnOk, string_bytes};
+ghost use Rattle.uimg_unpacking.specs.Deeds.{answer_of};
+ghost use Rattle.uimg_unpacking.specs.Naming.{Names, NamesOver, RemovesOld};
+ghost use Rattle.uimg_unpacking.specs.Places.{is_begun_in, stays_within};
 
 use crate::begun::Begun;
 use crate::folder::Folder;
-use crate::naming::{is_there, keep_as, name_file, put_back};
+use crate::naming::{keep_as, name_file, put_back};
 use crate::new_file::{ErrorCode, NewFile};
 use crate::trouble::{ShownPath, Trouble};
 use crate::world::World;
@@ -32,8 +35,6 @@ pub(crate) struct Staging<'a, 'c, W: World> {
     outdated: Vec<Begun>,
     // Whether the last file is not complete.
     is_writing: bool,
-    // Whether files get their names.
-    is_naming: bool,
     // The code of the error of its failed write.
     code: &'c ErrorCode,
 }
@@ -55,7 +56,6 @@ impl<'a, 'c, W: World> Staging<'a, 'c, W> {
             created: Vec::new(alloc),
             outdated: Vec::new(alloc),
             is_writing: false,
-            is_naming: false,
             code,
         }
     }
@@ -92,7 +92,9 @@ impl<'a, 'c, W: World> Staging<'a, 'c, W> {
     }
 
     /// Completes the file that was begun last. Returns its length in bytes.
-    pub(crate) fn complete(&mut self, file: NewFile<'c, W::File>) -> Result<u64, Trouble> {
+    pub(crate) fn complete(&mut self, file: NewFile<'c, W::File>) -> Result<u64, Trouble>
+        ensures { IfOk result (λ size. size ≡ file.entry.size) }
+    {
         match file.close(self.folder.is_synced) {
             Ok(size) => {
                 self.is_writing = false;
@@ -158,7 +160,6 @@ impl<'a, 'c, W: World> Staging<'a, 'c, W> {
     /// Gives all files their names. If one cannot get its name, or the names cannot be written to
     /// the disk, none does, and what they were to replace is there again.
     pub(crate) fn name_all(&mut self) -> Result<(), Trouble> {
-        self.is_naming = true;
         if self.is_writing {
             self.drop_last()?;
         }
@@ -169,17 +170,14 @@ impl<'a, 'c, W: World> Staging<'a, 'c, W> {
             let all = self.files.len();
             return Err(self.taken_back(all, trouble));
         }
-        for its in &self.files {
-            let _ = self.world.remove_file(its.old.as_str());
-        }
+        forget_old(&mut self.world, self.files.as_slice());
         Ok(())
     }
 
     /// Removes what refused files were to replace.
     pub(crate) fn remove_outdated(&mut self) -> Result<(), Trouble> {
-        for its in &self.outdated {
-            remove_old(&mut self.world, self.alloc, &self.folder, its)?;
-        }
+        let outdated = self.outdated.as_slice();
+        remove_all_old(&mut self.world, self.alloc, &self.folder, outdated)?;
         if self.outdated.is_empty() {
             return Ok(());
         }
@@ -212,7 +210,6 @@ impl<'a, 'c, W: World> Staging<'a, 'c, W> {
             created,
             outdated: _outdated,
             is_writing: _is_writing,
-            is_naming: _is_naming,
             code: _code,
         } = self;
         for path in &created {
@@ -229,27 +226,19 @@ impl<'a, 'c, W: World> Staging<'a, 'c, W> {
     fn name_each(&mut self) -> (usize, Option<Trouble>)
         ensures { result.1 ≡ None → result.0 ≡ length self.new.files.items }
     {
-        let mut named = 0;
-        for its in &self.files {
-            if let Err(trouble) = name(&mut self.world, self.alloc, &self.folder, its) {
-                return (named, Some(trouble));
-            }
-            named += 1;
-        }
-        (named, None)
+        name_files(
+            &mut self.world,
+            self.alloc,
+            &self.folder,
+            self.files.as_slice(),
+        )
     }
 
     // Takes the names of the files before a number away, and puts back what they, and the file of
     // this number, were to replace. Returns the trouble to tell: this one, or that old files are not
     // in their place.
     fn taken_back(&mut self, number: usize, trouble: Trouble) -> Trouble {
-        let mut is_back = true;
-        for (before, its) in self.files.iter().enumerate() {
-            let (whole, old) = (its.whole.as_str(), its.old.as_str());
-            if before <= number && !put_back(&mut self.world, whole, old, before < number) {
-                is_back = false;
-            }
-        }
+        let is_back = put_back_all(&mut self.world, self.files.as_slice(), number);
         match &self.made {
             Some(made) if !is_back => match String::from_str(self.alloc, made.as_str()) {
                 Ok(made) => Trouble::NotPutBack(ShownPath(made)),
@@ -268,7 +257,13 @@ fn begun_in(
     number: usize,
     name: String,
     whole: String,
-) -> Result<Begun, AllocError> {
+) -> Result<Begun, AllocError>
+    ensures new { IfOk result (λ it. string_bytes it.new
+        ≡ made.now ++ codes "/new-" ++ decimal number) }
+    ensures old { IfOk result (λ it. string_bytes it.old
+        ≡ made.now ++ codes "/old-" ++ decimal number) }
+    ensures same { IfOk result (λ it. it.name ≡ name × it.whole ≡ whole) }
+{
     Ok(Begun {
         name,
         new: format!(in alloc; "{made}/new-{number}")?,
@@ -277,23 +272,117 @@ fn begun_in(
     })
 }
 
+// Gives files their names, up to one that cannot get it. Returns how many have it, and why the next
+// one has not: none if all have it.
+fn name_files<W: World>(
+    world: &mut W,
+    alloc: Global,
+    folder: &Folder<'_>,
+    files: &[Begun],
+) -> (usize, Option<Trouble>)
+    ensures { result.1 ≡ None → result.0 ≡ length files.now }
+{
+    let mut named = 0;
+    for its in files {
+        if let Err(trouble) = name(world, alloc, folder, its) {
+            return (named, Some(trouble));
+        }
+        named += 1;
+    }
+    (named, None)
+}
+
+// Puts back what files up to a number were to replace. Returns whether all is back.
+fn put_back_all<W: World>(world: &mut W, files: &[Begun], number: usize) -> bool {
+    let mut is_back = true;
+    for (before, its) in files.iter().enumerate() {
+        let back = put_back_before(world, its, before, number);
+        is_back = is_back && back;
+    }
+    is_back
+}
+
+// Puts back what a file was to replace, unless its number is greater than another. Returns whether
+// it is back.
+fn put_back_before<W: World>(world: &mut W, its: &Begun, before: usize, number: usize) -> bool
+    ensures { (folder : List ℕ) → is_begun_in folder its.now ≡ true →
+        stays_within folder true (W.trace world.new)
+        ≡ stays_within folder true (W.trace world.old) }
+{
+    if before > number {
+        return true;
+    }
+    let (whole, old) = (its.whole.as_str(), its.old.as_str());
+    put_back(world, whole, old, before < number)
+}
+
+// Removes what files have replaced.
+fn forget_old<W: World>(world: &mut W, files: &[Begun]) {
+    for its in files {
+        let _ = world.remove_file(its.old.as_str());
+    }
+}
+
 // Gives a file its name. What it replaces is kept under another.
 fn name<W: World>(
     world: &mut W,
     alloc: Global,
     folder: &Folder<'_>,
     its: &Begun,
-) -> Result<(), Trouble> {
+) -> Result<(), Trouble>
+    ensures { Names folder.now.image folder.now.is_forced (string_bytes its.now.new)
+        (string_bytes its.now.old) (string_bytes its.now.whole) (is_ok result)
+        (W.trace world.old) (W.trace world.new) }
+{
     let whole = String::from_str(alloc, its.whole.as_str())?;
-    let whole = folder.allows(world, whole)?;
-    let replaces = folder.is_forced && is_there(world, whole.as_str());
-    if replaces && let Err(reason) = keep_as(world, whole.as_str(), its.old.as_str()) {
-        return Err(Trouble::CannotCreate(ShownPath(whole), reason));
+    let whole = match folder.allows(world, whole) {
+        Ok(whole) => whole,
+        Err(trouble) => return Err(trouble),
+    };
+    if folder.is_forced {
+        let named = name_over(world, its);
+        return created(named, whole);
     }
-    match name_file(world, its.new.as_str(), whole.as_str(), replaces) {
+    let named = name_file(world, its.new.as_str(), its.whole.as_str(), false);
+    created(named, whole)
+}
+
+// Gives a file its name, where something may exist.
+fn name_over<W: World>(world: &mut W, its: &Begun) -> io::Result<()>
+    ensures { NamesOver (string_bytes its.now.new) (string_bytes its.now.old)
+        (string_bytes its.now.whole) (answer_of result) (W.trace world.old) (W.trace world.new) }
+{
+    let (new, old, whole) = (its.new.as_str(), its.old.as_str(), its.whole.as_str());
+    if !world.kind_at(whole).is_something() {
+        return name_file(world, new, whole, false);
+    }
+    match keep_as(world, whole, old) {
+        Ok(()) => name_file(world, new, whole, true),
+        Err(reason) => Err(reason),
+    }
+}
+
+// Returns the trouble that a file cannot be created, if it is not.
+fn created(named: io::Result<()>, whole: String) -> Result<(), Trouble>
+    ensures { is_ok result ≡ is_ok named }
+{
+    match named {
         Ok(()) => Ok(()),
         Err(reason) => Err(Trouble::CannotCreate(ShownPath(whole), reason)),
     }
+}
+
+// Removes what files were to replace.
+fn remove_all_old<W: World>(
+    world: &mut W,
+    alloc: Global,
+    folder: &Folder<'_>,
+    files: &[Begun],
+) -> Result<(), Trouble> {
+    for its in files {
+        remove_old(world, alloc, folder, its)?;
+    }
+    Ok(())
 }
 
 // Removes what a file was to replace.
@@ -302,11 +391,19 @@ fn remove_old<W: World>(
     alloc: Global,
     folder: &Folder<'_>,
     its: &Begun,
-) -> Result<(), Trouble> {
-    let is_old = folder.is_forced && is_there(world, its.whole.as_str());
-    if is_old && let Err(reason) = world.remove_file(its.whole.as_str()) {
-        let whole = String::from_str(alloc, its.whole.as_str())?;
-        return Err(Trouble::CannotRemove(ShownPath(whole), reason));
+) -> Result<(), Trouble>
+    ensures { RemovesOld folder.now.is_forced (string_bytes its.now.whole)
+        (W.trace world.old) (W.trace world.new) }
+{
+    if !folder.is_forced {
+        return Ok(());
     }
-    Ok(())
+    if !world.kind_at(its.whole.as_str()).is_something() {
+        return Ok(());
+    }
+    let Err(reason) = world.remove_file(its.whole.as_str()) else {
+        return Ok(());
+    };
+    let whole = String::from_str(alloc, its.whole.as_str())?;
+    Err(Trouble::CannotRemove(ShownPath(whole), reason))
 }

@@ -1,5 +1,5 @@
 use Rattle.std.proofs.Common.{◌≡◌}
-use Rattle.uimg_unpacking.proofs.staging.Staging.name_each.Given as goal
+use Rattle.uimg_unpacking.proofs.staging.name_files.Given as goal
 
 -- as many files have their names as were met
 abbrev pub invariant-loop-its : goal.invariant-loop-its
