@@ -1,5 +1,6 @@
 -- Which paths are those that an unpacking may change.
 use Rattle.std.proofs.Common.{◌≡◌, ℕ, zero, suc, ◌+◌, ◌/◌, ◌%◌, ◌<◌, ◌==◌, length, slice_index_or, Bool, true, false, ◌&&◌, ◌||◌, nat_le, if◌then◌else◌, List, [], ◌∷◌, ◌++◌, Option, Some, None, inl, inr, refl, ap, ap₂, sym, ◌∙◌, arith, rules, codes, decimal, string_bytes}
+use Rattle.std.specs.Option.{option_to_list}
 use Rattle.std.specs.{Fmt.{digit_glyph, digits, digits_onto}, List.list_all, Option.option_map_or}
 use Rattle.std.proofs.lemmas.Bool.{and_parts, cases_eq}
 use Rattle.std.proofs.lemmas.List.Folds.{list_all-append, list_all_at}
@@ -283,3 +284,20 @@ old_within f forced b before after (nothing_old kind e g is) ok = one_more f tru
 old_within f forced b before after (removed_old kind a e g is) ok =
     one_more f true (Removes (string_bytes b.whole) a) (Looks (string_bytes b.whole) kind ∷ before) after is (own_changes f (string_bytes b.whole) (begun_whole f b ok))
     ∙ looked f (string_bytes b.whole) kind before
+
+-- the files without the last, and the last
+pub without_last : {X : Type 0} (p : X → Bool) (xs ys : List X) (last : Option X) → xs ≡ ys ++ option_to_list last → list_all p xs ≡ true → list_all p ys ≡ true
+without_last p xs ys last is all =
+    (and_parts (list_all p ys) (list_all p (option_to_list last)) (sym (list_all-append p ys (option_to_list last)) ∙ ap (list_all p) (sym is) ∙ all)).0
+
+pub the_last : {X : Type 0} (p : X → Bool) (xs ys : List X) (x : X) → xs ≡ ys ++ x ∷ [] → list_all p xs ≡ true → p x ≡ true
+the_last p xs ys x is all =
+    (and_parts (p x) true (and_parts (list_all p ys) (list_all p (x ∷ [])) (sym (list_all-append p ys (x ∷ [])) ∙ ap (list_all p) (sym is) ∙ all)).1).0
+
+pub pushed : {X : Type 0} (p : X → Bool) (xs ys : List X) (x : X) (is_pushed : Bool) → ys ≡ (if is_pushed then xs ++ x ∷ [] else xs) → list_all p xs ≡ true → p x ≡ true → list_all p ys ≡ true
+pushed p xs ys x true e all is = ap (list_all p) e ∙ one_file_more p xs x all is
+pushed p xs ys x false e all is = ap (list_all p) e ∙ all
+
+-- a temporary folder is removed
+pub unmade_within : (folder : List ℕ) (is_naming : Bool) (path : List ℕ) (answer : Answer) (before after : List Deed) → is_temporary_folder folder path ≡ true → after ≡ RemovesFolder path answer ∷ before → stays_within folder is_naming after ≡ stays_within folder is_naming before
+unmade_within folder is_naming path answer before after ok is = one_more folder is_naming (RemovesFolder path answer) before after is (folder_changes folder path is_naming ok)

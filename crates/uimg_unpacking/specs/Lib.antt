@@ -1,4 +1,5 @@
 pub mod Allowing
+pub mod Clearing
 pub mod Deeds
 pub mod FileNames
 pub mod Kinds

@@ -1,6 +1,8 @@
 //! Writes payloads to a folder, with a line for each.
 
-ghost use Rattle.std.specs.Prelude.{[]};
+ghost use Rattle.std.specs.Prelude.{◌≡◌, [], false, true};
+ghost use Rattle.uimg_unpacking.specs.Places.{stays_within};
+ghost use Rattle.uimg_unpacking.specs.Plan.{gives_names};
 
 use crate::limits::Claimed;
 use crate::lines::Line;
@@ -34,6 +36,7 @@ pub(crate) struct FolderTaker<'a, 'c, W: World, O: Write + Drop> {
     taken: Names,
     claimed: Claimed,
     trouble: Option<Trouble>,
+    ghost unnamed: { staging.is_naming ≡ false },
 }
 
 impl<'a, 'c, W: World, O: Write + Drop> FolderTaker<'a, 'c, W, O> {
@@ -45,7 +48,10 @@ impl<'a, 'c, W: World, O: Write + Drop> FolderTaker<'a, 'c, W, O> {
         asked: &Unpacking<'a>,
         out: O,
         code: &'c ErrorCode,
-    ) -> FolderTaker<'a, 'c, W, O> {
+    ) -> FolderTaker<'a, 'c, W, O>
+        requires { W.trace world ≡ [] }
+        ensures { result.staging.folder ≡ asked.now.folder }
+    {
         FolderTaker {
             alloc,
             keeps_good: asked.keeps_good,
@@ -64,42 +70,29 @@ impl<'a, 'c, W: World, O: Write + Drop> FolderTaker<'a, 'c, W, O> {
     /// Gives the files their names, if `is_whole` and none was refused, or if good ones are kept.
     /// Removes the others, and prints the lines. Returns the world, their writer, the number of
     /// payloads that were begun, and the trouble, if it is known.
-    pub(crate) fn end(mut self, is_whole: bool) -> (W, O, usize, Option<Trouble>) {
-        let unwritten = self.staging.unwritten();
-        let trouble = self.trouble.take().or(unwritten);
-        let trouble = trouble.or(self.name(is_whole).err());
+    pub(crate) fn end(self, is_whole: bool) -> (W, O, usize, Option<Trouble>)
+        ensures { stays_within self.entry.staging.folder.path.now
+            (gives_names self.entry.keeps_good is_whole self.entry.has_refused)
+            (W.trace result.0) ≡ true }
+    {
         let FolderTaker {
             alloc: _alloc,
-            keeps_good: _keeps_good,
+            keeps_good,
             json: _json,
-            out,
-            staging,
-            lines: _lines,
-            has_refused: _has_refused,
+            mut out,
+            mut staging,
+            lines,
+            has_refused,
             looked: _looked,
             taken,
             claimed: _claimed,
-            trouble: _trouble,
+            trouble,
         } = self;
-        (staging.end(), out, taken.count(), trouble)
-    }
-
-    // Gives the files their names, and prints the lines of those that have one and of refused ones.
-    fn name(&mut self, is_whole: bool) -> Result<(), Trouble> {
-        let names = gives_names(self.keeps_good, is_whole, self.has_refused);
-        if names {
-            self.staging.name_all()?;
-        }
-        let removed = if names {
-            self.staging.remove_outdated()
-        } else {
-            Ok(())
-        };
-        if names || self.has_refused {
-            self.out.write_all(self.lines.as_slice())?;
-            self.out.flush()?;
-        }
-        removed
+        let trouble = trouble.or(staging.unwritten());
+        let names = gives_names(keeps_good, is_whole, has_refused);
+        let named = name(&mut staging, names);
+        let told = tell(named, &mut out, lines.as_slice(), names || has_refused);
+        (staging.end(), out, taken.count(), trouble.or(told.err()))
     }
 
     // Checks, before any payload is written, whether the file of this one may be.
@@ -156,6 +149,40 @@ impl<'a, 'c, W: World, O: Write + Drop> FolderTaker<'a, 'c, W, O> {
         self.has_refused = true;
         self.add(&Line::Refused(name, refusal))
     }
+}
+
+// Gives the files their names, and removes what refused ones were to replace, if `names`. Returns
+// the trouble that no file has its name, or that old files are left.
+fn name<W: World>(
+    staging: &mut Staging<'_, '_, W>,
+    names: bool,
+) -> Result<Result<(), Trouble>, Trouble>
+    requires { staging.old.is_naming ≡ false }
+    ensures folder { staging.new.folder ≡ staging.old.folder }
+    ensures naming { staging.new.is_naming ≡ names }
+{
+    if !names {
+        return Ok(Ok(()));
+    }
+    match staging.name_all() {
+        Ok(()) => Ok(staging.remove_outdated()),
+        Err(trouble) => Err(trouble),
+    }
+}
+
+// Prints the lines of files that have their names, or of refused ones.
+fn tell<O: Write>(
+    named: Result<Result<(), Trouble>, Trouble>,
+    out: &mut O,
+    lines: &[u8],
+    is_told: bool,
+) -> Result<(), Trouble> {
+    let removed = named?;
+    if is_told {
+        out.write_all(lines)?;
+        out.flush()?;
+    }
+    removed
 }
 
 impl<'a, 'c, W: World, O: Write + Drop> Taker for FolderTaker<'a, 'c, W, O> {

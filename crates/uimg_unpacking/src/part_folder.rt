@@ -1,6 +1,8 @@
 //! Writes the parts of a legacy image to a folder, with a line for each.
 
-ghost use Rattle.std.specs.Prelude.{[]};
+ghost use Rattle.std.specs.Prelude.{◌≡◌, [], IfOk, string_bytes, true};
+ghost use Rattle.uimg_unpacking.specs.FileNames.{is_file_name};
+ghost use Rattle.uimg_unpacking.specs.Places.{stays_within};
 
 use crate::limits::Claimed;
 use crate::lines::Line;
@@ -37,7 +39,9 @@ impl<'a, 'c, W: World, O: Write + Drop> PartFolder<'a, 'c, W, O> {
         asked: &Unpacking<'a>,
         out: O,
         code: &'c ErrorCode,
-    ) -> PartFolder<'a, 'c, W, O> {
+    ) -> PartFolder<'a, 'c, W, O>
+        requires { W.trace world ≡ [] }
+    {
         PartFolder {
             alloc,
             json: asked.json,
@@ -51,7 +55,10 @@ impl<'a, 'c, W: World, O: Write + Drop> PartFolder<'a, 'c, W, O> {
 
     /// Removes the files that did not get their names, and their folder. Returns the world, and the
     /// trouble, if it is known.
-    pub(crate) fn end(self) -> (W, Option<Trouble>) {
+    pub(crate) fn end(self) -> (W, Option<Trouble>)
+        ensures { stays_within self.entry.staging.folder.path.now self.entry.staging.is_naming
+            (W.trace result.0) ≡ true }
+    {
         let PartFolder {
             alloc: _alloc,
             json: _json,
@@ -66,7 +73,10 @@ impl<'a, 'c, W: World, O: Write + Drop> PartFolder<'a, 'c, W, O> {
     }
 
     // Returns the name of a part's file.
-    fn name_of(&self, number: u32) -> Result<String, Trouble> {
+    #[tactic(auto, using(crate::proofs::Placing::image_name))]
+    fn name_of(&self, number: u32) -> Result<String, Trouble>
+        ensures { IfOk result (λ name. is_file_name (string_bytes name) ≡ true) }
+    {
         Ok(format!(in self.alloc; "image-{number}")?)
     }
 

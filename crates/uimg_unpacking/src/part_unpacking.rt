@@ -1,5 +1,7 @@
 //! Unpacks a legacy image into a folder.
 
+ghost use Rattle.std.specs.Prelude.{◌≡◌, []};
+
 use crate::disk_world::DiskWorld;
 use crate::new_file::ErrorCode;
 use crate::part_folder::PartFolder;
@@ -56,7 +58,9 @@ fn unpack_parts_in<W: World, S: Source, O: Write + Drop>(
     asked: &Unpacking<'_>,
     source: &mut S,
     out: O,
-) -> (W, PartsEnded) {
+) -> (W, PartsEnded)
+    requires { W.trace world ≡ [] }
+{
     let mut room = Room::new(alloc);
     if !stands_by_crc32(asked.need) {
         return (world, unless_refused(source, &mut room, PartsEnded::Weak));

@@ -1,9 +1,13 @@
 //! Files that are written in a folder of their own, and get their names together.
 
-ghost use Rattle.std.specs.Prelude.{◌≡◌, ◌++◌, [], None, length, map, ℕ, List, is_ok, true, false, codes, decimal, IfOk, OnOk, string_bytes};
+ghost use Rattle.std.specs.Prelude.{◌≡◌, ◌++◌, [], None, length, map, ℕ, List, is_ok, true, false, codes, decimal, IfOk, IfSome, OnOk, string_bytes};
+ghost use Rattle.std.specs.List.{list_all};
+ghost use Rattle.std.specs.Option.{option_map, option_map_or};
 ghost use Rattle.uimg_unpacking.specs.Deeds.{answer_of};
 ghost use Rattle.uimg_unpacking.specs.Naming.{Names, NamesOver, RemovesOld};
-ghost use Rattle.uimg_unpacking.specs.Places.{is_begun_in, stays_within};
+ghost use Rattle.uimg_unpacking.specs.Clearing.{unanswered, cleared};
+ghost use Rattle.uimg_unpacking.specs.FileNames.{is_file_name};
+ghost use Rattle.uimg_unpacking.specs.Places.{is_temporary_folder, is_temporary_file, is_begun_in, stays_within};
 
 use crate::begun::Begun;
 use crate::folder::Folder;
@@ -35,8 +39,15 @@ pub(crate) struct Staging<'a, 'c, W: World> {
     outdated: Vec<Begun>,
     // Whether the last file is not complete.
     is_writing: bool,
+    // Whether files get their names.
+    is_naming: bool,
     // The code of the error of its failed write.
     code: &'c ErrorCode,
+    ghost made_inside: { option_map_or (λ path. is_temporary_folder folder.path.now (string_bytes path)) made true ≡ true },
+    ghost files_inside: { list_all (is_begun_in folder.path.now) files.items ≡ true },
+    ghost created_inside: { list_all (λ path. is_temporary_file folder.path.now (string_bytes path)) created.items ≡ true },
+    ghost outdated_inside: { list_all (is_begun_in folder.path.now) outdated.items ≡ true },
+    ghost stays: { stays_within folder.path.now is_naming (W.trace world) ≡ true },
 }
 
 impl<'a, 'c, W: World> Staging<'a, 'c, W> {
@@ -46,7 +57,11 @@ impl<'a, 'c, W: World> Staging<'a, 'c, W> {
         alloc: Global,
         folder: Folder<'a>,
         code: &'c ErrorCode,
-    ) -> Staging<'a, 'c, W> {
+    ) -> Staging<'a, 'c, W>
+        requires { W.trace world ≡ [] }
+        ensures folder { result.folder ≡ folder.entry }
+        ensures unnamed { result.is_naming ≡ false }
+    {
         Staging {
             world,
             alloc,
@@ -56,44 +71,119 @@ impl<'a, 'c, W: World> Staging<'a, 'c, W> {
             created: Vec::new(alloc),
             outdated: Vec::new(alloc),
             is_writing: false,
+            is_naming: false,
             code,
         }
     }
 
     /// Checks whether a file of the folder may be written.
-    pub(crate) fn look(&mut self, name: &str) -> Result<(), Trouble> {
+    pub(crate) fn look(&mut self, name: &str) -> Result<(), Trouble>
+        ensures folder { self.new.folder ≡ self.old.folder }
+        ensures naming { self.new.is_naming ≡ self.old.is_naming }
+    {
         let whole = self.folder.path_of(self.alloc, name)?;
         self.folder.allows(&mut self.world, whole)?;
         Ok(())
     }
 
     /// Creates the file that gets a name later.
-    pub(crate) fn begin(&mut self, name: String) -> Result<NewFile<'c, W::File>, Trouble> {
+    pub(crate) fn begin(&mut self, name: String) -> Result<NewFile<'c, W::File>, Trouble>
+        requires { is_file_name (string_bytes name) ≡ true }
+        ensures folder { self.new.folder ≡ self.old.folder }
+        ensures naming { self.new.is_naming ≡ self.old.is_naming }
+    {
         let whole = self.folder.path_of(self.alloc, name.as_str())?;
-        let made = match self.made.take() {
-            Some(made) => made,
-            None => match self.folder.new_folder(&mut self.world, self.alloc)? {
-                Ok(made) => made,
-                Err(reason) => return Err(Trouble::CannotCreate(ShownPath(whole), reason)),
-            },
-        };
-        let begun = begun_in(self.alloc, made.as_str(), self.files.len(), name, whole);
-        self.made = Some(made);
-        let begun = begun?;
-        let path = String::from_str(self.alloc, begun.new.as_str())?;
-        self.created.push(path)?;
-        let file = match self.world.create_new(begun.new.as_str()) {
+        match self.make_folder() {
+            Ok(Ok(())) => {}
+            Ok(Err(reason)) => return Err(Trouble::CannotCreate(ShownPath(whole), reason)),
+            Err(error) => return Err(Trouble::from(error)),
+        }
+        let begun = self.begun(name, whole)?;
+        self.note(&begun)?;
+        let file = match self.create(&begun) {
             Ok(file) => BufWriter::new(self.alloc, file)?,
             Err(reason) => return Err(Trouble::CannotCreate(ShownPath(begun.whole), reason)),
         };
-        self.files.push(begun)?;
-        self.is_writing = true;
+        self.add(begun)?;
         Ok(NewFile::new(file, self.code))
+    }
+
+    // Creates the temporary folder, unless it is created.
+    fn make_folder(&mut self) -> Result<io::Result<()>, AllocError>
+        ensures folder { self.new.folder ≡ self.old.folder }
+        ensures naming { self.new.is_naming ≡ self.old.is_naming }
+    {
+        if self.made.is_some() {
+            return Ok(Ok(()));
+        }
+        match self.folder.new_folder(&mut self.world, self.alloc) {
+            Ok(Ok(made)) => {
+                self.made = Some(made);
+                Ok(Ok(()))
+            }
+            Ok(Err(reason)) => Ok(Err(reason)),
+            Err(error) => Err(error),
+        }
+    }
+
+    // Returns a file to begin, with its paths.
+    fn begun(&self, name: String, whole: String) -> Result<Begun, Trouble>
+        requires named { is_file_name (string_bytes name) ≡ true }
+        requires whole { string_bytes whole
+            ≡ self.now.folder.path.now ++ codes "/" ++ string_bytes name }
+        ensures { IfOk result (λ it. is_begun_in self.now.folder.path.now it ≡ true) }
+    {
+        let Some(made) = &self.made else {
+            return Err(Trouble::NoName);
+        };
+        match begun_in(self.alloc, made.as_str(), self.files.len(), name, whole) {
+            Ok(begun) => Ok(begun),
+            Err(error) => Err(Trouble::from(error)),
+        }
+    }
+
+    // Notes the path of a file to create.
+    fn note(&mut self, begun: &Begun) -> Result<(), Trouble>
+        requires { is_begun_in self.old.folder.path.now begun.now ≡ true }
+        ensures folder { self.new.folder ≡ self.old.folder }
+        ensures naming { self.new.is_naming ≡ self.old.is_naming }
+    {
+        let path = String::from_str(self.alloc, begun.new.as_str())?;
+        match self.created.push(path) {
+            Ok(()) => Ok(()),
+            Err(failed) => Err(Trouble::from(failed)),
+        }
+    }
+
+    // Creates a file.
+    fn create(&mut self, begun: &Begun) -> io::Result<W::File>
+        requires { is_begun_in self.old.folder.path.now begun.now ≡ true }
+        ensures folder { self.new.folder ≡ self.old.folder }
+        ensures naming { self.new.is_naming ≡ self.old.is_naming }
+    {
+        self.world.create_new(begun.new.as_str())
+    }
+
+    // Adds a file that was created, and is not complete.
+    fn add(&mut self, begun: Begun) -> Result<(), Trouble>
+        requires { is_begun_in self.old.folder.path.now begun ≡ true }
+        ensures folder { self.new.folder ≡ self.old.folder }
+        ensures naming { self.new.is_naming ≡ self.old.is_naming }
+    {
+        match self.files.push(begun) {
+            Ok(()) => {
+                self.is_writing = true;
+                Ok(())
+            }
+            Err(failed) => Err(Trouble::from(failed)),
+        }
     }
 
     /// Completes the file that was begun last. Returns its length in bytes.
     pub(crate) fn complete(&mut self, file: NewFile<'c, W::File>) -> Result<u64, Trouble>
-        ensures { IfOk result (λ size. size ≡ file.entry.size) }
+        ensures size { IfOk result (λ size. size ≡ file.entry.size) }
+        ensures folder { self.new.folder ≡ self.old.folder }
+        ensures naming { self.new.is_naming ≡ self.old.is_naming }
     {
         match file.close(self.folder.is_synced) {
             Ok(size) => {
@@ -109,7 +199,10 @@ impl<'a, 'c, W: World> Staging<'a, 'c, W> {
 
     /// Removes the file that was begun last. If it is outdated, what it was to replace is removed
     /// with the names.
-    pub(crate) fn refuse_last(&mut self, is_outdated: bool) -> Result<(), Trouble> {
+    pub(crate) fn refuse_last(&mut self, is_outdated: bool) -> Result<(), Trouble>
+        ensures folder { self.new.folder ≡ self.old.folder }
+        ensures naming { self.new.is_naming ≡ self.old.is_naming }
+    {
         let refused = self.drop_last()?;
         if is_outdated {
             self.outdated.push(refused)?;
@@ -118,15 +211,45 @@ impl<'a, 'c, W: World> Staging<'a, 'c, W> {
     }
 
     // Removes the file that was begun last, and returns it.
-    fn drop_last(&mut self) -> Result<Begun, Trouble> {
-        let Some(last) = self.files.pop() else {
+    fn drop_last(&mut self) -> Result<Begun, Trouble>
+        ensures begun { IfOk result (λ last. is_begun_in self.old.folder.path.now last ≡ true) }
+        ensures folder { self.new.folder ≡ self.old.folder }
+        ensures naming { self.new.is_naming ≡ self.old.is_naming }
+    {
+        let Some(last) = self.pop() else {
             return Err(Trouble::NoName);
         };
-        self.is_writing = false;
-        match self.world.remove_file(last.new.as_str()) {
+        match self.remove(&last) {
             Ok(()) => Ok(last),
             Err(reason) => Err(Trouble::CannotRemove(ShownPath(last.new), reason)),
         }
+    }
+
+    // Takes the file that was begun last away.
+    fn pop(&mut self) -> Option<Begun>
+        ensures begun { IfSome result (λ last. is_begun_in self.old.folder.path.now last ≡ true) }
+        ensures folder { self.new.folder ≡ self.old.folder }
+        ensures naming { self.new.is_naming ≡ self.old.is_naming }
+    {
+        self.is_writing = false;
+        self.files.pop()
+    }
+
+    // Removes a file without a name.
+    fn remove(&mut self, begun: &Begun) -> io::Result<()>
+        requires { is_begun_in self.old.folder.path.now begun.now ≡ true }
+        ensures folder { self.new.folder ≡ self.old.folder }
+        ensures naming { self.new.is_naming ≡ self.old.is_naming }
+    {
+        self.world.remove_file(begun.new.as_str())
+    }
+
+    // Begins to give files their names.
+    fn begin_naming(&mut self)
+        ensures folder { self.new.folder ≡ self.old.folder }
+        ensures naming { self.new.is_naming ≡ true }
+    {
+        self.is_naming = true;
     }
 
     /// Returns the name that the file that was begun last gets.
@@ -159,7 +282,11 @@ impl<'a, 'c, W: World> Staging<'a, 'c, W> {
 
     /// Gives all files their names. If one cannot get its name, or the names cannot be written to
     /// the disk, none does, and what they were to replace is there again.
-    pub(crate) fn name_all(&mut self) -> Result<(), Trouble> {
+    pub(crate) fn name_all(&mut self) -> Result<(), Trouble>
+        ensures folder { self.new.folder ≡ self.old.folder }
+        ensures naming { self.new.is_naming ≡ true }
+    {
+        self.begin_naming();
         if self.is_writing {
             self.drop_last()?;
         }
@@ -170,12 +297,16 @@ impl<'a, 'c, W: World> Staging<'a, 'c, W> {
             let all = self.files.len();
             return Err(self.taken_back(all, trouble));
         }
-        forget_old(&mut self.world, self.files.as_slice());
+        forget_old(&mut self.world, &self.folder, self.files.as_slice());
         Ok(())
     }
 
     /// Removes what refused files were to replace.
-    pub(crate) fn remove_outdated(&mut self) -> Result<(), Trouble> {
+    pub(crate) fn remove_outdated(&mut self) -> Result<(), Trouble>
+        requires { self.old.is_naming ≡ true }
+        ensures folder { self.new.folder ≡ self.old.folder }
+        ensures naming { self.new.is_naming ≡ self.old.is_naming }
+    {
         let outdated = self.outdated.as_slice();
         remove_all_old(&mut self.world, self.alloc, &self.folder, outdated)?;
         if self.outdated.is_empty() {
@@ -186,7 +317,11 @@ impl<'a, 'c, W: World> Staging<'a, 'c, W> {
 
     // Waits until the names in the folder are on the disk, if that is requested and there are any.
     // A file system that never waits for a folder is none to wait for.
-    fn sync(&mut self) -> Result<(), Trouble> {
+    fn sync(&mut self) -> Result<(), Trouble>
+        ensures files { self.new.files ≡ self.old.files }
+        ensures folder { self.new.folder ≡ self.old.folder }
+        ensures naming { self.new.is_naming ≡ self.old.is_naming }
+    {
         if !self.folder.is_synced || self.files.is_empty() {
             return Ok(());
         }
@@ -200,7 +335,13 @@ impl<'a, 'c, W: World> Staging<'a, 'c, W> {
     }
 
     /// Removes the files that have no name, and their folder. Returns the world.
-    pub(crate) fn end(self) -> W {
+    pub(crate) fn end(self) -> W
+        ensures stays { stays_within self.entry.folder.path.now self.entry.is_naming (W.trace result) ≡ true }
+        ensures cleared { map unanswered (W.trace result)
+            ≡ cleared (option_map string_bytes self.entry.made)
+            (map string_bytes self.entry.created.items)
+            (map unanswered (W.trace self.entry.world)) }
+    {
         let Staging {
             mut world,
             alloc: _alloc,
@@ -210,21 +351,28 @@ impl<'a, 'c, W: World> Staging<'a, 'c, W> {
             created,
             outdated: _outdated,
             is_writing: _is_writing,
+            is_naming: _is_naming,
             code: _code,
         } = self;
         for path in &created {
             let _ = world.remove_file(path.as_str());
         }
-        if let Some(made) = made {
-            let _ = world.remove_dir(made.as_str());
+        match made {
+            Some(made) => {
+                let _ = world.remove_dir(made.as_str());
+                world
+            }
+            None => world,
         }
-        world
     }
 
     // Gives files their names, up to one that cannot get it. Returns how many have it, and why the
     // next one has not: none if all have it.
     fn name_each(&mut self) -> (usize, Option<Trouble>)
-        ensures { result.1 ≡ None → result.0 ≡ length self.new.files.items }
+        requires { self.old.is_naming ≡ true }
+        ensures all { result.1 ≡ None → result.0 ≡ length self.new.files.items }
+        ensures folder { self.new.folder ≡ self.old.folder }
+        ensures naming { self.new.is_naming ≡ self.old.is_naming }
     {
         name_files(
             &mut self.world,
@@ -237,8 +385,12 @@ impl<'a, 'c, W: World> Staging<'a, 'c, W> {
     // Takes the names of the files before a number away, and puts back what they, and the file of
     // this number, were to replace. Returns the trouble to tell: this one, or that old files are not
     // in their place.
-    fn taken_back(&mut self, number: usize, trouble: Trouble) -> Trouble {
-        let is_back = put_back_all(&mut self.world, self.files.as_slice(), number);
+    fn taken_back(&mut self, number: usize, trouble: Trouble) -> Trouble
+        requires { self.old.is_naming ≡ true }
+        ensures folder { self.new.folder ≡ self.old.folder }
+        ensures naming { self.new.is_naming ≡ self.old.is_naming }
+    {
+        let is_back = put_back_all(&mut self.world, &self.folder, self.files.as_slice(), number);
         match &self.made {
             Some(made) if !is_back => match String::from_str(self.alloc, made.as_str()) {
                 Ok(made) => Trouble::NotPutBack(ShownPath(made)),
@@ -280,7 +432,10 @@ fn name_files<W: World>(
     folder: &Folder<'_>,
     files: &[Begun],
 ) -> (usize, Option<Trouble>)
-    ensures { result.1 ≡ None → result.0 ≡ length files.now }
+    requires { list_all (is_begun_in folder.now.path.now) files.now ≡ true }
+    ensures all { result.1 ≡ None → result.0 ≡ length files.now }
+    ensures within { stays_within folder.now.path.now true (W.trace world.new)
+        ≡ stays_within folder.now.path.now true (W.trace world.old) }
 {
     let mut named = 0;
     for its in files {
@@ -293,7 +448,16 @@ fn name_files<W: World>(
 }
 
 // Puts back what files up to a number were to replace. Returns whether all is back.
-fn put_back_all<W: World>(world: &mut W, files: &[Begun], number: usize) -> bool {
+fn put_back_all<W: World>(
+    world: &mut W,
+    folder: &Folder<'_>,
+    files: &[Begun],
+    number: usize,
+) -> bool
+    requires { list_all (is_begun_in folder.now.path.now) files.now ≡ true }
+    ensures { stays_within folder.now.path.now true (W.trace world.new)
+        ≡ stays_within folder.now.path.now true (W.trace world.old) }
+{
     let mut is_back = true;
     for (before, its) in files.iter().enumerate() {
         let back = put_back_before(world, its, before, number);
@@ -317,7 +481,11 @@ fn put_back_before<W: World>(world: &mut W, its: &Begun, before: usize, number: 
 }
 
 // Removes what files have replaced.
-fn forget_old<W: World>(world: &mut W, files: &[Begun]) {
+fn forget_old<W: World>(world: &mut W, folder: &Folder<'_>, files: &[Begun])
+    requires { list_all (is_begun_in folder.now.path.now) files.now ≡ true }
+    ensures { stays_within folder.now.path.now true (W.trace world.new)
+        ≡ stays_within folder.now.path.now true (W.trace world.old) }
+{
     for its in files {
         let _ = world.remove_file(its.old.as_str());
     }
@@ -378,7 +546,11 @@ fn remove_all_old<W: World>(
     alloc: Global,
     folder: &Folder<'_>,
     files: &[Begun],
-) -> Result<(), Trouble> {
+) -> Result<(), Trouble>
+    requires { list_all (is_begun_in folder.now.path.now) files.now ≡ true }
+    ensures { stays_within folder.now.path.now true (W.trace world.new)
+        ≡ stays_within folder.now.path.now true (W.trace world.old) }
+{
     for its in files {
         remove_old(world, alloc, folder, its)?;
     }

@@ -1,5 +1,7 @@
 //! Unpacks a FIT image into a folder.
 
+ghost use Rattle.std.specs.Prelude.{◌≡◌, []};
+
 use crate::disk_world::DiskWorld;
 use crate::folder::Folder;
 use crate::folder_taker::FolderTaker;
@@ -86,7 +88,9 @@ fn unpack_in<W: World, S: Source, O: Write + Drop>(
     asked: &Unpacking<'_>,
     source: &mut S,
     out: O,
-) -> (W, Ended) {
+) -> (W, Ended)
+    requires { W.trace world ≡ [] }
+{
     let Some(only) = only_of(asked.only) else {
         return (world, Ended::Stopped(Fault::Fit(FitFault::NoSuchImage)));
     };
