@@ -141,7 +141,7 @@ fn draw<'a, R: Files + AllocGlobal, S: Source>(
 
 // Moves a picture that was written beside its path to it. Removes one that is incomplete, or whose
 // path is taken meanwhile.
-fn name_picture<'a, R: Files>(
+fn name_picture<'a, R: Files + AllocGlobal>(
     rt: &R,
     path: &'a str,
     safe: &SafePath,

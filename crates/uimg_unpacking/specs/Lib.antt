@@ -1,3 +1,11 @@
+pub mod Allowing
+pub mod Clearing
+pub mod Deeds
 pub mod FileNames
+pub mod Kinds
 pub mod Lines
+pub mod Naming
+pub mod Places
 pub mod Plan
+pub mod Refusing
+pub mod Sizes

@@ -1,32 +1,22 @@
 //! The folder for payloads and parts, and the paths of their files.
 
+ghost use Rattle.std.specs.Prelude.{◌≡◌, ◌++◌, codes, IfOk, string_bytes, decimal, true, ℕ, List, Bool};
+ghost use Rattle.uimg_unpacking.specs.Allowing.{Allows};
+ghost use Rattle.uimg_unpacking.specs.Places.{is_temporary_folder, stays_within};
+ghost use Rattle.uimg_unpacking.specs.Refusing.{refused_of};
+
+use crate::disk_world::DiskWorld;
+use crate::file_id::FileId;
+use crate::kind::Kind;
 use crate::trouble::{ShownPath, Trouble};
-use std::alloc::AllocError;
+use crate::world::World;
+use std::alloc::{AllocError, Global};
+use std::io;
 use std::io::{ErrorKind, Write};
-use std::os::unix::fs::MetadataExt;
 use std::rt::Files;
-use std::{fs, io};
 
 /// How many names are tried for a temporary folder. Commands that were stopped left those that exist.
 const TRIED: u32 = 10_000;
-
-/// The file at a path; different paths may lead to the same file.
-#[derive(Clone, Copy, Debug, PartialEq, Eq)]
-pub struct FileId {
-    device: u64,
-    inode: u64,
-}
-
-impl FileId {
-    /// Returns the file at a path, if there is one.
-    pub fn of<R: Files>(rt: &R, path: &str) -> Option<FileId> {
-        let found = fs::metadata(rt, path).ok()?;
-        Some(FileId {
-            device: found.dev(),
-            inode: found.ino(),
-        })
-    }
-}
 
 /// A folder for the payloads of an image.
 #[derive(Clone, Copy, Debug)]
@@ -46,36 +36,52 @@ pub struct Folder<'a> {
 
 impl<'a> Folder<'a> {
     /// Returns the path of a file in it. Fails if memory for it is refused.
-    pub(crate) fn path_of<R: Files + AllocGlobal>(
-        &self,
-        rt: &R,
-        name: &str,
-    ) -> Result<String, AllocError> {
-        format!(in rt.alloc(); "{}/{name}", self.path)
+    pub(crate) fn path_of(&self, alloc: Global, name: &str) -> Result<String, AllocError>
+        ensures { IfOk result (λ path. string_bytes path
+            ≡ self.now.path.now ++ codes "/" ++ name.now) }
+    {
+        format!(in alloc; "{}/{name}", self.path)
     }
 
     /// Returns a path, if it is free, or a file to replace exists there, which is not the image.
-    pub(crate) fn allows<R: Files>(&self, rt: &R, path: String) -> Result<String, Trouble> {
-        let found = FileId::of(rt, path.as_str());
-        if found.is_some() & (found == self.image) {
+    pub(crate) fn allows<W: World>(&self, world: &mut W, path: String) -> Result<String, Trouble>
+        ensures told { Allows self.now.image self.now.is_forced (string_bytes path)
+            (refused_of result) (W.trace world.old) (W.trace world.new) }
+        ensures same { IfOk result (λ it. it ≡ path) }
+        ensures within { (folder : List ℕ) → (is_naming : Bool) →
+            stays_within folder is_naming (W.trace world.new)
+            ≡ stays_within folder is_naming (W.trace world.old) }
+    {
+        let found = world.file_at(path.as_str());
+        if FileId::is_image(found, self.image) {
             return Err(Trouble::IsImage(ShownPath(path)));
         }
-        match fs::symlink_metadata(rt, path.as_str()) {
-            Ok(found) if found.is_dir() => Err(Trouble::IsFolder(ShownPath(path))),
-            Ok(_) if !self.is_forced => Err(Trouble::Exists(ShownPath(path))),
-            _ => Ok(path),
+        match (world.kind_at(path.as_str()), self.is_forced) {
+            (Kind::Nothing, _) => Ok(path),
+            (Kind::Folder, _) => Err(Trouble::IsFolder(ShownPath(path))),
+            (Kind::File, true) => Ok(path),
+            (Kind::File, false) => Err(Trouble::Exists(ShownPath(path))),
+            (Kind::Link, true) => Ok(path),
+            (Kind::Link, false) => Err(Trouble::Exists(ShownPath(path))),
         }
     }
 
     /// Creates a folder in it, and returns its path: the first free one of `.uimg-new1` to
     /// `.uimg-new10000`. Returns why none can be created; fails if memory for the path is refused.
-    pub(crate) fn new_folder<R: Files + AllocGlobal>(
+    pub(crate) fn new_folder<W: World>(
         &self,
-        rt: &R,
-    ) -> Result<io::Result<String>, AllocError> {
+        world: &mut W,
+        alloc: Global,
+    ) -> Result<io::Result<String>, AllocError>
+        ensures made { IfOk result (λ made. IfOk made (λ path.
+            is_temporary_folder self.now.path.now (string_bytes path) ≡ true)) }
+        ensures within { (is_naming : Bool) →
+            stays_within self.now.path.now is_naming (W.trace world.new)
+            ≡ stays_within self.now.path.now is_naming (W.trace world.old) }
+    {
         for number in 1..=TRIED {
-            let path = self.unnamed(rt, number)?;
-            match fs::create_dir(rt, path.as_str()) {
+            let path = self.unnamed(alloc, number)?;
+            match world.create_dir(path.as_str()) {
                 Ok(()) => return Ok(Ok(path)),
                 Err(error) if error.kind() == ErrorKind::AlreadyExists => {}
                 Err(error) => return Ok(Err(error)),
@@ -85,27 +91,40 @@ impl<'a> Folder<'a> {
     }
 
     // Returns a path in it for what has no name yet. Fails if memory for it is refused.
-    fn unnamed<R: Files + AllocGlobal>(&self, rt: &R, number: u32) -> Result<String, AllocError> {
-        format!(in rt.alloc(); "{}/.uimg-new{number}", self.path)
+    fn unnamed(&self, alloc: Global, number: u32) -> Result<String, AllocError>
+        ensures { IfOk result (λ path. string_bytes path
+            ≡ self.now.path.now ++ codes "/.uimg-new" ++ decimal number) }
+    {
+        format!(in alloc; "{}/.uimg-new{number}", self.path)
     }
 
     /// Removes the files and folders without a name in it, which commands that were stopped have
     /// left, with a line for each on `out`. Stops before one that is the image at a path, or has it.
-    pub fn clean<R: Files + AllocGlobal, W: Write>(
+    pub fn clean<R: Files + AllocGlobal, O: Write>(
         &self,
         rt: &R,
         image: Option<&str>,
-        out: &mut W,
+        out: &mut O,
+    ) -> Result<(), Trouble> {
+        self.clean_in(&mut DiskWorld::new(rt), rt.alloc(), image, out)
+    }
+
+    fn clean_in<W: World, O: Write>(
+        &self,
+        world: &mut W,
+        alloc: Global,
+        image: Option<&str>,
+        out: &mut O,
     ) -> Result<(), Trouble> {
         for number in 1..=TRIED {
-            let path = self.unnamed(rt, number)?;
-            if is_or_has(rt, path.as_str(), image) {
+            let path = self.unnamed(alloc, number)?;
+            if is_or_has(world, path.as_str(), image) {
                 return Err(Trouble::RemovesImage(ShownPath(path)));
             }
-            let removed = match fs::symlink_metadata(rt, path.as_str()) {
-                Ok(found) if found.is_dir() => fs::remove_dir_all(rt, path.as_str()),
-                Ok(_) => fs::remove_file(rt, path.as_str()),
-                Err(_) => continue,
+            let removed = match world.kind_at(path.as_str()) {
+                Kind::Folder => world.remove_dir_all(path.as_str()),
+                Kind::File | Kind::Link => world.remove_file(path.as_str()),
+                Kind::Nothing => continue,
             };
             if let Err(reason) = removed {
                 return Err(Trouble::CannotRemove(ShownPath(path), reason));
@@ -119,12 +138,13 @@ impl<'a> Folder<'a> {
 
 // Returns whether the file of an image is at a path, or in a folder there, or may be: below a folder
 // whose name is not UTF-8, nothing tells.
-fn is_or_has<R: Files + AllocGlobal>(rt: &R, path: &str, image: Option<&str>) -> bool {
+fn is_or_has<W: World>(world: &mut W, path: &str, image: Option<&str>) -> bool {
     let Some(image) = image else {
         return false;
     };
-    let (Ok(path), Ok(image)) = (fs::canonicalize(rt, path), fs::canonicalize(rt, image)) else {
-        return is_no_link(rt, path) && is_there(rt, image);
+    let found = world.canonicalize(path);
+    let (Ok(path), Ok(image)) = (found, world.canonicalize(image)) else {
+        return is_no_link(world, path) && world.kind_at(image).is_something();
     };
     match image.as_str().strip_prefix(path.as_str()) {
         Some(rest) => rest.is_empty() || rest.starts_with('/'),
@@ -133,11 +153,9 @@ fn is_or_has<R: Files + AllocGlobal>(rt: &R, path: &str, image: Option<&str>) ->
 }
 
 // Returns whether something exists at a path that is not a symbolic link.
-fn is_no_link<R: Files>(rt: &R, path: &str) -> bool {
-    fs::symlink_metadata(rt, path).is_ok_and(|found| !found.file_type().is_symlink())
-}
-
-/// Returns whether anything exists at a path, even a symbolic link without a target.
-pub(crate) fn is_there<R: Files>(rt: &R, path: &str) -> bool {
-    fs::symlink_metadata(rt, path).is_ok()
+fn is_no_link<W: World>(world: &mut W, path: &str) -> bool {
+    match world.kind_at(path) {
+        Kind::File | Kind::Folder => true,
+        Kind::Link | Kind::Nothing => false,
+    }
 }

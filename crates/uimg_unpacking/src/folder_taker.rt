@@ -1,8 +1,9 @@
 //! Writes payloads to a folder, with a line for each.
 
-ghost use Rattle.std.specs.Prelude.{[]};
+ghost use Rattle.std.specs.Prelude.{◌≡◌, [], false, true};
+ghost use Rattle.uimg_unpacking.specs.Places.{stays_within};
+ghost use Rattle.uimg_unpacking.specs.Plan.{gives_names};
 
-use crate::folder::{Folder, is_there};
 use crate::limits::Claimed;
 use crate::lines::Line;
 use crate::names::Names;
@@ -10,132 +11,101 @@ use crate::new_file::{ErrorCode, NewFile};
 use crate::objects::told;
 use crate::plan::gives_names;
 use crate::staging::Staging;
-use crate::trouble::{ShownPath, Trouble, kept};
+use crate::trouble::{Trouble, kept};
 use crate::unpacking::Unpacking;
-use std::fs;
+use crate::world::World;
+use std::alloc::Global;
 use std::io::Write;
-use std::rt::Files;
 use uimg_base::PutFault;
 use uimg_fit_checking::{NodeName, Refusal, Taker, Vouched};
 
 /// A taker that writes payloads to a folder. Their files get their names at the end: all of them,
 /// or, if one is refused, none or only the good ones.
 #[derive(Drop)]
-pub(crate) struct FolderTaker<'a, 'c, R: Files + AllocGlobal, W: Write + Drop> {
-    rt: &'a R,
-    folder: Folder<'a>,
+pub(crate) struct FolderTaker<'a, 'c, W: World, O: Write + Drop> {
+    alloc: Global,
     keeps_good: bool,
     json: Option<&'a str>,
-    out: W,
-    staging: Staging<'a, 'c, R>,
+    out: O,
+    staging: Staging<'a, 'c, W>,
     // The lines to print once the files have their names, or if none gets one.
     lines: Vec<u8>,
     has_refused: bool,
-    // The names of refused payloads, whose old files are removed if good payloads are kept.
-    outdated: Vec<String>,
     // The names of the files that were checked, then of those that were begun: the same ones.
     looked: Names,
     taken: Names,
     claimed: Claimed,
     trouble: Option<Trouble>,
+    ghost unnamed: { staging.is_naming ≡ false },
 }
 
-impl<'a, 'c, R: Files + AllocGlobal, W: Write + Drop> FolderTaker<'a, 'c, R, W> {
-    /// Returns a taker for a folder, which writes its lines to `out`. Failed writes are noted in
-    /// `code`.
+impl<'a, 'c, W: World, O: Write + Drop> FolderTaker<'a, 'c, W, O> {
+    /// Returns a taker for a folder in a world, which writes its lines to `out`. Failed writes are
+    /// noted in `code`.
     pub(crate) fn new(
-        rt: &'a R,
+        world: W,
+        alloc: Global,
         asked: &Unpacking<'a>,
-        out: W,
+        out: O,
         code: &'c ErrorCode,
-    ) -> FolderTaker<'a, 'c, R, W> {
+    ) -> FolderTaker<'a, 'c, W, O>
+        requires { W.trace world ≡ [] }
+        ensures { result.staging.folder ≡ asked.now.folder }
+    {
         FolderTaker {
-            rt,
-            folder: asked.folder,
+            alloc,
             keeps_good: asked.keeps_good,
             json: asked.json,
             out,
-            staging: Staging::new(rt, asked.folder, code),
-            lines: Vec::new(rt.alloc()),
+            staging: Staging::new(world, alloc, asked.folder, code),
+            lines: Vec::new(alloc),
             has_refused: false,
-            outdated: Vec::new(rt.alloc()),
-            looked: Names::new(rt.alloc()),
-            taken: Names::new(rt.alloc()),
+            looked: Names::new(alloc),
+            taken: Names::new(alloc),
             claimed: Claimed::new(asked.limits),
             trouble: None,
         }
     }
 
     /// Gives the files their names, if `is_whole` and none was refused, or if good ones are kept.
-    /// Removes the others, and prints the lines. Returns their writer, the number of payloads that
-    /// were begun, and the trouble, if it is known.
-    pub(crate) fn end(mut self, is_whole: bool) -> (W, usize, Option<Trouble>) {
-        let unwritten = self.staging.unwritten();
-        let trouble = self.trouble.take().or(unwritten);
-        let trouble = trouble.or(self.name(is_whole).err());
+    /// Removes the others, and prints the lines. Returns the world, their writer, the number of
+    /// payloads that were begun, and the trouble, if it is known.
+    pub(crate) fn end(self, is_whole: bool) -> (W, O, usize, Option<Trouble>)
+        ensures { stays_within self.entry.staging.folder.path.now
+            (gives_names self.entry.keeps_good is_whole self.entry.has_refused)
+            (W.trace result.0) ≡ true }
+    {
         let FolderTaker {
-            rt: _rt,
-            folder: _folder,
-            keeps_good: _keeps_good,
+            alloc: _alloc,
+            keeps_good,
             json: _json,
-            out,
-            staging,
-            lines: _lines,
-            has_refused: _has_refused,
-            outdated: _outdated,
+            mut out,
+            mut staging,
+            lines,
+            has_refused,
             looked: _looked,
             taken,
             claimed: _claimed,
-            trouble: _trouble,
+            trouble,
         } = self;
-        staging.end();
-        (out, taken.count(), trouble)
-    }
-
-    // Gives the files their names, and prints the lines of those that have one and of refused ones.
-    fn name(&mut self, is_whole: bool) -> Result<(), Trouble> {
-        let names = gives_names(self.keeps_good, is_whole, self.has_refused);
-        if names {
-            self.staging.name_all()?;
-        }
-        let removed = if names {
-            self.remove_outdated()
-        } else {
-            Ok(())
-        };
-        if names || self.has_refused {
-            self.out.write_all(self.lines.as_slice())?;
-            self.out.flush()?;
-        }
-        removed
-    }
-
-    // Removes the files that refused payloads were to replace.
-    fn remove_outdated(&self) -> Result<(), Trouble> {
-        for name in &self.outdated {
-            remove_old(self.rt, &self.folder, name.as_str())?;
-        }
-        if self.outdated.is_empty() {
-            return Ok(());
-        }
-        self.staging.sync()
+        let trouble = trouble.or(staging.unwritten());
+        let names = gives_names(keeps_good, is_whole, has_refused);
+        let named = name(&mut staging, names);
+        let told = tell(named, &mut out, lines.as_slice(), names || has_refused);
+        (staging.end(), out, taken.count(), trouble.or(told.err()))
     }
 
     // Checks, before any payload is written, whether the file of this one may be.
     fn look(&mut self, name: &NodeName, length: u64) -> Result<(), Trouble> {
         self.claimed.claim(length)?;
         match self.looked.next(name)? {
-            Some(name) => {
-                let whole = self.folder.path_of(self.rt, name.as_str())?;
-                self.folder.allows(self.rt, whole)?;
-                Ok(())
-            }
+            Some(name) => self.staging.look(name.as_str()),
             None => Err(Trouble::NoName),
         }
     }
 
     // Creates the file of a payload, which gets its name later.
-    fn begin(&mut self, name: &NodeName) -> Result<NewFile<'c, R>, Trouble> {
+    fn begin(&mut self, name: &NodeName) -> Result<NewFile<'c, W::File>, Trouble> {
         match self.taken.next(name)? {
             Some(name) => self.staging.begin(name),
             None => Err(Trouble::NoName),
@@ -146,14 +116,14 @@ impl<'a, 'c, R: Files + AllocGlobal, W: Write + Drop> FolderTaker<'a, 'c, R, W> 
     fn finish(
         &mut self,
         name: &NodeName,
-        file: NewFile<'c, R>,
+        file: NewFile<'c, W::File>,
         vouched: Option<Vouched>,
     ) -> Result<(), Trouble> {
         let size = self.staging.complete(file)?;
         if self.has_refused && !self.keeps_good {
             return Ok(());
         }
-        let file = String::from_str(self.rt.alloc(), self.staging.last_name())?;
+        let file = String::from_str(self.alloc, self.staging.last_name())?;
         let line = Line::Kept {
             name,
             file: file.as_str(),
@@ -165,17 +135,15 @@ impl<'a, 'c, R: Files + AllocGlobal, W: Write + Drop> FolderTaker<'a, 'c, R, W> 
 
     // Adds a line.
     fn add(&mut self, line: &Line<'_>) -> Result<(), Trouble> {
-        let line = told(self.rt.alloc(), self.json, line)?;
+        let line = told(self.alloc, self.json, line)?;
         self.lines.extend_from_slice(line.as_slice())?;
         Ok(())
     }
 
     // Removes a refused payload.
     fn throw_away(&mut self, name: &NodeName, refusal: Refusal) -> Result<(), Trouble> {
-        let file = self.staging.drop_last()?;
-        if self.keeps_good {
-            self.outdated.push(file)?;
-        } else if !self.has_refused {
+        self.staging.refuse_last(self.keeps_good)?;
+        if !self.keeps_good && !self.has_refused {
             self.lines.clear();
         }
         self.has_refused = true;
@@ -183,22 +151,42 @@ impl<'a, 'c, R: Files + AllocGlobal, W: Write + Drop> FolderTaker<'a, 'c, R, W> 
     }
 }
 
-// Removes a file that was to be replaced.
-fn remove_old<R: Files + AllocGlobal>(
-    rt: &R,
-    folder: &Folder<'_>,
-    name: &str,
-) -> Result<(), Trouble> {
-    let whole = folder.path_of(rt, name)?;
-    let is_old = folder.is_forced && is_there(rt, whole.as_str());
-    if is_old && let Err(reason) = fs::remove_file(rt, whole.as_str()) {
-        return Err(Trouble::CannotRemove(ShownPath(whole), reason));
+// Gives the files their names, and removes what refused ones were to replace, if `names`. Returns
+// the trouble that no file has its name, or that old files are left.
+fn name<W: World>(
+    staging: &mut Staging<'_, '_, W>,
+    names: bool,
+) -> Result<Result<(), Trouble>, Trouble>
+    requires { staging.old.is_naming ≡ false }
+    ensures folder { staging.new.folder ≡ staging.old.folder }
+    ensures naming { staging.new.is_naming ≡ names }
+{
+    if !names {
+        return Ok(Ok(()));
     }
-    Ok(())
+    match staging.name_all() {
+        Ok(()) => Ok(staging.remove_outdated()),
+        Err(trouble) => Err(trouble),
+    }
 }
 
-impl<'a, 'c, R: Files + AllocGlobal, W: Write + Drop> Taker for FolderTaker<'a, 'c, R, W> {
-    type Shelf = NewFile<'c, R>;
+// Prints the lines of files that have their names, or of refused ones.
+fn tell<O: Write>(
+    named: Result<Result<(), Trouble>, Trouble>,
+    out: &mut O,
+    lines: &[u8],
+    is_told: bool,
+) -> Result<(), Trouble> {
+    let removed = named?;
+    if is_told {
+        out.write_all(lines)?;
+        out.flush()?;
+    }
+    removed
+}
+
+impl<'a, 'c, W: World, O: Write + Drop> Taker for FolderTaker<'a, 'c, W, O> {
+    type Shelf = NewFile<'c, W::File>;
 
     ghost takes = { λ _. [] };
 
@@ -207,7 +195,7 @@ impl<'a, 'c, R: Files + AllocGlobal, W: Write + Drop> Taker for FolderTaker<'a, 
         kept(looked, &mut self.trouble)
     }
 
-    fn shelf(&mut self, name: &NodeName) -> Result<NewFile<'c, R>, PutFault> {
+    fn shelf(&mut self, name: &NodeName) -> Result<NewFile<'c, W::File>, PutFault> {
         let begun = self.begin(name);
         kept(begun, &mut self.trouble)
     }
@@ -215,7 +203,7 @@ impl<'a, 'c, R: Files + AllocGlobal, W: Write + Drop> Taker for FolderTaker<'a, 
     fn keep(
         &mut self,
         name: &NodeName,
-        shelf: NewFile<'c, R>,
+        shelf: NewFile<'c, W::File>,
         vouched: Option<Vouched>,
     ) -> Result<(), PutFault> {
         let finished = self.finish(name, shelf, vouched);
@@ -225,7 +213,7 @@ impl<'a, 'c, R: Files + AllocGlobal, W: Write + Drop> Taker for FolderTaker<'a, 
     fn refuse(
         &mut self,
         name: &NodeName,
-        shelf: NewFile<'c, R>,
+        shelf: NewFile<'c, W::File>,
         refusal: Refusal,
     ) -> Result<(), PutFault> {
         drop(shelf);

@@ -2,25 +2,33 @@
 //! `unpack` and `unpack_parts`.
 #![tactic(auto)]
 
+mod begun;
+mod disk_world;
+mod file_id;
 mod file_names;
 mod folder;
 mod folder_taker;
+mod kind;
 mod limits;
 mod lines;
 mod names;
+mod naming;
 mod new_file;
 mod objects;
 mod part_folder;
 mod part_unpacking;
 mod plan;
+mod record;
 mod staging;
 mod trouble;
 mod unpacking;
+mod world;
 
+pub use file_id::FileId;
 pub use file_names::is_file_name;
-pub use folder::{FileId, Folder};
+pub use folder::Folder;
 pub use limits::Limits;
-pub use new_file::give_name;
+pub use naming::give_name;
 pub use part_unpacking::{PartsEnded, unpack_parts};
 pub use trouble::Trouble;
 pub use unpacking::{Ended, Unpacking, unpack};

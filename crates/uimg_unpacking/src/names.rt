@@ -1,5 +1,8 @@
 //! The names of files, each used once.
 
+ghost use Rattle.std.specs.Prelude.{◌≡◌, ◌++◌, codes, decimal, IfOk, IfSome, string_bytes, true};
+ghost use Rattle.uimg_unpacking.specs.FileNames.{is_file_name};
+
 use crate::file_names::is_file_name;
 use std::alloc::{AllocError, Global};
 use std::collections::BTreeSet;
@@ -29,7 +32,11 @@ impl Names {
     /// Returns the name of the next file: that of the image if it is a file name and was not used,
     /// else `image-` with the number of the file or with the first following number that was not
     /// used. Returns none if a hundred of these were used. Fails if memory is refused.
-    pub(crate) fn next(&mut self, name: &NodeName) -> Result<Option<String>, AllocError> {
+    #[tactic(auto, using(crate::proofs::Placing::image_name))]
+    pub(crate) fn next(&mut self, name: &NodeName) -> Result<Option<String>, AllocError>
+        ensures { IfOk result (λ it. IfSome it (λ text.
+            is_file_name (string_bytes text) ≡ true)) }
+    {
         let number = self.count;
         self.count = self.count.saturating_add(1);
         if is_file_name(name.bytes())

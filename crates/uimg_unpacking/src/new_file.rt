@@ -1,16 +1,16 @@
 //! A file that gets its name when it is complete.
 
-ghost use Rattle.std.specs.Prelude.{◌≡◌, [], OnOk};
+ghost use Rattle.std.specs.Prelude.{◌≡◌, [], OnOk, IfOk};
 ghost use Rattle.std.specs.Io.{WritesAtMost};
+ghost use Rattle.uimg_unpacking.specs.Sizes.{accepted};
 ghost use Rattle.std.specs.Io.Buffered.{writer_buffer, writer_contents};
 ghost use Rattle.std.specs.Io.KnownBytes.{Keeps, WriteAppends};
 
 use std::alloc::Global;
 use std::cell::Cell;
 use std::fs::OpenFile;
-use std::io::{BufWriter, ErrorKind, Write};
-use std::rt::Files;
-use std::{fs, io};
+use std::io;
+use std::io::{BufWriter, Write};
 
 /// The code of the system's error of a failed write, if it had one.
 pub(crate) type ErrorCode = Cell<Option<i32>>;
@@ -18,15 +18,17 @@ pub(crate) type ErrorCode = Cell<Option<i32>>;
 /// A file without its name, and its length in bytes. Writes are buffered; the error of one that
 /// fails is noted.
 #[derive(Drop)]
-pub struct NewFile<'a, R: Files + AllocGlobal> {
-    file: BufWriter<R::File, Global>,
-    size: u64,
+pub struct NewFile<'a, F: Write + OpenFile + Drop> {
+    file: BufWriter<F, Global>,
+    pub(crate) size: u64,
     code: &'a ErrorCode,
 }
 
-impl<'a, R: Files + AllocGlobal> NewFile<'a, R> {
+impl<'a, F: Write + OpenFile + Drop> NewFile<'a, F> {
     /// Returns a file to which nothing was written, and which notes its errors here.
-    pub(crate) fn new(file: BufWriter<R::File, Global>, code: &'a ErrorCode) -> NewFile<'a, R> {
+    pub(crate) fn new(file: BufWriter<F, Global>, code: &'a ErrorCode) -> NewFile<'a, F>
+        ensures { result.size ≡ 0 }
+    {
         NewFile {
             file,
             size: 0,
@@ -36,7 +38,9 @@ impl<'a, R: Files + AllocGlobal> NewFile<'a, R> {
 
     /// Writes what is buffered, to the disk too if `is_synced`, and closes the file. Returns its
     /// length in bytes.
-    pub(crate) fn close(self, is_synced: bool) -> io::Result<u64> {
+    pub(crate) fn close(self, is_synced: bool) -> io::Result<u64>
+        ensures { IfOk result (λ size. size ≡ self.entry.size) }
+    {
         let NewFile {
             mut file,
             size,
@@ -51,13 +55,14 @@ impl<'a, R: Files + AllocGlobal> NewFile<'a, R> {
     }
 }
 
-impl<'a, R: Files + AllocGlobal> Write for NewFile<'a, R> {
-    ghost contents = { λ s. writer_contents R.File.contents s.file };
+impl<'a, F: Write + OpenFile + Drop> Write for NewFile<'a, F> {
+    ghost contents = { λ s. writer_contents F.contents s.file };
 
     fn write(&mut self, buf: &[u8]) -> io::Result<usize>
+        ensures size { self.new.size ≡ accepted self.old.size result }
         ensures bound { WritesAtMost result buf.now }
-        ensures bytes { WriteAppends (writer_contents R.File.contents self.old.file)
-            (writer_contents R.File.contents self.new.file) result buf.now }
+        ensures bytes { WriteAppends (writer_contents F.contents self.old.file)
+            (writer_contents F.contents self.new.file) result buf.now }
     {
         let written = self.file.write(buf);
         match &written {
@@ -68,8 +73,8 @@ impl<'a, R: Files + AllocGlobal> Write for NewFile<'a, R> {
     }
 
     fn flush(&mut self) -> io::Result<()>
-        ensures bytes { Keeps (writer_contents R.File.contents self.old.file)
-            (writer_contents R.File.contents self.new.file) }
+        ensures bytes { Keeps (writer_contents F.contents self.old.file)
+            (writer_contents F.contents self.new.file) }
         ensures written { OnOk result (writer_buffer self.new.file ≡ []) }
     {
         let flushed = self.file.flush();
@@ -77,23 +82,5 @@ impl<'a, R: Files + AllocGlobal> Write for NewFile<'a, R> {
             self.code.set(error.raw_os_error());
         }
         flushed
-    }
-}
-
-/// Moves a file to another path. Unless it replaces an existing file, it makes a hard link first,
-/// which fails if something exists there; on a file system without links it checks that itself.
-pub fn give_name<R: Files>(rt: &R, path: &str, whole: &str, replaces: bool) -> io::Result<()> {
-    if replaces {
-        return fs::rename(rt, path, whole);
-    }
-    match fs::hard_link(rt, path, whole) {
-        // The file has its name, whether or not it loses the first one.
-        Ok(()) => {
-            let _ = fs::remove_file(rt, path);
-            Ok(())
-        }
-        Err(error) if error.kind() == ErrorKind::AlreadyExists => Err(error),
-        Err(error) if fs::symlink_metadata(rt, whole).is_ok() => Err(error),
-        Err(_) => fs::rename(rt, path, whole),
     }
 }

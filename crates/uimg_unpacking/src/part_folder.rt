@@ -1,8 +1,9 @@
 //! Writes the parts of a legacy image to a folder, with a line for each.
 
-ghost use Rattle.std.specs.Prelude.{[]};
+ghost use Rattle.std.specs.Prelude.{◌≡◌, [], IfOk, string_bytes, true};
+ghost use Rattle.uimg_unpacking.specs.FileNames.{is_file_name};
+ghost use Rattle.uimg_unpacking.specs.Places.{stays_within};
 
-use crate::folder::Folder;
 use crate::limits::Claimed;
 use crate::lines::Line;
 use crate::new_file::{ErrorCode, NewFile};
@@ -10,52 +11,56 @@ use crate::objects::told;
 use crate::staging::Staging;
 use crate::trouble::{Trouble, kept};
 use crate::unpacking::Unpacking;
+use crate::world::World;
+use std::alloc::Global;
 use std::io::Write;
-use std::rt::Files;
 use uimg_base::PutFault;
 use uimg_legacy::PartTaker;
 
 /// A taker that writes parts to a folder. Their files get their names when all are kept.
 #[derive(Drop)]
-pub(crate) struct PartFolder<'a, 'c, R: Files + AllocGlobal, W: Write + Drop> {
-    rt: &'a R,
-    folder: Folder<'a>,
+pub(crate) struct PartFolder<'a, 'c, W: World, O: Write + Drop> {
+    alloc: Global,
     json: Option<&'a str>,
-    out: W,
-    staging: Staging<'a, 'c, R>,
+    out: O,
+    staging: Staging<'a, 'c, W>,
     // The number of each complete part, and its length in bytes.
     parts: Vec<(u32, u64)>,
     claimed: Claimed,
     trouble: Option<Trouble>,
 }
 
-impl<'a, 'c, R: Files + AllocGlobal, W: Write + Drop> PartFolder<'a, 'c, R, W> {
-    /// Returns a taker for a folder, which writes its lines to `out`. Failed writes are noted in
-    /// `code`.
+impl<'a, 'c, W: World, O: Write + Drop> PartFolder<'a, 'c, W, O> {
+    /// Returns a taker for a folder in a world, which writes its lines to `out`. Failed writes are
+    /// noted in `code`.
     pub(crate) fn new(
-        rt: &'a R,
+        world: W,
+        alloc: Global,
         asked: &Unpacking<'a>,
-        out: W,
+        out: O,
         code: &'c ErrorCode,
-    ) -> PartFolder<'a, 'c, R, W> {
+    ) -> PartFolder<'a, 'c, W, O>
+        requires { W.trace world ≡ [] }
+    {
         PartFolder {
-            rt,
-            folder: asked.folder,
+            alloc,
             json: asked.json,
             out,
-            staging: Staging::new(rt, asked.folder, code),
-            parts: Vec::new(rt.alloc()),
+            staging: Staging::new(world, alloc, asked.folder, code),
+            parts: Vec::new(alloc),
             claimed: Claimed::new(asked.limits),
             trouble: None,
         }
     }
 
-    /// Removes the files that did not get their names, and their folder. Returns the trouble, if it
-    /// is known.
-    pub(crate) fn end(self) -> Option<Trouble> {
+    /// Removes the files that did not get their names, and their folder. Returns the world, and the
+    /// trouble, if it is known.
+    pub(crate) fn end(self) -> (W, Option<Trouble>)
+        ensures { stays_within self.entry.staging.folder.path.now self.entry.staging.is_naming
+            (W.trace result.0) ≡ true }
+    {
         let PartFolder {
-            rt: _rt,
-            folder: _folder,
+            alloc: _alloc,
             json: _json,
             out: _out,
             staging,
@@ -64,32 +69,32 @@ impl<'a, 'c, R: Files + AllocGlobal, W: Write + Drop> PartFolder<'a, 'c, R, W> {
             trouble,
         } = self;
         let unwritten = staging.unwritten();
-        staging.end();
-        trouble.or(unwritten)
+        (staging.end(), trouble.or(unwritten))
     }
 
     // Returns the name of a part's file.
-    fn name_of(&self, number: u32) -> Result<String, Trouble> {
-        Ok(format!(in self.rt.alloc(); "image-{number}")?)
+    #[tactic(auto, using(crate::proofs::Placing::image_name))]
+    fn name_of(&self, number: u32) -> Result<String, Trouble>
+        ensures { IfOk result (λ name. is_file_name (string_bytes name) ≡ true) }
+    {
+        Ok(format!(in self.alloc; "image-{number}")?)
     }
 
     // Checks, before any part is written, whether the file of this one may be.
     fn look(&mut self, number: u32) -> Result<(), Trouble> {
         self.claimed.claim(0)?;
         let name = self.name_of(number)?;
-        let whole = self.folder.path_of(self.rt, name.as_str())?;
-        self.folder.allows(self.rt, whole)?;
-        Ok(())
+        self.staging.look(name.as_str())
     }
 
     // Creates the file of a part, which gets its name later.
-    fn begin(&mut self, number: u32) -> Result<NewFile<'c, R>, Trouble> {
+    fn begin(&mut self, number: u32) -> Result<NewFile<'c, W::File>, Trouble> {
         let name = self.name_of(number)?;
         self.staging.begin(name)
     }
 
     // Completes the file of a part.
-    fn complete(&mut self, number: u32, file: NewFile<'c, R>) -> Result<(), Trouble> {
+    fn complete(&mut self, number: u32, file: NewFile<'c, W::File>) -> Result<(), Trouble> {
         let size = self.staging.complete(file)?;
         self.parts.push((number, size))?;
         Ok(())
@@ -104,7 +109,7 @@ impl<'a, 'c, R: Files + AllocGlobal, W: Write + Drop> PartFolder<'a, 'c, R, W> {
                 size: *size,
                 dcrc,
             };
-            let line = told(self.rt.alloc(), self.json, &line)?;
+            let line = told(self.alloc, self.json, &line)?;
             self.out.write_all(line.as_slice())?;
         }
         self.out.flush()?;
@@ -112,8 +117,8 @@ impl<'a, 'c, R: Files + AllocGlobal, W: Write + Drop> PartFolder<'a, 'c, R, W> {
     }
 }
 
-impl<'a, 'c, R: Files + AllocGlobal, W: Write + Drop> PartTaker for PartFolder<'a, 'c, R, W> {
-    type Shelf = NewFile<'c, R>;
+impl<'a, 'c, W: World, O: Write + Drop> PartTaker for PartFolder<'a, 'c, W, O> {
+    type Shelf = NewFile<'c, W::File>;
 
     ghost held = { λ _. [] };
 
@@ -124,12 +129,12 @@ impl<'a, 'c, R: Files + AllocGlobal, W: Write + Drop> PartTaker for PartFolder<'
         kept(looked, &mut self.trouble)
     }
 
-    fn shelf(&mut self, number: u32) -> Result<NewFile<'c, R>, PutFault> {
+    fn shelf(&mut self, number: u32) -> Result<NewFile<'c, W::File>, PutFault> {
         let begun = self.begin(number);
         kept(begun, &mut self.trouble)
     }
 
-    fn hold(&mut self, number: u32, shelf: NewFile<'c, R>) -> Result<(), PutFault> {
+    fn hold(&mut self, number: u32, shelf: NewFile<'c, W::File>) -> Result<(), PutFault> {
         let completed = self.complete(number, shelf);
         kept(completed, &mut self.trouble)
     }

@@ -1,9 +1,13 @@
 //! Unpacks a legacy image into a folder.
 
+ghost use Rattle.std.specs.Prelude.{◌≡◌, []};
+
+use crate::disk_world::DiskWorld;
 use crate::new_file::ErrorCode;
 use crate::part_folder::PartFolder;
 use crate::trouble::Trouble;
 use crate::unpacking::Unpacking;
+use crate::world::World;
 use std::alloc::Global;
 use std::io::Write;
 use std::rt::Files;
@@ -43,31 +47,46 @@ pub fn unpack_parts<R: Files + AllocGlobal, S: Source, W: Write + Drop>(
     source: &mut S,
     out: W,
 ) -> PartsEnded {
-    let mut room = Room::new(rt.alloc());
+    let (_, ended) = unpack_parts_in(DiskWorld::new(rt), rt.alloc(), asked, source, out);
+    ended
+}
+
+// As `unpack_parts`, in a world that is returned.
+fn unpack_parts_in<W: World, S: Source, O: Write + Drop>(
+    world: W,
+    alloc: Global,
+    asked: &Unpacking<'_>,
+    source: &mut S,
+    out: O,
+) -> (W, PartsEnded)
+    requires { W.trace world ≡ [] }
+{
+    let mut room = Room::new(alloc);
     if !stands_by_crc32(asked.need) {
-        return unless_refused(source, &mut room, PartsEnded::Weak);
+        return (world, unless_refused(source, &mut room, PartsEnded::Weak));
     }
     let only = asked.only.map(number_of);
     if let Some(most) = asked.limits.bytes {
         match bytes_of(only, source) {
             Ok(bytes) if bytes > most => {
                 let end = PartsEnded::Troubled(Trouble::TooManyBytes(most));
-                return unless_refused(source, &mut room, end);
+                return (world, unless_refused(source, &mut room, end));
             }
             Ok(_) => {}
-            Err(fault) => return PartsEnded::Stopped(fault),
+            Err(fault) => return (world, PartsEnded::Stopped(fault)),
         }
     }
     let code = ErrorCode::new(None);
-    let mut taker = PartFolder::new(rt, asked, out, &code);
+    let mut taker = PartFolder::new(world, alloc, asked, out, &code);
     let unpacked = uimg_legacy::unpack(only, source, &mut room, &mut taker);
-    let trouble = taker.end();
-    match unpacked {
+    let (world, trouble) = taker.end();
+    let ended = match unpacked {
         Ok(true) => PartsEnded::Kept,
         Ok(false) => PartsEnded::Stopped(Fault::Legacy(LegacyFault::BadDataCrc)),
         Err(Fault::Put) => PartsEnded::Troubled(trouble.unwrap_or(Trouble::Put)),
         Err(fault) => PartsEnded::Stopped(fault),
-    }
+    };
+    (world, ended)
 }
 
 // Returns an end, unless the image's header or its table of parts is refused.

@@ -1,75 +1,190 @@
 //! Files that are written in a folder of their own, and get their names together.
 
-ghost use Rattle.std.specs.Prelude.{◌≡◌, None, length, IfOk};
+ghost use Rattle.std.specs.Prelude.{◌≡◌, ◌++◌, [], None, length, map, ℕ, List, is_ok, true, false, codes, decimal, IfOk, IfSome, OnOk, string_bytes};
+ghost use Rattle.std.specs.List.{list_all};
+ghost use Rattle.std.specs.Option.{option_map, option_map_or};
+ghost use Rattle.uimg_unpacking.specs.Deeds.{answer_of};
+ghost use Rattle.uimg_unpacking.specs.Naming.{Names, NamesOver, RemovesOld};
+ghost use Rattle.uimg_unpacking.specs.Clearing.{unanswered, cleared};
+ghost use Rattle.uimg_unpacking.specs.FileNames.{is_file_name};
+ghost use Rattle.uimg_unpacking.specs.Places.{is_temporary_folder, is_temporary_file, is_begun_in, stays_within};
 
-use crate::folder::{Folder, is_there};
-use crate::new_file::{ErrorCode, NewFile, give_name};
+use crate::begun::Begun;
+use crate::folder::Folder;
+use crate::naming::{keep_as, name_file, put_back};
+use crate::new_file::{ErrorCode, NewFile};
 use crate::trouble::{ShownPath, Trouble};
+use crate::world::World;
+use std::alloc::{AllocError, Global};
+use std::io;
 use std::io::{BufWriter, ErrorKind};
-use std::rt::Files;
-use std::{fs, io};
 
 /// The error of a file system that cannot wait for a folder (`EINVAL`).
 const INVALID: i32 = 22;
 
 /// New files for a folder. Until they get their names, they are in a temporary folder within it.
 #[derive(Drop)]
-pub(crate) struct Staging<'a, 'c, R: Files + AllocGlobal> {
-    rt: &'a R,
+pub(crate) struct Staging<'a, 'c, W: World> {
+    world: W,
+    alloc: Global,
     folder: Folder<'a>,
     // The path of the temporary folder, once it is created.
     made: Option<String>,
-    // The names that the files get. Meanwhile file number N is `new-N` in the temporary folder, and
-    // what it replaces is `old-N`.
-    names: Vec<String>,
+    // The files that were begun. File number N is `new-N` in the temporary folder, and what it
+    // replaces is `old-N`.
+    files: Vec<Begun>,
+    // The paths of all files that were created in the temporary folder.
+    created: Vec<String>,
+    // Refused files, of which what they were to replace is removed with the names.
+    outdated: Vec<Begun>,
     // Whether the last file is not complete.
     is_writing: bool,
+    // Whether files get their names.
+    is_naming: bool,
     // The code of the error of its failed write.
     code: &'c ErrorCode,
+    ghost made_inside: { option_map_or (λ path. is_temporary_folder folder.path.now (string_bytes path)) made true ≡ true },
+    ghost files_inside: { list_all (is_begun_in folder.path.now) files.items ≡ true },
+    ghost created_inside: { list_all (λ path. is_temporary_file folder.path.now (string_bytes path)) created.items ≡ true },
+    ghost outdated_inside: { list_all (is_begun_in folder.path.now) outdated.items ≡ true },
+    ghost stays: { stays_within folder.path.now is_naming (W.trace world) ≡ true },
 }
 
-// The paths of a file: while it is written, of what it replaces then, and with its name.
-#[derive(Drop)]
-struct Paths {
-    new: String,
-    old: String,
-    whole: String,
-}
-
-impl<'a, 'c, R: Files + AllocGlobal> Staging<'a, 'c, R> {
+impl<'a, 'c, W: World> Staging<'a, 'c, W> {
     /// Returns that nothing was written for a folder. Failed writes are noted in `code`.
-    pub(crate) fn new(rt: &'a R, folder: Folder<'a>, code: &'c ErrorCode) -> Staging<'a, 'c, R> {
+    pub(crate) fn new(
+        world: W,
+        alloc: Global,
+        folder: Folder<'a>,
+        code: &'c ErrorCode,
+    ) -> Staging<'a, 'c, W>
+        requires { W.trace world ≡ [] }
+        ensures folder { result.folder ≡ folder.entry }
+        ensures unnamed { result.is_naming ≡ false }
+    {
         Staging {
-            rt,
+            world,
+            alloc,
             folder,
             made: None,
-            names: Vec::new(rt.alloc()),
+            files: Vec::new(alloc),
+            created: Vec::new(alloc),
+            outdated: Vec::new(alloc),
             is_writing: false,
+            is_naming: false,
             code,
         }
     }
 
+    /// Checks whether a file of the folder may be written.
+    pub(crate) fn look(&mut self, name: &str) -> Result<(), Trouble>
+        ensures folder { self.new.folder ≡ self.old.folder }
+        ensures naming { self.new.is_naming ≡ self.old.is_naming }
+    {
+        let whole = self.folder.path_of(self.alloc, name)?;
+        self.folder.allows(&mut self.world, whole)?;
+        Ok(())
+    }
+
     /// Creates the file that gets a name later.
-    pub(crate) fn begin(&mut self, name: String) -> Result<NewFile<'c, R>, Trouble> {
-        let whole = self.folder.path_of(self.rt, name.as_str())?;
-        if self.made.is_none() {
-            match self.folder.new_folder(self.rt)? {
-                Ok(made) => self.made = Some(made),
-                Err(reason) => return Err(Trouble::CannotCreate(ShownPath(whole), reason)),
-            }
+    pub(crate) fn begin(&mut self, name: String) -> Result<NewFile<'c, W::File>, Trouble>
+        requires { is_file_name (string_bytes name) ≡ true }
+        ensures folder { self.new.folder ≡ self.old.folder }
+        ensures naming { self.new.is_naming ≡ self.old.is_naming }
+    {
+        let whole = self.folder.path_of(self.alloc, name.as_str())?;
+        match self.make_folder() {
+            Ok(Ok(())) => {}
+            Ok(Err(reason)) => return Err(Trouble::CannotCreate(ShownPath(whole), reason)),
+            Err(error) => return Err(Trouble::from(error)),
         }
-        let path = self.path_of("new", self.names.len())?;
-        let file = match fs::File::create_new(self.rt, path.as_str()) {
-            Ok(file) => BufWriter::new(self.rt.alloc(), file)?,
-            Err(reason) => return Err(Trouble::CannotCreate(ShownPath(whole), reason)),
+        let begun = self.begun(name, whole)?;
+        self.note(&begun)?;
+        let file = match self.create(&begun) {
+            Ok(file) => BufWriter::new(self.alloc, file)?,
+            Err(reason) => return Err(Trouble::CannotCreate(ShownPath(begun.whole), reason)),
         };
-        self.names.push(name)?;
-        self.is_writing = true;
+        self.add(begun)?;
         Ok(NewFile::new(file, self.code))
     }
 
+    // Creates the temporary folder, unless it is created.
+    fn make_folder(&mut self) -> Result<io::Result<()>, AllocError>
+        ensures folder { self.new.folder ≡ self.old.folder }
+        ensures naming { self.new.is_naming ≡ self.old.is_naming }
+    {
+        if self.made.is_some() {
+            return Ok(Ok(()));
+        }
+        match self.folder.new_folder(&mut self.world, self.alloc) {
+            Ok(Ok(made)) => {
+                self.made = Some(made);
+                Ok(Ok(()))
+            }
+            Ok(Err(reason)) => Ok(Err(reason)),
+            Err(error) => Err(error),
+        }
+    }
+
+    // Returns a file to begin, with its paths.
+    fn begun(&self, name: String, whole: String) -> Result<Begun, Trouble>
+        requires named { is_file_name (string_bytes name) ≡ true }
+        requires whole { string_bytes whole
+            ≡ self.now.folder.path.now ++ codes "/" ++ string_bytes name }
+        ensures { IfOk result (λ it. is_begun_in self.now.folder.path.now it ≡ true) }
+    {
+        let Some(made) = &self.made else {
+            return Err(Trouble::NoName);
+        };
+        match begun_in(self.alloc, made.as_str(), self.files.len(), name, whole) {
+            Ok(begun) => Ok(begun),
+            Err(error) => Err(Trouble::from(error)),
+        }
+    }
+
+    // Notes the path of a file to create.
+    fn note(&mut self, begun: &Begun) -> Result<(), Trouble>
+        requires { is_begun_in self.old.folder.path.now begun.now ≡ true }
+        ensures folder { self.new.folder ≡ self.old.folder }
+        ensures naming { self.new.is_naming ≡ self.old.is_naming }
+    {
+        let path = String::from_str(self.alloc, begun.new.as_str())?;
+        match self.created.push(path) {
+            Ok(()) => Ok(()),
+            Err(failed) => Err(Trouble::from(failed)),
+        }
+    }
+
+    // Creates a file.
+    fn create(&mut self, begun: &Begun) -> io::Result<W::File>
+        requires { is_begun_in self.old.folder.path.now begun.now ≡ true }
+        ensures folder { self.new.folder ≡ self.old.folder }
+        ensures naming { self.new.is_naming ≡ self.old.is_naming }
+    {
+        self.world.create_new(begun.new.as_str())
+    }
+
+    // Adds a file that was created, and is not complete.
+    fn add(&mut self, begun: Begun) -> Result<(), Trouble>
+        requires { is_begun_in self.old.folder.path.now begun ≡ true }
+        ensures folder { self.new.folder ≡ self.old.folder }
+        ensures naming { self.new.is_naming ≡ self.old.is_naming }
+    {
+        match self.files.push(begun) {
+            Ok(()) => {
+                self.is_writing = true;
+                Ok(())
+            }
+            Err(failed) => Err(Trouble::from(failed)),
+        }
+    }
+
     /// Completes the file that was begun last. Returns its length in bytes.
-    pub(crate) fn complete(&mut self, file: NewFile<'c, R>) -> Result<u64, Trouble> {
+    pub(crate) fn complete(&mut self, file: NewFile<'c, W::File>) -> Result<u64, Trouble>
+        ensures size { IfOk result (λ size. size ≡ file.entry.size) }
+        ensures folder { self.new.folder ≡ self.old.folder }
+        ensures naming { self.new.is_naming ≡ self.old.is_naming }
+    {
         match file.close(self.folder.is_synced) {
             Ok(size) => {
                 self.is_writing = false;
@@ -82,34 +197,76 @@ impl<'a, 'c, R: Files + AllocGlobal> Staging<'a, 'c, R> {
         }
     }
 
-    /// Removes the file that was begun last. Returns the name that it does not get.
-    pub(crate) fn drop_last(&mut self) -> Result<String, Trouble> {
-        let Some(name) = self.names.pop() else {
+    /// Removes the file that was begun last. If it is outdated, what it was to replace is removed
+    /// with the names.
+    pub(crate) fn refuse_last(&mut self, is_outdated: bool) -> Result<(), Trouble>
+        ensures folder { self.new.folder ≡ self.old.folder }
+        ensures naming { self.new.is_naming ≡ self.old.is_naming }
+    {
+        let refused = self.drop_last()?;
+        if is_outdated {
+            self.outdated.push(refused)?;
+        }
+        Ok(())
+    }
+
+    // Removes the file that was begun last, and returns it.
+    fn drop_last(&mut self) -> Result<Begun, Trouble>
+        ensures begun { IfOk result (λ last. is_begun_in self.old.folder.path.now last ≡ true) }
+        ensures folder { self.new.folder ≡ self.old.folder }
+        ensures naming { self.new.is_naming ≡ self.old.is_naming }
+    {
+        let Some(last) = self.pop() else {
             return Err(Trouble::NoName);
         };
-        self.is_writing = false;
-        let path = self.path_of("new", self.names.len())?;
-        match fs::remove_file(self.rt, path.as_str()) {
-            Ok(()) => Ok(name),
-            Err(reason) => Err(Trouble::CannotRemove(ShownPath(path), reason)),
+        match self.remove(&last) {
+            Ok(()) => Ok(last),
+            Err(reason) => Err(Trouble::CannotRemove(ShownPath(last.new), reason)),
         }
+    }
+
+    // Takes the file that was begun last away.
+    fn pop(&mut self) -> Option<Begun>
+        ensures begun { IfSome result (λ last. is_begun_in self.old.folder.path.now last ≡ true) }
+        ensures folder { self.new.folder ≡ self.old.folder }
+        ensures naming { self.new.is_naming ≡ self.old.is_naming }
+    {
+        self.is_writing = false;
+        self.files.pop()
+    }
+
+    // Removes a file without a name.
+    fn remove(&mut self, begun: &Begun) -> io::Result<()>
+        requires { is_begun_in self.old.folder.path.now begun.now ≡ true }
+        ensures folder { self.new.folder ≡ self.old.folder }
+        ensures naming { self.new.is_naming ≡ self.old.is_naming }
+    {
+        self.world.remove_file(begun.new.as_str())
+    }
+
+    // Begins to give files their names.
+    fn begin_naming(&mut self)
+        ensures folder { self.new.folder ≡ self.old.folder }
+        ensures naming { self.new.is_naming ≡ true }
+    {
+        self.is_naming = true;
     }
 
     /// Returns the name that the file that was begun last gets.
     pub(crate) fn last_name(&self) -> &str {
-        match self.names.last() {
-            Some(name) => name.as_str(),
+        match self.files.last() {
+            Some(last) => last.name.as_str(),
             None => "",
         }
     }
 
     /// Returns the trouble that a file cannot be written, if one is not complete.
     pub(crate) fn unwritten(&self) -> Option<Trouble> {
-        let name = self.names.last()?;
+        let last = self.files.last()?;
         if !self.is_writing {
             return None;
         }
-        match self.folder.path_of(self.rt, name.as_str()) {
+        match String::from_str(self.alloc, last.whole.as_str()) {
             Ok(whole) => Some(Trouble::CannotWrite(ShownPath(whole), self.reason())),
             Err(error) => Some(Trouble::from(error)),
         }
@@ -125,154 +282,300 @@ impl<'a, 'c, R: Files + AllocGlobal> Staging<'a, 'c, R> {
 
     /// Gives all files their names. If one cannot get its name, or the names cannot be written to
     /// the disk, none does, and what they were to replace is there again.
-    pub(crate) fn name_all(&mut self) -> Result<(), Trouble> {
+    pub(crate) fn name_all(&mut self) -> Result<(), Trouble>
+        ensures folder { self.new.folder ≡ self.old.folder }
+        ensures naming { self.new.is_naming ≡ true }
+    {
+        self.begin_naming();
         if self.is_writing {
             self.drop_last()?;
         }
-        let paths = self.all_paths()?;
-        if let (named, Some(trouble)) = self.name_each(&paths) {
-            return Err(self.taken_back(&paths, named, trouble));
+        if let (named, Some(trouble)) = self.name_each() {
+            return Err(self.taken_back(named, trouble));
         }
         if let Err(trouble) = self.sync() {
-            return Err(self.taken_back(&paths, paths.len(), trouble));
+            let all = self.files.len();
+            return Err(self.taken_back(all, trouble));
         }
-        for its in &paths {
-            let _ = fs::remove_file(self.rt, its.old.as_str());
-        }
+        forget_old(&mut self.world, &self.folder, self.files.as_slice());
         Ok(())
     }
 
-    /// Waits until the names in the folder are on the disk, if that is requested and there are any.
-    /// A file system that never waits for a folder is none to wait for.
-    pub(crate) fn sync(&self) -> Result<(), Trouble> {
-        if !self.folder.is_synced || self.names.is_empty() {
+    /// Removes what refused files were to replace.
+    pub(crate) fn remove_outdated(&mut self) -> Result<(), Trouble>
+        requires { self.old.is_naming ≡ true }
+        ensures folder { self.new.folder ≡ self.old.folder }
+        ensures naming { self.new.is_naming ≡ self.old.is_naming }
+    {
+        let outdated = self.outdated.as_slice();
+        remove_all_old(&mut self.world, self.alloc, &self.folder, outdated)?;
+        if self.outdated.is_empty() {
             return Ok(());
         }
-        match self.sync_folder() {
+        self.sync()
+    }
+
+    // Waits until the names in the folder are on the disk, if that is requested and there are any.
+    // A file system that never waits for a folder is none to wait for.
+    fn sync(&mut self) -> Result<(), Trouble>
+        ensures files { self.new.files ≡ self.old.files }
+        ensures folder { self.new.folder ≡ self.old.folder }
+        ensures naming { self.new.is_naming ≡ self.old.is_naming }
+    {
+        if !self.folder.is_synced || self.files.is_empty() {
+            return Ok(());
+        }
+        match self.world.sync_dir(self.folder.path) {
             Err(reason) if reason.raw_os_error() != Some(INVALID) => {
-                let path = String::from_str(self.rt.alloc(), self.folder.path)?;
+                let path = String::from_str(self.alloc, self.folder.path)?;
                 Err(Trouble::CannotSync(ShownPath(path), reason))
             }
             _ => Ok(()),
         }
     }
 
-    fn sync_folder(&self) -> io::Result<()> {
-        let folder = fs::open(self.rt, self.folder.path)?;
-        fs::OpenFile::sync_all(&folder)
-    }
-
-    /// Removes the files that have no name, and their folder.
-    pub(crate) fn end(self) {
-        for number in 0..=self.names.len() {
-            if let Ok(path) = self.path_of("new", number) {
-                let _ = fs::remove_file(self.rt, path.as_str());
-            }
-        }
-        if let Some(made) = &self.made {
-            let _ = fs::remove_dir(self.rt, made.as_str());
-        }
-    }
-
-    // Returns the paths of all files, so that taking names back needs no memory.
-    fn all_paths(&self) -> Result<Vec<Paths>, Trouble>
-        ensures { IfOk result (λ paths. length paths.items ≡ length self.now.names.items) }
+    /// Removes the files that have no name, and their folder. Returns the world.
+    pub(crate) fn end(self) -> W
+        ensures stays { stays_within self.entry.folder.path.now self.entry.is_naming (W.trace result) ≡ true }
+        ensures cleared { map unanswered (W.trace result)
+            ≡ cleared (option_map string_bytes self.entry.made)
+            (map string_bytes self.entry.created.items)
+            (map unanswered (W.trace self.entry.world)) }
     {
-        let mut paths = Vec::new(self.rt.alloc());
-        for number in 0..self.names.len() {
-            paths.push(Paths {
-                new: self.path_of("new", number)?,
-                old: self.path_of("old", number)?,
-                whole: self.whole(number)?,
-            })?;
+        let Staging {
+            mut world,
+            alloc: _alloc,
+            folder: _folder,
+            made,
+            files: _files,
+            created,
+            outdated: _outdated,
+            is_writing: _is_writing,
+            is_naming: _is_naming,
+            code: _code,
+        } = self;
+        for path in &created {
+            let _ = world.remove_file(path.as_str());
         }
-        Ok(paths)
+        match made {
+            Some(made) => {
+                let _ = world.remove_dir(made.as_str());
+                world
+            }
+            None => world,
+        }
     }
 
     // Gives files their names, up to one that cannot get it. Returns how many have it, and why the
     // next one has not: none if all have it.
-    fn name_each(&self, paths: &[Paths]) -> (usize, Option<Trouble>)
-        ensures { result.1 ≡ None → result.0 ≡ length paths.now }
+    fn name_each(&mut self) -> (usize, Option<Trouble>)
+        requires { self.old.is_naming ≡ true }
+        ensures all { result.1 ≡ None → result.0 ≡ length self.new.files.items }
+        ensures folder { self.new.folder ≡ self.old.folder }
+        ensures naming { self.new.is_naming ≡ self.old.is_naming }
     {
-        let mut named = 0;
-        for its in paths {
-            if let Err(trouble) = self.name(its) {
-                return (named, Some(trouble));
-            }
-            named += 1;
-        }
-        (named, None)
-    }
-
-    // Gives a file its name. What it replaces is kept under another.
-    fn name(&self, paths: &Paths) -> Result<(), Trouble> {
-        let whole = String::from_str(self.rt.alloc(), paths.whole.as_str())?;
-        let whole = self.folder.allows(self.rt, whole)?;
-        let replaces = self.folder.is_forced && is_there(self.rt, whole.as_str());
-        if replaces && let Err(reason) = keep_as(self.rt, whole.as_str(), paths.old.as_str()) {
-            return Err(Trouble::CannotCreate(ShownPath(whole), reason));
-        }
-        match give_name(self.rt, paths.new.as_str(), whole.as_str(), replaces) {
-            Ok(()) => Ok(()),
-            Err(reason) => Err(Trouble::CannotCreate(ShownPath(whole), reason)),
-        }
+        name_files(
+            &mut self.world,
+            self.alloc,
+            &self.folder,
+            self.files.as_slice(),
+        )
     }
 
     // Takes the names of the files before a number away, and puts back what they, and the file of
     // this number, were to replace. Returns the trouble to tell: this one, or that old files are not
     // in their place.
-    fn taken_back(&self, paths: &[Paths], number: usize, trouble: Trouble) -> Trouble {
-        let mut is_back = true;
-        for (before, its) in paths.iter().enumerate() {
-            let (whole, old) = (its.whole.as_str(), its.old.as_str());
-            if before <= number && !put_back(self.rt, whole, old, before < number) {
-                is_back = false;
-            }
-        }
+    fn taken_back(&mut self, number: usize, trouble: Trouble) -> Trouble
+        requires { self.old.is_naming ≡ true }
+        ensures folder { self.new.folder ≡ self.old.folder }
+        ensures naming { self.new.is_naming ≡ self.old.is_naming }
+    {
+        let is_back = put_back_all(&mut self.world, &self.folder, self.files.as_slice(), number);
         match &self.made {
-            Some(made) if !is_back => match String::from_str(self.rt.alloc(), made.as_str()) {
+            Some(made) if !is_back => match String::from_str(self.alloc, made.as_str()) {
                 Ok(made) => Trouble::NotPutBack(ShownPath(made)),
                 Err(_) => trouble,
             },
             _ => trouble,
         }
     }
+}
 
-    // Returns the path that a file gets.
-    fn whole(&self, number: usize) -> Result<String, Trouble> {
-        match self.names.get(number) {
-            Some(name) => Ok(self.folder.path_of(self.rt, name.as_str())?),
-            None => Err(Trouble::NoName),
+// Returns a file with its paths: those in the temporary folder that was made, and the one that it
+// gets.
+fn begun_in(
+    alloc: Global,
+    made: &str,
+    number: usize,
+    name: String,
+    whole: String,
+) -> Result<Begun, AllocError>
+    ensures new { IfOk result (λ it. string_bytes it.new
+        ≡ made.now ++ codes "/new-" ++ decimal number) }
+    ensures old { IfOk result (λ it. string_bytes it.old
+        ≡ made.now ++ codes "/old-" ++ decimal number) }
+    ensures same { IfOk result (λ it. it.name ≡ name × it.whole ≡ whole) }
+{
+    Ok(Begun {
+        name,
+        new: format!(in alloc; "{made}/new-{number}")?,
+        old: format!(in alloc; "{made}/old-{number}")?,
+        whole,
+    })
+}
+
+// Gives files their names, up to one that cannot get it. Returns how many have it, and why the next
+// one has not: none if all have it.
+fn name_files<W: World>(
+    world: &mut W,
+    alloc: Global,
+    folder: &Folder<'_>,
+    files: &[Begun],
+) -> (usize, Option<Trouble>)
+    requires { list_all (is_begun_in folder.now.path.now) files.now ≡ true }
+    ensures all { result.1 ≡ None → result.0 ≡ length files.now }
+    ensures within { stays_within folder.now.path.now true (W.trace world.new)
+        ≡ stays_within folder.now.path.now true (W.trace world.old) }
+{
+    let mut named = 0;
+    for its in files {
+        if let Err(trouble) = name(world, alloc, folder, its) {
+            return (named, Some(trouble));
         }
+        named += 1;
     }
+    (named, None)
+}
 
-    // Returns a path in the temporary folder.
-    fn path_of(&self, kind: &str, number: usize) -> Result<String, Trouble> {
-        match &self.made {
-            Some(made) => Ok(format!(in self.rt.alloc(); "{made}/{kind}-{number}")?),
-            None => Err(Trouble::NoName),
-        }
+// Puts back what files up to a number were to replace. Returns whether all is back.
+fn put_back_all<W: World>(
+    world: &mut W,
+    folder: &Folder<'_>,
+    files: &[Begun],
+    number: usize,
+) -> bool
+    requires { list_all (is_begun_in folder.now.path.now) files.now ≡ true }
+    ensures { stays_within folder.now.path.now true (W.trace world.new)
+        ≡ stays_within folder.now.path.now true (W.trace world.old) }
+{
+    let mut is_back = true;
+    for (before, its) in files.iter().enumerate() {
+        let back = put_back_before(world, its, before, number);
+        is_back = is_back && back;
+    }
+    is_back
+}
+
+// Puts back what a file was to replace, unless its number is greater than another. Returns whether
+// it is back.
+fn put_back_before<W: World>(world: &mut W, its: &Begun, before: usize, number: usize) -> bool
+    ensures { (folder : List ℕ) → is_begun_in folder its.now ≡ true →
+        stays_within folder true (W.trace world.new)
+        ≡ stays_within folder true (W.trace world.old) }
+{
+    if before > number {
+        return true;
+    }
+    let (whole, old) = (its.whole.as_str(), its.old.as_str());
+    put_back(world, whole, old, before < number)
+}
+
+// Removes what files have replaced.
+fn forget_old<W: World>(world: &mut W, folder: &Folder<'_>, files: &[Begun])
+    requires { list_all (is_begun_in folder.now.path.now) files.now ≡ true }
+    ensures { stays_within folder.now.path.now true (W.trace world.new)
+        ≡ stays_within folder.now.path.now true (W.trace world.old) }
+{
+    for its in files {
+        let _ = world.remove_file(its.old.as_str());
     }
 }
 
-// Gives a file another name too; on a file system without links it loses the first one.
-fn keep_as<R: Files>(rt: &R, whole: &str, old: &str) -> io::Result<()> {
-    match fs::hard_link(rt, whole, old) {
+// Gives a file its name. What it replaces is kept under another.
+fn name<W: World>(
+    world: &mut W,
+    alloc: Global,
+    folder: &Folder<'_>,
+    its: &Begun,
+) -> Result<(), Trouble>
+    ensures { Names folder.now.image folder.now.is_forced (string_bytes its.now.new)
+        (string_bytes its.now.old) (string_bytes its.now.whole) (is_ok result)
+        (W.trace world.old) (W.trace world.new) }
+{
+    let whole = String::from_str(alloc, its.whole.as_str())?;
+    let whole = match folder.allows(world, whole) {
+        Ok(whole) => whole,
+        Err(trouble) => return Err(trouble),
+    };
+    if folder.is_forced {
+        let named = name_over(world, its);
+        return created(named, whole);
+    }
+    let named = name_file(world, its.new.as_str(), its.whole.as_str(), false);
+    created(named, whole)
+}
+
+// Gives a file its name, where something may exist.
+fn name_over<W: World>(world: &mut W, its: &Begun) -> io::Result<()>
+    ensures { NamesOver (string_bytes its.now.new) (string_bytes its.now.old)
+        (string_bytes its.now.whole) (answer_of result) (W.trace world.old) (W.trace world.new) }
+{
+    let (new, old, whole) = (its.new.as_str(), its.old.as_str(), its.whole.as_str());
+    if !world.kind_at(whole).is_something() {
+        return name_file(world, new, whole, false);
+    }
+    match keep_as(world, whole, old) {
+        Ok(()) => name_file(world, new, whole, true),
+        Err(reason) => Err(reason),
+    }
+}
+
+// Returns the trouble that a file cannot be created, if it is not.
+fn created(named: io::Result<()>, whole: String) -> Result<(), Trouble>
+    ensures { is_ok result ≡ is_ok named }
+{
+    match named {
         Ok(()) => Ok(()),
-        Err(_) => fs::rename(rt, whole, old),
+        Err(reason) => Err(Trouble::CannotCreate(ShownPath(whole), reason)),
     }
 }
 
-// Puts back what was kept under another name; if there is nothing, removes what got the name.
-// Returns whether that is done.
-fn put_back<R: Files>(rt: &R, whole: &str, old: &str, has_name: bool) -> bool {
-    if !is_there(rt, old) {
-        return !has_name || fs::remove_file(rt, whole).is_ok();
+// Removes what files were to replace.
+fn remove_all_old<W: World>(
+    world: &mut W,
+    alloc: Global,
+    folder: &Folder<'_>,
+    files: &[Begun],
+) -> Result<(), Trouble>
+    requires { list_all (is_begun_in folder.now.path.now) files.now ≡ true }
+    ensures { stays_within folder.now.path.now true (W.trace world.new)
+        ≡ stays_within folder.now.path.now true (W.trace world.old) }
+{
+    for its in files {
+        remove_old(world, alloc, folder, its)?;
     }
-    if fs::rename(rt, old, whole).is_err() {
-        return false;
+    Ok(())
+}
+
+// Removes what a file was to replace.
+fn remove_old<W: World>(
+    world: &mut W,
+    alloc: Global,
+    folder: &Folder<'_>,
+    its: &Begun,
+) -> Result<(), Trouble>
+    ensures { RemovesOld folder.now.is_forced (string_bytes its.now.whole)
+        (W.trace world.old) (W.trace world.new) }
+{
+    if !folder.is_forced {
+        return Ok(());
     }
-    // Two links to one file are left by a rename.
-    let _ = fs::remove_file(rt, old);
-    true
+    if !world.kind_at(its.whole.as_str()).is_something() {
+        return Ok(());
+    }
+    let Err(reason) = world.remove_file(its.whole.as_str()) else {
+        return Ok(());
+    };
+    let whole = String::from_str(alloc, its.whole.as_str())?;
+    Err(Trouble::CannotRemove(ShownPath(whole), reason))
 }

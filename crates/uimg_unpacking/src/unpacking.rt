@@ -1,5 +1,8 @@
 //! Unpacks a FIT image into a folder.
 
+ghost use Rattle.std.specs.Prelude.{◌≡◌, []};
+
+use crate::disk_world::DiskWorld;
 use crate::folder::Folder;
 use crate::folder_taker::FolderTaker;
 use crate::limits::Limits;
@@ -7,6 +10,7 @@ use crate::lines::Line;
 use crate::new_file::ErrorCode;
 use crate::objects::told;
 use crate::trouble::Trouble;
+use crate::world::World;
 use std::alloc::Global;
 use std::io::Write;
 use std::rt::Files;
@@ -73,22 +77,37 @@ pub fn unpack<R: Files + AllocGlobal, S: Source, W: Write + Drop>(
     source: &mut S,
     out: W,
 ) -> Ended {
+    let (_, ended) = unpack_in(DiskWorld::new(rt), rt.alloc(), asked, source, out);
+    ended
+}
+
+// As `unpack`, in a world that is returned.
+fn unpack_in<W: World, S: Source, O: Write + Drop>(
+    world: W,
+    alloc: Global,
+    asked: &Unpacking<'_>,
+    source: &mut S,
+    out: O,
+) -> (W, Ended)
+    requires { W.trace world ≡ [] }
+{
     let Some(only) = only_of(asked.only) else {
-        return Ended::Stopped(Fault::Fit(FitFault::NoSuchImage));
+        return (world, Ended::Stopped(Fault::Fit(FitFault::NoSuchImage)));
     };
-    let mut room = Room::new(rt.alloc());
+    let mut room = Room::new(alloc);
     let code = ErrorCode::new(None);
-    let mut taker = FolderTaker::new(rt, asked, out, &code);
+    let mut taker = FolderTaker::new(world, alloc, asked, out, &code);
     let unpacked = uimg_fit_checking::unpack(only, asked.need, source, &mut room, &mut taker);
     let is_whole = matches!(unpacked, Ok(Unpacked::Taken(true)));
-    let (out, count, trouble) = taker.end(is_whole);
-    match (unpacked, trouble) {
+    let (world, out, count, trouble) = taker.end(is_whole);
+    let ended = match (unpacked, trouble) {
         (Ok(Unpacked::Taken(_)), Some(trouble)) => Ended::Troubled(trouble),
         (Ok(Unpacked::Taken(all)), None) => taken(asked, all, count),
-        (Ok(Unpacked::Overlapping(name)), _) => overlapping(rt.alloc(), asked.json, out, &name),
+        (Ok(Unpacked::Overlapping(name)), _) => overlapping(alloc, asked.json, out, &name),
         (Err(Fault::Put), trouble) => Ended::Troubled(trouble.unwrap_or(Trouble::Put)),
         (Err(fault), _) => Ended::Stopped(fault),
-    }
+    };
+    (world, ended)
 }
 
 // Returns the requested name, if there is one; `None` if it is too long for an image's name.

@@ -1,0 +1,13 @@
+use Rattle.uimg_unpacking.proofs.Placing.{stays_naming}
+use Rattle.uimg_unpacking.proofs.staging.Staging.begin_naming.Goals as goal
+
+pub invariant_of-self : goal.invariant_of-self
+invariant_of-self g c =
+    let it = c.args.self.now in
+    record {
+      made_inside = c.args.self.now.made_inside;
+      files_inside = c.args.self.now.files_inside;
+      created_inside = c.args.self.now.created_inside;
+      outdated_inside = c.args.self.now.outdated_inside;
+      stays = stays_naming it.folder.path.now it.is_naming (g.W.World.trace it.world) it.stays;
+    }

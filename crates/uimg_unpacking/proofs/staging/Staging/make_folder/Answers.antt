@@ -1,0 +1,32 @@
+use Rattle.std.proofs.Common.{rules, ◌∙◌}
+use Rattle.uimg_unpacking.proofs.staging.Staging.make_folder.Goals as goal
+
+pub invariant_of-self : goal.invariant_of-self
+invariant_of-self g c =
+    record {
+      made_inside = search rules;
+      files_inside = c.args.self.now.files_inside;
+      created_inside = c.args.self.now.created_inside;
+      outdated_inside = c.args.self.now.outdated_inside;
+      stays = c.new_folder.ensures.within c.args.self.now.is_naming ∙ c.args.self.now.stays;
+    }
+
+pub invariant_of-self-in-Err-1 : goal.invariant_of-self-in-Err-1
+invariant_of-self-in-Err-1 g c =
+    record {
+      made_inside = c.args.self.now.made_inside;
+      files_inside = c.args.self.now.files_inside;
+      created_inside = c.args.self.now.created_inside;
+      outdated_inside = c.args.self.now.outdated_inside;
+      stays = c.new_folder.ensures.within c.args.self.now.is_naming ∙ c.args.self.now.stays;
+    }
+
+pub invariant_of-self-in-Err-new_folder : goal.invariant_of-self-in-Err-new_folder
+invariant_of-self-in-Err-new_folder g c =
+    record {
+      made_inside = c.args.self.now.made_inside;
+      files_inside = c.args.self.now.files_inside;
+      created_inside = c.args.self.now.created_inside;
+      outdated_inside = c.args.self.now.outdated_inside;
+      stays = c.new_folder.ensures.within c.args.self.now.is_naming ∙ c.args.self.now.stays;
+    }

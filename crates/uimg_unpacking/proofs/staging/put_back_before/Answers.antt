@@ -1,0 +1,11 @@
+use Rattle.std.proofs.Common.{◌<◌, nat_lt, string_bytes}
+use Rattle.uimg_unpacking.proofs.Placing.{begun_old, begun_whole, puts_within}
+use Rattle.uimg_unpacking.proofs.staging.put_back_before.Goals as goal
+
+pub returns : goal.returns
+returns g c = λ folder inside.
+    let its = c.args.its.now in
+    puts_within folder (string_bytes its.whole) (string_bytes its.old) (nat_lt c.args.before c.args.number) c.put_back.result
+    (g.W.World.trace c.args.world.now) (g.W.World.trace c.put_back.new.world)
+    (rw (c.as_str-old.ensures.value, c.as_str-whole.ensures.value) at c.put_back.ensures)
+    (begun_whole folder its inside) (begun_old folder its inside)

@@ -1,0 +1,80 @@
+-- What was asked of a world of files, and what it answered.
+use Rattle.std.specs.Prelude.{ℕ, List, [], ◌∷◌, ◌==◌, if◌then◌else◌, slice_index, Option, Some, None, Result, Ok, Err, Bool, true, ◌&&◌}
+use Rattle.std.specs.declared.io.Error.{Error}
+use Rattle.std.specs.declared.io.ErrorKind.{ErrorKind}
+use Rattle.std.specs.declared.io.ErrorKind.TheVariants.{AlreadyExists}
+use Rattle.std.specs.IoError.{error_kind}
+use Rattle.uimg_unpacking.specs.declared.kind.Kind.{Kind}
+use Rattle.uimg_unpacking.specs.declared.kind.Kind.TheVariants.{Nothing, File, Folder, Link}
+use Rattle.uimg_unpacking.specs.declared.file_id.FileId.{FileId}
+
+-- what a call answers: it is done, something exists where something was to be made, or it failed for another reason
+pub data Answer : Type 0 where
+  Done : Answer
+  Exists : Answer
+  Failed : Answer
+
+abbrev pub refusal : ErrorKind → Answer
+refusal AlreadyExists = Exists
+refusal _ = Failed
+
+abbrev pub answer_of : {T : Type 0} → Result T Error → Answer
+answer_of (Ok _) = Done
+answer_of (Err error) = refusal (error_kind error)
+
+-- a call, on which paths, and its answer
+pub data Deed : Type 0 where
+  Creates : List ℕ → Answer → Deed
+  Links : List ℕ → List ℕ → Answer → Deed
+  Renames : List ℕ → List ℕ → Answer → Deed
+  Removes : List ℕ → Answer → Deed
+  MakesFolder : List ℕ → Answer → Deed
+  RemovesFolder : List ℕ → Answer → Deed
+  RemovesAll : List ℕ → Answer → Deed
+  Syncs : List ℕ → Answer → Deed
+  Resolves : List ℕ → Answer → Deed
+  Looks : List ℕ → Kind → Deed
+  Identifies : List ℕ → Option FileId → Deed
+
+-- the answer and the kind of a number, as a record of deeds has them
+abbrev pub answer_at : ℕ → Answer
+answer_at code = if code == 0 then Done else if code == 1 then Exists else Failed
+
+abbrev pub kind_at : ℕ → Kind
+kind_at code = if code == 0 then Nothing else if code == 1 then File else if code == 2 then Folder else Link
+
+abbrev pub file_at : List ℕ → Option FileId
+file_at [] = None
+file_at (device ∷ rest) = Some (record { device = device; inode = slice_index rest 0 })
+
+abbrev pub deed_at : ℕ → List ℕ → List ℕ → List ℕ → Deed
+deed_at call rest from to =
+    if call == 0 then Creates from (answer_at (slice_index rest 0))
+    else if call == 1 then Links from to (answer_at (slice_index rest 0))
+    else if call == 2 then Renames from to (answer_at (slice_index rest 0))
+    else if call == 3 then Removes from (answer_at (slice_index rest 0))
+    else if call == 4 then MakesFolder from (answer_at (slice_index rest 0))
+    else if call == 5 then RemovesFolder from (answer_at (slice_index rest 0))
+    else if call == 6 then RemovesAll from (answer_at (slice_index rest 0))
+    else if call == 7 then Syncs from (answer_at (slice_index rest 0))
+    else if call == 8 then Resolves from (answer_at (slice_index rest 0))
+    else if call == 9 then Looks from (kind_at (slice_index rest 0))
+    else Identifies from (file_at rest)
+
+abbrev pub deed_of : List ℕ → List ℕ → List ℕ → Deed
+deed_of [] from to = deed_at 0 [] from to
+deed_of (call ∷ rest) from to = deed_at call rest from to
+
+-- a call changes only what is at such paths
+abbrev pub changes_only : (List ℕ → Bool) → Deed → Bool
+changes_only ok (Creates path _) = ok path
+changes_only ok (Links from to _) = ok from && ok to
+changes_only ok (Renames from to _) = ok from && ok to
+changes_only ok (Removes path _) = ok path
+changes_only ok (MakesFolder path _) = ok path
+changes_only ok (RemovesFolder path _) = ok path
+changes_only ok (RemovesAll path _) = ok path
+changes_only ok (Syncs _ _) = true
+changes_only ok (Resolves _ _) = true
+changes_only ok (Looks _ _) = true
+changes_only ok (Identifies _ _) = true

@@ -1,0 +1,10 @@
+-- What is at a path.
+use Rattle.std.specs.Prelude.{Bool, true, false}
+use Rattle.uimg_unpacking.specs.declared.kind.Kind.{Kind}
+use Rattle.uimg_unpacking.specs.declared.kind.Kind.TheVariants.{Nothing, File, Folder, Link}
+
+abbrev pub is_something : Kind → Bool
+is_something Nothing = false
+is_something File = true
+is_something Folder = true
+is_something Link = true

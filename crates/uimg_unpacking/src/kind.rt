@@ -1,0 +1,34 @@
+//! What is at a path.
+
+/// What is at a path; links are not followed.
+#[derive(Clone, Copy, Debug)]
+pub enum Kind {
+    /// Nothing, or nothing that can be looked at.
+    Nothing,
+
+    /// A file, or anything else that is neither a folder nor a symbolic link.
+    File,
+
+    /// A folder.
+    Folder,
+
+    /// A symbolic link.
+    Link,
+}
+
+impl Kind {
+    ghost use Rattle.std.specs.Prelude.{◌≡◌};
+    ghost use Rattle.uimg_unpacking.specs.Kinds.{is_something};
+
+    /// Returns whether anything exists, even a symbolic link without a target.
+    pub(crate) fn is_something(self) -> bool
+        ensures { result ≡ is_something self }
+    {
+        match self {
+            Kind::Nothing => false,
+            Kind::File => true,
+            Kind::Folder => true,
+            Kind::Link => true,
+        }
+    }
+}
