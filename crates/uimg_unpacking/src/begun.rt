@@ -1,5 +1,9 @@
 //! A file that was begun.
 
+ghost use Rattle.std.specs.Prelude.{◌≡◌, ◌++◌, IfOk, codes, decimal, string_bytes};
+
+use std::alloc::{AllocError, Global};
+
 /// A file that was begun: the name that it gets, and its paths: while it is written, of what it
 /// replaces then, and with its name.
 #[derive(Drop)]
@@ -8,4 +12,27 @@ pub(crate) struct Begun {
     pub(crate) new: String,
     pub(crate) old: String,
     pub(crate) whole: String,
+}
+
+/// Returns a file with its paths: those in the temporary folder that was made, and the one that it
+/// gets.
+pub(crate) fn begun_in(
+    alloc: Global,
+    made: &str,
+    number: usize,
+    name: String,
+    whole: String,
+) -> Result<Begun, AllocError>
+    ensures new { IfOk result (λ it. string_bytes it.new
+        ≡ made.now ++ codes "/new-" ++ decimal number) }
+    ensures old { IfOk result (λ it. string_bytes it.old
+        ≡ made.now ++ codes "/old-" ++ decimal number) }
+    ensures same { IfOk result (λ it. it.name ≡ name × it.whole ≡ whole) }
+{
+    Ok(Begun {
+        name,
+        new: format!(in alloc; "{made}/new-{number}")?,
+        old: format!(in alloc; "{made}/old-{number}")?,
+        whole,
+    })
 }

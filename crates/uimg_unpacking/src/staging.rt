@@ -1,17 +1,16 @@
 //! Files that are written in a folder of their own, and get their names together.
 
-ghost use Rattle.std.specs.Prelude.{◌≡◌, ◌++◌, [], None, length, map, ℕ, List, is_ok, true, false, codes, decimal, IfOk, IfSome, OnOk, string_bytes};
+ghost use Rattle.std.specs.Prelude.{◌≡◌, ◌++◌, [], None, length, map, true, false, codes, IfOk, IfSome, OnOk, string_bytes};
 ghost use Rattle.std.specs.List.{list_all};
 ghost use Rattle.std.specs.Option.{option_map, option_map_or};
 ghost use Rattle.uimg_unpacking.specs.Deeds.{answer_of};
-ghost use Rattle.uimg_unpacking.specs.Naming.{Names, NamesOver, RemovesOld};
 ghost use Rattle.uimg_unpacking.specs.Clearing.{unanswered, cleared};
 ghost use Rattle.uimg_unpacking.specs.FileNames.{is_file_name};
 ghost use Rattle.uimg_unpacking.specs.Places.{is_temporary_folder, is_temporary_file, is_begun_in, stays_within};
 
-use crate::begun::Begun;
+use crate::begun::{Begun, begun_in};
 use crate::folder::Folder;
-use crate::naming::{keep_as, name_file, put_back};
+use crate::naming::{forget_old, name_files, put_back_all, remove_all_old};
 use crate::new_file::{ErrorCode, NewFile};
 use crate::trouble::{ShownPath, Trouble};
 use crate::world::World;
@@ -399,183 +398,4 @@ impl<'a, 'c, W: World> Staging<'a, 'c, W> {
             _ => trouble,
         }
     }
-}
-
-// Returns a file with its paths: those in the temporary folder that was made, and the one that it
-// gets.
-fn begun_in(
-    alloc: Global,
-    made: &str,
-    number: usize,
-    name: String,
-    whole: String,
-) -> Result<Begun, AllocError>
-    ensures new { IfOk result (λ it. string_bytes it.new
-        ≡ made.now ++ codes "/new-" ++ decimal number) }
-    ensures old { IfOk result (λ it. string_bytes it.old
-        ≡ made.now ++ codes "/old-" ++ decimal number) }
-    ensures same { IfOk result (λ it. it.name ≡ name × it.whole ≡ whole) }
-{
-    Ok(Begun {
-        name,
-        new: format!(in alloc; "{made}/new-{number}")?,
-        old: format!(in alloc; "{made}/old-{number}")?,
-        whole,
-    })
-}
-
-// Gives files their names, up to one that cannot get it. Returns how many have it, and why the next
-// one has not: none if all have it.
-fn name_files<W: World>(
-    world: &mut W,
-    alloc: Global,
-    folder: &Folder<'_>,
-    files: &[Begun],
-) -> (usize, Option<Trouble>)
-    requires { list_all (is_begun_in folder.now.path.now) files.now ≡ true }
-    ensures all { result.1 ≡ None → result.0 ≡ length files.now }
-    ensures within { stays_within folder.now.path.now true (W.trace world.new)
-        ≡ stays_within folder.now.path.now true (W.trace world.old) }
-{
-    let mut named = 0;
-    for its in files {
-        if let Err(trouble) = name(world, alloc, folder, its) {
-            return (named, Some(trouble));
-        }
-        named += 1;
-    }
-    (named, None)
-}
-
-// Puts back what files up to a number were to replace. Returns whether all is back.
-fn put_back_all<W: World>(
-    world: &mut W,
-    folder: &Folder<'_>,
-    files: &[Begun],
-    number: usize,
-) -> bool
-    requires { list_all (is_begun_in folder.now.path.now) files.now ≡ true }
-    ensures { stays_within folder.now.path.now true (W.trace world.new)
-        ≡ stays_within folder.now.path.now true (W.trace world.old) }
-{
-    let mut is_back = true;
-    for (before, its) in files.iter().enumerate() {
-        let back = put_back_before(world, its, before, number);
-        is_back = is_back && back;
-    }
-    is_back
-}
-
-// Puts back what a file was to replace, unless its number is greater than another. Returns whether
-// it is back.
-fn put_back_before<W: World>(world: &mut W, its: &Begun, before: usize, number: usize) -> bool
-    ensures { (folder : List ℕ) → is_begun_in folder its.now ≡ true →
-        stays_within folder true (W.trace world.new)
-        ≡ stays_within folder true (W.trace world.old) }
-{
-    if before > number {
-        return true;
-    }
-    let (whole, old) = (its.whole.as_str(), its.old.as_str());
-    put_back(world, whole, old, before < number)
-}
-
-// Removes what files have replaced.
-fn forget_old<W: World>(world: &mut W, folder: &Folder<'_>, files: &[Begun])
-    requires { list_all (is_begun_in folder.now.path.now) files.now ≡ true }
-    ensures { stays_within folder.now.path.now true (W.trace world.new)
-        ≡ stays_within folder.now.path.now true (W.trace world.old) }
-{
-    for its in files {
-        let _ = world.remove_file(its.old.as_str());
-    }
-}
-
-// Gives a file its name. What it replaces is kept under another.
-fn name<W: World>(
-    world: &mut W,
-    alloc: Global,
-    folder: &Folder<'_>,
-    its: &Begun,
-) -> Result<(), Trouble>
-    ensures { Names folder.now.image folder.now.is_forced (string_bytes its.now.new)
-        (string_bytes its.now.old) (string_bytes its.now.whole) (is_ok result)
-        (W.trace world.old) (W.trace world.new) }
-{
-    let whole = String::from_str(alloc, its.whole.as_str())?;
-    let whole = match folder.allows(world, whole) {
-        Ok(whole) => whole,
-        Err(trouble) => return Err(trouble),
-    };
-    if folder.is_forced {
-        let named = name_over(world, its);
-        return created(named, whole);
-    }
-    let named = name_file(world, its.new.as_str(), its.whole.as_str(), false);
-    created(named, whole)
-}
-
-// Gives a file its name, where something may exist.
-fn name_over<W: World>(world: &mut W, its: &Begun) -> io::Result<()>
-    ensures { NamesOver (string_bytes its.now.new) (string_bytes its.now.old)
-        (string_bytes its.now.whole) (answer_of result) (W.trace world.old) (W.trace world.new) }
-{
-    let (new, old, whole) = (its.new.as_str(), its.old.as_str(), its.whole.as_str());
-    if !world.kind_at(whole).is_something() {
-        return name_file(world, new, whole, false);
-    }
-    match keep_as(world, whole, old) {
-        Ok(()) => name_file(world, new, whole, true),
-        Err(reason) => Err(reason),
-    }
-}
-
-// Returns the trouble that a file cannot be created, if it is not.
-fn created(named: io::Result<()>, whole: String) -> Result<(), Trouble>
-    ensures { is_ok result ≡ is_ok named }
-{
-    match named {
-        Ok(()) => Ok(()),
-        Err(reason) => Err(Trouble::CannotCreate(ShownPath(whole), reason)),
-    }
-}
-
-// Removes what files were to replace.
-fn remove_all_old<W: World>(
-    world: &mut W,
-    alloc: Global,
-    folder: &Folder<'_>,
-    files: &[Begun],
-) -> Result<(), Trouble>
-    requires { list_all (is_begun_in folder.now.path.now) files.now ≡ true }
-    ensures { stays_within folder.now.path.now true (W.trace world.new)
-        ≡ stays_within folder.now.path.now true (W.trace world.old) }
-{
-    for its in files {
-        remove_old(world, alloc, folder, its)?;
-    }
-    Ok(())
-}
-
-// Removes what a file was to replace.
-fn remove_old<W: World>(
-    world: &mut W,
-    alloc: Global,
-    folder: &Folder<'_>,
-    its: &Begun,
-) -> Result<(), Trouble>
-    ensures { RemovesOld folder.now.is_forced (string_bytes its.now.whole)
-        (W.trace world.old) (W.trace world.new) }
-{
-    if !folder.is_forced {
-        return Ok(());
-    }
-    if !world.kind_at(its.whole.as_str()).is_something() {
-        return Ok(());
-    }
-    let Err(reason) = world.remove_file(its.whole.as_str()) else {
-        return Ok(());
-    };
-    let whole = String::from_str(alloc, its.whole.as_str())?;
-    Err(Trouble::CannotRemove(ShownPath(whole), reason))
 }

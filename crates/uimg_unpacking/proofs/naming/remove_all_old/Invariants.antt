@@ -1,6 +1,6 @@
 use Rattle.std.proofs.Common.{◌≡◌, true}
 use Rattle.uimg_unpacking.specs.Places.{stays_within}
-use Rattle.uimg_unpacking.proofs.staging.remove_all_old.Given as goal
+use Rattle.uimg_unpacking.proofs.naming.remove_all_old.Given as goal
 
 -- only files of the folder were changed
 abbrev pub invariant-loop-its : goal.invariant-loop-its

@@ -2,7 +2,7 @@ use Rattle.std.proofs.Common.{rules, ◌≡◌, ◌∙◌, ap, true, string_byte
 use Rattle.uimg_unpacking.specs.Deeds.{answer_of}
 use Rattle.uimg_unpacking.specs.Places.{is_begun_in, is_temporary_file}
 use Rattle.uimg_unpacking.proofs.Placing.{each_of, begun_old, removed_within}
-use Rattle.uimg_unpacking.proofs.staging.forget_old.Goals as goal
+use Rattle.uimg_unpacking.proofs.naming.forget_old.Goals as goal
 
 pub loop-its-preserved : goal.loop-its-preserved
 loop-its-preserved g c =

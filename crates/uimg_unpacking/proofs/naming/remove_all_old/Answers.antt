@@ -1,7 +1,7 @@
 use Rattle.std.proofs.Common.{rules, ◌≡◌, ◌∙◌, true}
 use Rattle.uimg_unpacking.specs.Places.{is_begun_in}
 use Rattle.uimg_unpacking.proofs.Placing.{each_of, old_within}
-use Rattle.uimg_unpacking.proofs.staging.remove_all_old.Goals as goal
+use Rattle.uimg_unpacking.proofs.naming.remove_all_old.Goals as goal
 
 pub returns-in_err-remove_old : goal.returns-in_err-remove_old
 returns-in_err-remove_old g c =

@@ -1,7 +1,7 @@
 use Rattle.std.proofs.Common.{rules, ◌≡◌, ◌∙◌, ◌+◌, ap, true, is_ok}
 use Rattle.uimg_unpacking.specs.Places.{is_begun_in}
 use Rattle.uimg_unpacking.proofs.Placing.{each_of, names_within}
-use Rattle.uimg_unpacking.proofs.staging.name_files.Goals as goal
+use Rattle.uimg_unpacking.proofs.naming.name_files.Goals as goal
 
 pub returns-in-Err-clause-within : goal.returns-in-Err-clause-within
 returns-in-Err-clause-within g c =

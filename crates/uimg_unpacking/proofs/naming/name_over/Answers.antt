@@ -2,7 +2,7 @@ use Rattle.std.proofs.Common.{rules}
 use Rattle.std.specs.IoError.{error_kind}
 use Rattle.uimg_unpacking.specs.Naming.{nothing_there, not_kept, replaced}
 use Rattle.uimg_unpacking.proofs.Answered.{refusal-undone}
-use Rattle.uimg_unpacking.proofs.staging.name_over.Goals as goal
+use Rattle.uimg_unpacking.proofs.naming.name_over.Goals as goal
 
 pub returns-then-not-is_something : goal.returns-then-not-is_something
 returns-then-not-is_something g c =

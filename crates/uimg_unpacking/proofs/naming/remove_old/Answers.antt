@@ -1,7 +1,7 @@
 use Rattle.std.proofs.Common.{rules}
 use Rattle.uimg_unpacking.specs.Deeds.{answer_of}
 use Rattle.uimg_unpacking.specs.Naming.{nothing_old, removed_old}
-use Rattle.uimg_unpacking.proofs.staging.remove_old.Goals as goal
+use Rattle.uimg_unpacking.proofs.naming.remove_old.Goals as goal
 
 pub returns-in_default : goal.returns-in_default
 returns-in_default g c = removed_old c.kind_at.result (answer_of c.remove_file.result) (search rules) (search rules) (search rules)

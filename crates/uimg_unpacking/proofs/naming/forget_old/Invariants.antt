@@ -1,6 +1,6 @@
 use Rattle.std.proofs.Common.{◌≡◌, true}
 use Rattle.uimg_unpacking.specs.Places.{stays_within}
-use Rattle.uimg_unpacking.proofs.staging.forget_old.Given as goal
+use Rattle.uimg_unpacking.proofs.naming.forget_old.Given as goal
 
 -- only temporary files were changed
 abbrev pub invariant-loop-its : goal.invariant-loop-its

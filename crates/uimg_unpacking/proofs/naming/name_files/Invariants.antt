@@ -1,6 +1,6 @@
 use Rattle.std.proofs.Common.{◌≡◌, true}
 use Rattle.uimg_unpacking.specs.Places.{stays_within}
-use Rattle.uimg_unpacking.proofs.staging.name_files.Given as goal
+use Rattle.uimg_unpacking.proofs.naming.name_files.Given as goal
 
 -- as many files have their names as were met
 abbrev pub invariant-loop-its : goal.invariant-loop-its

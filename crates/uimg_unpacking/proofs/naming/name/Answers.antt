@@ -3,7 +3,7 @@ use Rattle.uimg_unpacking.specs.Deeds.{answer_of}
 use Rattle.uimg_unpacking.specs.Naming.{refused, anew, over_it}
 use Rattle.uimg_unpacking.specs.Refusing.{refused_of}
 use Rattle.uimg_unpacking.proofs.Answered.{done-ok}
-use Rattle.uimg_unpacking.proofs.staging.name.Goals as goal
+use Rattle.uimg_unpacking.proofs.naming.name.Goals as goal
 
 pub returns-in-Err : goal.returns-in-Err
 returns-in-Err g c =

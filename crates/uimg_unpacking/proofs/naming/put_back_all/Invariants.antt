@@ -1,6 +1,6 @@
 use Rattle.std.proofs.Common.{◌≡◌, true}
 use Rattle.uimg_unpacking.specs.Places.{stays_within}
-use Rattle.uimg_unpacking.proofs.staging.put_back_all.Given as goal
+use Rattle.uimg_unpacking.proofs.naming.put_back_all.Given as goal
 
 -- only files of the folder and temporary ones were changed
 abbrev pub invariant-loop-before : goal.invariant-loop-before
