@@ -228,6 +228,9 @@ Paths of at most 65536 bytes are read, far more than the system's have, so that 
   kernel.img: ok 2 checksums
   65536: failed cannot read: File name too long (os error 36)
   kernel.img: ok 2 checksums
+  $ { head -c 65537 /dev/zero | tr '\0' x; echo; echo kernel.img; } | uimg check --files-from -
+  uimg: cannot read -: a path in it has more than 65536 bytes
+  [3]
   $ { echo kernel.img; head -c 20000000 /dev/zero | tr '\0' x; echo; echo kernel.img; } > long
   $ (ulimit -v 61440; uimg check --files-from long)
   kernel.img: ok 2 checksums

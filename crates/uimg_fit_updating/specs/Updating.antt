@@ -25,8 +25,8 @@ updated file time t = refilled time (whole file t)
 abbrev pub packed_size : Unread → ℕ
 packed_size t = totalsize (plan_of 4 t)
 
--- the size of a blob that was packed and then needs another, with the room that mkimage gives it:
--- if it needs more, as many times 1024 bytes
+-- the size of a blob that was packed and then needs another, with room: if it needs more, it gets as
+-- many times 1024 bytes, as mkimage gives them; if it needs less, it has what it needs
 abbrev pub with_room : ℕ → ℕ → ℕ
 with_room packed needed =
     if nat_le needed packed then needed else packed + (needed - packed + 1023) / 1024 * 1024

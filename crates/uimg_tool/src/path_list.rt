@@ -31,11 +31,13 @@ impl<F: Read> Read for PathList<F> {
     fn read(&mut self, buf: &mut [u8]) -> io::Result<usize> {
         let count = self.file.read(buf)?;
         for byte in &buf[..count] {
-            let length = self.length.saturating_add(1);
-            self.length = if *byte == self.end { 0 } else { length };
-        }
-        if self.length > LONGEST {
-            return Err(io::Error::other("a path in it has more than 65536 bytes"));
+            if *byte == self.end {
+                self.length = 0;
+            } else if self.length < LONGEST {
+                self.length += 1;
+            } else {
+                return Err(io::Error::other("a path in it has more than 65536 bytes"));
+            }
         }
         Ok(count)
     }

@@ -11,6 +11,7 @@ use crate::request_fault::{DONE, FAILED, RequestFault};
 use crate::safe_path::{Writing, writing_of};
 use std::alloc::Global;
 use std::cell::Cell;
+use std::fs::OpenFile;
 use std::io::{BufWriter, Write};
 use std::{fs, io, rt};
 use uimg_base::{Files, Out, Room, Status};
@@ -84,12 +85,19 @@ fn make_beside<'a, R: rt::Files + AllocGlobal, F: Files, W: Write>(
     let Ok(mut gathered) = BufWriter::new(rt.alloc(), out) else {
         return (Err(RequestFault::OutOfMemory), Ok(()));
     };
+    let again = match request.roomy_size {
+        Some(size) => match file.try_clone() {
+            Ok(again) => Some((again, size)),
+            Err(reason) => return (Err(RequestFault::NotPut(request.image, reason)), Ok(())),
+        },
+        None => None,
+    };
     let end = match NewShelf::new(rt, path.new.as_str(), file) {
         Ok(shelf) => make_on(rt, request, tree, files, shelf, &mut gathered),
         Err(_) => Err(RequestFault::OutOfMemory),
     };
-    let end = match (end, request.roomy_size) {
-        (Ok(status), Some(size)) => match set_blob_size(rt, path.new.as_str(), size) {
+    let end = match (end, again) {
+        (Ok(status), Some((mut file, size))) => match set_blob_size(&mut file, size) {
             Ok(()) => Ok(status),
             Err(reason) => Err(RequestFault::NotPut(request.image, reason)),
         },

@@ -76,6 +76,16 @@ impl<'a, R: Files + Clock, V: Write + Copy> OpenFile for WatchedFile<'a, R, V> {
     fn sync_data(&self) -> io::Result<()> {
         self.file.sync_data()
     }
+
+    fn try_clone(&self) -> io::Result<WatchedFile<'a, R, V>> {
+        Ok(WatchedFile {
+            file: self.file.try_clone()?,
+            meter: self.meter,
+            length: self.length,
+            position: self.position,
+            next: self.next,
+        })
+    }
 }
 
 /// The files of a runtime, watched by a meter.

@@ -1,5 +1,5 @@
 -- Which paths are those that an unpacking may change.
-use Rattle.std.proofs.Common.{◌≡◌, ℕ, zero, suc, ◌+◌, ◌/◌, ◌%◌, ◌<◌, ◌==◌, length, slice_index_or, Bool, true, false, ◌&&◌, ◌||◌, nat_le, if◌then◌else◌, List, [], ◌∷◌, ◌++◌, Option, Some, None, inl, inr, refl, ap, ap₂, sym, ◌∙◌, arith, rules, codes, decimal, string_bytes}
+use Rattle.std.proofs.Common.{◌≡◌, ℕ, zero, suc, ◌/◌, ◌%◌, ◌<◌, ◌==◌, length, slice_index_or, Bool, true, false, ◌&&◌, ◌||◌, if◌then◌else◌, List, [], ◌∷◌, ◌++◌, Option, Some, None, inl, inr, refl, ap, ap₂, sym, ◌∙◌, arith, rules, codes, decimal, string_bytes}
 use Rattle.std.specs.Option.{option_to_list}
 use Rattle.std.specs.{Fmt.{digit_glyph, digits, digits_onto}, List.list_all, Option.option_map_or}
 use Rattle.std.proofs.lemmas.Bool.{and_parts, cases_eq}

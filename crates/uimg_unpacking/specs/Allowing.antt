@@ -1,7 +1,6 @@
 -- Which paths may be written.
 use Rattle.std.specs.Prelude.{◌≡◌, ℕ, ◌==◌, List, ◌∷◌, Bool, true, false, ◌&&◌, Option, Some, None}
 use Rattle.uimg_unpacking.specs.Deeds.{Deed, Looks, Identifies}
-use Rattle.uimg_unpacking.specs.Kinds.{is_something}
 use Rattle.uimg_unpacking.specs.declared.kind.Kind.{Kind}
 use Rattle.uimg_unpacking.specs.declared.kind.Kind.TheVariants.{Nothing, File, Folder, Link}
 use Rattle.uimg_unpacking.specs.declared.file_id.FileId.{FileId}

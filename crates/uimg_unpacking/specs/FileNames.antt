@@ -1,5 +1,5 @@
 -- Which names of images are used as file names.
-use Rattle.std.specs.Prelude.{ℕ, List, ◌++◌, ◌==◌, codes, Bool, false, ◌&&◌, not}
+use Rattle.std.specs.Prelude.{ℕ, List, ◌==◌, codes, Bool, false, ◌&&◌, not}
 use Rattle.std.specs.List.{list_all, list_any, slice_get}
 use Rattle.std.specs.Option.{option_map_or}
 

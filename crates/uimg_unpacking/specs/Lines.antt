@@ -7,7 +7,6 @@ use Rattle.std.specs.Str.{bytes_eq}
 use Rattle.uimg_sums.specs.Algorithms.{algo_name, digest_size}
 use Rattle.uimg_fit_base.specs.Report.{word_text}
 use Rattle.uimg_fit_checking.specs.Unpacking.{as_bytes}
-use Rattle.uimg_fit_checking.specs.declared.unpacking.node_names.NodeName.{NodeName}
 use Rattle.uimg_fit_checking.specs.declared.unpacking.taker.Refusal.{Refusal}
 use Rattle.uimg_fit_checking.specs.declared.unpacking.taker.Refusal.TheVariants.{Wrong, Weak}
 use Rattle.uimg_fit_checking.specs.declared.unpacking.taker.Vouched.{Vouched}

@@ -1,4 +1,4 @@
-use Rattle.std.proofs.Common.{rules, ◌≡◌, ◌∙◌, ap, true, string_bytes}
+use Rattle.std.proofs.Common.{rules, ◌≡◌, ◌∙◌, ap, true}
 use Rattle.uimg_unpacking.specs.Deeds.{answer_of}
 use Rattle.uimg_unpacking.specs.Places.{is_begun_in, is_temporary_file}
 use Rattle.uimg_unpacking.proofs.Placing.{each_of, begun_old, removed_within}

@@ -1,4 +1,4 @@
-use Rattle.std.proofs.Common.{◌<◌, nat_lt, string_bytes}
+use Rattle.std.proofs.Common.{nat_lt, string_bytes}
 use Rattle.uimg_unpacking.proofs.Placing.{begun_old, begun_whole, puts_within}
 use Rattle.uimg_unpacking.proofs.naming.put_back_before.Goals as goal
 
