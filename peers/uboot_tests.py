@@ -33,7 +33,7 @@ from mips import Mips
 
 NEEDED = """build-essential bison flex libssl-dev libgnutls28-dev uuid-dev swig python3-dev
 python3-setuptools python3-pytest python3-pytest-xdist python3-filelock python3-pycryptodome
-python3-pyelftools python3-yaml python3-magic bc xxd device-tree-compiler dpkg-dev cpio genimage lzop
+python3-pyelftools python3-yaml python3-magic python3-libarchive-c bc xxd device-tree-compiler dpkg-dev cpio genimage lzop
 lz4 zstd xz-utils gcc-aarch64-linux-gnu gcc-arm-linux-gnueabihf gcc-mips-linux-gnu"""
 PYTHON = "/usr/bin/python3"
 PATHS = "/usr/local/sbin:/usr/sbin:/usr/bin:/sbin:/bin"
@@ -93,6 +93,7 @@ class Suites:
         if not os.path.isdir(place):
             if not self.call([*self.apt(), "download", name], f"fetch-{name}"):
                 raise Missing(f"apt-get download {name}")
+            os.makedirs(os.path.dirname(place), exist_ok=True)
             fetched = glob.glob(f"{self.folder}/{name}_*.deb")
             if not (fetched and self.call(["dpkg-deb", "-x", fetched[0], f"{place}.new"], f"unpack-{name}")):
                 raise Missing(f"unpacking {name}")
