@@ -29,7 +29,7 @@ import lots
 import test
 
 # What the largest proof takes, in bytes, with some to spare.
-MEMORY = 4_000_000_000
+MEMORY = 5_000_000_000
 SENTINELS = "scripts/sentinels.txt"
 PROGRAM = "crates/uimg/out/uimg"
 # What the tests for 64-bit ARM need.
