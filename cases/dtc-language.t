@@ -52,6 +52,26 @@ Included files, roots and nodes given again, references, expressions, other widt
   > END
   True True False
 
+Reserved memory is in the blob, which is otherwise the same, also with payloads after it:
+
+  $ printf '/dts-v1/;\n/memreserve/ 0x1000 (2 * 256);\na: b: /memreserve/ 0x123456789abcdef0 0xfedcba9876543210;\n' > reserved.its
+  $ tail -n +2 whole.its >> reserved.its && mkimage -q -f reserved.its reserved.itb
+  $ uimg info reserved.itb | grep -o '"reservations.*}],"images'
+  "reservations":[{"address":4096,"size":512},{"address":1311768467463790320,"size":18364758544493064720}],"images
+  $ od -An -v -tx1 -j8 -N12 reserved.itb && od -An -v -tx1 -j40 -N52 reserved.itb
+   00 00 00 58 00 00 02 2c 00 00 00 28
+   00 00 00 00 00 00 10 00 00 00 00 00 00 00 02 00
+   12 34 56 78 9a bc de f0 fe dc ba 98 76 54 32 10
+   00 00 00 00 00 00 00 00 00 00 00 00 00 00 00 00
+   00 00 00 01
+  $ cmp -i 56:88 whole.itb reserved.itb && uimg check reserved.itb
+  reserved.itb: ok 1 payload, 1 hash
+  $ for more in -E '-E -p 2000' '-E -B 40'; do mkimage -q $more -f whole.its plain.itb && mkimage -q $more -f reserved.its more.itb
+  >   cmp -n 48 -i 40 more.itb reserved.itb && cmp -n 400 -i 56:88 plain.itb more.itb && uimg verify more.itb; done
+  kernel hash-1 crc32 ok
+  kernel hash-1 crc32 ok
+  kernel hash-1 crc32 ok
+
 The profile takes none of these, and its faults are as before:
 
   $ uimg mkimage -f whole.its other.itb
@@ -81,8 +101,8 @@ A fault has the line of the source, and leaves what is there:
   $ printf '/dts-v1/;\n/ {\n  a { phandle = <(1)>; };\n  b {\n    c;\n    phandle = <1>; };\n};\n' > bad.its && mkimage -f bad.its whole.itb
   mkimage: bad.its: bad phandle at line 6
   [1]
-  $ printf '/dts-v1/;\n/memreserve/ 0 1;\n/ { };\n' > reserved.its && mkimage -f reserved.its whole.itb
-  mkimage: reserved.its: /memreserve/ is not supported
+  $ printf '/dts-v1/;\n/memreserve/ 0;\n/ { };\n' > bad.its && mkimage -f bad.its whole.itb
+  mkimage: bad.its: bad syntax at line 2
   [1]
   $ printf '/dts-v1/;\n/include/ "self.its"\n' > self.its && mkimage -f self.its whole.itb
   mkimage: self.its: too many includes at line 2
@@ -142,9 +162,12 @@ Files in other folders, and what would be looked for in another order than dtc's
   dumpimage
   lost.its
   mkimage
+  more.itb
   own.its
   part
   parts
+  plain.itb
+  reserved.itb
   reserved.its
   self.its
   whole.itb

@@ -14,6 +14,7 @@ mkimage removes what dtc pads a blob with. Warnings of dtc do not change it eith
   $ made -D '' -f kernel.its && made -D '-I dts -O dtb -p 500' -f kernel.its && made -D '-S 3000' -f kernel.its
   $ made -D '-a 4096 -p 0x40' -f kernel.its && made -D '-R4 -b0 -qq' -f kernel.its
   $ made -D '--in-format dts --out-format=dtb  --pad=3 --align 8 --space 0 --reserve 1 --quiet' -f kernel.its
+  $ made -D '--pa 3 --al 010 -p+5 --sym' -f kernel.its
   $ made -D '-W no-unit_address_vs_reg -E name_properties -Wunit_address_vs_reg --warning no-reg_format' -f kernel.its
 
 What dtc refuses, or makes another blob of:
@@ -41,6 +42,11 @@ What dtc refuses, or makes another blob of:
   mkimage: -D: '--quiet=1' is not supported; use mkimage of u-boot-tools
   mkimage: -D: 'other' is not supported; use mkimage of u-boot-tools
   mkimage: -D: '-' is not supported; use mkimage of u-boot-tools
+  [2]
+  $ made -D '-a 064' -f kernel.its; made -D '--s 3' -f kernel.its; made -D -- -f kernel.its
+  mkimage: -D: '064' is not supported; use mkimage of u-boot-tools
+  mkimage: -D: '--s' is not supported; use mkimage of u-boot-tools
+  mkimage: -D: '--' is not supported; use mkimage of u-boot-tools
   [2]
   $ made -D '-q -i' -f kernel.its
   mkimage: -D: the last option needs a value

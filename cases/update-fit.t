@@ -84,6 +84,15 @@ All other properties and nodes stay, in their order, and signature nodes as they
   $ mkimage -q -F odd.itb && printf abc > abc.bin
   $ mkimage -q -f odd.its odd-wanted.itb 2> /dev/null && cmp odd.itb odd-wanted.itb
 
+Reserved memory stays reserved, with the payloads in the blob and after it:
+
+  $ printf '/dts-v1/;\n/memreserve/ 0x1000 0x200;\n/memreserve/ 0x123456789abcdef0 0x10;\n' > reserves.its
+  $ tail -n +2 kernel.its >> reserves.its && mkimage -q -f reserves.its reserves.itb && cp reserves.itb kept.itb
+  $ mkimage -q -F reserves.itb && cmp reserves.itb kept.itb
+  $ mkimage -q -E -f reserves.its kept.itb && mkimage -q -E -F reserves.itb && cmp reserves.itb kept.itb
+  $ mkimage -q -F reserves.itb && uimg info reserves.itb | grep -o '"reservations.*}],"images'
+  "reservations":[{"address":4096,"size":512},{"address":1311768467463790320,"size":16}],"images
+
 What is refused stays as it is:
 
   $ refused() { cp "$1" kept && mkimage -F "$1"; echo "[$?]"; cmp "$1" kept; }
@@ -98,7 +107,7 @@ What is refused stays as it is:
   [1]
   $ cp old.itb reserved.itb && printf '\001' | dd of=reserved.itb bs=1 seek=55 conv=notrunc status=none
   $ refused reserved.itb
-  mkimage: reserved.itb: the reservation block has entries
+  mkimage: reserved.itb: the reservation block has no end
   [1]
   $ cp old.itb unknown.itb && printf 'crc16' | dd of=unknown.itb bs=1 seek=$(grep -obUa crc32 old.itb | cut -d: -f1) conv=notrunc status=none
   $ refused unknown.itb

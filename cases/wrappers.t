@@ -77,22 +77,12 @@ Board formats go to the original whole:
   $ way mkimage -T imximage -f kernel.its out
   uimg
 
-So does a source, or an image to update, with the algorithm that uimg does not have:
+A source with crc16-ccitt, and an update of its image, are uimg's:
 
-  $ sed 's/"crc32"/"crc16-ccitt"/' kernel.its > crc16.its && way mkimage -f crc16.its out
-  original: -f crc16.its out
-  original
-  $ sed 's/hash-1 { algo = "crc32"/hasx-1 { algo = "crc16-ccitt"/' kernel.its > hasx.its && way mkimage -q -f hasx.its crc16.itb
-  original: -q -f hasx.its crc16.itb
-  original
-  $ uimg-mkimage -q -f hasx.its crc16.itb && sed -i 's/hasx-1/hash-1/' crc16.itb
-  $ way mkimage -F crc16.itb
-  original: -F crc16.itb
-  original
-  $ printf crc16-ccitt > abc.bin && way mkimage -q -f kernel.its crc16.itb && way mkimage -q -F crc16.itb
+  $ sed 's/"crc32"/"crc16-ccitt"/' kernel.its > crc16.its && way mkimage -q -f crc16.its crc16.itb
   uimg
+  $ way mkimage -q -F crc16.itb && rm crc16.its crc16.itb
   uimg
-  $ printf abc > abc.bin && rm crc16.itb hasx.its
 
 An image with signatures is made by uimg without placement, then signed and placed by the original under a temporary
 name. What that prints has the image's name:

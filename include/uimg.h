@@ -90,8 +90,9 @@ enum uimg_need {
 };
 
 /* Checks an image without printing, like `uimg check --need` (needed and written are 0). Returns report->status: 0 only
-   if uimg_verify returns 0, the FIT has an image, each of its images has a right hash by the needed algorithm or a
-   stronger one, and their payloads together are not longer than the file. Checks images in their order, and stops at
+   if each hash of a FIT is right, by crc16-ccitt too, which uimg_verify calls unsupported, the FIT has an image, each of
+   its images has a right hash by the needed algorithm or a stronger one, and their payloads together are not longer than
+   the file; of a legacy image, only if uimg_verify returns 0. Checks images in their order, and stops at
    the first that is not right. Reads no more bytes of payloads than the file has, and takes no memory for a text.
    A legacy image has CRC-32 alone, and is refused if its table of parts does not fit its data. No image meets a number
    that is not in the list above. */

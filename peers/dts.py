@@ -5,13 +5,13 @@ that it includes by their names. One of ten has a word too many or too few, and 
 labels or references that dtc refuses. `files(folder)` writes the files that `/incbin/` names.
 
 Run by itself, as `dts.py PEERS [SEED [COUNT]]`, it compares the program `uimg_peers` with dtc: both
-refuse a source, or dtc reads the same tree in both blobs.
+refuse a source, or dtc reads the same tree in both blobs, whose reservation blocks are equal.
 """
 
 import os
 import random
-import re
 import shutil
+import struct
 import subprocess
 import sys
 import tempfile
@@ -248,8 +248,11 @@ class Whole:
             if self.chance(0.2):
                 self.put_labels(0.2)
                 self.put("/memreserve/")
-                self.number()
-                self.number()
+                for _ in "as":
+                    if self.chance(0.5):
+                        self.number()
+                    else:
+                        self.put(hex(self.random.getrandbits(self.pick([4, 32, 64]))))
                 self.put(";")
         self.put("/")
         self.body(self.random.randint(0, 3), "")
@@ -281,10 +284,16 @@ def blob(folder, path):
 
 
 def tree(folder, content):
-    """What dtc reads in a blob, as source without memory reservations, or None if it refuses it."""
+    """What dtc reads in a blob, as source, or None if it refuses it."""
     command = ["dtc", "-qqq", "-I", "dtb", "-O", "dts", "-"]
     done = subprocess.run(command, input=content, capture_output=True, cwd=folder)
-    return re.sub(rb"(?m)^/memreserve/.*\n", b"", done.stdout) if done.returncode == 0 else None
+    return done.stdout if done.returncode == 0 else None
+
+
+def reserved(content):
+    """The reservation block of a blob: dtc writes it before the structure block."""
+    first, _, block = struct.unpack(">3I", content[8:20])
+    return content[block:first]
 
 
 def difference(folder, peers, path):
@@ -299,6 +308,8 @@ def difference(folder, peers, path):
         return None, False
     if tree(folder, theirs) != tree(folder, done.stdout):
         return "the trees differ", True
+    if reserved(theirs) != reserved(done.stdout):
+        return "the reservation blocks differ", True
     return None, True
 
 

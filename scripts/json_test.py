@@ -10,6 +10,7 @@ image, the line of a check); for `unpack`, what is in the files, and as many lin
 --json. It needs jsonschema, and reports if no Python here has it. The last
 line is 'N passed, M failed'."""
 import base64
+import binascii
 import glob
 import hashlib
 import json
@@ -30,7 +31,7 @@ import fits  # noqa: E402
 
 # How many FIT images are made.
 BUILT = 200
-ALGOS = ["crc32", "md5", "sha1", "sha256", "sha384", "sha512"]
+ALGOS = ["crc16-ccitt", "crc32", "md5", "sha1", "sha256", "sha384", "sha512"]
 # Names of nodes of six bytes, in place of `kernel` and `hash-0`.
 IMAGES = [b"k\nel\"\\", b"\xff\xfe\x80abc", b"\xe2\x80\xa8\xe2\x80\xa9", b"\x01\x02\x1f\x7f\xc2\x85", b"\xed\xa0\x80\xf0\x9f\x98",
           b"\xf0\x9f\x98\x80\xc3x", b"</a>&\t", b"\r\n{}[]", b"\xe2\x80\xae\xe2\x80\x8b"]  # fmt: skip
@@ -46,6 +47,8 @@ def schemas_of(path):
 
 
 def digest(algo, data):
+    if algo == "crc16-ccitt":
+        return binascii.crc_hqx(data, 0).to_bytes(2, "big")
     return zlib.crc32(data).to_bytes(4, "big") if algo == "crc32" else hashlib.new(algo, data).digest()
 
 

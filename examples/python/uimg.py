@@ -167,9 +167,10 @@ def verify(image):
 
 
 def check(image, need="sha256"):
-    """Checks an image, as `uimg check --need`: DONE only if verify returns DONE, there is an image,
-    and each has a hash node that is compared by this algorithm or a stronger one, of crc32, md5,
-    sha1, sha256, sha384 and sha512. There is no text."""
+    """Checks an image, as `uimg check --need`: DONE only if each hash is right, by crc16-ccitt too,
+    which verify calls unsupported, there is an image, and each has a hash node that is compared by
+    this algorithm or a stronger one, of crc32, md5, sha1, sha256, sha384 and sha512. There is no
+    text."""
     return _check(_library.uimg_check, image, need)
 
 

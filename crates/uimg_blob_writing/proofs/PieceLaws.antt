@@ -1,11 +1,13 @@
 -- The pieces of a tree are its blob.
-use Rattle.std.proofs.Common.{◌≡◌, ◌+◌, ◌++◌, ℕ, List, [], ◌∷◌, length, map, replicate, Option, refl, ap, sym, ◌∙◌, append_assoc, append-nil, length-append, arith}
+use Rattle.std.proofs.Common.{◌≡◌, ◌+◌, ◌++◌, ℕ, List, [], ◌∷◌, length, map, Option, refl, ap, sym, ◌∙◌, append_assoc, append-nil, length-append, arith}
 use Rattle.std.specs.List.{flat_map, AllByRecursion}
 use Rattle.uimg_blob_reading.specs.Plain.{NamedOf, no_node, a_node, with_value, with_values, AllValues}
 use Rattle.uimg_blob_writing.specs.Content.{Content, Unread, bytes, size_of, content_bytes, in_full, IsKept, AreKept}
-use Rattle.uimg_blob_writing.specs.{Alignment.padding_by, Layouts.{nodes_size, plan_of}}
-use Rattle.uimg_blob_writing.specs.Encoding.{word, padded, header, strings, blob_size, blob, encode_by, with_nul, names_of, name_offset, property_bytes, nodes_bytes}
+use Rattle.uimg_blob_writing.specs.{Alignment.padding_by, Layouts.{nodes_size, plan_with, plan_end}}
+use Rattle.uimg_blob_writing.specs.declared.reservation.Reservation.{Reservation}
+use Rattle.uimg_blob_writing.specs.Encoding.{word, padded, reserved, structure_offset, header, strings, blob_size, blob, encode_with, with_nul, names_of, name_offset, property_bytes, nodes_bytes}
 use Rattle.uimg_blob_writing.specs.Pieces.{padding, begin_bytes, head_bytes, property_pieces, nodes_pieces, blob_pieces}
+use Rattle.uimg_blob_writing.proofs.ReadsBackLaw.{length-reserved}
 use Rattle.uimg_blob_writing.proofs.SizeLaws.{kept-size, length-nodes, names_of-values}
 use Rattle.uimg_blob_writing.proofs.WritesLaws.{all-first, all-second, all-both, flat_map-both}
 
@@ -40,14 +42,14 @@ module _ (P : Content → Type 0) (of-bytes : (b : List ℕ) → P (bytes b)) (n
       let rest = all-second P own_pieces (below_pieces ++ end) h.1 in
       (own-values own (all-first P own_pieces (below_pieces ++ end) h.1), all-values below (all-first P below_pieces end rest), all-values after (all-second P below_pieces end rest).1)
 
-module _ (P : Content → Type 0) (of-bytes : (b : List ℕ) → P (bytes b)) (align : ℕ) (t : Unread) where
-  pub blob-holds : AllValues P t → AllByRecursion P (blob_pieces (plan_of align t) t)
+module _ (P : Content → Type 0) (of-bytes : (b : List ℕ) → P (bytes b)) (align : ℕ) (rs : List Reservation) (t : Unread) where
+  pub blob-holds : AllValues P t → AllByRecursion P (blob_pieces (plan_with align rs t) t)
   unfolding blob_pieces
-  blob-holds h = (of-bytes _, all-both P (nodes_pieces (names_of t) t) _ (all-pieces P of-bytes (names_of t) t h) (of-bytes _, (of-bytes _, (of-bytes _, tt))))
+  blob-holds h = (of-bytes _, (of-bytes _, all-both P (nodes_pieces (names_of t) t) _ (all-pieces P of-bytes (names_of t) t h) (of-bytes _, (of-bytes _, (of-bytes _, tt)))))
 
-  pub blob-held : AllByRecursion P (blob_pieces (plan_of align t) t) → AllValues P t
+  pub blob-held : AllByRecursion P (blob_pieces (plan_with align rs t) t) → AllValues P t
   unfolding blob_pieces
-  blob-held h = all-values P of-bytes (names_of t) t (all-first P (nodes_pieces (names_of t) t) _ h.1)
+  blob-held h = all-values P of-bytes (names_of t) t (all-first P (nodes_pieces (names_of t) t) _ h.1.1)
 
 module _ (files : List ℕ → Option (List ℕ)) where
   abbrev joined : List Content → List ℕ
@@ -89,34 +91,37 @@ module _ (files : List ℕ → Option (List ℕ)) where
       ∙ sym (right (word 1) (padded (with_nul name)) own_bytes below_bytes (word 2) after_bytes)
 
   -- the pieces of a blob
-  blob-whole : (align : ℕ) (nodes strings : List ℕ) (size strings_size : ℕ) → length nodes + 4 ≡ size → length strings ≡ strings_size →
-      (header (blob_size align size strings_size) size strings_size ++ replicate 16 0) ++ nodes ++ word 9 ++ strings ++ padding_by align (56 + size + strings_size) ≡ blob align (nodes ++ word 9) strings
+  blob-whole : (align : ℕ) (rs : List Reservation) (nodes strings : List ℕ) (size strings_size : ℕ) → length nodes + 4 ≡ size → length strings ≡ strings_size →
+      header (blob_size align (structure_offset rs) size strings_size) (structure_offset rs) size strings_size ++ reserved rs ++ nodes ++ word 9 ++ strings ++ padding_by align (structure_offset rs + size + strings_size) ≡ blob align rs (nodes ++ word 9) strings
   unfolding blob
-  blob-whole align nodes strings size strings_size e f =
-      let header_by : ℕ → ℕ → List ℕ = λ a b. header (blob_size align a b) a b in
+  blob-whole align rs nodes strings size strings_size e f =
+      let o = structure_offset rs in
+      let header_by : ℕ → ℕ → List ℕ = λ a b. header (blob_size align o a b) o a b in
       let s = nodes ++ word 9 in
       let len : size ≡ length s = omega (arith, length-append nodes (word 9)) in
-      let front = header_by (length s) (length strings) ++ replicate 16 0 in
-      let n : 56 + size + strings_size ≡ length (front ++ s ++ strings) = omega (arith, len, length-append s strings) in
-      ap (λ (k : ℕ). (header_by size strings_size ++ replicate 16 0) ++ nodes ++ word 9 ++ strings ++ padding_by align k) n
-      ∙ ap (λ (k : ℕ). (header_by k strings_size ++ replicate 16 0) ++ nodes ++ word 9 ++ strings ++ padding_by align (length (front ++ s ++ strings))) len
-      ∙ ap (λ (k : ℕ). (header_by (length s) k ++ replicate 16 0) ++ nodes ++ word 9 ++ strings ++ padding_by align (length (front ++ s ++ strings))) (sym f)
+      let front = header_by (length s) (length strings) ++ reserved rs in
+      let n : o + size + strings_size ≡ length (front ++ s ++ strings) = omega (arith, len, f, length-append (reserved rs ++ s) strings, length-append (reserved rs) s, length-reserved rs) in
+      ap (λ (k : ℕ). header_by size strings_size ++ reserved rs ++ nodes ++ word 9 ++ strings ++ padding_by align k) n
+      ∙ ap (λ (k : ℕ). header_by k strings_size ++ reserved rs ++ nodes ++ word 9 ++ strings ++ padding_by align (length (front ++ s ++ strings))) len
+      ∙ ap (λ (k : ℕ). header_by (length s) k ++ reserved rs ++ nodes ++ word 9 ++ strings ++ padding_by align (length (front ++ s ++ strings))) (sym f)
       ∙ ap (λ (w : List ℕ). w ++ strings ++ padding_by align (length (front ++ s ++ strings))) (append_assoc front nodes (word 9))
 
-  nest : (a b c d e : List ℕ) → a ++ (b ++ (c ++ (d ++ (e ++ [])))) ≡ a ++ b ++ c ++ d ++ e
-  nest a b c d e = simp (append_assoc, append-nil)
+  nest : (a b c d e f : List ℕ) → a ++ (b ++ (c ++ (d ++ (e ++ (f ++ []))))) ≡ a ++ b ++ c ++ d ++ e ++ f
+  nest a b c d e f = simp (append_assoc, append-nil)
 
-  pub blob-joined : (align : ℕ) (t : Unread) → AreKept files t → joined (blob_pieces (plan_of align t) t) ≡ encode_by align (in_full files t)
+  pub blob-joined : (align : ℕ) (rs : List Reservation) (t : Unread) → AreKept files t → joined (blob_pieces (plan_with align rs t) t) ≡ encode_with align rs (in_full files t)
   unfolding blob_pieces
-  blob-joined align t kept =
+  blob-joined align rs t kept =
       let names = names_of t in
       let u = in_full files t in
       let nodes = nodes_bytes names u in
       let size = nodes_size t + 4 in
-      let begin = header (blob_size align size (length (strings names))) size (length (strings names)) ++ replicate 16 0 in
-      let end : List Content = bytes (word 9) ∷ bytes (strings names) ∷ bytes (padding_by align (56 + size + length (strings names))) ∷ [] in
+      let o = structure_offset rs in
+      let begin = header (blob_size align o size (length (strings names))) o size (length (strings names)) in
+      let pad = padding_by align (plan_end (plan_with align rs t)) in
+      let end : List Content = bytes (word 9) ∷ bytes (strings names) ∷ bytes pad ∷ [] in
       let sized : length nodes + 4 ≡ size = ap (λ (n : ℕ). n + 4) (length-nodes files names t kept) in
-      ap (λ (w : List ℕ). begin ++ w) (flat_map-both (content_bytes files) (nodes_pieces names t) end ∙ ap (λ (w : List ℕ). w ++ joined end) (nodes-joined names t kept))
-      ∙ nest begin nodes (word 9) (strings names) (padding_by align (56 + size + length (strings names)))
-      ∙ blob-whole align nodes (strings names) size (length (strings names)) sized refl
-      ∙ ap (λ (ns : List (List ℕ)). blob align (nodes_bytes ns u ++ word 9) (strings ns)) (sym (names_of-values (content_bytes files) t))
+      ap (λ (w : List ℕ). begin ++ (reserved rs ++ w)) (flat_map-both (content_bytes files) (nodes_pieces names t) end ∙ ap (λ (w : List ℕ). w ++ joined end) (nodes-joined names t kept))
+      ∙ nest begin (reserved rs) nodes (word 9) (strings names) pad
+      ∙ blob-whole align rs nodes (strings names) size (length (strings names)) sized refl
+      ∙ ap (λ (ns : List (List ℕ)). blob align rs (nodes_bytes ns u ++ word 9) (strings ns)) (sym (names_of-values (content_bytes files) t))

@@ -1,5 +1,5 @@
 -- The tree of a tree's blob, and of a file that begins with it, is that tree with its places.
-use Rattle.std.proofs.Common.{◌≡◌, ◌≤◌, ◌<◌, ℕ, suc, ◌+◌, ◌-◌, ◌^◌, List, [], ◌∷◌, ◌++◌, length, drop, replicate, Some, Result, Ok, false, nat_lt, refl, ap, sym, ◌∙◌, append_assoc, length-append, arith}
+use Rattle.std.proofs.Common.{◌≡◌, ◌≤◌, ◌<◌, ℕ, suc, ◌+◌, ◌-◌, ◌*◌, ◌%◌, ◌==◌, ◌^◌, List, [], ◌∷◌, ◌++◌, length, drop, Some, Result, Ok, true, false, nat_lt, refl, ap, sym, ◌∙◌, append_assoc, length-append, arith}
 use Rattle.std.{specs.List.AllByRecursion, proofs.lemmas.Bool.le-ltb}
 use Rattle.std.proofs.lemmas.List.{drop-drop, drop-append-le}
 use Rattle.uimg_texts.specs.Numbers.{be32}
@@ -9,7 +9,8 @@ use Rattle.uimg_blob_reading.specs.Tokens.{Token, Blocks, last, token_at, tokens
 use Rattle.uimg_blob_reading.specs.Blob.{magic, blocks, tree}
 use Rattle.uimg_blob_reading.specs.Plain.{Named, Nodes, no_node, a_node, IsName, AreNamed, unplaced_in}
 use Rattle.uimg_blob_writing.specs.Alignment.{aligned, padding_by}
-use Rattle.uimg_blob_writing.specs.Encoding.{word, header, blob_size, blob, structure, strings, names_of, nodes_bytes, name_offset, encode_by}
+use Rattle.uimg_blob_writing.specs.declared.reservation.Reservation.{Reservation}
+use Rattle.uimg_blob_writing.specs.Encoding.{word, reserved, structure_offset, header, blob_size, blob, structure, strings, names_of, nodes_bytes, name_offset, encode_with}
 use Rattle.uimg_blob_writing.proofs.Spelling.{placed, past, past_name, past_property, past_properties, spelled, fuel, fuel_properties}
 use Rattle.uimg_blob_writing.proofs.GrammarLaws.{root-spelled, without_nops-spelled, unplaced-placed}
 use Rattle.uimg_blob_writing.proofs.TokenLaws.{be32-word, drop-piece, IsFound, AreFound, tokens-spelled, token-last, past-length}
@@ -48,79 +49,96 @@ fuel-more (a_node name own below after) m k =
     omega (arith, own_more)
 
 -- a header of a blob is accepted
-accepted : (file : List ℕ) (size s g : ℕ) → size ≤ length file → 56 + s + g ≤ size → be32 file 0 ≡ magic → be32 file 4 ≡ size → be32 file 8 ≡ 56 → be32 file 12 ≡ 56 + s
+accepted : (file : List ℕ) (size o s g : ℕ) → 40 ≤ o → o % 4 ≡ 0 → size ≤ length file → o + s + g ≤ size → be32 file 0 ≡ magic → be32 file 4 ≡ size → be32 file 8 ≡ o → be32 file 12 ≡ o + s
     → be32 file 20 ≡ 17 → be32 file 24 ≡ 16 → be32 file 32 ≡ g → be32 file 36 ≡ s
-    → blocks file ≡ Ok (record { bytes = file; structure = 56; structure_end = 56 + s; strings = 56 + s; strings_size = g })
+    → blocks file ≡ Ok (record { bytes = file; structure = o; structure_end = o + s; strings = o + s; strings_size = g })
 unfolding blocks
-accepted file size s g len enough e0 e4 e8 e12 e20 e24 e32 e36 =
-    let long : nat_lt (length file) 40 ≡ false = le-ltb _ _ (omega (arith, len, enough)) in
-    let small : nat_lt size 40 ≡ false = le-ltb _ _ (omega (arith, enough)) in
+accepted file size o s g behind words len enough e0 e4 e8 e12 e20 e24 e32 e36 =
+    let long : nat_lt (length file) 40 ≡ false = le-ltb _ _ (omega (arith, behind, len, enough)) in
+    let small : nat_lt size 40 ≡ false = le-ltb _ _ (omega (arith, behind, enough)) in
     let whole : nat_lt (length file) size ≡ false = le-ltb _ _ len in
-    let structure_inside : nat_lt size (56 + s) ≡ false = le-ltb _ _ (omega arith) in
-    let strings_inside : nat_lt size (56 + s + g) ≡ false = le-ltb _ _ (omega arith) in
-    rw (e0, e4, e8, e12, e20, e24, e32, e36, long, small, whole, structure_inside, strings_inside) refl
+    let structure_inside : nat_lt size (o + s) ≡ false = le-ltb _ _ (omega (arith, enough)) in
+    let strings_inside : nat_lt size (o + s + g) ≡ false = le-ltb _ _ (omega (arith, enough)) in
+    let whole_words : (o % 4 == 0) ≡ true = ap (λ (n : ℕ). n == 0) words in
+    rw (e0, e4, e8, e12, e20, e24, e32, e36, long, small, whole, whole_words, structure_inside, strings_inside) refl
 
-module _ (align : ℕ) (s g more : List ℕ) where
+-- how many bytes a reservation block has
+pub length-reserved : (rs : List Reservation) → length (reserved rs) ≡ 16 * suc (length rs)
+length-reserved [] = refl
+length-reserved (r ∷ rs) = omega (arith, length-reserved rs)
+
+regroup : (a b c d e : List ℕ) → a ++ b ++ c ++ d ++ e ≡ a ++ ((b ++ c) ++ (d ++ e))
+regroup a b c d e = simp append_assoc
+
+module _ (align : ℕ) (rs : List Reservation) (s g more : List ℕ) where
+  -- where the structure block begins
+  abbrev at : ℕ
+  at = structure_offset rs
+
   pub size : ℕ
-  size = blob_size align (length s) (length g)
+  size = blob_size align at (length s) (length g)
 
   -- all but what stands behind the strings
   pub front : List ℕ
-  front = header (blob_size align (length s) (length g)) (length s) (length g) ++ replicate 16 0 ++ s ++ g
+  front = header (blob_size align at (length s) (length g)) at (length s) (length g) ++ reserved rs ++ s ++ g
 
   pub slack : List ℕ
   slack = padding_by align (length front)
 
-  front-length : length front ≡ 56 + length s + length g
+  front-length : length front ≡ at + length s + length g
   unfolding front
-  front-length = omega (arith, length-append s g)
+  front-length = omega (arith, length-append (reserved rs ++ s) g, length-append (reserved rs) s, length-reserved rs)
 
-  from_structure : drop 56 (blob align s g ++ more) ≡ (s ++ g) ++ (slack ++ more)
+  from_structure : drop at (blob align rs s g ++ more) ≡ (s ++ g) ++ (slack ++ more)
   unfolding blob slack front
-  from_structure = append_assoc (s ++ g) slack more
+  from_structure =
+      drop-piece (blob align rs s g ++ more) 40 (reserved rs) ((s ++ g) ++ (slack ++ more)) (16 * suc (length rs)) (length-reserved rs) (regroup (reserved rs) s g slack more)
 
-  blob-length : length (blob align s g) ≡ size
+  blob-length : length (blob align rs s g) ≡ size
   unfolding size blob front
   blob-length = length-padded_by align front ∙ ap (aligned align) front-length
 
-  blob-blocks : length (blob align s g) < 2 ^ 32 → blocks (blob align s g ++ more) ≡ Ok (record { bytes = blob align s g ++ more; structure = 56; structure_end = 56 + length s; strings = 56 + length s; strings_size = length g })
+  blob-blocks : length (blob align rs s g) < 2 ^ 32 → blocks (blob align rs s g ++ more) ≡ Ok (record { bytes = blob align rs s g ++ more; structure = at; structure_end = at + length s; strings = at + length s; strings_size = length g })
   unfolding size blob
   blob-blocks fits =
-      let file = blob align s g ++ more in
+      let file = blob align rs s g ++ more in
       let short : size < 2 ^ 32 = omega (arith, blob-length, fits) in
-      let end : 56 + length s + length g ≤ size = aligned-least align (56 + length s + length g) in
-      accepted file size (length s) (length g) (omega (arith, blob-length, length-append (blob align s g) more)) end
+      let end : at + length s + length g ≤ size = aligned-least align (at + length s + length g) in
+      accepted file size at (length s) (length g) (omega arith) (omega arith) (omega (arith, blob-length, length-append (blob align rs s g) more)) end
       (be32-word file 0 magic (drop 4 file) (omega arith) refl)
       (be32-word file 4 size (drop 8 file) short refl)
-      (be32-word file 8 56 (drop 12 file) (omega arith) refl)
-      (be32-word file 12 (56 + length s) (drop 16 file) (omega (arith, end, short)) refl)
+      (be32-word file 8 at (drop 12 file) (omega (arith, end, short)) refl)
+      (be32-word file 12 (at + length s) (drop 16 file) (omega (arith, end, short)) refl)
       (be32-word file 20 17 (drop 24 file) (omega arith) refl)
       (be32-word file 24 16 (drop 28 file) (omega arith) refl)
       (be32-word file 32 (length g) (drop 36 file) (omega (arith, end, short)) refl)
       (be32-word file 36 (length s) (drop 40 file) (omega (arith, end, short)) refl)
 
   -- the number at 4 is the length
-  blob-totalsize : length (blob align s g) < 2 ^ 32 → be32 (blob align s g ++ more) 4 ≡ length (blob align s g)
+  blob-totalsize : length (blob align rs s g) < 2 ^ 32 → be32 (blob align rs s g ++ more) 4 ≡ length (blob align rs s g)
   unfolding size blob
   blob-totalsize fits =
-      let file = blob align s g ++ more in
+      let file = blob align rs s g ++ more in
       let short : size < 2 ^ 32 = omega (arith, blob-length, fits) in
       be32-word file 4 size (drop 8 file) short refl ∙ sym blob-length
 
 -- how many bytes a blob has
-pub length-encode : (align : ℕ) (t : Nodes) → length (encode_by align t) ≡ blob_size align (length (structure t)) (length (strings (names_of t)))
+pub length-encode : (align : ℕ) (rs : List Reservation) (t : Nodes) → length (encode_with align rs t) ≡ blob_size align (structure_offset rs) (length (structure t)) (length (strings (names_of t)))
 unfolding size
-length-encode align t = blob-length align (structure t) (strings (names_of t)) []
+length-encode align rs t = blob-length align rs (structure t) (strings (names_of t)) []
 
 -- the blob of a tree reads as the tree
-module _ (align : ℕ) (name : List ℕ) (own : List Named) (below : Nodes) (named : AreNamed (a_node name own below no_node)) (fits : length (encode_by align (a_node name own below no_node)) < 2 ^ 32) (more : List ℕ) where
+module _ (align : ℕ) (rs : List Reservation) (name : List ℕ) (own : List Named) (below : Nodes) (named : AreNamed (a_node name own below no_node)) (fits : length (encode_with align rs (a_node name own below no_node)) < 2 ^ 32) (more : List ℕ) where
   abbrev t : Nodes
   t = a_node name own below no_node
 
   abbrev names : List (List ℕ)
   names = names_of t
 
-  -- the structure block, the strings block and what stands behind them
+  -- where the structure block begins, that block, the strings block and what stands behind them
+  abbrev o : ℕ
+  o = structure_offset rs
+
   abbrev s : List ℕ
   s = structure t
 
@@ -128,24 +146,24 @@ module _ (align : ℕ) (name : List ℕ) (own : List Named) (below : Nodes) (nam
   g = strings names
 
   abbrev end : List ℕ
-  end = slack align s g more ++ more
+  end = slack align rs s g more ++ more
 
   abbrev file : List ℕ
-  file = encode_by align t ++ more
+  file = encode_with align rs t ++ more
 
   abbrev b : Blocks
-  b = record { bytes = file; structure = 56; structure_end = 56 + length s; strings = 56 + length s; strings_size = length g }
+  b = record { bytes = file; structure = o; structure_end = o + length s; strings = o + length s; strings_size = length g }
 
-  encode-length : length (encode_by align t) ≡ blob_size align (length s) (length g)
+  encode-length : length (encode_with align rs t) ≡ blob_size align o (length s) (length g)
   unfolding size
-  encode-length = blob-length align s g more
+  encode-length = blob-length align rs s g more
 
   -- the strings end in the blob
-  enough : 56 + length s + length g ≤ length (encode_by align t)
-  enough = omega (arith, encode-length, aligned-least align (56 + length s + length g))
+  enough : o + length s + length g ≤ length (encode_with align rs t)
+  enough = omega (arith, encode-length, aligned-least align (o + length s + length g))
 
-  from_strings : drop (56 + length s) file ≡ g ++ end
-  from_strings = drop-piece file 56 s (g ++ end) (length s) refl (from_structure align s g more ∙ append_assoc s g end)
+  from_strings : drop (o + length s) file ≡ g ++ end
+  from_strings = drop-piece file o s (g ++ end) (length s) refl (from_structure align rs s g more ∙ append_assoc s g end)
 
   found_at : (n : List ℕ) → IsName n → Stands names n → IsFound b names n
   found_at n is_name stands_there =
@@ -154,7 +172,7 @@ module _ (align : ℕ) (name : List ℕ) (own : List Named) (below : Nodes) (nam
         is_name = is_name;
         rest = stands_there.rest ++ end;
         below = stands_there.below;
-        here = sym (drop-drop offset (56 + length s) file) ∙ ap (drop offset) from_strings
+        here = sym (drop-drop offset (o + length s) file) ∙ ap (drop offset) from_strings
             ∙ drop-append-le offset g end (omega (arith, stands_there.below)) ∙ ap (λ (w : List ℕ). w ++ end) stands_there.here ∙ append_assoc n (0 ∷ stands_there.rest) end;
       }
 
@@ -174,47 +192,47 @@ module _ (align : ℕ) (name : List ℕ) (own : List Named) (below : Nodes) (nam
   abbrev left : ℕ
   left = suc (length s) - fuel t 1
 
-  encode-tokens : tokens b ≡ spelled 56 t (last (past 56 t) ∷ [])
+  encode-tokens : tokens b ≡ spelled o t (last (past o t) ∷ [])
   unfolding tokens_from
   encode-tokens =
       let nodes = nodes_bytes names t in
       let structure_length : length s ≡ length nodes + 4 = length-append nodes (word 9) in
-      let past_is : past 56 t ≡ 56 + length nodes = past-length b names 56 t in
-      let fuel_left = fuel-past 56 t 1 in
+      let past_is : past o t ≡ o + length nodes = past-length b names o t in
+      let fuel_left = fuel-past o t 1 in
       let strings_fit : length g < 2 ^ 32 = omega (arith, enough, fits) in
-      let end_fits : 56 + length s < 2 ^ 32 = omega (arith, enough, fits) in
-      let block : 56 + length s - 56 ≡ length s = omega arith in
+      let end_fits : o + length s < 2 ^ 32 = omega (arith, enough, fits) in
+      let block : o + length s - o ≡ length s = omega arith in
       let one_more : 1 + left ≡ suc left = omega arith in
       let whole : fuel t 1 + left ≡ suc (length s) = omega (arith, structure_length, past_is, fuel_left) in
-      let fuels : suc (56 + length s - 56) ≡ fuel t (suc left) =
+      let fuels : suc (o + length s - o) ≡ fuel t (suc left) =
       ap suc block ∙ sym whole ∙ fuel-more t 1 left ∙ ap (λ (n : ℕ). fuel t n) one_more in
-      let here : drop 56 file ≡ nodes ++ (word 9 ++ (g ++ end)) =
-      from_structure align s g more ∙ append_assoc s g end ∙ append_assoc nodes (word 9) (g ++ end) in
-      let there : drop (past 56 t) file ≡ word 9 ++ (g ++ end) =
-      ap (λ (k : ℕ). drop k file) past_is ∙ drop-piece file 56 nodes _ (length nodes) refl here in
-      let at_last : token_at b (past 56 t) ≡ last (past 56 t) = token-last b names (past 56 t) (g ++ end) (omega (arith, past_is, structure_length)) there in
-      let the_last : tokens_from (suc left) b (Some (past 56 t)) ≡ last (past 56 t) ∷ [] = rw at_last refl in
-      ap (λ (n : ℕ). tokens_from n b (Some 56)) fuels
-      ∙ tokens-spelled b names 56 t (suc left) (word 9 ++ (g ++ end)) found (omega (arith, past_is, structure_length)) end_fits strings_fit here
-      ∙ ap (λ (ts : List Token). spelled 56 t ts) the_last
+      let here : drop o file ≡ nodes ++ (word 9 ++ (g ++ end)) =
+      from_structure align rs s g more ∙ append_assoc s g end ∙ append_assoc nodes (word 9) (g ++ end) in
+      let there : drop (past o t) file ≡ word 9 ++ (g ++ end) =
+      ap (λ (k : ℕ). drop k file) past_is ∙ drop-piece file o nodes _ (length nodes) refl here in
+      let at_last : token_at b (past o t) ≡ last (past o t) = token-last b names (past o t) (g ++ end) (omega (arith, past_is, structure_length)) there in
+      let the_last : tokens_from (suc left) b (Some (past o t)) ≡ last (past o t) ∷ [] = rw at_last refl in
+      ap (λ (n : ℕ). tokens_from n b (Some o)) fuels
+      ∙ tokens-spelled b names o t (suc left) (word 9 ++ (g ++ end)) found (omega (arith, past_is, structure_length)) end_fits strings_fit here
+      ∙ ap (λ (ts : List Token). spelled o t ts) the_last
 
-  pub encode-tree : tree file ≡ Ok (placed 56 t)
+  pub encode-tree : tree file ≡ Ok (placed o t)
   unfolding tree without_nops
   encode-tree =
-      ap (λ (r : Result Blocks Fault). r >>= λ found. root (without_nops (tokens found))) (blob-blocks align s g more fits)
+      ap (λ (r : Result Blocks Fault). r >>= λ found. root (without_nops (tokens found))) (blob-blocks align rs s g more fits)
       ∙ ap (λ (ts : List Token). root (without_nops ts)) encode-tokens
-      ∙ ap root (without_nops-spelled 56 t (last (past 56 t) ∷ []))
-      ∙ root-spelled 56 name own below (past 56 t)
+      ∙ ap root (without_nops-spelled o t (last (past o t) ∷ []))
+      ∙ root-spelled o name own below (past o t)
 
-  pub totalsize : be32 file 4 ≡ length (encode_by align t)
-  totalsize = blob-totalsize align s g more fits
+  pub totalsize : be32 file 4 ≡ length (encode_with align rs t)
+  totalsize = blob-totalsize align rs s g more fits
 
   -- where the nodes stand
-  pub from_nodes : drop 56 file ≡ nodes_bytes names t ++ (word 9 ++ (g ++ end))
-  from_nodes = from_structure align s g more ∙ append_assoc s g end ∙ append_assoc (nodes_bytes names t) (word 9) (g ++ end)
+  pub from_nodes : drop o file ≡ nodes_bytes names t ++ (word 9 ++ (g ++ end))
+  from_nodes = from_structure align rs s g more ∙ append_assoc s g end ∙ append_assoc (nodes_bytes names t) (word 9) (g ++ end)
 
-  pub long : 56 ≤ length file
-  long = omega (arith, enough, length-append (encode_by align t) more)
+  pub long : o ≤ length file
+  long = omega (arith, enough, length-append (encode_with align rs t) more)
 
   pub reads_back : unplaced_in (tree file) ≡ Ok t
-  reads_back = ap unplaced_in encode-tree ∙ ap (λ (u : Nodes). let y : Result Nodes Fault = Ok u in y) (unplaced-placed 56 t)
+  reads_back = ap unplaced_in encode-tree ∙ ap (λ (u : Nodes). let y : Result Nodes Fault = Ok u in y) (unplaced-placed o t)

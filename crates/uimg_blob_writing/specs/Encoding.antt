@@ -1,9 +1,10 @@
 -- The blob of a tree (Devicetree Specification, chapter 5).
-use Rattle.std.specs.Prelude.{ℕ, ◌+◌, ◌-◌, List, [], ◌∷◌, ◌++◌, length, replicate, if◌then◌else◌}
-use Rattle.std.specs.{Int.{to_be_bytes, w32}, List.{flat_map, list_any}, Str.bytes_eq}
+use Rattle.std.specs.Prelude.{ℕ, suc, ◌+◌, ◌-◌, ◌*◌, List, [], ◌∷◌, ◌++◌, length, replicate, if◌then◌else◌}
+use Rattle.std.specs.{Int.{to_be_bytes, w32, w64}, List.{flat_map, list_any}, Str.bytes_eq}
 use Rattle.uimg_texts.specs.Numbers.{up4}
 use Rattle.uimg_blob_reading.specs.Blob.{magic}
 use Rattle.uimg_blob_reading.specs.Plain.{NamedOf, NodesOf, Named, Nodes, no_node, a_node}
+use Rattle.uimg_blob_writing.specs.declared.reservation.Reservation.{Reservation}
 use Rattle.uimg_blob_writing.specs.Alignment.{aligned, padded_by}
 
 -- a number in four bytes, big-endian
@@ -65,27 +66,49 @@ nodes_bytes names (a_node name own below after) =
 abbrev pub structure : Nodes → List ℕ
 structure t = nodes_bytes (names_of t) t ++ word 9
 
--- The header for these sizes of the blob, the structure block and the strings block: magic,
--- totalsize, off_dt_struct, off_dt_strings, off_mem_rsvmap, version, last_comp_version,
--- boot_cpuid_phys, size_dt_strings, size_dt_struct.
-abbrev pub header : ℕ → ℕ → ℕ → List ℕ
-header total structure_size strings_size =
-    word magic ++ word total ++ word 56 ++ word (56 + structure_size) ++ word 40
+-- an entry of the reservation block (section 5.3): address and size, each of 64 bits, big-endian
+abbrev pub entry_bytes : Reservation → List ℕ
+entry_bytes r = to_be_bytes w64 r.address ++ to_be_bytes w64 r.size
+
+-- the reservation block: the entries, and the pair of zeros that ends it
+abbrev pub reserved : List Reservation → List ℕ
+reserved rs = flat_map entry_bytes rs ++ replicate 16 0
+
+-- off_dt_struct: the offset of the structure block, after the header of 40 bytes, the entries and
+-- the pair of zeros
+abbrev pub structure_offset : List Reservation → ℕ
+structure_offset rs = 40 + 16 * suc (length rs)
+
+-- The header for the size of the blob, the offset of the structure block, and the sizes of it and
+-- of the strings block: magic, totalsize, off_dt_struct, off_dt_strings, off_mem_rsvmap, version,
+-- last_comp_version, boot_cpuid_phys, size_dt_strings, size_dt_struct.
+abbrev pub header : ℕ → ℕ → ℕ → ℕ → List ℕ
+header total offset structure_size strings_size =
+    word magic ++ word total ++ word offset ++ word (offset + structure_size) ++ word 40
     ++ word 17 ++ word 16 ++ word 0 ++ word strings_size ++ word structure_size
 
--- the size in bytes of a blob with these sizes of blocks, rounded up to an alignment
-abbrev pub blob_size : ℕ → ℕ → ℕ → ℕ
-blob_size align structure_size strings_size = aligned align (56 + structure_size + strings_size)
+-- the size in bytes of a blob with this offset of the structure block and these sizes of blocks,
+-- rounded up to an alignment
+abbrev pub blob_size : ℕ → ℕ → ℕ → ℕ → ℕ
+blob_size align offset structure_size strings_size =
+    aligned align (offset + structure_size + strings_size)
 
--- a blob: the header, an empty reservation block, the structure and strings blocks, and padding
-unfoldable pub blob : ℕ → List ℕ → List ℕ → List ℕ
-blob align structure strings =
-    padded_by align (header (blob_size align (length structure) (length strings)) (length structure)
-    (length strings) ++ replicate 16 0 ++ structure ++ strings)
+-- a blob: the header, the reservation block, the structure and strings blocks, and padding
+unfoldable pub blob : ℕ → List Reservation → List ℕ → List ℕ → List ℕ
+blob align rs structure strings =
+    padded_by align
+    (header (blob_size align (structure_offset rs) (length structure) (length strings))
+    (structure_offset rs) (length structure) (length strings) ++ reserved rs
+    ++ structure
+    ++ strings)
 
--- the blob of a tree, padded to an alignment
+-- the blob of a tree with reservations, padded to an alignment
+abbrev pub encode_with : ℕ → List Reservation → Nodes → List ℕ
+encode_with align rs t = blob align rs (structure t) (strings (names_of t))
+
+-- the blob of a tree without reservations, padded to an alignment
 abbrev pub encode_by : ℕ → Nodes → List ℕ
-encode_by align t = blob align (structure t) (strings (names_of t))
+encode_by align t = encode_with align [] t
 
 -- the blob of a tree
 abbrev pub encode : Nodes → List ℕ

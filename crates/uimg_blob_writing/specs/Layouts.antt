@@ -3,11 +3,14 @@ use Rattle.std.specs.Prelude.{ℕ, ◌+◌, List, [], ◌∷◌, length}
 use Rattle.uimg_texts.specs.Numbers.{up4}
 use Rattle.uimg_blob_reading.specs.Plain.{NamedOf, no_node, a_node}
 use Rattle.uimg_blob_writing.specs.Content.{Content, Unread, size_of}
-use Rattle.uimg_blob_writing.specs.Encoding.{names_of, strings, blob_size}
+use Rattle.uimg_blob_writing.specs.declared.reservation.Reservation.{Reservation}
+use Rattle.uimg_blob_writing.specs.Encoding.{names_of, strings, structure_offset, blob_size}
 
--- The names of the strings block, the structure block's size in bytes, and the end's alignment.
+-- The names of the strings block, the reservations, the structure block's size in bytes, and the
+-- end's alignment.
 pub record Plan : Type 0 where
   pub names : List (List ℕ)
+  pub reservations : List Reservation
   pub structure : ℕ
   pub align : ℕ
 
@@ -26,10 +29,25 @@ nodes_size no_node = 0
 nodes_size (a_node name own below after) =
     4 + up4 (length name + 1) + properties_size own + nodes_size below + 4 + nodes_size after
 
--- the plan of a tree for an alignment; the structure block ends with FDT_END
+-- the plan of a tree with reservations for an alignment; the structure block ends with FDT_END
+abbrev pub plan_with : ℕ → List Reservation → Unread → Plan
+plan_with align rs t =
+    record {
+      names = names_of t;
+      reservations = rs;
+      structure = nodes_size t + 4;
+      align = align;
+    }
+
+-- the plan of a tree without reservations
 abbrev pub plan_of : ℕ → Unread → Plan
-plan_of align t = record { names = names_of t; structure = nodes_size t + 4; align = align }
+plan_of align t = plan_with align [] t
+
+-- where a planned blob's strings block ends
+abbrev pub plan_end : Plan → ℕ
+plan_end p = structure_offset p.reservations + p.structure + length (strings p.names)
 
 -- the size in bytes of a planned blob
 abbrev pub totalsize : Plan → ℕ
-totalsize p = blob_size p.align p.structure (length (strings p.names))
+totalsize p =
+    blob_size p.align (structure_offset p.reservations) p.structure (length (strings p.names))

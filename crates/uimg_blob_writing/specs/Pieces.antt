@@ -8,7 +8,8 @@ use Rattle.uimg_blob_reading.specs.Plain.{NamedOf, no_node, a_node}
 use Rattle.uimg_blob_writing.specs.{declared.fault.TreeFault.TreeFault, Content.IsBytes}
 use Rattle.uimg_blob_writing.specs.Content.{Content, Unread, bytes, size_of, content_bytes, IsKept}
 use Rattle.uimg_blob_writing.specs.Encoding.{word, padded, with_nul, name_offset, strings, header}
-use Rattle.uimg_blob_writing.specs.{Alignment.padding_by, Layouts.{Plan, totalsize}}
+use Rattle.uimg_blob_writing.specs.Encoding.{reserved, structure_offset}
+use Rattle.uimg_blob_writing.specs.{Alignment.padding_by, Layouts.{Plan, plan_end, totalsize}}
 use Rattle.uimg_blob_writing.specs.{Faults.{is_put, is_no_file, is_read}, UsingFiles.UsesFiles}
 
 -- the zeros that pad n bytes to a multiple of 4
@@ -37,12 +38,14 @@ nodes_pieces names (a_node name own below after) =
     ∷ (flat_map (property_pieces names) own
     ++ (nodes_pieces names below ++ bytes (word 2) ∷ nodes_pieces names after))
 
--- the planned blob: header, empty reservation block, nodes, FDT_END, strings block, padding
+-- the planned blob: header, reservation block, nodes, FDT_END, strings block, padding
 unfoldable pub blob_pieces : Plan → Unread → List Content
 blob_pieces p t =
-    bytes (header (totalsize p) p.structure (length (strings p.names)) ++ replicate 16 0)
+    bytes (header (totalsize p) (structure_offset p.reservations) p.structure
+    (length (strings p.names)))
+    ∷ bytes (reserved p.reservations)
     ∷ (nodes_pieces p.names t ++ bytes (word 9) ∷ bytes (strings p.names)
-    ∷ bytes (padding_by p.align (56 + p.structure + length (strings p.names))) ∷ [])
+    ∷ bytes (padding_by p.align (plan_end p)) ∷ [])
 
 -- What a call that writes pieces does to files and output. At success over honest files, each piece
 -- that is a file has the stored size and all was appended; otherwise a prefix was.

@@ -1,14 +1,16 @@
 -- What writing a tree's blob does.
-use Rattle.std.specs.{Prelude.{◌≡◌, ℕ, Bool, IsTrue, Result, is_err, false}, Result.OnOk}
+use Rattle.std.specs.{Prelude.{◌≡◌, ℕ, List, Bool, IsTrue, Result, is_err, false}, Result.OnOk}
 use Rattle.uimg_base.specs.{Device.RisesIf, Lent.Lent, Named.FileMap, Sink.Sink, Writing.Written}
 use Rattle.uimg_blob_reading.specs.Plain.{AllValues, AreNamed}
 use Rattle.uimg_blob_writing.specs.{declared.fault.TreeFault.TreeFault, UsingFiles.UsesFiles}
-use Rattle.uimg_blob_writing.specs.{Content.{Unread, in_full, AreKept, IsBytes}, Encoding.encode_by}
+use Rattle.uimg_blob_writing.specs.declared.reservation.Reservation.{Reservation}
+use Rattle.uimg_blob_writing.specs.Content.{Unread, in_full, AreKept, IsBytes}
+use Rattle.uimg_blob_writing.specs.Encoding.{encode_with}
 use Rattle.uimg_blob_writing.specs.{Faults.{is_put, is_no_file, is_read}, ReadsBack.ReadsBack}
 
--- What writing the blob of a tree, with an alignment, does to files and to an output.
-pub record WritesTreeBetween {X : Type 0} (always : Bool) (align : ℕ) (t : Unread)
-    (answer : Result X TreeFault) (old new : FileMap) (s u : Sink) : Type 0 where
+-- What writing the blob of a tree, with an alignment and reservations, does to files and an output.
+pub record WritesTreeBetween {X : Type 0} (always : Bool) (align : ℕ) (rs : List Reservation)
+    (t : Unread) (answer : Result X TreeFault) (old new : FileMap) (s u : Sink) : Type 0 where
   -- no call changes the files; `NoFile` is returned if and only if their refusals rose
   pub files : UsesFiles (is_no_file answer) old new
   -- `Put` is returned if and only if the faults of the output rose
@@ -23,13 +25,13 @@ pub record WritesTreeBetween {X : Type 0} (always : Bool) (align : ℕ) (t : Unr
   pub kept : IsTrue old.honest → OnOk answer (AreKept old.bytes t)
   -- over honest files of the stored sizes the blob was written, or at a fault a prefix of it
   pub written : IsTrue old.honest → AreKept old.bytes t
-      → Written (is_err answer) s u (encode_by align (in_full old.bytes t))
+      → Written (is_err answer) s u (encode_with align rs (in_full old.bytes t))
   -- if files have the stored sizes and all names are good, a file that begins with the blob reads
   -- back as the tree
-  pub reads_back : AreKept old.bytes t → AreNamed t → ReadsBack align (in_full old.bytes t)
+  pub reads_back : AreKept old.bytes t → AreNamed t → ReadsBack align rs (in_full old.bytes t)
 
-abbrev pub WritesTree : {F X : Type 0} → Bool → (F → FileMap) → ℕ → Unread → Result X TreeFault
-    → Lent F → Lent Sink → Type 0
-WritesTree always map align t answer files out =
-    WritesTreeBetween always align t answer (map files.entry.now) (map files.exit.now)
+abbrev pub WritesTree : {F X : Type 0} → Bool → (F → FileMap) → ℕ → List Reservation → Unread
+    → Result X TreeFault → Lent F → Lent Sink → Type 0
+WritesTree always map align rs t answer files out =
+    WritesTreeBetween always align rs t answer (map files.entry.now) (map files.exit.now)
     out.entry.now out.exit.now

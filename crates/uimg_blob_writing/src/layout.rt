@@ -1,23 +1,28 @@
 //! The result of measuring: the names and sizes of a blob.
 
-ghost use Rattle.std.specs.Prelude.{◌≡◌, ◌+◌, length};
-ghost use Rattle.uimg_blob_writing.specs.{Encoding.strings, Layouts.totalsize};
+ghost use Rattle.std.specs.Prelude.{◌≡◌};
+ghost use Rattle.uimg_blob_writing.specs.{Encoding.structure_offset, Layouts.{plan_end, totalsize}};
 
 use crate::alignment::aligned;
+use crate::reservation::Reservation;
 use std::alloc::Allocator;
 use std::marker::Model;
 
-/// The offset of the structure block: after the header of 40 bytes and the pair of zeros that ends
-/// the reservation block.
-pub(crate) const STRUCTURE_OFFSET: u32 = 56;
+/// The offset of the reservation block: after the header.
+pub(crate) const RESERVATION_OFFSET: u32 = 40;
 
-/// The layout of a tree's blob, known before it is written: the names of the strings block,
-/// borrowed from the tree, the sizes of the two blocks, and the alignment of the blob's end.
+// The size of an entry of the reservation block in bytes.
+const ENTRY: u32 = 16;
+
+/// The layout of a tree's blob, known before it is written: the names of the strings block and the
+/// reservations, both borrowed, the sizes of the two other blocks, and the alignment of the blob's
+/// end.
 ///
-/// Contracts see it as a `Plan`. `measure` makes it.
+/// Contracts see it as a `Plan`. `measure_with` makes it.
 #[derive(Drop)]
 pub struct Layout<'a, A: Allocator> {
     pub(crate) names: Vec<&'a [u8], A>,
+    pub(crate) reservations: &'a [Reservation],
     pub(crate) structure_size: u32,
     pub(crate) strings_size: u32,
     pub(crate) align: u32,
@@ -29,11 +34,13 @@ impl<'a, A: Allocator> Model for Layout<'a, A> {
     ghost Value = { Plan };
 
     ghost use Rattle.std.specs.Prelude.{◌≡◌, ◌+◌, ◌<◌, ◌^◌, length};
-    ghost use Rattle.uimg_blob_writing.specs.{Encoding.strings, Layouts.totalsize};
+    ghost use Rattle.uimg_blob_writing.specs.Encoding.{strings, structure_offset};
+    ghost use Rattle.uimg_blob_writing.specs.Layouts.{totalsize};
     ghost use Rattle.uimg_blob_writing.specs.Names.{name_texts};
 
     ghost view = { λ l. record {
       names = name_texts l.names.items;
+      reservations = l.reservations.now;
       structure = l.structure_size;
       align = l.align;
     } };
@@ -41,10 +48,11 @@ impl<'a, A: Allocator> Model for Layout<'a, A> {
     ghost invariant = { λ l. (l.strings_size ≡ length (strings (name_texts l.names.items)))
         × (totalsize (record {
           names = name_texts l.names.items;
+          reservations = l.reservations.now;
           structure = l.structure_size;
           align = l.align;
         }) < 2 ^ 32)
-        × (56 + l.structure_size + l.strings_size < 2 ^ 32) };
+        × (structure_offset l.reservations.now + l.structure_size + l.strings_size < 2 ^ 32) };
 }
 
 impl<'a, A: Allocator> Layout<'a, A> {
@@ -56,10 +64,18 @@ impl<'a, A: Allocator> Layout<'a, A> {
         aligned(self.end(), self.align) as u32
     }
 
+    // Returns the offset of the structure block: after the reservation block, which a pair of zeros
+    // ends.
+    pub(crate) fn structure_offset(&self) -> u32
+        ensures { result ≡ structure_offset self.now.reservations }
+    {
+        RESERVATION_OFFSET + (self.reservations.len() as u32 + 1) * ENTRY
+    }
+
     // Returns the end of the strings block.
     pub(crate) fn end(&self) -> u64
-        ensures { result ≡ 56 + self.now.structure + length (strings self.now.names) }
+        ensures { result ≡ plan_end self.now }
     {
-        STRUCTURE_OFFSET as u64 + self.structure_size as u64 + self.strings_size as u64
+        self.structure_offset() as u64 + self.structure_size as u64 + self.strings_size as u64
     }
 }

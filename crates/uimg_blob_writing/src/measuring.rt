@@ -4,14 +4,15 @@ ghost use Rattle.std.specs.Prelude.{◌≡◌, ◌≢◌, ℕ, List, [], length,
 ghost use Rattle.uimg_blob_reading.specs.Plain.{AreNamed};
 ghost use Rattle.uimg_blob_reading.specs.declared.fault.BlobFault.TheVariants.{OutOfMemory};
 ghost use Rattle.uimg_blob_writing.specs.Content.{in_full, AreKept};
-ghost use Rattle.uimg_blob_writing.specs.{Encoding.{names_of, encode_by}, Layouts.totalsize};
-ghost use Rattle.uimg_blob_writing.specs.{Measured.{measured, Measures}, Trees.node_of};
+ghost use Rattle.uimg_blob_writing.specs.{Encoding.{names_of, encode_by, encode_with}, Layouts.totalsize};
+ghost use Rattle.uimg_blob_writing.specs.{Measured.{measured, measured_by, Measures}, Trees.node_of};
 
 use crate::alignment::{WORD_ALIGNMENT, aligned};
 use crate::checking::check_names;
-use crate::layout::{Layout, STRUCTURE_OFFSET};
+use crate::layout::{Layout, RESERVATION_OFFSET};
 use crate::names::add_all_names;
 use crate::nodes::ThisNode;
+use crate::reservation::{Reservation, block_size};
 use crate::sizes::{node_size, strings_size};
 use crate::tree::Tree;
 use std::alloc::Allocator;
@@ -53,6 +54,25 @@ pub fn measure_by<'a, A: Allocator>(
         AreKept files (node_of tree.now.root) →
         length (encode_by align (in_full files (node_of tree.now.root))) ≡ totalsize layout) }
 {
+    measure_with(alloc, tree, align, &[])
+}
+
+/// Measures the blob of a tree as `measure_by` does, with these entries in its reservation block.
+pub fn measure_with<'a, A: Allocator>(
+    alloc: A,
+    tree: &'a Tree<A>,
+    align: u32,
+    reservations: &'a [Reservation],
+) -> Result<Layout<'a, A>, BlobFault>
+    ensures measured { Measures result
+        (measured_by align reservations.now (node_of tree.now.root)) }
+    ensures memory { result ≡ Err OutOfMemory → names_of (node_of tree.now.root) ≢ [] }
+    ensures named { OnOk result (AreNamed (node_of tree.now.root)) }
+    ensures sized { IfOk result (λ layout. (files : List ℕ → Option (List ℕ)) →
+        AreKept files (node_of tree.now.root) →
+        length (encode_with align reservations.now (in_full files (node_of tree.now.root)))
+        ≡ totalsize layout) }
+{
     check_names(ThisNode { node: &tree.root })?;
     let mut names = Vec::new(alloc);
     if add_all_names(&mut names, ThisNode { node: &tree.root }).is_err() {
@@ -60,11 +80,13 @@ pub fn measure_by<'a, A: Allocator>(
     }
     let structure = node_size(ThisNode { node: &tree.root }) + 4;
     let strings = strings_size(names.as_slice());
-    if aligned(STRUCTURE_OFFSET as u64 + structure + strings, align) > LARGEST {
+    let offset = RESERVATION_OFFSET as u64 + block_size(reservations);
+    if aligned(offset + structure + strings, align) > LARGEST {
         return Err(BlobFault::TooLarge);
     }
     Ok(Layout {
         names,
+        reservations,
         structure_size: structure as u32,
         strings_size: strings as u32,
         align,

@@ -1,15 +1,17 @@
 //! Writing of a tree's blob.
 
-ghost use Rattle.std.specs.Prelude.{◌≡◌, ◌<◌, ◌^◌, ◌++◌, length, replicate, is_err};
+ghost use Rattle.std.specs.Prelude.{◌≡◌, ◌<◌, ◌^◌, length, is_err};
 ghost use Rattle.uimg_base.specs.Writing.{Writes};
-ghost use Rattle.uimg_blob_writing.specs.{Encoding.{with_nul, header, strings}, Names.name_texts};
-ghost use Rattle.uimg_blob_writing.specs.{Layouts.{plan_of, totalsize}, TreeWriting.WritesTree};
+ghost use Rattle.uimg_blob_writing.specs.Encoding.{with_nul, header, strings, structure_offset};
+ghost use Rattle.uimg_blob_writing.specs.{Names.name_texts, TreeWriting.WritesTree};
+ghost use Rattle.uimg_blob_writing.specs.Layouts.{plan_with, totalsize};
 ghost use Rattle.uimg_blob_writing.specs.{Pieces.{blob_pieces, WritesPieces}, Trees.node_of};
 
 use crate::alignment::put_gap;
 use crate::fault::TreeFault;
-use crate::layout::{Layout, STRUCTURE_OFFSET};
+use crate::layout::{Layout, RESERVATION_OFFSET};
 use crate::nodes::{ThisNode, put_node};
+use crate::reservation::put_reservations;
 use crate::tokens::put_end;
 use crate::tree::Tree;
 use std::alloc::Allocator;
@@ -18,38 +20,32 @@ use uimg_base::{Files, Out, PutFault, WINDOW};
 use uimg_blob_reading::BLOB_MAGIC;
 
 // The fields of the header (Devicetree Specification, section 5.2).
-const RESERVATION_OFFSET: u32 = 40;
-
 const VERSION: u32 = 17;
 
 const LAST_COMPATIBLE: u32 = 16;
 
 const BOOT_CPU: u32 = 0;
 
-// The reservation block: the pair of zeros that ends it.
-const RESERVATION: [u8; 16] = [0; 16];
-
-// Writes the header and the reservation block.
+// Writes the header.
 fn put_header<W: Write, A: Allocator>(layout: &Layout<A>, out: &mut Out<W>) -> Result<(), PutFault>
     ensures { Writes (is_err result) out.old out.new
-        (header (totalsize layout.now) layout.now.structure (length (strings layout.now.names))
-        ++ replicate 16 0) }
+        (header (totalsize layout.now) (structure_offset layout.now.reservations)
+        layout.now.structure (length (strings layout.now.names))) }
 {
-    let reservation = RESERVATION;
+    let offset = layout.structure_offset();
     let structure = layout.structure_size;
     let strings = layout.strings_size;
     out.put_pieces(&[
         &BLOB_MAGIC.to_be_bytes(),
         &layout.totalsize().to_be_bytes(),
-        &STRUCTURE_OFFSET.to_be_bytes(),
-        &(STRUCTURE_OFFSET + structure).to_be_bytes(),
+        &offset.to_be_bytes(),
+        &(offset + structure).to_be_bytes(),
         &RESERVATION_OFFSET.to_be_bytes(),
         &VERSION.to_be_bytes(),
         &LAST_COMPATIBLE.to_be_bytes(),
         &BOOT_CPU.to_be_bytes(),
         &strings.to_be_bytes(),
         &structure.to_be_bytes(),
-        &reservation,
     ])
 }
 
@@ -77,7 +73,7 @@ fn put_blob<F: Files, W: Write, A: Allocator>(
     files: &mut F,
     out: &mut Out<W>,
 ) -> Result<(), TreeFault>
-    requires { layout.now ≡ plan_of layout.now.align (node_of tree.now.root) }
+    requires { layout.now ≡ plan_with layout.now.align layout.now.reservations (node_of tree.now.root) }
     ensures fits { totalsize layout.now < 2 ^ 32 }
     ensures writes { WritesPieces F.Opened.steady result (F.map files.old) (F.map files.new)
         out.old out.new
@@ -86,6 +82,7 @@ fn put_blob<F: Files, W: Write, A: Allocator>(
     let mut window = [0; WINDOW];
     let names = layout.names.as_slice();
     put_header(layout, out)?;
+    put_reservations(layout.reservations, out)?;
     put_node(
         ThisNode { node: &tree.root },
         names,
@@ -99,19 +96,19 @@ fn put_blob<F: Files, W: Write, A: Allocator>(
     Ok(())
 }
 
-/// Writes the blob of a tree (Devicetree Specification, chapter 5): the header, an empty
-/// reservation block, the nodes and properties in order, the names of the properties, each once,
-/// and zeros up to the end of the blob.
+/// Writes the blob of a tree (Devicetree Specification, chapter 5): the header, the reservation
+/// block, the nodes and properties in order, the names of the properties, each once, and zeros up
+/// to the end of the blob.
 ///
-/// The layout must be the one that `measure` made of this tree. A file is opened when its value is
-/// written, and copied through a window of 8192 bytes; it is never held in memory as a whole. If
-/// its size is not the one that the tree stores, that counts as a failed read, before any of its
-/// bytes is written.
+/// The layout must be the one that `measure`, `measure_by` or `measure_with` made of this tree. A
+/// file is opened when its value is written, and copied through a window of 8192 bytes; it is never
+/// held in memory as a whole. If its size is not the one that the tree stores, that counts as a
+/// failed read, before any of its bytes is written.
 ///
 /// Returns `Put` if and only if a write failed, `NoFile` if and only if an open was refused, and
 /// `Read` if a read of a file failed or its size differs. A tree without files is refused only by a
 /// failed write. No read fails over honest files of the stored sizes that are opened as steady
-/// sources (those in memory). Over honest files of the stored sizes the bytes of `encode_by` were
+/// sources (those in memory). Over honest files of the stored sizes the bytes of `encode_with` were
 /// written, or at a fault a prefix of them. A file that begins with these bytes reads back as the
 /// tree.
 ///
@@ -122,9 +119,9 @@ pub fn write_tree<F: Files, W: Write, A: Allocator>(
     files: &mut F,
     out: &mut Out<W>,
 ) -> Result<(), TreeFault>
-    requires { layout.now ≡ plan_of layout.now.align (node_of tree.now.root) }
-    ensures { WritesTree F.Opened.steady F.map layout.now.align (node_of tree.now.root) result files
-        out }
+    requires { layout.now ≡ plan_with layout.now.align layout.now.reservations (node_of tree.now.root) }
+    ensures { WritesTree F.Opened.steady F.map layout.now.align layout.now.reservations
+        (node_of tree.now.root) result files out }
 {
     put_blob(tree, layout, files, out)
 }

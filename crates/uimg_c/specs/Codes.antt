@@ -1,6 +1,6 @@
 -- The numbers by which callers in C see how a command ended.
 use Rattle.std.specs.Prelude.{ℕ, ◌+◌, ◌*◌, ◌==◌, find, Option, Some, None, Result, Ok, Err}
-use Rattle.uimg_sums.specs.{Algorithms.{all_algos, number}, declared.algo.Algo.Algo}
+use Rattle.uimg_sums.specs.{Algorithms.{profile_algos, number}, declared.algo.Algo.Algo}
 use Rattle.uimg_base.specs.{Outcome.{End, done, not_right, refused}, declared.status.Status.Status}
 use Rattle.uimg_base.specs.declared.status.Status.TheVariants.{Done, NotRight}
 use Rattle.uimg_blob_reading.specs.declared.fault.BlobFault.{BlobFault}
@@ -84,6 +84,6 @@ code_of_end done = code_of_answer (Ok Done)
 code_of_end not_right = code_of_answer (Ok NotRight)
 code_of_end (refused fault) = code_of_fault fault
 
--- the algorithm of a strength, which is its number counted from 1
+-- the algorithm of the profile of a strength, which is its number
 abbrev pub strength : ℕ → Option Algo
-strength n = find (λ algo. n == number algo + 1) all_algos
+strength n = find (λ algo. n == number algo) profile_algos

@@ -17,9 +17,9 @@ use uimg_engine::Fault;
 pub(crate) fn strength(need: u32) -> Option<Algo>
     ensures { result ≡ strength need }
 {
-    for algo in ALGOS {
-        if need == algo as u32 + 1 {
-            return Some(algo);
+    for algo in &ALGOS[1..] {
+        if need == *algo as u32 {
+            return Some(*algo);
         }
     }
     None

@@ -43,6 +43,7 @@ SpansInside size _ = ⊤
 -- whether CRC-32, the checksum of a legacy image, is strong enough
 abbrev pub stands_by_crc32 : Option Algo → Bool
 stands_by_crc32 None = true
+stands_by_crc32 (Some algo.Crc16) = true
 stands_by_crc32 (Some algo.Crc32) = true
 stands_by_crc32 (Some _) = false
 

@@ -49,7 +49,7 @@ fn stands_by_crc32(need: Option<Algo>) -> bool
     ensures { result ≡ stands_by_crc32 need }
 {
     match need {
-        None | Some(Algo::Crc32) => true,
+        None | Some(Algo::Crc16 | Algo::Crc32) => true,
         Some(_) => false,
     }
 }
@@ -88,8 +88,7 @@ fn check_fit<S: Source, A: Allocator>(
 /// Checks the checksums and hashes of an image, up to the first finding. The first four bytes
 /// decide its format. A legacy image is refused if its header's checksum is wrong or its table of
 /// parts does not fit its data. If an algorithm is needed, a FIT image has to have images, each
-/// with a hash node that is compared by it or a stronger one, in the order CRC-32, MD5, SHA-1,
-/// SHA-256, SHA-384, SHA-512.
+/// with a hash node that is compared by it or a stronger one, in the order of `Algo`.
 ///
 /// Over an honest source the finding, or the fault that refuses the image, is exactly that of the
 /// definition, and of a FIT image's payloads no more bytes are requested than the file has, even if

@@ -4,6 +4,7 @@ pub mod Examples
 pub mod ImageLaws
 pub mod MakingLaws
 pub mod Numbers
+pub mod ReadingLaws
 pub mod Refusals
 pub mod Simple
 pub mod SubcommandLaws

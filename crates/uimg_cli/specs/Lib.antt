@@ -7,6 +7,7 @@ pub mod Map
 pub mod Mkimage
 pub mod Needs
 pub mod Parsed
+pub mod Reading
 pub mod Readings
 pub mod Rules
 pub mod Runs

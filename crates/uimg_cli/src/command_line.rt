@@ -8,6 +8,7 @@ ghost use Rattle.clap.specs.Walk.{texts};
 ghost use Rattle.uimg_cli.specs.CommandLines.{TellsOneOf, refusal, request_asked, uimg};
 ghost use Rattle.uimg_cli.specs.CommandLines.{words_asked};
 ghost use Rattle.uimg_cli.specs.Parsed.{Parsed};
+ghost use Rattle.uimg_cli.specs.Reading.{ReadsWords};
 ghost use Rattle.clap.specs.declared.error.kind.ErrorKind.TheVariants as kind;
 ghost use Rattle.uimg_cli.specs.Wanted.{Wanted, wanted_of};
 ghost use Rattle.uimg_cli.specs.Wrong.{IsWrong, Tells, Wrong, no_command, wrong_of};
@@ -74,14 +75,15 @@ pub enum Request<'a> {
 /// Reads the words of a command line; the program's name is the first. `epoch` is SOURCE_DATE_EPOCH
 /// if it is set, and `now` the current time in seconds since 1970. Returns exactly what the words
 /// ask for, or what is wrong with them, unless memory runs out.
+#[tactic(auto, unfolding(crate::specs::Reading::ReadsWords))]
 pub fn read_words<'a>(
     alloc: Global,
     words: &'a [&'a str],
     epoch: Option<&str>,
     now: u32,
 ) -> Result<Asked<'a>, WordsFault>
-    ensures { TellsOneOf wanted_of (words_asked (option_map (λ text. text.now) epoch.entry) now
-        (texts words.entry.now)) result }
+    ensures { ReadsWords (option_map (λ text. text.now) epoch.entry) now (texts words.entry.now)
+        result }
 {
     match commands(alloc) {
         Ok(command) => read_by(alloc, command, words, epoch, now),

@@ -1,6 +1,6 @@
 -- Lemmas.
+mod Examples
 mod Letters
 mod MakingLaws
 mod Numerals
 mod Strips
-mod Telling

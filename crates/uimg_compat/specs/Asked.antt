@@ -8,7 +8,7 @@ use Rattle.uimg_requests.specs.declared.command.{Action.Action, Form.Form}
 use Rattle.uimg_requests.specs.declared.make_command.{Manner.Manner, MakeCommand.MakeCommand}
 use Rattle.uimg_requests.specs.declared.make_command.MakeCommand.TheVariants.{Parts, Tree}
 use Rattle.uimg_requests.specs.declared.requests.{RunRequest.RunRequest, MakeRequest.MakeRequest}
-use Rattle.uimg_compat.specs.Getopt.{Text}
+use Rattle.uimg_compat.specs.{Dtc.{Dtc, dtc_of}, Getopt.{Text}}
 use Rattle.uimg_compat.specs.declared.auto_source.AutoSource.{AutoSource}
 use Rattle.uimg_compat.specs.declared.request.{OldRequest.OldRequest, Show.Show, FitRequest.FitRequest, AutoRequest.AutoRequest, UpdateRequest.UpdateRequest}
 use Rattle.uimg_compat.specs.declared.request.OldRequest.TheVariants as old
@@ -71,12 +71,13 @@ making_of request = record {
   is_xip = request.is_xip;
 }
 
--- The making of a FIT image from a source, without what the words for dtc change.
+-- the making of a FIT image from a source
 pub record FitMaking : Type 0 where
   pub source : Text
   pub placement : Placement
   pub manner : Manner
   pub outfile : Text
+  pub dtc : Dtc
   pub key : Option Text
   pub is_quiet : Bool
 
@@ -86,6 +87,7 @@ fit_of request = record {
   placement = request.placement;
   manner = request.manner;
   outfile = request.outfile.now;
+  dtc = dtc_of request.dtc;
   key = option_map (λ path. path.now) request.key;
   is_quiet = request.is_quiet;
 }

@@ -102,3 +102,16 @@ at_most bound number = if nat_lt bound number then None else Some number
 abbrev pub long_prefix : Text → Option ℕ
 long_prefix text = seconds (is_some (behind 45 (without_blanks text)))
     (digits_value 10 (leading_digits (without_sign (without_blanks text))))
+
+-- the base in which strtol reads a number in base 0
+abbrev pub base_of : Text → ℕ
+base_of digits = if nat_lt 0 (length (behind_mark digits)) then 16
+    else (if is_some (behind 48 digits) then 8 else 10)
+
+-- the number of a whole text as strtol reads it in base 0, if it is an int from 0 on
+abbrev pub up_to_int : Option ℕ → Option ℕ
+up_to_int None = None
+up_to_int (Some number) = if nat_lt 2147483647 number then None else Some number
+
+abbrev pub c_int : Text → Option ℕ
+c_int text = up_to_int (unsigned_long (base_of (without_sign (without_blanks text))) text)

@@ -1,7 +1,11 @@
 pub mod Asked
+pub mod AutoSource
 pub mod CNumbers
+pub mod Dtc
+pub mod DtcChecks
 pub mod Dumpimage
 pub mod Getopt
+pub mod ImageTree
 pub mod Mkimage
 pub mod Names
 pub mod Requests

@@ -1,5 +1,5 @@
 -- What mkimage requests, once all words are read.
-use Rattle.std.specs.Prelude.{◌≡◌, ◌==◌, ◌&&◌, ◌+◌, ◌%◌, ℕ, Bool, false, not, List, Option, Some, None, is_some, unwrap_or, Result, Ok, Err, ⊤, codes, if◌then◌else◌}
+use Rattle.std.specs.Prelude.{◌==◌, ◌&&◌, ◌+◌, ◌%◌, ℕ, Bool, false, not, List, Option, Some, None, is_some, unwrap_or, Result, Ok, Err, codes, if◌then◌else◌}
 use Rattle.std.specs.Str.{bytes_eq}
 use Rattle.uimg_fit_base.specs.declared.placement.Placement.{Placement}
 use Rattle.uimg_fit_base.specs.declared.placement.Placement.TheVariants.{After, At, Inside}
@@ -9,14 +9,14 @@ use Rattle.uimg_names.specs.declared.naming.Naming.TheVariants.{All}
 use Rattle.uimg_requests.specs.Names.{part_names}
 use Rattle.uimg_requests.specs.declared.command.Action.TheVariants as action
 use Rattle.uimg_requests.specs.declared.make_command.Manner.{Manner}
-use Rattle.uimg_compat.specs.Asked.{Asked, Auto, FitMaking, Making, asked_of, makes, makes_auto, makes_fit, parts, plain_run, runs, updates}
+use Rattle.uimg_compat.specs.Asked.{Asked, Auto, FitMaking, Making, makes, makes_auto, makes_fit, parts, plain_run, runs, updates}
 use Rattle.uimg_compat.specs.CNumbers.{long_prefix}
+use Rattle.uimg_compat.specs.Dtc.{Dtc, dtc_asked}
 use Rattle.uimg_compat.specs.Getopt.{Text, reading}
 use Rattle.uimg_compat.specs.Mkimage.{Setting, mkimage_rows, nothing_set, step}
 use Rattle.uimg_compat.specs.Names.{form_asked, is_made}
 use Rattle.uimg_compat.specs.Steps.{asked_after}
-use Rattle.uimg_compat.specs.Wrong.{IsWrong, Wrong, and_then, bad_epoch, data_with_source, data_with_update, dtc_words, list_with_source, list_with_update, no_algorithm, no_data, no_image, no_source, nothing_to_make, or_wrong, other_images, out_of_memory, signs, uneven_alignment, wrong_of, xip_of_parts}
-use Rattle.uimg_compat.specs.declared.{fault.OldFault.OldFault, request.OldRequest.OldRequest}
+use Rattle.uimg_compat.specs.Wrong.{Wrong, and_then, bad_epoch, data_with_source, data_with_update, list_with_source, list_with_update, no_algorithm, no_data, no_image, no_source, nothing_to_make, or_wrong, other_images, signs, uneven_alignment, xip_of_parts}
 
 -- the time is that of SOURCE_DATE_EPOCH, if it is set, else the current one
 abbrev pub time_asked : Option Text → ℕ → Result ℕ Wrong
@@ -122,19 +122,20 @@ auto_asked s words time image = unsigned s.signing
     (and_then (auto_source_asked s words s.file) (λ source.
     and_then (manner_asked s time) (λ manner. Ok (auto_making_by s image source manner))))
 
-abbrev pub fit_by : Setting → Text → Text → Manner → FitMaking
-fit_by s source image manner = record {
+abbrev pub fit_by : Setting → Text → Text → Manner → Dtc → FitMaking
+fit_by s source image manner dtc = record {
   source = source;
   placement = placed s.is_external s.position;
   manner = manner;
   outfile = image;
+  dtc = dtc;
   key = s.key_name;
   is_quiet = s.is_quiet;
 }
 
 abbrev pub source_asked : Setting → Text → ℕ → Text → Result Asked Wrong
-source_asked s source time image = unsigned s.signing
-    (and_then (manner_asked s time) (λ manner. Ok (makes_fit (fit_by s source image manner))))
+source_asked s source time image = unsigned s.signing (and_then (manner_asked s time) (λ manner.
+    and_then (dtc_asked s.dtc_words) (λ dtc. Ok (makes_fit (fit_by s source image manner dtc)))))
 
 -- With -s the image has no data.
 abbrev pub data_word : Bool → Text → Text
@@ -196,23 +197,3 @@ request_asked words epoch moment s = elim s.image [
 abbrev pub mkimage_asked : List Text → Option Text → ℕ → Result Asked Wrong
 mkimage_asked words epoch moment = asked_after step (request_asked words epoch moment)
     (reading mkimage_rows words) nothing_set
-
--- The words of -D are refused only where a FIT image is made from a source.
-abbrev pub IsFit : Result Asked Wrong → Type 0
-IsFit (Ok (makes_fit making)) = ⊤
-IsFit asked = ⊥
-
-abbrev pub Refuses : Result Asked Wrong → Wrong → Type 0
-Refuses asked dtc_words = IsFit asked
-Refuses asked wrong = IsWrong asked wrong
-
--- The answer is the one asked for, unless memory ran out or dtc has other words.
-abbrev pub Answers : Result Asked Wrong → Result OldRequest OldFault → Type 0
-Answers asked (Ok request) = asked ≡ Ok (asked_of request)
-Answers asked (Err fault) = Refuses asked (wrong_of fault)
-
--- a fault of the words of -D
-abbrev pub IsOfDtc : Wrong → Type 0
-IsOfDtc dtc_words = ⊤
-IsOfDtc out_of_memory = ⊤
-IsOfDtc wrong = ⊥

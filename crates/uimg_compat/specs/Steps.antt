@@ -2,7 +2,7 @@
 use Rattle.std.specs.Prelude.{◌≡◌, ℕ, List, Option, Some, None, Result, Ok, Err, ⊤}
 use Rattle.uimg_compat.specs.Asked.{Asked, Shown, shown_of, shows}
 use Rattle.uimg_compat.specs.Getopt.{Reading, Told, all_read, mistaken, told}
-use Rattle.uimg_compat.specs.Wrong.{Wrong, dtc_words, misused, out_of_memory, wrong_of}
+use Rattle.uimg_compat.specs.Wrong.{Wrong, misused, out_of_memory, wrong_of}
 use Rattle.uimg_compat.specs.declared.{fault.OldFault.OldFault, request.Show.Show}
 
 -- It sets something, or asks for a text, or is refused.
@@ -13,7 +13,6 @@ pub data Step (S : Type 0) : Type 0 where
 
 abbrev pub IsRefused : {S : Type 0} → Step S → Wrong → Type 0
 IsRefused asked out_of_memory = ⊤
-IsRefused asked dtc_words = ⊥
 IsRefused asked wrong = asked ≡ refuses wrong
 
 -- The step is the one asked for, unless memory ran out.

@@ -5,7 +5,7 @@ use Rattle.uimg_compat.specs.declared.fault.OldFault.{OldFault}
 use Rattle.uimg_compat.specs.declared.fault.OldFault.TheVariants as fault
 
 -- Each refusal of words, with the letter of the option and the word that is refused. No
--- definition asks for `out_of_memory` and `dtc_words`, a fault of the words of -D, which are dtc's.
+-- definition asks for `out_of_memory`, nor for `dtc_symbols`, which depends on the source.
 pub data Wrong : Type 0 where
   misused : Mistake → Wrong
   unknown_name : ℕ → Text → Wrong
@@ -26,11 +26,14 @@ pub data Wrong : Type 0 where
   other_images : Text → Wrong
   signs : ℕ → Wrong
   xip_of_parts : Wrong
-  dtc_words : Wrong
+  dtc_word : Wrong
+  dtc_end : Wrong
+  dtc_pad_and_space : Wrong
+  dtc_symbols : Wrong
   no_algorithm : Wrong
   out_of_memory : Wrong
 
--- The nearest name, which only the line of a fault shows, is left out.
+-- The nearest name and the word of -D, which only the line of a fault shows, are left out.
 abbrev pub wrong_of : OldFault → Wrong
 wrong_of (fault.Misused misuse) = misused (mistake_of misuse)
 wrong_of (fault.UnknownName letter title word) = unknown_name letter word.0.now
@@ -52,16 +55,15 @@ wrong_of fault.NoSource = no_source
 wrong_of (fault.OtherImages name) = other_images name.0.now
 wrong_of (fault.Signs letter) = signs letter
 wrong_of fault.XipOfParts = xip_of_parts
-wrong_of (fault.DtcWord word) = dtc_words
-wrong_of fault.DtcEnd = dtc_words
-wrong_of fault.DtcPadAndSpace = dtc_words
-wrong_of fault.DtcSymbols = dtc_words
+wrong_of (fault.DtcWord word) = dtc_word
+wrong_of fault.DtcEnd = dtc_end
+wrong_of fault.DtcPadAndSpace = dtc_pad_and_space
+wrong_of fault.DtcSymbols = dtc_symbols
 wrong_of fault.NoAlgorithm = no_algorithm
 wrong_of fault.OutOfMemory = out_of_memory
 
 abbrev pub IsWrong : {X : Type 0} → Result X Wrong → Wrong → Type 0
 IsWrong asked out_of_memory = ⊤
-IsWrong asked dtc_words = ⊥
 IsWrong asked wrong = asked ≡ Err wrong
 
 -- The answer is the one asked for, unless memory ran out.

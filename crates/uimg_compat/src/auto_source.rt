@@ -1,11 +1,26 @@
 //! The image source that mkimage makes itself for -f auto.
 
-ghost use Rattle.std.specs.Prelude.{◌<◌, IfSome};
-ghost use Rattle.uimg_compat.specs.Getopt.{left};
+ghost use Rattle.std.specs.Prelude.{◌≡◌, ◌≤◌, ◌<◌, ◌∷◌, [], ◌-◌, ◌==◌, not, length, map, IfSome, MatchOption};
+ghost use Rattle.std.specs.Prelude.{Some, option_map, take};
+ghost use Rattle.std.specs.{Fmt.{WritesOnOk}, List.{suffix_len}};
+ghost use Rattle.uimg_texts.specs.CodeRows.{row_of};
+ghost use Rattle.uimg_names.specs.declared.field.Field.TheVariants.{Architecture, System, Compression};
+ghost use Rattle.uimg_compat.specs.Asked.{auto_of};
+ghost use Rattle.uimg_compat.specs.AutoSource.{auto_text, bare_configuration_text, bare_head, base_name};
+ghost use Rattle.uimg_compat.specs.AutoSource.{configuration_end, configuration_head, configuration_text};
+ghost use Rattle.uimg_compat.specs.AutoSource.{configurations_by, configurations_head};
+ghost use Rattle.uimg_compat.specs.AutoSource.{configurations_text, each_from, ending, file_head, file_name};
+ghost use Rattle.uimg_compat.specs.AutoSource.{images_text};
+ghost use Rattle.uimg_compat.specs.AutoSource.{image_text, kind_name, paths_left, ramdisk_name};
+ghost use Rattle.uimg_compat.specs.AutoSource.{ramdisk_head, ramdisk_text, root_head, root_text, short_in, short_name};
+ghost use Rattle.uimg_compat.specs.AutoSource.{signature_items, tree_head, tree_of, tree_text, trees_of, trees_text};
+ghost use Rattle.uimg_compat.specs.AutoSource.{without_suffix};
+ghost use Rattle.uimg_compat.specs.Getopt.{left, told_of};
+ghost use Rattle.uimg_compat.specs.ImageTree.{item_of, source_text};
 
 use crate::getopt::{Given, Words};
+use crate::image_tree::{Item, put_items};
 use crate::mkimage_options::take_option;
-use crate::quoted::Quoted;
 use std::fmt;
 use std::fmt::{Display, Formatter, Write};
 use uimg_legacy::Options;
@@ -40,113 +55,228 @@ pub struct AutoSource<'a> {
 /// The paths of device trees, one after another.
 #[derive(Clone, Copy, Debug)]
 pub struct TreePaths<'a> {
-    words: Words<'a>,
+    words: Words<'a, 'a>,
 }
 
 impl<'a> AutoSource<'a> {
     /// Returns the paths of the device trees.
-    pub fn trees(&self) -> TreePaths<'a> {
+    pub fn trees(&self) -> TreePaths<'a>
+        ensures { paths_left result ≡ trees_of (map (λ word. word.now) self.now.words.now) }
+    {
         TreePaths {
             words: Words::new(self.words),
         }
     }
 
     // Returns the name of the file's image, by the short name of its type.
-    fn kind(&self) -> &'static str {
+    fn kind(&self) -> &'static str
+        ensures { result.now ≡ kind_name (auto_of self.now) }
+    {
         short_name(Field::Kind, self.options.kind)
     }
 
-    fn put_file<W: Write>(&self, f: &mut Formatter<W>) -> fmt::Result {
-        let options = &self.options;
+    // Returns the short name of the architecture of all images.
+    fn arch(&self) -> &'static str
+        ensures { result.now ≡ short_name Architecture (auto_of self.now).options.arch }
+    {
+        short_name(Field::Architecture, self.options.arch)
+    }
+
+    // Returns the short name of the system of the file and the RAM disk.
+    fn os(&self) -> &'static str
+        ensures { result.now ≡ short_name System (auto_of self.now).options.os }
+    {
+        short_name(Field::System, self.options.os)
+    }
+
+    fn comp(&self) -> &'static str
+        ensures { result.now ≡ short_name Compression (auto_of self.now).options.comp }
+    {
+        short_name(Field::Compression, self.options.comp)
+    }
+
+    fn root_head(&self) -> [Item<'_>; 5]
+        ensures { map item_of result ≡ root_head (auto_of self.now) }
+    {
+        [
+            Item::Begins("/"),
+            Item::Title(
+                "description",
+                Naming::All.code_text(Field::Kind, self.options.kind),
+            ),
+            Item::Name("creator", "U-Boot mkimage 2023.01"),
+            Item::Cell("#address-cells", 1),
+            Item::Begins("images"),
+        ]
+    }
+
+    fn file_head(&self) -> [Item<'_>; 9]
+        ensures { map item_of result ≡ file_head (auto_of self.now) }
+    {
         let kind = self.kind();
-        let arch = short_name(Field::Architecture, options.arch);
-        let os = short_name(Field::System, options.os);
-        let comp = short_name(Field::Compression, options.comp);
-        let name = Quoted(self.name.as_bytes());
-        let data = Quoted(self.data.as_bytes());
-        let (load, entry) = (options.load, options.ep);
-        write!(f, "{kind}-1 {{ description = {name}; type = \"{kind}\"; ")?;
-        write!(
-            f,
-            "arch = \"{arch}\"; os = \"{os}\"; compression = \"{comp}\";\n"
-        )?;
-        write!(
-            f,
-            "load = <{load}>; entry = <{entry}>; data = /incbin/({data});\n"
-        )?;
-        self.put_hash(f)
+        [
+            Item::BeginsNumbered(kind, 1),
+            Item::Text("description", self.name.as_bytes()),
+            Item::Name("type", kind),
+            Item::Name("arch", self.arch()),
+            Item::Name("os", self.os()),
+            Item::Name("compression", self.comp()),
+            Item::Cell("load", self.options.load),
+            Item::Cell("entry", self.options.ep),
+            Item::File("data", self.data),
+        ]
     }
 
-    fn put_tree<W: Write>(&self, number: u32, path: &str, f: &mut Formatter<W>) -> fmt::Result {
-        let arch = short_name(Field::Architecture, self.options.arch);
-        let name = Quoted(base_name(path));
-        let data = Quoted(path.as_bytes());
-        write!(
-            f,
-            "fdt-{number} {{ description = {name}; data = /incbin/({data});\n"
-        )?;
-        write!(
-            f,
-            "type = \"flat_dt\"; arch = \"{arch}\"; compression = \"none\";\n"
-        )?;
-        self.put_hash(f)
+    fn tree_head<'b>(&self, number: u32, path: &'b str) -> [Item<'b>; 6]
+        ensures { map item_of result ≡ tree_head (auto_of self.now) number path.now }
+    {
+        [
+            Item::BeginsNumbered("fdt", number),
+            Item::Text("description", base_name(path.as_bytes())),
+            Item::File("data", path),
+            Item::Name("type", "flat_dt"),
+            Item::Name("arch", self.arch()),
+            Item::Name("compression", "none"),
+        ]
     }
 
-    fn put_trees<W: Write>(&self, f: &mut Formatter<W>) -> fmt::Result {
+    fn ramdisk_head<'b>(&self, path: &'b str) -> [Item<'b>; 5]
+        ensures { map item_of result ≡ ramdisk_head (auto_of self.now) path.now }
+    {
+        [
+            Item::Begins("ramdisk-1"),
+            Item::Name("type", "ramdisk"),
+            Item::Name("os", self.os()),
+            Item::Name("arch", self.arch()),
+            Item::File("data", path),
+        ]
+    }
+
+    fn configuration_head<'b>(&self, number: u32, path: &'b str) -> [Item<'b>; 4]
+        ensures { map item_of result ≡ configuration_head (auto_of self.now) number path.now }
+    {
+        let kind = self.kind();
+        [
+            Item::BeginsNumbered("conf", number),
+            Item::Text("description", base_name(path.as_bytes())),
+            Item::Numbered(kind, kind, 1),
+            Item::Numbered("loadables", kind, 1),
+        ]
+    }
+
+    fn bare_head(&self) -> [Item<'_>; 2]
+        ensures { map item_of result ≡ bare_head (auto_of self.now) }
+    {
+        let kind = self.kind();
+        [Item::Begins("conf-1"), Item::Numbered(kind, kind, 1)]
+    }
+
+    fn put_root<W: Write>(&self, f: &mut Formatter<W>) -> fmt::Result
+        ensures { WritesOnOk W.Write.write_str_gives f.old result (root_text (auto_of self.now))
+            f.new }
+    {
+        put_items(&self.root_head(), f)?;
+        self.put_images(f)?;
+        put_items(&[Item::Ends], f)
+    }
+
+    fn put_images<W: Write>(&self, f: &mut Formatter<W>) -> fmt::Result
+        ensures { WritesOnOk W.Write.write_str_gives f.old result (images_text (auto_of self.now))
+            f.new }
+    {
+        self.put_image(&self.file_head(), f)?;
+        self.put_trees(f)?;
+        self.put_ramdisk(f)
+    }
+
+    // Writes an image: its properties, then its checksum or the signature that a key is to make.
+    fn put_image<W: Write>(&self, head: &[Item<'_>], f: &mut Formatter<W>) -> fmt::Result
+        ensures { WritesOnOk W.Write.write_str_gives f.old result
+            (image_text (auto_of self.now) (map item_of head.now)) f.new }
+    {
+        put_items(head, f)?;
+        self.put_ending(f)
+    }
+
+    fn put_trees<W: Write>(&self, f: &mut Formatter<W>) -> fmt::Result
+        ensures { WritesOnOk W.Write.write_str_gives f.old result (trees_text (auto_of self.now))
+            f.new }
+    {
         let mut trees = self.trees();
-        let mut number = 0u32;
+        let mut number = 1u32;
         while let Some(path) = trees.take() {
-            number = number.saturating_add(1);
             self.put_tree(number, path, f)?;
+            number = number.saturating_add(1);
         }
         Ok(())
     }
 
-    fn put_ramdisk<W: Write>(&self, path: &str, f: &mut Formatter<W>) -> fmt::Result {
-        let arch = short_name(Field::Architecture, self.options.arch);
-        let os = short_name(Field::System, self.options.os);
-        let data = Quoted(path.as_bytes());
-        write!(
-            f,
-            "ramdisk-1 {{ type = \"ramdisk\"; os = \"{os}\"; arch = \"{arch}\";\n"
-        )?;
-        write!(f, "data = /incbin/({data});\n")?;
-        self.put_hash(f)
+    fn put_tree<W: Write>(&self, number: u32, path: &str, f: &mut Formatter<W>) -> fmt::Result
+        ensures { WritesOnOk W.Write.write_str_gives f.old result
+            (tree_text (auto_of self.now) number path.now) f.new }
+    {
+        self.put_image(&self.tree_head(number, path), f)
     }
 
-    // Writes the end of an image: its checksum, or the signature that a key is to make.
-    fn put_hash<W: Write>(&self, f: &mut Formatter<W>) -> fmt::Result {
-        let Some((key, algo)) = self.signature else {
-            return f.write_str("hash-1 { algo = \"crc32\"; }; };\n");
-        };
-        let (key, algo) = (Quoted(key.as_bytes()), Quoted(algo.as_bytes()));
-        write!(
-            f,
-            "signature-1 {{ algo = {algo}; key-name-hint = {key}; }}; }};\n"
-        )
-    }
-
-    // Writes the name of the RAM disk, as each configuration has it.
-    fn put_ramdisk_name<W: Write>(&self, f: &mut Formatter<W>) -> fmt::Result {
+    fn put_ramdisk<W: Write>(&self, f: &mut Formatter<W>) -> fmt::Result
+        ensures { WritesOnOk W.Write.write_str_gives f.old result
+            (ramdisk_text (auto_of self.now) (auto_of self.now).ramdisk) f.new }
+    {
         match self.ramdisk {
-            Some(_) => f.write_str("ramdisk = \"ramdisk-1\"; "),
+            Some(path) => self.put_image(&self.ramdisk_head(path), f),
             None => Ok(()),
         }
     }
 
-    // Writes a configuration for each device tree, or one without.
-    fn put_configurations<W: Write>(&self, f: &mut Formatter<W>) -> fmt::Result {
-        let mut trees = self.trees();
-        let mut number = 0u32;
-        while let Some(path) = trees.take() {
-            number = number.saturating_add(1);
-            self.put_configuration(number, path, f)?;
+    // Writes the end of an image.
+    fn put_ending<W: Write>(&self, f: &mut Formatter<W>) -> fmt::Result
+        ensures { WritesOnOk W.Write.write_str_gives f.old result
+            (source_text (ending (auto_of self.now).signature)) f.new }
+    {
+        match self.signature {
+            Some((key, algorithm)) => put_items(&signature_items(key, algorithm), f),
+            None => put_items(
+                &[
+                    Item::Begins("hash-1"),
+                    Item::Name("algo", "crc32"),
+                    Item::Ends,
+                    Item::Ends,
+                ],
+                f,
+            ),
         }
-        if number == 0 {
-            let kind = self.kind();
-            write!(f, "conf-1 {{ {kind} = \"{kind}-1\"; ")?;
-            self.put_ramdisk_name(f)?;
-            f.write_str("};\n")?;
+    }
+
+    fn put_configurations<W: Write>(&self, f: &mut Formatter<W>) -> fmt::Result
+        ensures { WritesOnOk W.Write.write_str_gives f.old result
+            (configurations_text (auto_of self.now)) f.new }
+    {
+        put_items(&configurations_head(), f)?;
+        self.put_each_configuration(f)?;
+        put_items(&[Item::Ends], f)
+    }
+
+    // Writes a configuration for each device tree, or one without.
+    fn put_each_configuration<W: Write>(&self, f: &mut Formatter<W>) -> fmt::Result
+        ensures { WritesOnOk W.Write.write_str_gives f.old result
+            (configurations_by (auto_of self.now) (trees_of (auto_of self.now).words)) f.new }
+    {
+        let mut trees = self.trees();
+        match trees.take() {
+            Some(_) => self.put_tree_configurations(f),
+            None => self.put_bare_configuration(f),
+        }
+    }
+
+    fn put_tree_configurations<W: Write>(&self, f: &mut Formatter<W>) -> fmt::Result
+        ensures { WritesOnOk W.Write.write_str_gives f.old result (each_from
+            (configuration_text (auto_of self.now)) 1 (trees_of (auto_of self.now).words)) f.new }
+    {
+        let mut trees = self.trees();
+        let mut number = 1u32;
+        while let Some(path) = trees.take() {
+            self.put_configuration(number, path, f)?;
+            number = number.saturating_add(1);
         }
         Ok(())
     }
@@ -156,35 +286,45 @@ impl<'a> AutoSource<'a> {
         number: u32,
         path: &str,
         f: &mut Formatter<W>,
-    ) -> fmt::Result {
-        let kind = self.kind();
-        let name = Quoted(base_name(path));
-        write!(
-            f,
-            "conf-{number} {{ description = {name}; {kind} = \"{kind}-1\"; "
-        )?;
-        write!(f, "loadables = \"{kind}-1\"; ")?;
+    ) -> fmt::Result
+        ensures { WritesOnOk W.Write.write_str_gives f.old result
+            (configuration_text (auto_of self.now) number path.now) f.new }
+    {
+        put_items(&self.configuration_head(number, path), f)?;
         self.put_ramdisk_name(f)?;
-        write!(f, "fdt = \"fdt-{number}\"; }};\n")
+        put_items(&configuration_end(number), f)
+    }
+
+    fn put_bare_configuration<W: Write>(&self, f: &mut Formatter<W>) -> fmt::Result
+        ensures { WritesOnOk W.Write.write_str_gives f.old result
+            (bare_configuration_text (auto_of self.now)) f.new }
+    {
+        put_items(&self.bare_head(), f)?;
+        self.put_ramdisk_name(f)?;
+        put_items(&[Item::Ends], f)
+    }
+
+    // Writes the name of the RAM disk, as each configuration has it.
+    fn put_ramdisk_name<W: Write>(&self, f: &mut Formatter<W>) -> fmt::Result
+        ensures { WritesOnOk W.Write.write_str_gives f.old result
+            (source_text (ramdisk_name (auto_of self.now).ramdisk)) f.new }
+    {
+        match self.ramdisk {
+            Some(_) => put_items(&[Item::Name("ramdisk", "ramdisk-1")], f),
+            None => put_items(&[], f),
+        }
     }
 }
 
 impl<'a> Display for AutoSource<'a> {
+    ghost output = { λ it. Some (auto_text (auto_of it)) };
+
+    #[tactic(auto, unfolding(crate::specs::AutoSource::auto_text))]
     fn fmt<W: Write>(&self, f: &mut Formatter<W>) -> fmt::Result {
-        let kind = Naming::All.code_text(Field::Kind, self.options.kind);
-        write!(
-            f,
-            "/dts-v1/;\n/ {{\ndescription = \"{kind} image with one or more FDT blobs\";\n"
-        )?;
-        f.write_str("creator = \"U-Boot mkimage 2023.01\"; #address-cells = <1>;\nimages {\n")?;
-        self.put_file(f)?;
-        self.put_trees(f)?;
-        if let Some(path) = self.ramdisk {
-            self.put_ramdisk(path, f)?;
-        }
-        f.write_str("};\nconfigurations {\ndefault = \"conf-1\";\n")?;
+        f.write_str("/dts-v1/;\n")?;
+        self.put_root(f)?;
         self.put_configurations(f)?;
-        f.write_str("};\n};\n")
+        put_items(&[Item::Ends], f)
     }
 }
 
@@ -192,9 +332,11 @@ impl<'a> TreePaths<'a> {
     /// Takes the next path.
     pub fn take(&mut self) -> Option<&'a str>
         ensures less { IfSome result (λ _. left self.new.words < left self.old.words) }
+        ensures next { MatchOption result (paths_left self.old ≡ [])
+            (λ path. paths_left self.old ≡ path.now ∷ paths_left self.new) }
     {
         while let Ok(Some(given)) = take_option(&mut self.words) {
-            if let Given::Value('b', path) = given {
+            if let Some(path) = tree_of(given) {
                 return Some(path);
             }
         }
@@ -202,9 +344,56 @@ impl<'a> TreePaths<'a> {
     }
 }
 
+// Returns the end of an image with the signature node for a key.
+fn signature_items<'a>(key: &'a str, algorithm: &'a str) -> [Item<'a>; 5]
+    ensures { map item_of result ≡ signature_items key.now algorithm.now }
+{
+    [
+        Item::Begins("signature-1"),
+        Item::Text("algo", algorithm.as_bytes()),
+        Item::Text("key-name-hint", key.as_bytes()),
+        Item::Ends,
+        Item::Ends,
+    ]
+}
+
+fn configurations_head() -> [Item<'static>; 2]
+    ensures { map item_of result ≡ configurations_head }
+{
+    [
+        Item::Begins("configurations"),
+        Item::Name("default", "conf-1"),
+    ]
+}
+
+// Returns the end of a configuration of a device tree.
+fn configuration_end(number: u32) -> [Item<'static>; 2]
+    ensures { map item_of result ≡ configuration_end number }
+{
+    [Item::Numbered("fdt", "fdt", number), Item::Ends]
+}
+
+// Returns the path of a device tree, if an option gives one.
+fn tree_of<'a>(given: Given<'a>) -> Option<&'a str>
+    ensures { option_map (λ path. path.now) result ≡ tree_of (told_of given.entry) }
+{
+    match given {
+        Given::Value('b', path) => Some(path),
+        _ => None,
+    }
+}
+
 // Returns the first short name of a code.
-fn short_name(field: Field, code: u8) -> &'static str {
-    for (short, known, _) in field.rows() {
+fn short_name(field: Field, code: u8) -> &'static str
+    ensures { result.now ≡ short_name field code }
+{
+    first_short(field.rows(), code)
+}
+
+fn first_short(rows: &'static [(&'static str, u8, &'static str)], code: u8) -> &'static str
+    ensures { result.now ≡ short_in (map row_of rows.now) code }
+{
+    for (short, known, _) in rows {
         if code == *known {
             return short;
         }
@@ -213,15 +402,39 @@ fn short_name(field: Field, code: u8) -> &'static str {
 }
 
 // Returns the name of the file at a path, without its last dot and what follows it.
-fn base_name(path: &str) -> &[u8] {
-    let name = match path.rsplit_once('/') {
-        Some((_, name)) => name,
-        None => path,
-    };
-    let name = match name.rsplit_once('.') {
-        Some((before, _)) => before,
-        None => name,
-    };
-    let bytes = name.as_bytes();
-    bytes.get(..LONGEST).unwrap_or(bytes)
+fn base_name(path: &[u8]) -> &[u8]
+    ensures { result.now ≡ base_name path.now }
+{
+    at_most(without_suffix(file_name(path)), LONGEST)
+}
+
+fn at_most(name: &[u8], length: usize) -> &[u8]
+    ensures { result.now ≡ take length name.now }
+{
+    name.get(..length).unwrap_or(name)
+}
+
+fn file_name(path: &[u8]) -> &[u8]
+    ensures { result.now ≡ file_name path.now }
+{
+    &path[end_of_last(path, b'/')..]
+}
+
+fn without_suffix(name: &[u8]) -> &[u8]
+    ensures { result.now ≡ without_suffix name.now }
+{
+    let end = end_of_last(name, b'.');
+    if end > 0 { &name[..end - 1] } else { name }
+}
+
+// Returns the number of bytes up to and with the last one that is this, or 0.
+fn end_of_last(text: &[u8], byte: u8) -> usize
+    ensures end { result ≡ length text.now - suffix_len (λ it. not (it == byte)) text.now }
+    ensures inside { result ≤ length text.now }
+{
+    let mut end = text.len();
+    while end > 0 && text[end - 1] != byte {
+        end -= 1;
+    }
+    end
 }

@@ -4,6 +4,7 @@ ghost use Rattle.std.specs.Prelude.{true, ◌==◌, ◌-◌, if◌then◌else◌
 ghost use Rattle.std.specs.Prelude.{option_map, length, IfSome};
 ghost use Rattle.std.specs.Bool.{OnTrue};
 ghost use Rattle.std.specs.Str.Parse.{digits_value};
+ghost use Rattle.uimg_compat.specs.CNumbers.{base_of, c_int};
 ghost use Rattle.uimg_compat.specs.CNumbers.{IsIn64Bits, at_most, leading_digits, long_prefix};
 ghost use Rattle.uimg_compat.specs.CNumbers.{behind_blank, behind_mark, in_64_bits, is_blank};
 ghost use Rattle.uimg_compat.specs.CNumbers.{is_numeral, opposite, unsigned_long, without_blanks};
@@ -16,6 +17,9 @@ const MOST_AFTER: u64 = 67_768_036_191_676_799;
 
 /// The most seconds before 1970 that gmtime has a year for.
 const MOST_BEFORE: u64 = 67_768_040_609_740_800;
+
+/// The greatest int of C.
+const MOST_INT: u64 = 2_147_483_647;
 
 /// Reads a text to its end as strtoull does in a base: blanks, a sign, for base 16 `0x` or `0X`,
 /// and digits; an empty text is 0. A number of more than 64 bits is 2^64 - 1, and a negative one
@@ -52,6 +56,36 @@ pub fn long_prefix(text: &str) -> Option<u32>
         Some(_) => Some(low_opposite(low_half(number))),
         None if number > MOST_AFTER => None,
         None => Some(low_half(number)),
+    }
+}
+
+/// Reads a text to its end as strtol does in base 0, in which `0x` or `0X` is before hexadecimal
+/// digits and `0` before octal ones. Returns `None` if anything is left, and for a number that is no
+/// int from 0 on.
+pub(crate) fn c_int(text: &str) -> Option<u32>
+    ensures { result ≡ c_int text.now }
+{
+    let base = base_of(without_sign(without_blanks(text)));
+    let number = unsigned_long(text, base)?;
+    if number > MOST_INT {
+        None
+    } else {
+        Some(number as u32)
+    }
+}
+
+// Returns the base of digits by what they begin with.
+fn base_of(digits: &str) -> u32
+    ensures base { result ≡ base_of digits.now }
+    ensures least { 2 ≤ result }
+    ensures most { result ≤ 36 }
+{
+    if !behind_mark(digits).is_empty() {
+        return 16;
+    }
+    match behind(digits, '0') {
+        Some(_) => 8,
+        None => 10,
     }
 }
 

@@ -1,5 +1,9 @@
 //! The names of dtc's checks, which its warnings have.
 
+ghost use Rattle.std.specs.Prelude.{◌≡◌, map};
+ghost use Rattle.std.specs.{List.{list_any}, Str.{bytes_eq}};
+ghost use Rattle.uimg_compat.specs.DtcChecks.{is_check, without_no};
+
 /// The names that `dtc -W` and `dtc -E` of 1.6.1 take.
 const CHECKS: [&str; 88] = [
     "addr_size_cells",
@@ -93,10 +97,25 @@ const CHECKS: [&str; 88] = [
 ];
 
 /// Returns whether a check has this name, or the name after `no-`.
-pub(crate) fn is_check(name: &str) -> bool {
-    let name = name.strip_prefix("no-").unwrap_or(name);
-    for known in CHECKS {
-        if known == name {
+#[tactic(auto, unfolding(crate::specs::DtcChecks::is_check, crate::specs::DtcChecks::dtc_checks))]
+pub(crate) fn is_check(name: &str) -> bool
+    ensures { result ≡ is_check name.now }
+{
+    is_among(without_no(name), &CHECKS)
+}
+
+// Returns a name without the `no-` that it begins with.
+fn without_no(name: &str) -> &str
+    ensures { result.now ≡ without_no name.now }
+{
+    name.strip_prefix("no-").unwrap_or(name)
+}
+
+fn is_among(name: &str, names: &[&str]) -> bool
+    ensures { result ≡ list_any (λ known. bytes_eq known name.now) (map (λ known. known.now) names.now) }
+{
+    for known in names {
+        if *known == name {
             return true;
         }
     }

@@ -1,30 +1,50 @@
 //! The words of -D, which are dtc's.
 
-ghost use Rattle.std.specs.Prelude.{IfErr};
-ghost use Rattle.uimg_compat.specs.Requests.{IsOfDtc};
-ghost use Rattle.uimg_compat.specs.Wrong.{wrong_of};
+ghost use Rattle.std.specs.Prelude.{◌≡◌, map, filter, find, length, nat_lt, option_map, ◌++◌};
+ghost use Rattle.std.specs.{List.{list_any}};
+ghost use Rattle.uimg_compat.specs.Dtc.{IsTaken, dtc_asked, dtc_of, dtc_rows, flag_taken, is_odd};
+ghost use Rattle.uimg_compat.specs.Dtc.{is_special, number_taken, of_words, silencing, taken};
+ghost use Rattle.uimg_compat.specs.Dtc.{dtc_after, if_so, no_options, value_taken, whole, words_in, wrong_by};
+ghost use Rattle.uimg_compat.specs.DtcChecks.{is_check};
+ghost use Rattle.uimg_compat.specs.Getopt.{reading, Takes, left, mistake_of, told_of, unread};
+ghost use Rattle.uimg_compat.specs.Wrong.{dtc_word, or_wrong, Tells, wrong_of};
+ghost use Rattle.std.specs.Prelude.{◌<◌, IfOk, IfSome};
 
+use crate::c_numbers::c_int;
 use crate::dtc_checks::is_check;
 use crate::fault::OldFault;
-use crate::getopt::{OptionRow, option_by_name};
-use std::alloc::Global;
+use crate::getopt::{Given, Misuse, OptionRow, Words};
+use std::alloc::{AllocError, Global};
 use uimg_printing::Printed;
 
-/// The options of dtc 1.6.1 with which mkimage makes the same image, or finds other files.
-const DTC_OPTIONS: [OptionRow; 12] = [
-    ('@', "symbols", false),
-    ('a', "align", true),
-    ('b', "boot-cpu", true),
-    ('E', "error", true),
-    ('i', "include", true),
-    ('I', "in-format", true),
-    ('O', "out-format", true),
-    ('p', "pad", true),
+/// The options of dtc 1.6.1.
+const DTC_OPTIONS: [OptionRow; 22] = [
     ('q', "quiet", false),
+    ('I', "in-format", true),
+    ('o', "out", true),
+    ('O', "out-format", true),
+    ('V', "out-version", true),
+    ('d', "out-dependency", true),
     ('R', "reserve", true),
     ('S', "space", true),
+    ('p', "pad", true),
+    ('a', "align", true),
+    ('b', "boot-cpu", true),
+    ('f', "force", false),
+    ('i', "include", true),
+    ('s', "sort", false),
+    ('H', "phandle", true),
     ('W', "warning", true),
+    ('E', "error", true),
+    ('@', "symbols", false),
+    ('A', "auto-alias", false),
+    ('T', "annotate", false),
+    ('h', "help", false),
+    ('v', "version", false),
 ];
+
+/// What a shell, which mkimage calls, reads as more than itself, beside control characters.
+const SPECIAL: &[u8] = b"\"#$&'()*;<>?[\\]`{|}~!";
 
 /// What the words of -D change.
 #[derive(Drop)]
@@ -38,8 +58,8 @@ pub struct DtcWords<'a> {
     /// Whether the image is to have the labels of the source.
     pub has_symbols: bool,
 
-    has_pad: bool,
-    has_space: bool,
+    pad: u32,
+    space: u32,
 }
 
 /// The warnings that a command line silences by the names of dtc's checks.
@@ -55,7 +75,25 @@ pub struct Silenced {
 /// Reads the words of -D, which are separated by blanks. Refuses those that a shell would change,
 /// and those with which dtc would make another image or none.
 pub(crate) fn read_dtc_words<'a>(alloc: Global, text: &'a str) -> Result<DtcWords<'a>, OldFault<'a>>
-    ensures { IfErr result (λ fault. IsOfDtc (wrong_of fault)) }
+    ensures { Tells dtc_of (dtc_asked text.entry.now) result }
+{
+    let words = words_of(alloc, text)?;
+    read_words(alloc, words.as_slice())
+}
+
+// Reads words as dtc does.
+fn read_words<'w, 'a>(alloc: Global, words: &'w [&'a str]) -> Result<DtcWords<'a>, OldFault<'a>>
+    ensures { Tells dtc_of (of_words (map (λ word. word.now) words.now)) result }
+{
+    if let Some(word) = odd_word(words) {
+        return Err(OldFault::DtcWord(Printed(word.as_bytes())));
+    }
+    read_options(alloc, words)
+}
+
+fn read_options<'w, 'a>(alloc: Global, words: &'w [&'a str]) -> Result<DtcWords<'a>, OldFault<'a>>
+    ensures { Tells dtc_of (dtc_after (reading dtc_rows (map (λ word. word.now) words.now))
+        no_options) result }
 {
     let mut read = DtcWords {
         folders: Vec::new(alloc),
@@ -64,161 +102,182 @@ pub(crate) fn read_dtc_words<'a>(alloc: Global, text: &'a str) -> Result<DtcWord
             equal_properties: false,
         },
         has_symbols: false,
-        has_pad: false,
-        has_space: false,
+        pad: 0,
+        space: 0,
     };
-    let mut waiting = None;
-    for word in text.split(' ') {
-        if !word.is_empty() {
-            waiting = read.take_word(waiting, word)?;
+    let mut unread = Words::new(words);
+    loop {
+        match take_option(&mut unread) {
+            Ok(Some(given)) => match read.take(given) {
+                Ok(true) => {}
+                Ok(false) => return Err(OldFault::DtcWord(Printed(unread.last().as_bytes()))),
+                Err(_) => return Err(OldFault::OutOfMemory),
+            },
+            Ok(None) => return read.whole(),
+            Err(misuse) => return Err(fault_of(misuse, unread.last())),
         }
     }
-    match waiting {
-        None if read.has_pad && read.has_space => Err(OldFault::DtcPadAndSpace),
-        None => Ok(read),
-        Some(_) => Err(OldFault::DtcEnd),
+}
+
+// Takes dtc's next option, or operand. Returns `None` at the end.
+#[tactic(auto, unfolding(crate::specs::Dtc::dtc_rows))]
+fn take_option<'w, 'a>(words: &mut Words<'w, 'a>) -> Result<Option<Given<'a>>, Misuse<'a>>
+    ensures less { IfOk result (λ given. IfSome given (λ _. left words.new < left words.old)) }
+    ensures next { Takes result (unread dtc_rows words.old) (unread dtc_rows words.new) }
+{
+    words.take(&DTC_OPTIONS)
+}
+
+// Returns why words are refused that getopt cannot read further than this word.
+fn fault_of<'a>(misuse: Misuse<'a>, word: &'a str) -> OldFault<'a>
+    ensures { wrong_of result ≡ wrong_by (mistake_of misuse.entry) }
+{
+    match misuse {
+        Misuse::NoValueOfLetter(_) => OldFault::DtcEnd,
+        Misuse::NoValueOfName(_) => OldFault::DtcEnd,
+        _ => OldFault::DtcWord(Printed(word.as_bytes())),
     }
 }
 
 impl<'a> DtcWords<'a> {
-    // Takes the next word: the value of the option that waits for one, or options. Returns the
-    // option whose value is the word after it.
-    fn take_word(
-        &mut self,
-        waiting: Option<char>,
-        word: &'a str,
-    ) -> Result<Option<char>, OldFault<'a>>
-        ensures { IfErr result (λ fault. IsOfDtc (wrong_of fault)) }
+    // Takes an option or an operand. Returns whether the image is the same with it.
+    fn take(&mut self, given: Given<'a>) -> Result<bool, AllocError>
+        ensures { IfOk result (λ is_taken. IsTaken is_taken
+            (taken (told_of given.entry) (dtc_of self.old)) (dtc_of self.new)) }
     {
-        if word.contains(is_special) {
-            return Err(OldFault::DtcWord(Printed(word.as_bytes())));
-        }
-        match (waiting, word.strip_prefix("--")) {
-            (Some(option), _) => self.take_value(option, word, word),
-            (None, Some(text)) => self.take_long(text, word),
-            (None, None) => self.take_letters(word),
-        }
-    }
-
-    // Takes a long option, whose text follows two dashes.
-    fn take_long(&mut self, text: &'a str, word: &'a str) -> Result<Option<char>, OldFault<'a>>
-        ensures { IfErr result (λ fault. IsOfDtc (wrong_of fault)) }
-    {
-        let (name, joined) = match text.split_once('=') {
-            Some((name, value)) => (name, Some(value)),
-            None => (text, None),
-        };
-        match (option_by_name(&DTC_OPTIONS, name), joined) {
-            (Some((option, _, true)), Some(value)) => self.take_value(option, value, word),
-            (Some((option, _, true)), None) => Ok(Some(option)),
-            (Some((option, _, false)), None) => {
-                self.take_flag(option);
-                Ok(None)
+        match given {
+            Given::Operand(_) => Ok(false),
+            Given::Flag(option) => Ok(self.take_flag(option)),
+            Given::Value('i', folder) => {
+                self.folders.push(folder)?;
+                Ok(true)
             }
-            _ => Err(OldFault::DtcWord(Printed(word.as_bytes()))),
+            Given::Value(option, value) => Ok(self.take_value(option, value)),
         }
     }
 
-    // Takes a word of joined letters: options without a value, then at most one with a value.
-    fn take_letters(&mut self, word: &'a str) -> Result<Option<char>, OldFault<'a>>
-        ensures { IfErr result (λ fault. IsOfDtc (wrong_of fault)) }
+    // Takes an option without a value. Returns whether the image is the same with it.
+    fn take_flag(&mut self, option: char) -> bool
+        ensures { IsTaken result (flag_taken option (dtc_of self.old)) (dtc_of self.new) }
     {
-        let letters = word.strip_prefix('-').unwrap_or("");
-        let rest = letters.trim_start_matches(is_flag);
-        for flag in letters.chars() {
-            if !is_flag(flag) {
-                break;
-            }
-            self.take_flag(flag);
-        }
-        match (option_with_value(rest), rest.is_empty()) {
-            (Some((option, "")), _) => Ok(Some(option)),
-            (Some((option, value)), _) => self.take_value(option, value, word),
-            (None, true) if !letters.is_empty() => Ok(None),
-            _ => Err(OldFault::DtcWord(Printed(word.as_bytes()))),
-        }
-    }
-
-    fn take_flag(&mut self, option: char) {
-        if option == '@' {
-            self.has_symbols = true;
-        }
-    }
-
-    // Takes an option with its value, which ends this word.
-    fn take_value(
-        &mut self,
-        option: char,
-        value: &'a str,
-        word: &'a str,
-    ) -> Result<Option<char>, OldFault<'a>>
-        ensures { IfErr result (λ fault. IsOfDtc (wrong_of fault)) }
-    {
-        let number = number_of(value);
-        let is_taken = match (option, number) {
-            ('I', _) => value == "dts",
-            ('O', _) => value == "dtb",
-            ('W' | 'E', _) => self.take_check(value),
-            ('i', _) => {
-                if self.folders.push(value).is_err() {
-                    return Err(OldFault::OutOfMemory);
-                }
+        match option {
+            'q' => true,
+            '@' => {
+                self.has_symbols = true;
                 true
             }
-            ('p', Some(number)) => {
-                self.has_pad = number != 0;
-                true
-            }
-            ('S', Some(number)) => {
-                self.has_space = number != 0;
-                true
-            }
-            ('a', Some(number)) => number.is_power_of_two(),
-            ('b', Some(number)) => number == 0,
-            ('R', Some(_)) => true,
             _ => false,
+        }
+    }
+
+    // Takes an option with a value that is no folder. Returns whether the image is the same with it.
+    fn take_value(&mut self, option: char, value: &str) -> bool
+        ensures { IsTaken result (value_taken option value.now (dtc_of self.old))
+            (dtc_of self.new) }
+    {
+        match option {
+            'I' => value == "dts",
+            'O' => value == "dtb",
+            'W' => self.take_check(value),
+            'E' => self.take_check(value),
+            _ => self.take_number(option, c_int(value)),
+        }
+    }
+
+    fn take_number(&mut self, option: char, number: Option<u32>) -> bool
+        ensures { IsTaken result (number_taken option number (dtc_of self.old)) (dtc_of self.new) }
+    {
+        let Some(number) = number else {
+            return false;
         };
-        if is_taken {
-            Ok(None)
-        } else {
-            Err(OldFault::DtcWord(Printed(word.as_bytes())))
+        match option {
+            'p' => {
+                self.pad = number;
+                true
+            }
+            'S' => {
+                self.space = number;
+                true
+            }
+            'a' => number.is_power_of_two(),
+            'b' => number == 0,
+            'R' => true,
+            _ => false,
         }
     }
 
     // Takes the name of a check. Returns whether dtc has it.
-    fn take_check(&mut self, name: &str) -> bool {
-        match name {
-            "no-duplicate_node_names" => self.silenced.equal_nodes = true,
-            "no-duplicate_property_names" => self.silenced.equal_properties = true,
-            _ => {}
+    fn take_check(&mut self, name: &str) -> bool
+        ensures { IsTaken result (if_so (is_check name.now) (silencing name.now (dtc_of self.old)))
+            (dtc_of self.new) }
+    {
+        if !is_check(name) {
+            return false;
         }
-        is_check(name)
+        let silenced = self.silenced;
+        self.silenced = Silenced {
+            equal_nodes: silenced.equal_nodes || name == "no-duplicate_node_names",
+            equal_properties: silenced.equal_properties || name == "no-duplicate_property_names",
+        };
+        true
+    }
+
+    // Returns what all words change.
+    fn whole(self) -> Result<DtcWords<'a>, OldFault<'a>>
+        ensures { Tells dtc_of (whole (dtc_of self.entry)) result }
+    {
+        if self.pad == 0 || self.space == 0 {
+            Ok(self)
+        } else {
+            Err(OldFault::DtcPadAndSpace)
+        }
     }
 }
 
-fn is_flag(letter: char) -> bool {
-    letter == 'q' || letter == '@'
+// Returns the words between the blanks of a text.
+fn words_of<'a>(alloc: Global, text: &'a str) -> Result<Vec<&'a str>, AllocError>
+    ensures { IfOk result (λ words. map (λ word. word.now) words.items ≡ words_in text.entry.now) }
+{
+    let mut words = Vec::new(alloc);
+    for word in text.split(' ') {
+        if !word.is_empty() {
+            words.push(word)?;
+        }
+    }
+    Ok(words)
 }
 
-// Returns the option with a value of the first letter, and what follows the letter.
-fn option_with_value(letters: &str) -> Option<(char, &str)> {
-    for (letter, _, has_value) in DTC_OPTIONS {
-        if has_value && let Some(rest) = letters.strip_prefix(letter) {
-            return Some((letter, rest));
+// Returns the first word that is not to be read.
+fn odd_word<'a>(words: &[&'a str]) -> Option<&'a str>
+    ensures { option_map (λ word. word.now) result ≡ find is_odd (map (λ word. word.now) words.now) }
+{
+    for word in words {
+        if is_odd(word) {
+            return Some(*word);
         }
     }
     None
 }
 
-// Reads a decimal number or, after `0x`, a hexadecimal one.
-fn number_of(word: &str) -> Option<u32> {
-    match word.strip_prefix("0x") {
-        Some(digits) => u32::from_str_radix(digits, 16).ok(),
-        None => word.parse::<u32>().ok(),
-    }
+fn is_odd(word: &str) -> bool
+    ensures { result ≡ is_odd word.now }
+{
+    word == "--" || has_special(word.as_bytes())
 }
 
-// Returns whether a shell, which mkimage calls, would read a letter as more than itself.
-fn is_special(letter: char) -> bool {
-    letter.is_ascii_control() || "\"#$&'()*;<>?[\\]`{|}~!".contains(letter)
+fn has_special(word: &[u8]) -> bool
+    ensures { result ≡ list_any is_special word.now }
+{
+    for byte in word {
+        if is_special(*byte) {
+            return true;
+        }
+    }
+    false
+}
+
+fn is_special(byte: u8) -> bool
+    ensures { result ≡ is_special byte }
+{
+    byte < 32 || byte == 127 || SPECIAL.contains(&byte)
 }

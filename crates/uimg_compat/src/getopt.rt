@@ -64,17 +64,17 @@ pub enum Misuse<'a> {
 
 /// The unread words of a command line.
 #[derive(Clone, Copy, Debug)]
-pub struct Words<'a> {
-    words: &'a [&'a str],
+pub struct Words<'w, 'a> {
+    words: &'w [&'a str],
     next: usize,
     letters: &'a str,
     has_operands_alone: bool,
 }
 
-impl<'a> Words<'a> {
+impl<'w, 'a> Words<'w, 'a> {
     /// Returns the words after the program's name, all unread.
     #[tactic(auto, unfolding(crate::specs::Getopt::lettered))]
-    pub fn new(words: &'a [&'a str]) -> Words<'a>
+    pub fn new(words: &'w [&'a str]) -> Words<'w, 'a>
         ensures { (rows : List Row) → unread rows result ≡ reading rows
             (map (λ word. word.now) words.now) }
     {
@@ -112,6 +112,14 @@ impl<'a> Words<'a> {
                 }
             }
             Some(text) => self.take_option(rows, text),
+        }
+    }
+
+    /// Returns the word that was read last.
+    pub(crate) fn last(&self) -> &'a str {
+        match self.words.get(self.next.wrapping_sub(1)) {
+            Some(word) => *word,
+            None => "",
         }
     }
 
@@ -177,7 +185,7 @@ impl<'a> Words<'a> {
     }
 }
 
-impl<'a> Words<'a> {
+impl<'w, 'a> Words<'w, 'a> {
     // Takes the option whose text follows two dashes.
     fn take_long(
         &mut self,

@@ -10,6 +10,7 @@ mod dumpimage;
 mod fault;
 mod getopt;
 mod helps;
+mod image_tree;
 mod labels;
 mod mkimage;
 mod mkimage_options;

@@ -3,10 +3,11 @@
 mod requests;
 
 ghost use Rattle.std.specs.Prelude.{◌≡◌, map, option_map, Ok};
+ghost use Rattle.uimg_compat.specs.Asked.{asked_of};
 ghost use Rattle.uimg_compat.specs.Getopt.{told_of};
 ghost use Rattle.uimg_compat.specs.Mkimage.{address_asked, flag_step, name_step, number_step};
 ghost use Rattle.uimg_compat.specs.Mkimage.{setting_of, step, value_step, with_word};
-ghost use Rattle.uimg_compat.specs.Requests.{Answers, mkimage_asked};
+ghost use Rattle.uimg_compat.specs.Requests.{mkimage_asked};
 ghost use Rattle.uimg_compat.specs.Steps.{Steps, done};
 ghost use Rattle.uimg_compat.specs.Wrong.{Tells};
 
@@ -54,14 +55,13 @@ struct Settings<'a> {
 
 /// Reads the words after mkimage's name. `epoch` is SOURCE_DATE_EPOCH if it is set, and `now` the
 /// current time in seconds since 1970.
-#[tactic(auto, using(crate::proofs::Telling::answers))]
 pub fn read_mkimage<'a>(
     alloc: Global,
     words: &'a [&'a str],
     epoch: Option<&str>,
     now: u32,
 ) -> Result<OldRequest<'a>, OldFault<'a>>
-    ensures { Answers (mkimage_asked (map (λ word. word.now) words.now)
+    ensures { Tells asked_of (mkimage_asked (map (λ word. word.now) words.now)
         (option_map (λ text. text.now) epoch.entry) now) result }
 {
     let mut settings = Settings {

@@ -45,7 +45,9 @@ const MKIMAGE_OPTIONS: [OptionRow; 33] = [
 
 /// Takes mkimage's next option, or operand. Returns `None` at the end.
 #[tactic(auto, unfolding(crate::specs::Mkimage::mkimage_rows))]
-pub(crate) fn take_option<'a>(words: &mut Words<'a>) -> Result<Option<Given<'a>>, Misuse<'a>>
+pub(crate) fn take_option<'w, 'a>(
+    words: &mut Words<'w, 'a>,
+) -> Result<Option<Given<'a>>, Misuse<'a>>
     ensures less { IfOk result (λ given. IfSome given (λ _. left words.new < left words.old)) }
     ensures next { Takes result (unread mkimage_rows words.old) (unread mkimage_rows words.new) }
 {

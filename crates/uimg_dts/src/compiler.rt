@@ -10,13 +10,13 @@ use crate::fault::DtsFault;
 use crate::finding::ROOT;
 use crate::lexing::lex;
 use crate::planting::planted;
-use crate::statements::{Reservation, headers, reservations, root, statement};
+use crate::statements::{headers, reservations, root, statement};
 use crate::stop::{FileStop, Stop, out_of_memory};
 use crate::table::Table;
 use crate::tokens::Token;
 use std::alloc::Allocator;
 use uimg_base::Files;
-use uimg_blob_writing::Tree;
+use uimg_blob_writing::{Reservation, Tree};
 
 /// What a source means.
 #[derive(Drop)]

@@ -36,4 +36,3 @@ mod words;
 
 pub use compiler::{Compiled, compile_all};
 pub use fault::{DtsFault, DtsKind, Refusal};
-pub use statements::Reservation;

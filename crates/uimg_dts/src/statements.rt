@@ -12,16 +12,10 @@ use crate::table::{Owner, Table};
 use crate::tokens::{NOTHING, Piece, Token, Word};
 use std::alloc::Allocator;
 use uimg_base::Files;
+use uimg_blob_writing::Reservation;
 
 /// The most levels of a tree; the root is at the first.
 const MOST_LEVELS: u8 = 64;
-
-/// A range of memory that is reserved.
-#[derive(Clone, Copy, Debug, PartialEq, Eq)]
-pub struct Reservation {
-    pub address: u64,
-    pub size: u64,
-}
 
 /// Reads the headers of a source. Returns the words after them.
 pub(crate) fn headers(tokens: &[Token]) -> Result<&[Token], Stop> {

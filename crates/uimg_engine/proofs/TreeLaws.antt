@@ -15,7 +15,7 @@ use Rattle.uimg_fit_base.specs.declared.fault.FitFault.TheVariants as fit_fault
 use Rattle.uimg_fit_building.specs.BuildAnswers.{is_no_file as fit_is_no_file, CanBuild, BuildsAnswer}
 use Rattle.uimg_fit_building.specs.{Building.{placed_blob, built}, Filling.IsFilled}
 use Rattle.uimg_fit_building.specs.FillAnswers.{opens_no_file, fails_to_read, Fills, FillsAnswer}
-use Rattle.uimg_fit_building.specs.{ReadsBack.ReadsBack, Refusing.{is_low, build_fault}}
+use Rattle.uimg_fit_building.specs.{ReadsBack.ReadsBack, Refusing.{is_low, build_fault, fault_with}}
 use Rattle.uimg_engine.specs.{declared.fault.Fault.Fault, Commands.{LacksSource, OpensSource}}
 use Rattle.uimg_engine.specs.Faults.{of_fit, is_unread, is_no_text, is_no_payload, refuses_payload, is_lost_payload, loses_payload}
 use Rattle.uimg_engine.specs.MakingTrees.{SpellsTree, RefusesText, FillsTree, Unfilled, FillsSource, BuildsTree, BuildsSource, unbuilt, unwritten}
@@ -157,7 +157,7 @@ kept_payload false false true = refl
 kept_payload false false false = tt
 
 keeps_payload : (t : Nodes) (placement : AlignedPlacement) → KeepsPayload (build_fault t placement)
-unfolding build_fault
+unfolding fault_with
 keeps_payload t placement =
     kept_payload (nat_lt 4294967295 (length (placed_blob t placement))) (is_low (length (placed_blob t placement)) placement) (nat_lt 4294967295 (length (built t placement)))
 

@@ -10,33 +10,36 @@ use crate::making::{keep, write_out};
 use std::alloc::Allocator;
 use std::io::Write;
 use uimg_base::{Files, Out, Room, Shelf};
-use uimg_blob_writing::Tree;
+use uimg_blob_writing::{Reservation, Tree};
 use uimg_fit_base::AlignedPlacement;
-use uimg_fit_building::build_by;
+use uimg_fit_building::{Frame, build_with};
 use uimg_names::Naming;
 use uimg_requests::{Action, Command, Form};
 
 /// How a FIT image is made from a tree.
 #[derive(Clone, Copy)]
-pub struct TreeManner {
+pub struct TreeManner<'a> {
     /// Where its payloads go.
     pub placement: AlignedPlacement,
+
+    /// The memory that its blob reserves.
+    pub reservations: &'a [Reservation],
 
     /// The names for the listing of the image.
     pub naming: Naming,
 }
 
-/// Makes a FIT image from a tree: builds it on the shelf as `uimg_fit::build` does, reopens it, and
-/// writes its listing to `out`. Returns what was kept.
+/// Makes a FIT image from a tree: builds it on the shelf as `uimg_fit::build` does, with
+/// reservations, reopens it, and writes its listing to `out`. Returns what was kept.
 ///
 /// Over honest files of the sizes that the tree keeps, and an honest, empty shelf, what is kept are
-/// the bytes of `built`; if the tree is filled, they read back. Returns `Fault::Blob`, `Fault::Fit`,
-/// `Fault::Read` and `Fault::Put` as `uimg_fit::build` does, `Fault::Keep` if what was written could
-/// not be reopened, and the faults of the listing.
+/// the bytes of `built_with`; if the tree is filled, they read back. Returns `Fault::Blob`,
+/// `Fault::Fit`, `Fault::Read` and `Fault::Put` as `uimg_fit::build` does, `Fault::Keep` if what was
+/// written could not be reopened, and the faults of the listing.
 pub fn make_tree<F: Files, H: Shelf, W: Write, A: Allocator + Copy, B: Allocator>(
     alloc: A,
     tree: &Tree<A>,
-    manner: TreeManner,
+    manner: TreeManner<'_>,
     files: &mut F,
     shelf: H,
     room: &mut Room<B>,
@@ -44,13 +47,18 @@ pub fn make_tree<F: Files, H: Shelf, W: Write, A: Allocator + Copy, B: Allocator
 ) -> Result<H::Kept, Fault>
     ensures made { IsTrue H.honest → H.contents shelf ≡ Some [] →
         IfInFull F.map files (node_of tree.now.root) (λ t.
-        IfOk result (λ kept. MakesOfTree t manner.placement (H.Kept.device kept))) }
-    ensures listed { IfOk result (ListsTree H.Kept.device manner.naming out) }
+        IfOk result (λ kept. MakesOfTree manner.entry.reservations.now t manner.entry.placement
+        (H.Kept.device kept))) }
+    ensures listed { IfOk result (ListsTree H.Kept.device manner.entry.naming out) }
     ensures kept_reads { IfOk result (λ kept. (H.Kept.device kept).failures ≡ 0) }
 {
     room.clear();
     let mut image = Out::new(shelf);
-    build_by(alloc, tree, files, manner.placement, &mut image)?;
+    let frame = Frame {
+        placement: manner.placement,
+        reservations: manner.reservations,
+    };
+    build_with(alloc, tree, files, frame, &mut image)?;
     let shelf = write_out(image)?;
     let mut kept = keep(shelf)?;
     let list = Command {

@@ -4,5 +4,6 @@ pub mod Places
 pub mod Report
 pub mod Extraction
 pub mod Lying
+pub mod AlgoNames
 pub mod AlgoSets
 pub mod Placements

@@ -3,7 +3,8 @@ use Rattle.std.specs.Prelude.{ℕ, List, [], ◌∷◌, ◌++◌, length, ◌==�
 use Rattle.std.specs.Prelude.{None, Result, Ok, Err, Bool, true, false, codes}
 use Rattle.std.specs.{List.{flat_map, list_all}, Option.{option_map, option_map_or}, Str.bytes_eq}
 use Rattle.uimg_sums.specs.declared.algo.Algo.{Algo}
-use Rattle.uimg_sums.specs.Algorithms.{algo_named, digest_size, digest_by}
+use Rattle.uimg_sums.specs.Algorithms.{digest_size, digest_by}
+use Rattle.uimg_names.specs.declared.naming.Naming.{Naming, TheVariants.Profile}
 use Rattle.uimg_texts.specs.Nul.{text}
 use Rattle.uimg_base.specs.Outcome.{Outcome, End, done, not_right, refused, told, line}
 use Rattle.uimg_base.specs.Outcome.{unless_refused}
@@ -11,7 +12,7 @@ use Rattle.uimg_blob_reading.specs.{LookUps.{NodeOf, hashes}, Spots.Spot}
 use Rattle.uimg_fit_base.specs.declared.fault.{Fault.{Fault, TheVariants.Fit}, FitFault.FitFault}
 use Rattle.uimg_fit_base.specs.declared.verdicts.Verdict.{Verdict, TheVariants.Wrong}
 use Rattle.uimg_fit_base.specs.declared.verdicts.Verdict.TheVariants.{Malformed, Unsupported, Right}
-use Rattle.uimg_fit_base.specs.{Files.{images_of, value_bytes}, Places.payload}
+use Rattle.uimg_fit_base.specs.{AlgoNames.algo_by, Files.{images_of, value_bytes}, Places.payload}
 
 -- the text of a word
 abbrev pub word_text : Verdict → List ℕ
@@ -49,17 +50,22 @@ abbrev pub by_algo : Option Algo → Option (List ℕ) → List ℕ → Verdict
 by_algo None value message = Unsupported
 by_algo (Some algo) value message = by_value algo value message
 
-abbrev pub by_name : Option (List ℕ) → Option (List ℕ) → List ℕ → Verdict
-by_name None value message = Malformed
-by_name (Some name) value message = by_algo (algo_named name) value message
+abbrev pub by_name : Naming → Option (List ℕ) → Option (List ℕ) → List ℕ → Verdict
+by_name naming None value message = Malformed
+by_name naming (Some name) value message = by_algo (algo_by naming name) value message
 
 -- the name of a hash node's algorithm
 abbrev pub algo_name_of : NodeOf Spot → Option (List ℕ)
 algo_name_of hash = option_map text (value_bytes hash.own (codes "algo"))
 
--- the word of a hash node
+-- the word of a hash node, by the algorithms of a set of names
+abbrev pub named_word : Naming → List ℕ → NodeOf Spot → Verdict
+named_word naming message hash =
+    by_name naming (algo_name_of hash) (value_bytes hash.own (codes "value")) message
+
+-- the word of a hash node in a report, by the algorithms of the profile
 abbrev pub word_of : List ℕ → NodeOf Spot → Verdict
-word_of message hash = by_name (algo_name_of hash) (value_bytes hash.own (codes "value")) message
+word_of message hash = named_word Profile message hash
 
 -- `<image> <hash> <algo> <word>`; `-` replaces a missing algorithm
 abbrev pub hash_line : List ℕ → List ℕ → NodeOf Spot → List ℕ

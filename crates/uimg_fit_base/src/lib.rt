@@ -4,12 +4,14 @@
 //! (`proofs/ReadLaws.antt`). `proofs/ReadingExamples.antt` of `uimg_engine` tries the definitions.
 #![tactic(auto)]
 
+mod algo_names;
 mod algo_sets;
 mod fault;
 mod formats;
 mod placement;
 mod verdicts;
 
+pub use algo_names::algo_by;
 pub use algo_sets::{AlgoSet, Digests};
 pub use fault::{Fault, FitFault};
 pub use formats::begins_as_blob;

@@ -5,14 +5,15 @@ use Rattle.std.proofs.lemmas.{Bool.{le-ltb, ltb-false, ltb-true}, List.length-re
 use Rattle.uimg_blob_reading.specs.{Plain.with_value, LookUps.{NodeOf, first, images}}
 use Rattle.uimg_blob_writing.specs.Content.{Content, Unread, IsKept, AreKept, content_bytes, size_of, in_full}
 use Rattle.uimg_blob_writing.{specs.Alignment.{padding_by, padded_by}, proofs.SizeLaws.kept-size}
+use Rattle.uimg_blob_writing.specs.declared.reservation.Reservation.{Reservation}
 use Rattle.uimg_blob_writing.proofs.AlignmentLaws.{aligned-none}
 use Rattle.uimg_blob_writing.proofs.WritesLaws.{flat_map-both, all-both}
 use Rattle.uimg_fit_base.specs.declared.fault.FitFault.TheVariants.{PositionTooLow, TooLarge}
 use Rattle.uimg_fit_base.specs.declared.placement.AlignedPlacement.{AlignedPlacement}
 use Rattle.uimg_fit_base.specs.declared.placement.AlignedPlacement.TheVariants.{Inside, After, At}
 use Rattle.uimg_fit_base.specs.Placements.{align_of}
-use Rattle.uimg_fit_building.specs.Building.{data_of, placed_blob, payloads, behind, built}
-use Rattle.uimg_fit_building.specs.Refusing.{is_low, build_fault}
+use Rattle.uimg_fit_building.specs.Building.{data_of, placed_with, payloads, behind_with, built_with}
+use Rattle.uimg_fit_building.specs.Refusing.{is_low, fault_with}
 use Rattle.uimg_fit_building.specs.Behind.{images_in, padded_pieces, payload_pieces, padded_sizes, behind_pieces, file_size, end_fault}
 use Rattle.uimg_fit_building.proofs.LookUpLaws.{NodeHas, node_with, first-with, first-has, images-with, images-has}
 use Rattle.uimg_fit_building.proofs.{MovedLaws.padded-length, UnreadLaws.padded-same}
@@ -97,21 +98,21 @@ module _ (files : List ℕ → Option (List ℕ)) where
   behind-kept size t (At p align) kept = (tt, images-kept files align (images t) (images-has (IsKept files) t kept))
 
   -- what is written behind the blob of a tree
-  pub behind-joined : (size : ℕ) (t : Unread) (placement : AlignedPlacement) → AreKept files t → length (placed_blob (in_full files t) placement) ≡ size
-      → flat_map (content_bytes files) (behind_pieces size t placement) ≡ behind (in_full files t) placement
-  behind-joined size t Inside kept is = refl
-  behind-joined size t (After align) kept is = payloads-joined files align t kept
-  behind-joined size t (At p align) kept is =
+  pub behind-joined : (rs : List Reservation) (size : ℕ) (t : Unread) (placement : AlignedPlacement) → AreKept files t → length (placed_with rs (in_full files t) placement) ≡ size
+      → flat_map (content_bytes files) (behind_pieces size t placement) ≡ behind_with rs (in_full files t) placement
+  behind-joined rs size t Inside kept is = refl
+  behind-joined rs size t (After align) kept is = payloads-joined files align t kept
+  behind-joined rs size t (At p align) kept is =
       ap (λ (w : List ℕ). replicate (p - size) 0 ++ w) (payloads-joined files align t kept)
       ∙ ap (λ (n : ℕ). replicate (p - n) 0 ++ payloads align (in_full files t)) (sym is)
 
-  length-built : (size : ℕ) (t : Unread) (placement : AlignedPlacement) → AreKept files t → length (placed_blob (in_full files t) placement) ≡ size → is_low size placement ≡ false
-      → length (built (in_full files t) placement) ≡ file_size size (padded_sizes (align_of placement) (images_in t)) placement
-  length-built size t Inside kept is high = ap (λ (w : List ℕ). length w) (append-nil (placed_blob (in_full files t) Inside)) ∙ is
-  length-built size t (After align) kept is high =
-      omega (arith, length-append (placed_blob (in_full files t) (After align)) (payloads align (in_full files t)), is, length-payloads files align t kept)
-  length-built size t (At p align) kept is high =
-      let blob = placed_blob (in_full files t) (At p align) in
+  length-built : (rs : List Reservation) (size : ℕ) (t : Unread) (placement : AlignedPlacement) → AreKept files t → length (placed_with rs (in_full files t) placement) ≡ size → is_low size placement ≡ false
+      → length (built_with rs (in_full files t) placement) ≡ file_size size (padded_sizes (align_of placement) (images_in t)) placement
+  length-built rs size t Inside kept is high = ap (λ (w : List ℕ). length w) (append-nil (placed_with rs (in_full files t) Inside)) ∙ is
+  length-built rs size t (After align) kept is high =
+      omega (arith, length-append (placed_with rs (in_full files t) (After align)) (payloads align (in_full files t)), is, length-payloads files align t kept)
+  length-built rs size t (At p align) kept is high =
+      let blob = placed_with rs (in_full files t) (At p align) in
       let gap : List ℕ = replicate (p - length blob) 0 in
       let low : size ≤ p = ltb-false _ _ high in
       omega (arith, length-append blob (gap ++ payloads align (in_full files t)), length-append gap (payloads align (in_full files t)), length-replicate {A = ℕ} (p - length blob) 0, is, low, length-payloads files align t kept)
@@ -123,15 +124,15 @@ module _ (files : List ℕ → Option (List ℕ)) where
   fault-step false false c d h k = ap (λ (x : Bool). if x then Some TooLarge else None) (k refl)
 
   -- why the file of a tree whose blob isn't too large can't be built
-  pub fault-same : (size : ℕ) (t : Unread) (placement : AlignedPlacement) → AreKept files t → length (placed_blob (in_full files t) placement) ≡ size → size ≤ 4294967295
-      → build_fault (in_full files t) placement ≡ end_fault size (padded_sizes (align_of placement) (images_in t)) placement
-  unfolding build_fault end_fault
-  fault-same size t placement kept is small =
-      let fits : nat_lt 4294967295 (length (placed_blob (in_full files t) placement)) ≡ false = ap (λ (n : ℕ). nat_lt 4294967295 n) is ∙ le-ltb _ _ small in
-      ap (λ (n : ℕ). if nat_lt 4294967295 (length (placed_blob (in_full files t) placement)) then Some TooLarge else if is_low n placement then Some PositionTooLow else if nat_lt 4294967295 (length (built (in_full files t) placement)) then Some TooLarge else None) is
-      ∙ fault-step (nat_lt 4294967295 (length (placed_blob (in_full files t) placement))) (is_low size placement) (nat_lt 4294967295 (length (built (in_full files t) placement)))
+  pub fault-same : (rs : List Reservation) (size : ℕ) (t : Unread) (placement : AlignedPlacement) → AreKept files t → length (placed_with rs (in_full files t) placement) ≡ size → size ≤ 4294967295
+      → fault_with rs (in_full files t) placement ≡ end_fault size (padded_sizes (align_of placement) (images_in t)) placement
+  unfolding fault_with end_fault
+  fault-same rs size t placement kept is small =
+      let fits : nat_lt 4294967295 (length (placed_with rs (in_full files t) placement)) ≡ false = ap (λ (n : ℕ). nat_lt 4294967295 n) is ∙ le-ltb _ _ small in
+      ap (λ (n : ℕ). if nat_lt 4294967295 (length (placed_with rs (in_full files t) placement)) then Some TooLarge else if is_low n placement then Some PositionTooLow else if nat_lt 4294967295 (length (built_with rs (in_full files t) placement)) then Some TooLarge else None) is
+      ∙ fault-step (nat_lt 4294967295 (length (placed_with rs (in_full files t) placement))) (is_low size placement) (nat_lt 4294967295 (length (built_with rs (in_full files t) placement)))
       (nat_lt 4294967295 (file_size size (padded_sizes (align_of placement) (images_in t)) placement)) fits
-      (λ high. ap (λ (n : ℕ). nat_lt 4294967295 n) (length-built size t placement kept is high))
+      (λ high. ap (λ (n : ℕ). nat_lt 4294967295 n) (length-built rs size t placement kept is high))
 
 -- counting up to 2^36 is enough
 

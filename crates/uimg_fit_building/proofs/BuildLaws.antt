@@ -6,20 +6,21 @@ use Rattle.uimg_base.specs.{Named.{FileMap, SameFiles}, Sink.Sink}
 use Rattle.uimg_blob_reading.specs.declared.fault.BlobFault.{BlobFault}
 use Rattle.uimg_blob_reading.specs.Plain.{NamedOf, NodesOf, no_node, a_node}
 use Rattle.uimg_blob_reading.specs.declared.fault.BlobFault.TheVariants as blob
-use Rattle.uimg_blob_writing.specs.{declared.fault.TreeFault.TreeFault, Encoding.encode_by}
+use Rattle.uimg_blob_writing.specs.{declared.fault.TreeFault.TreeFault, Encoding.encode_with}
+use Rattle.uimg_blob_writing.specs.declared.reservation.Reservation.{Reservation}
 use Rattle.uimg_blob_writing.specs.Content.{Unread, AreKept, IsKept, content_bytes, in_full}
-use Rattle.uimg_blob_writing.specs.Layouts.{Plan, plan_of, totalsize}
+use Rattle.uimg_blob_writing.specs.Layouts.{Plan, plan_with, totalsize}
 use Rattle.uimg_blob_writing.proofs.TotalLaws.{encode-size}
 use Rattle.uimg_blob_writing.specs.declared.fault.TreeFault.TheVariants as tree
-use Rattle.uimg_blob_writing.specs.Measured.{is_name, bad_property, bad_name, measured_with, measured, Measures}
+use Rattle.uimg_blob_writing.specs.Measured.{is_name, bad_property, bad_name, measured_with, measured_by, Measures}
 use Rattle.uimg_fit_base.specs.declared.fault.Fault.{Fault, TheVariants.{Blob, Fit, Read, Put}}
 use Rattle.uimg_fit_base.specs.{declared.fault.FitFault.FitFault, Placements.align_of}
 use Rattle.uimg_fit_base.specs.declared.placement.AlignedPlacement.{AlignedPlacement}
 use Rattle.uimg_fit_base.specs.declared.fault.FitFault.TheVariants.{NoImages, NoData, DataOutside, NoSuchImage, UnknownAlgo, PositionTooLow, TooLarge, OutOfMemory, NoFile, ReadFailed}
 use Rattle.uimg_fit_building.specs.Behind.{images_in, padded_sizes, file_size, end_fault}
-use Rattle.uimg_fit_building.specs.{BuildAnswers.{CanBuild, BuildsAnswer}, Filling.IsFilled}
-use Rattle.uimg_fit_building.specs.{Building.{placed_blob, built}, ReadsBack.ReadsBack}
-use Rattle.uimg_fit_building.specs.{Refusing.{is_low, build_fault}, UnreadTrees.moved_unread}
+use Rattle.uimg_fit_building.specs.{BuildAnswers.{CanBuildWith, AnswersWith}, Filling.IsFilled}
+use Rattle.uimg_fit_building.specs.{Building.{placed_with, built_with}, ReadsBack.ReadsBack}
+use Rattle.uimg_fit_building.specs.{Refusing.{is_low, fault_with}, UnreadTrees.moved_unread}
 use Rattle.uimg_fit_building.specs.BuildSteps.{of_measure, of_writing, MeasuresTree, WritesTextBetween, BuildsBetween}
 use Rattle.uimg_fit_building.proofs.{BehindLaws.fault-same, BuiltLaw.reads_back}
 use Rattle.uimg_fit_building.proofs.NamesLaw.{name-values, placed-names, placed-values}
@@ -77,34 +78,34 @@ large-told : (o : Option BlobFault) (p : Plan) → large_in o ≡ false → answ
 large-told None p small e = (refl, ltb-true _ _ (large-step (nat_lt 4294967295 (totalsize p)) p e))
 large-told (Some g) p small e = absurd (let same : g ≡ blob.TooLarge = cc in let told : is_large g ≡ true = ap is_large same in cc)
 
-pub measured-err : (align : ℕ) (t : Unread) (f : BlobFault) → Measures (Err f) (measured align t) → MeasuresTree align (Err (of_measure f)) t
-measured-err align t blob.TooShort e = (bad-told (bad_name t) (plan_of align t) blob.TooShort refl e, refl)
-measured-err align t blob.BadMagic e = (bad-told (bad_name t) (plan_of align t) blob.BadMagic refl e, refl)
-measured-err align t blob.BadVersion e = (bad-told (bad_name t) (plan_of align t) blob.BadVersion refl e, refl)
-measured-err align t blob.BlockOutside e = (bad-told (bad_name t) (plan_of align t) blob.BlockOutside refl e, refl)
-measured-err align t blob.BadToken e = (bad-told (bad_name t) (plan_of align t) blob.BadToken refl e, refl)
-measured-err align t blob.Truncated e = (bad-told (bad_name t) (plan_of align t) blob.Truncated refl e, refl)
-measured-err align t blob.BadNodeName e = (bad-told (bad_name t) (plan_of align t) blob.BadNodeName refl e, refl)
-measured-err align t blob.BadNesting e = (bad-told (bad_name t) (plan_of align t) blob.BadNesting refl e, refl)
-measured-err align t blob.BadPropertyName e = (bad-told (bad_name t) (plan_of align t) blob.BadPropertyName refl e, refl)
-measured-err align t blob.TooLarge e = large-told (bad_name t) (plan_of align t) (name-large t) e
-measured-err align t blob.OutOfMemory e = tt
+pub measured-err : (align : ℕ) (rs : List Reservation) (t : Unread) (f : BlobFault) → Measures (Err f) (measured_by align rs t) → MeasuresTree align rs (Err (of_measure f)) t
+measured-err align rs t blob.TooShort e = (bad-told (bad_name t) (plan_with align rs t) blob.TooShort refl e, refl)
+measured-err align rs t blob.BadMagic e = (bad-told (bad_name t) (plan_with align rs t) blob.BadMagic refl e, refl)
+measured-err align rs t blob.BadVersion e = (bad-told (bad_name t) (plan_with align rs t) blob.BadVersion refl e, refl)
+measured-err align rs t blob.BlockOutside e = (bad-told (bad_name t) (plan_with align rs t) blob.BlockOutside refl e, refl)
+measured-err align rs t blob.BadToken e = (bad-told (bad_name t) (plan_with align rs t) blob.BadToken refl e, refl)
+measured-err align rs t blob.Truncated e = (bad-told (bad_name t) (plan_with align rs t) blob.Truncated refl e, refl)
+measured-err align rs t blob.BadNodeName e = (bad-told (bad_name t) (plan_with align rs t) blob.BadNodeName refl e, refl)
+measured-err align rs t blob.BadNesting e = (bad-told (bad_name t) (plan_with align rs t) blob.BadNesting refl e, refl)
+measured-err align rs t blob.BadPropertyName e = (bad-told (bad_name t) (plan_with align rs t) blob.BadPropertyName refl e, refl)
+measured-err align rs t blob.TooLarge e = large-told (bad_name t) (plan_with align rs t) (name-large t) e
+measured-err align rs t blob.OutOfMemory e = tt
 
 -- a tree that is placed and one whose files are read, of the same tree
-module _ (t : Unread) (placement : AlignedPlacement) where
+module _ (rs : List Reservation) (t : Unread) (placement : AlignedPlacement) where
   names : (files : List ℕ → Option (List ℕ)) → bad_name (moved_unread t placement) ≡ bad_name (in_full files t)
   names files = placed-names t placement ∙ sym (name-values (content_bytes files) t)
 
   pub placed-kept : (files : List ℕ → Option (List ℕ)) → AreKept files t → AreKept files (moved_unread t placement)
   placed-kept files kept = placed-values (IsKept files) (λ b. tt) t placement kept
 
-  pub placed-size : (files : List ℕ → Option (List ℕ)) → AreKept files t → length (placed_blob (in_full files t) placement) ≡ totalsize (plan_of (align_of placement) (moved_unread t placement))
-  placed-size files kept = ap (λ u. length (encode_by (align_of placement) u)) (moved-unread files t placement kept) ∙ encode-size files (align_of placement) (moved_unread t placement) (placed-kept files kept)
+  pub placed-size : (files : List ℕ → Option (List ℕ)) → AreKept files t → length (placed_with rs (in_full files t) placement) ≡ totalsize (plan_with (align_of placement) rs (moved_unread t placement))
+  placed-size files kept = ap (λ u. length (encode_with (align_of placement) rs u)) (moved-unread files t placement kept) ∙ encode-size files (align_of placement) rs (moved_unread t placement) (placed-kept files kept)
 
-  pub large-fault : (files : List ℕ → Option (List ℕ)) → AreKept files t → 4294967295 < totalsize (plan_of (align_of placement) (moved_unread t placement)) → build_fault (in_full files t) placement ≡ Some TooLarge
-  unfolding build_fault
+  pub large-fault : (files : List ℕ → Option (List ℕ)) → AreKept files t → 4294967295 < totalsize (plan_with (align_of placement) rs (moved_unread t placement)) → fault_with rs (in_full files t) placement ≡ Some TooLarge
+  unfolding fault_with
   large-fault files kept large =
-      let over : nat_lt 4294967295 (length (placed_blob (in_full files t) placement)) ≡ true = ap (λ (n : ℕ). nat_lt 4294967295 n) (placed-size files kept) ∙ lt-ltb _ _ large in
+      let over : nat_lt 4294967295 (length (placed_with rs (in_full files t) placement)) ≡ true = ap (λ (n : ℕ). nat_lt 4294967295 n) (placed-size files kept) ∙ lt-ltb _ _ large in
       rw over refl
 
 same-map : (m : FileMap) → SameFiles m m
@@ -120,9 +121,9 @@ failed fault = Err fault
 abbrev pub went_well : Answer
 went_well = Ok tt
 
-module _ (steady : Bool) (t : Unread) (placement : AlignedPlacement) (m : FileMap) (s : Sink) where
+module _ (steady : Bool) (rs : List Reservation) (t : Unread) (placement : AlignedPlacement) (m : FileMap) (s : Sink) where
   -- memory was refused
-  pub out_of_memory : BuildsBetween steady t placement (failed (Fit OutOfMemory)) m m s s
+  pub out_of_memory : BuildsBetween steady rs t placement (failed (Fit OutOfMemory)) m m s s
   out_of_memory = record {
     files = record { same = same-map m; refusals = refl };
     found = λ complete kept. refl;
@@ -134,7 +135,7 @@ module _ (steady : Bool) (t : Unread) (placement : AlignedPlacement) (m : FileMa
   }
 
   -- the tree can't be measured
-  pub unmeasured : (e : Fault) → (let r : Result Plan Fault = Err e in MeasuresTree (align_of placement) r (moved_unread t placement)) → BuildsBetween steady t placement (failed e) m m s s
+  pub unmeasured : (e : Fault) → (let r : Result Plan Fault = Err e in MeasuresTree (align_of placement) rs r (moved_unread t placement)) → BuildsBetween steady rs t placement (failed e) m m s s
   unmeasured (Blob fault at) h = record {
     files = record { same = same-map m; refusals = refl };
     found = λ complete kept. refl;
@@ -142,7 +143,7 @@ module _ (steady : Bool) (t : Unread) (placement : AlignedPlacement) (m : FileMa
     faults = refl;
     untouched = λ before. refl;
     kept = λ honest. tt;
-    told = λ honest kept. (sym (names t placement m.bytes) ∙ h.0, h.1);
+    told = λ honest kept. (sym (names rs t placement m.bytes) ∙ h.0, h.1);
   }
   unmeasured (Fit OutOfMemory) h = out_of_memory
   unmeasured (Fit TooLarge) h = record {
@@ -152,7 +153,7 @@ module _ (steady : Bool) (t : Unread) (placement : AlignedPlacement) (m : FileMa
     faults = refl;
     untouched = λ before. refl;
     kept = λ honest. tt;
-    told = λ honest kept. (sym (names t placement m.bytes) ∙ h.0, large-fault t placement m.bytes kept h.1);
+    told = λ honest kept. (sym (names rs t placement m.bytes) ∙ h.0, large-fault rs t placement m.bytes kept h.1);
   }
   unmeasured (Fit NoImages) h = absurd h
   unmeasured (Fit NoData) h = absurd h
@@ -165,15 +166,15 @@ module _ (steady : Bool) (t : Unread) (placement : AlignedPlacement) (m : FileMa
   unmeasured Read h = absurd h
   unmeasured Put h = absurd h
 
-  module _ (p : Plan) (is : (let r : Result Plan Fault = Ok p in MeasuresTree (align_of placement) r (moved_unread t placement))) (small : totalsize p ≤ 4294967295) where
-    sized : (files : List ℕ → Option (List ℕ)) → AreKept files t → length (placed_blob (in_full files t) placement) ≡ totalsize p
-    sized files kept = placed-size t placement files kept ∙ ap totalsize is.1
+  module _ (p : Plan) (is : (let r : Result Plan Fault = Ok p in MeasuresTree (align_of placement) rs r (moved_unread t placement))) (small : totalsize p ≤ 4294967295) where
+    sized : (files : List ℕ → Option (List ℕ)) → AreKept files t → length (placed_with rs (in_full files t) placement) ≡ totalsize p
+    sized files kept = placed-size rs t placement files kept ∙ ap totalsize is.1
 
     named : (files : List ℕ → Option (List ℕ)) → bad_name (in_full files t) ≡ None
-    named files = sym (names t placement files) ∙ is.0
+    named files = sym (names rs t placement files) ∙ is.0
 
-    fault-is : (files : List ℕ → Option (List ℕ)) → AreKept files t → build_fault (in_full files t) placement ≡ end_fault (totalsize p) (padded_sizes (align_of placement) (images_in t)) placement
-    fault-is files kept = fault-same files (totalsize p) t placement kept (sized files kept) small
+    fault-is : (files : List ℕ → Option (List ℕ)) → AreKept files t → fault_with rs (in_full files t) placement ≡ end_fault (totalsize p) (padded_sizes (align_of placement) (images_in t)) placement
+    fault-is files kept = fault-same files rs (totalsize p) t placement kept (sized files kept) small
 
     chosen : (P : FitFault → Type 0) (b c : Bool) (f : FitFault) → (if b then Some PositionTooLow else if c then Some TooLarge else None) ≡ Some f → P PositionTooLow → P TooLarge → P f
     chosen P true c f e h k = subst P (let same : PositionTooLow ≡ f = cc in same) h
@@ -181,7 +182,7 @@ module _ (steady : Bool) (t : Unread) (placement : AlignedPlacement) (m : FileMa
     chosen P false false f e h k = absurd (cc)
 
     abbrev ToldBy : FitFault → Type 0
-    ToldBy f = end_fault (totalsize p) (padded_sizes (align_of placement) (images_in t)) placement ≡ Some f → BuildsBetween steady t placement (failed (Fit f)) m m s s
+    ToldBy f = end_fault (totalsize p) (padded_sizes (align_of placement) (images_in t)) placement ≡ Some f → BuildsBetween steady rs t placement (failed (Fit f)) m m s s
 
     low-told : ToldBy PositionTooLow
     low-told e = record {
@@ -211,14 +212,14 @@ module _ (steady : Bool) (t : Unread) (placement : AlignedPlacement) (m : FileMa
     no_room f e = chosen ToldBy (is_low (totalsize p) placement) (nat_lt 4294967295 (file_size (totalsize p) (padded_sizes (align_of placement) (images_in t)) placement)) f e low-told large-end-told e
 
     module _ (good : end_fault (totalsize p) (padded_sizes (align_of placement) (images_in t)) placement ≡ None) (n : FileMap) (u : Sink) where
-      can : AreKept m.bytes t → CanBuild (in_full m.bytes t) placement
+      can : AreKept m.bytes t → CanBuildWith rs (in_full m.bytes t) placement
       can kept = record { named = named m.bytes; fits = fault-is m.bytes kept ∙ good }
 
       abbrev Sent : Result (Unit {0}) TreeFault → Type 0
-      Sent r = WritesTextBetween steady t r m n s u (λ files. built (in_full files t) placement)
+      Sent r = WritesTextBetween steady t r m n s u (λ files. built_with rs (in_full files t) placement)
 
       -- all was written
-      pub all-sent : (IsTrue m.honest → AreKept m.bytes t) → Sent (Ok tt) → BuildsBetween steady t placement went_well m n s u
+      pub all-sent : (IsTrue m.honest → AreKept m.bytes t) → Sent (Ok tt) → BuildsBetween steady rs t placement went_well m n s u
       all-sent are_kept w = record {
         files = w.files;
         found = λ complete kept. refl;
@@ -233,7 +234,7 @@ module _ (steady : Bool) (t : Unread) (placement : AlignedPlacement) (m : FileMa
           not-true h = absurd (cc)
 
       -- a write, a read or an open failed
-      pub not-sent : (f : TreeFault) → Sent (Err f) → BuildsBetween steady t placement (failed (of_writing f)) m n s u
+      pub not-sent : (f : TreeFault) → Sent (Err f) → BuildsBetween steady rs t placement (failed (of_writing f)) m n s u
       not-sent tree.Put w = record {
         files = w.files;
         found = λ complete kept. refl;
@@ -263,15 +264,15 @@ module _ (steady : Bool) (t : Unread) (placement : AlignedPlacement) (m : FileMa
       }
 
 -- a refusal of a written tree, as an answer of building
-pub refused : (steady : Bool) (t : Unread) (placement : AlignedPlacement) (r : Answer) (e : Fault) (m n : FileMap) (s u : Sink) → IsErrAnd r (λ x. x ≡ e) → BuildsBetween steady t placement (failed e) m n s u → BuildsBetween steady t placement r m n s u
-refused steady t placement (Ok x) e m n s u h b = absurd h
-refused steady t placement (Err f) e m n s u h b = subst (λ (x : Fault). BuildsBetween steady t placement (failed x) m n s u) (sym h) b
+pub refused : (steady : Bool) (rs : List Reservation) (t : Unread) (placement : AlignedPlacement) (r : Answer) (e : Fault) (m n : FileMap) (s u : Sink) → IsErrAnd r (λ x. x ≡ e) → BuildsBetween steady rs t placement (failed e) m n s u → BuildsBetween steady rs t placement r m n s u
+refused steady rs t placement (Ok x) e m n s u h b = absurd h
+refused steady rs t placement (Err f) e m n s u h b = subst (λ (x : Fault). BuildsBetween steady rs t placement (failed x) m n s u) (sym h) b
 
 -- where the file of a filled tree was built, it reads back
-pub on-built : (name : List ℕ) (own : List (NamedOf (List ℕ))) (below : NodesOf (List ℕ)) (placement : AlignedPlacement) (r : Answer) (s u : Sink) → (let t : NodesOf (List ℕ) = a_node name own below no_node in BuildsAnswer t placement r s u)
-    → (let t : NodesOf (List ℕ) = a_node name own below no_node in IsFilled t) → OnOk r (let t : NodesOf (List ℕ) = a_node name own below no_node in ReadsBack (built t placement) t)
-on-built name own below placement (Ok x) s u h filled = reads_back name own below placement h.0.named filled h.0.fits
-on-built name own below placement (Err f) s u h filled = tt
+pub on-built : (rs : List Reservation) (name : List ℕ) (own : List (NamedOf (List ℕ))) (below : NodesOf (List ℕ)) (placement : AlignedPlacement) (r : Answer) (s u : Sink) → (let t : NodesOf (List ℕ) = a_node name own below no_node in AnswersWith rs t placement r s u)
+    → (let t : NodesOf (List ℕ) = a_node name own below no_node in IsFilled t) → OnOk r (let t : NodesOf (List ℕ) = a_node name own below no_node in ReadsBack (built_with rs t placement) t)
+on-built rs name own below placement (Ok x) s u h filled = reads_back rs name own below placement h.0.named filled h.0.fits
+on-built rs name own below placement (Err f) s u h filled = tt
 
 low-step : (b c : Bool) → (if b then Some PositionTooLow else if c then Some TooLarge else None) ≡ None → b ≡ false
 low-step true c e = absurd (cc)

@@ -1,16 +1,17 @@
 -- Filling leaves each file as it stands: what is so of each value, and of any bytes, is so of each value of the filled tree.
 use Rattle.std.proofs.Common.{ℕ, List, [], ◌∷◌, Option, Some, None, Bool, true, false, not, cond, if◌then◌else◌, codes}
 use Rattle.std.specs.{List.{list_any, AllByRecursion}, Option.option_map_or, Str.bytes_eq}
+use Rattle.uimg_names.specs.declared.naming.Naming.{Naming}
 use Rattle.uimg_sums.specs.{declared.algo.Algo.Algo, Algorithms.digest_by}
 use Rattle.uimg_blob_reading.specs.{Roles.is_hash, Plain.{NamedOf, no_node, a_node, AllValues}}
 use Rattle.uimg_blob_reading.specs.LookUps.{NodeOf, first}
 use Rattle.uimg_blob_writing.specs.Encoding.{word}
 use Rattle.uimg_blob_writing.specs.Content.{Content, Unread, bytes, content_bytes, IsKept, AreKept}
-use Rattle.uimg_fit_building.specs.Filling.{with, external_names, without_external, each, in_first, with_images, with_root, algo_by, with_digest_by, hashed_by, filled_image_by}
+use Rattle.uimg_fit_building.specs.Filling.{with, external_names, without_external, each, in_first, with_images, with_root, hash_algo, with_digest_by, hashed_by, filled_image_by}
 use Rattle.uimg_fit_building.specs.UnreadTrees.{filled_unread}
 use Rattle.uimg_fit_building.proofs.LookUpLaws.{NodeHas}
 
-module _ (files : List ℕ → Option (List ℕ)) where
+module _ (naming : Naming) (files : List ℕ → Option (List ℕ)) where
   abbrev Has : List (NamedOf Content) → Type 0
   Has own = AllByRecursion (λ p. IsKept files p.value) own
 
@@ -43,8 +44,8 @@ module _ (files : List ℕ → Option (List ℕ)) where
   digest-step message h None k = k
   digest-step message h (Some algo) k = (with-kept (codes "value") (digest_by algo message) h.own k.0, k.1)
 
-  hashed-step : (b : Bool) (message : List ℕ) (h : NodeOf Content) → HasBoth h → HasBoth (if b then with_digest_by (content_bytes files) bytes message h else h)
-  hashed-step true message h k = digest-step message h (algo_by (content_bytes files) h.own) k
+  hashed-step : (b : Bool) (message : List ℕ) (h : NodeOf Content) → HasBoth h → HasBoth (if b then with_digest_by naming (content_bytes files) bytes message h else h)
+  hashed-step true message h k = digest-step message h (hash_algo naming (content_bytes files) h.own) k
   hashed-step false message h k = k
 
   each-kept : (f : NodeOf Content → NodeOf Content) → ((n : NodeOf Content) → HasBoth n → HasBoth (f n)) → (t : Unread) → AllHave t → AllHave (each f t)
@@ -56,12 +57,12 @@ module _ (files : List ℕ → Option (List ℕ)) where
       (k.0, k.1, each-kept f keeps after h.2)
 
   below-step : (image : NodeOf Content) (o : Option Content) → AllHave image.below
-      → AllHave (option_map_or (λ c. each (hashed_by (content_bytes files) bytes (content_bytes files c)) image.below) o image.below)
+      → AllHave (option_map_or (λ c. each (hashed_by naming (content_bytes files) bytes (content_bytes files c)) image.below) o image.below)
   below-step image None h = h
   below-step image (Some c) h =
-      each-kept (hashed_by (content_bytes files) bytes (content_bytes files c)) (λ n k. hashed-step (is_hash n.name) (content_bytes files c) n k) image.below h
+      each-kept (hashed_by naming (content_bytes files) bytes (content_bytes files c)) (λ n k. hashed-step (is_hash n.name) (content_bytes files c) n k) image.below h
 
-  image-kept : (image : NodeOf Content) → HasBoth image → HasBoth (filled_image_by (content_bytes files) bytes image)
+  image-kept : (image : NodeOf Content) → HasBoth image → HasBoth (filled_image_by naming (content_bytes files) bytes image)
   image-kept image h = (without-kept image.own h.0, below-step image (first image.own (codes "data")) h.1)
 
   in-step : (b : Bool) (name : List ℕ) (own : List (NamedOf Content)) (below after changed more : Unread) → Has own → AllHave below → AllHave after → AllHave changed → AllHave more
@@ -75,15 +76,15 @@ module _ (files : List ℕ → Option (List ℕ)) where
   in-kept key f keeps (a_node name own below after) h =
       in-step (bytes_eq key name) name own below after (f below) (in_first key f after) h.0 h.1 h.2 (keeps below h.1) (in-kept key f keeps after h.2)
 
-  images-kept : (t : Unread) → AllHave t → AllHave (with_images (each (filled_image_by (content_bytes files) bytes)) t)
+  images-kept : (t : Unread) → AllHave t → AllHave (with_images (each (filled_image_by naming (content_bytes files) bytes)) t)
   images-kept no_node h = tt
   images-kept (a_node name own below after) h =
-      (h.0, in-kept (codes "images") (each (filled_image_by (content_bytes files) bytes)) (each-kept (filled_image_by (content_bytes files) bytes) image-kept) below h.1, h.2)
+      (h.0, in-kept (codes "images") (each (filled_image_by naming (content_bytes files) bytes)) (each-kept (filled_image_by naming (content_bytes files) bytes) image-kept) below h.1, h.2)
 
   root-kept : (key value : List ℕ) (t : Unread) → AllHave t → AllHave (with_root key (bytes value) t)
   root-kept key value no_node h = tt
   root-kept key value (a_node name own below after) h = (with-kept key value own h.0, h.1, h.2)
 
-  pub filled-kept : (time : ℕ) (t : Unread) → AreKept files t → AreKept files (filled_unread files time t)
+  pub filled-kept : (time : ℕ) (t : Unread) → AreKept files t → AreKept files (filled_unread naming files time t)
   filled-kept time t h =
-      root-kept (codes "timestamp") (word time) (with_images (each (filled_image_by (content_bytes files) bytes)) t) (images-kept t h)
+      root-kept (codes "timestamp") (word time) (with_images (each (filled_image_by naming (content_bytes files) bytes)) t) (images-kept t h)

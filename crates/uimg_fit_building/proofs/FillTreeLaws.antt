@@ -2,18 +2,19 @@
 use Rattle.std.proofs.Common.{◌≡◌, ℕ, suc, ◌+◌, ◌<◌, ◌≤◌, List, [], ◌∷◌, ◌++◌, length, map, set, get_or, find, Option, Some, None, Bool, true, false, not, cond, ◌&&◌, is_some, is_none, if◌then◌else◌, Result, Ok, Err, refl, ap, sym, subst, ◌∙◌, codes, arith}
 use Rattle.std.specs.{List.{filter, list_all, prefix_len, AllByRecursion}, Str.bytes_eq}
 use Rattle.std.specs.Option.{option_map, option_or, IfSome}
+use Rattle.uimg_names.specs.declared.naming.Naming.{Naming}
 use Rattle.uimg_blob_reading.specs.{Roles.is_hash, Plain.{NamedOf, Nodes, no_node, a_node}}
 use Rattle.uimg_blob_reading.specs.LookUps.{NodeOf, listed, first, images}
 use Rattle.uimg_blob_writing.specs.{declared.tree.Node.Node, Trees.siblings, Encoding.word}
 use Rattle.uimg_blob_writing.specs.Content.{Content, Unread, bytes, content_bytes, in_full, IsKept, AreKept, FilesAtData}
 use Rattle.uimg_fit_building.specs.{Behind.entry, PayloadSums.{no_files, in_memory}}
-use Rattle.uimg_fit_building.specs.FillAnswers.{node_in_full, Fills, StopsAtFile, FillsAnswer}
-use Rattle.uimg_fit_building.specs.Filling.{each, in_first, with, filled, filled_image_by, algo_by}
+use Rattle.uimg_fit_building.specs.FillAnswers.{node_in_full, FillsBy, StopsAtFile, FillsAnswerBy}
+use Rattle.uimg_fit_building.specs.Filling.{each, in_first, with, filled, filled_image_by, hash_algo}
 use Rattle.uimg_fit_building.specs.UnreadTrees.{filled_unread}
 use Rattle.uimg_fit_base.specs.declared.fault.FitFault.{FitFault}
 use Rattle.uimg_fit_base.specs.declared.fault.FitFault.TheVariants.{NoImages, NoData, DataOutside, NoSuchImage, UnknownAlgo, PositionTooLow, TooLarge, OutOfMemory, NoFile, ReadFailed}
 use Rattle.uimg_fit_building.specs.ImageFillings.{filled_over, fault_in_memory, first_in_memory, StopsAmong, FillsImages, FillsParent, IsKeptImage, images_among, fault_among, StopsBelow, FillsBelow}
-use Rattle.uimg_fit_building.specs.Refusing.{image_fault, first_fault, filling_fault, fill_from, fill_of}
+use Rattle.uimg_fit_building.specs.Refusing.{image_fault, first_fault, filling_fault, fill_from, fill_by}
 use Rattle.uimg_fit_building.proofs.{FillLaw.fill-filled, ImageFillLaws.fault-with}
 use Rattle.uimg_fit_building.proofs.{FillUnreadLaws.filled-read, ImagesFillLaws.fault-behind}
 use Rattle.uimg_fit_building.proofs.{FillKeepsLaw.filled-kept, InMemoryLaws.{algo-same, image-same}}
@@ -79,47 +80,47 @@ images-gone (n ∷ ns) past = gone-step (is_images n) n ns (find (λ c. bytes_eq
 pub none-among : {A : Type 0} (ns : List (Node A)) → length ns ≤ before ns → images_among (siblings ns) ≡ None
 none-among ns past = ap (λ (o : Option (NodeOf Content)). option_map (λ c. listed c.below) o) (images-gone ns past)
 
-pub no-images : {A : Type 0} (ns : List (Node A)) → length ns ≤ before ns → fault_among (images_among (siblings ns)) ≡ Some NoImages
-no-images ns past = ap fault_among (none-among ns past)
+pub no-images : (naming : Naming) {A : Type 0} (ns : List (Node A)) → length ns ≤ before ns → fault_among naming (images_among (siblings ns)) ≡ Some NoImages
+no-images naming ns past = ap (fault_among naming) (none-among ns past)
 
 -- a node whose children are images
-refused-parent : {A : Type 0} (X Y : Type 0) (files : List ℕ → Option (List ℕ)) (old new : Node A) (is now : List (NodeOf Content)) (fault : FitFault) → is ≡ listed old.children
-    → FillsImages {X = X} files is now (Err fault) → FillsParent {X = Y} files old new (Err fault)
-refused-parent X Y files old new is now NoImages same h = sym (ap first_in_memory same) ∙ h
-refused-parent X Y files old new is now NoData same h = sym (ap first_in_memory same) ∙ h
-refused-parent X Y files old new is now DataOutside same h = sym (ap first_in_memory same) ∙ h
-refused-parent X Y files old new is now NoSuchImage same h = sym (ap first_in_memory same) ∙ h
-refused-parent X Y files old new is now UnknownAlgo same h = sym (ap first_in_memory same) ∙ h
-refused-parent X Y files old new is now PositionTooLow same h = sym (ap first_in_memory same) ∙ h
-refused-parent X Y files old new is now TooLarge same h = sym (ap first_in_memory same) ∙ h
-refused-parent X Y files old new is now OutOfMemory same h = tt
-refused-parent X Y files old new is now NoFile same h = subst StopsAmong same h
-refused-parent X Y files old new is now ReadFailed same h = subst StopsAmong same h
+refused-parent : (naming : Naming) {A : Type 0} (X Y : Type 0) (files : List ℕ → Option (List ℕ)) (old new : Node A) (is now : List (NodeOf Content)) (fault : FitFault) → is ≡ listed old.children
+    → FillsImages {X = X} naming files is now (Err fault) → FillsParent {X = Y} naming files old new (Err fault)
+refused-parent naming X Y files old new is now NoImages same h = sym (ap (first_in_memory naming) same) ∙ h
+refused-parent naming X Y files old new is now NoData same h = sym (ap (first_in_memory naming) same) ∙ h
+refused-parent naming X Y files old new is now DataOutside same h = sym (ap (first_in_memory naming) same) ∙ h
+refused-parent naming X Y files old new is now NoSuchImage same h = sym (ap (first_in_memory naming) same) ∙ h
+refused-parent naming X Y files old new is now UnknownAlgo same h = sym (ap (first_in_memory naming) same) ∙ h
+refused-parent naming X Y files old new is now PositionTooLow same h = sym (ap (first_in_memory naming) same) ∙ h
+refused-parent naming X Y files old new is now TooLarge same h = sym (ap (first_in_memory naming) same) ∙ h
+refused-parent naming X Y files old new is now OutOfMemory same h = tt
+refused-parent naming X Y files old new is now NoFile same h = subst (StopsAmong naming) same h
+refused-parent naming X Y files old new is now ReadFailed same h = subst (StopsAmong naming) same h
 
-pub parent-told : {A : Type 0} (X : Type 0) (r : Result X FitFault) (files : List ℕ → Option (List ℕ)) (old new : Node A) (is now : List (NodeOf Content)) → is ≡ listed old.children
-    → (now ≡ map (filled_over files) is → new ≡ record old { children = each (filled_over files) old.children })
-    → FillsImages files is now r → FillsParent files old new r
-parent-told X (Ok x) files old new is now same gives h = (sym (ap first_in_memory same) ∙ h.0, gives h.1)
-parent-told X (Err fault) files old new is now same gives h = refused-parent X X files old new is now fault same h
+pub parent-told : (naming : Naming) {A : Type 0} (X : Type 0) (r : Result X FitFault) (files : List ℕ → Option (List ℕ)) (old new : Node A) (is now : List (NodeOf Content)) → is ≡ listed old.children
+    → (now ≡ map (filled_over naming files) is → new ≡ record old { children = each (filled_over naming files) old.children })
+    → FillsImages naming files is now r → FillsParent naming files old new r
+parent-told naming X (Ok x) files old new is now same gives h = (sym (ap (first_in_memory naming) same) ∙ h.0, gives h.1)
+parent-told naming X (Err fault) files old new is now same gives h = refused-parent naming X X files old new is now fault same h
 
 -- a root
-module _ {A : Type 0} (files : List ℕ → Option (List ℕ)) (ns : List (Node A)) (d new : Node A) (within : before ns < length ns) where
+module _ (naming : Naming) {A : Type 0} (files : List ℕ → Option (List ℕ)) (ns : List (Node A)) (d new : Node A) (within : before ns < length ns) where
   abbrev parent : Node A
   parent = get_or ns (before ns) d
 
   abbrev whole : Unread
   whole = siblings (set ns (before ns) new)
 
-  refused-below : (fault : FitFault) → first_in_memory (listed parent.children) ≡ Some fault → fault_among (images_among (siblings ns)) ≡ Some fault
-  refused-below fault h = ap fault_among (among-found ns d within) ∙ h
+  refused-below : (fault : FitFault) → first_in_memory naming (listed parent.children) ≡ Some fault → fault_among naming (images_among (siblings ns)) ≡ Some fault
+  refused-below fault h = ap (fault_among naming) (among-found ns d within) ∙ h
 
-  stops-below : StopsAmong (listed parent.children) → StopsBelow (siblings ns)
+  stops-below : StopsAmong naming (listed parent.children) → StopsBelow naming (siblings ns)
   stops-below h = record { images = listed parent.children; are_images = among-found ns d within; stops = h }
 
-  pub root-told : (X : Type 0) (r : Result X FitFault) → FillsParent files parent new r → FillsBelow files (siblings ns) whole r
+  pub root-told : (X : Type 0) (r : Result X FitFault) → FillsParent naming files parent new r → FillsBelow naming files (siblings ns) whole r
   root-told X (Ok x) h = (
-    ap fault_among (among-found ns d within) ∙ h.0,
-    set-images (each (filled_over files)) ns d new within h.1,
+    ap (fault_among naming) (among-found ns d within) ∙ h.0,
+    set-images (each (filled_over naming files)) ns d new within h.1,
   )
   root-told X (Err NoImages) h = refused-below NoImages h
   root-told X (Err NoData) h = refused-below NoData h
@@ -172,63 +173,63 @@ below-at (Some c) at = listed-at c.below at
 images-at : (t : Unread) → FilesAtData t → IfSome (images_among t) (AllByRecursion AtData)
 images-at t at = below-at (find (λ c. bytes_eq (codes "images") c.name) (listed t)) (find-at (listed t) (listed-at t at))
 
-module _ (files : List ℕ → Option (List ℕ)) where
+module _ (naming : Naming) (files : List ℕ → Option (List ℕ)) where
   abbrev read : Content → List ℕ
   read = content_bytes files
 
   -- what filling decides is in memory
-  known-step : (b : Bool) (h : NodeOf Content) (hs : List (NodeOf Content)) → algo_by in_memory h.own ≡ algo_by read h.own
-      → list_all (λ h. is_some (algo_by in_memory h.own)) hs ≡ list_all (λ h. is_some (algo_by read h.own)) hs
-      → list_all (λ h. is_some (algo_by in_memory h.own)) (cond b (h ∷ hs) hs) ≡ list_all (λ h. is_some (algo_by read h.own)) (cond b (h ∷ hs) hs)
+  known-step : (b : Bool) (h : NodeOf Content) (hs : List (NodeOf Content)) → hash_algo naming in_memory h.own ≡ hash_algo naming read h.own
+      → list_all (λ h. is_some (hash_algo naming in_memory h.own)) hs ≡ list_all (λ h. is_some (hash_algo naming read h.own)) hs
+      → list_all (λ h. is_some (hash_algo naming in_memory h.own)) (cond b (h ∷ hs) hs) ≡ list_all (λ h. is_some (hash_algo naming read h.own)) (cond b (h ∷ hs) hs)
   known-step true h hs same rest =
-      ap (λ o. is_some o && list_all (λ h. is_some (algo_by in_memory h.own)) hs) same
-      ∙ ap (λ (b : Bool). is_some (algo_by read h.own) && b) rest
+      ap (λ o. is_some o && list_all (λ h. is_some (hash_algo naming in_memory h.own)) hs) same
+      ∙ ap (λ (b : Bool). is_some (hash_algo naming read h.own) && b) rest
   known-step false h hs same rest = rest
 
-  known-same : (t : Unread) → FilesAtData t → list_all (λ h. is_some (algo_by in_memory h.own)) (filter (λ h. is_hash h.name) (listed t))
-      ≡ list_all (λ h. is_some (algo_by read h.own)) (filter (λ h. is_hash h.name) (listed t))
+  known-same : (t : Unread) → FilesAtData t → list_all (λ h. is_some (hash_algo naming in_memory h.own)) (filter (λ h. is_hash h.name) (listed t))
+      ≡ list_all (λ h. is_some (hash_algo naming read h.own)) (filter (λ h. is_hash h.name) (listed t))
   unfolding listed
   known-same no_node at = refl
   known-same (a_node name own below after) at =
-      known-step (is_hash name) (record { name = name; own = own; below = below }) (filter (λ h. is_hash h.name) (listed after)) (algo-same files own at.0) (known-same after at.2)
+      known-step (is_hash name) (record { name = name; own = own; below = below }) (filter (λ h. is_hash h.name) (listed after)) (algo-same naming files own at.0) (known-same after at.2)
 
-  fault-same : (image : NodeOf Content) → FilesAtData image.below → fault_in_memory image ≡ image_fault (node_in_full files image)
+  fault-same : (image : NodeOf Content) → FilesAtData image.below → fault_in_memory naming image ≡ image_fault naming (node_in_full files image)
   fault-same image at =
-      fault-with no_files image
+      fault-with naming no_files image
       ∙ ap (λ (b : Bool). if is_none (first image.own (codes "data")) then Some NoData else if b then None else Some UnknownAlgo) (known-same image.below at)
-      ∙ sym (fault-with files image)
+      ∙ sym (fault-with naming files image)
 
-  faults-same : (is : List (NodeOf Content)) → AllByRecursion AtData is → first_in_memory is ≡ first_fault (map (node_in_full files) is)
+  faults-same : (is : List (NodeOf Content)) → AllByRecursion AtData is → first_in_memory naming is ≡ first_fault naming (map (node_in_full files) is)
   unfolding first_fault
   faults-same [] at = refl
   faults-same (i ∷ is) at =
-      ap (λ (o : Option FitFault). option_or o (first_in_memory is)) (fault-same i at.0)
-      ∙ ap (λ (o : Option FitFault). option_or (image_fault (node_in_full files i)) o) (faults-same is at.1)
+      ap (λ (o : Option FitFault). option_or o (first_in_memory naming is)) (fault-same i at.0)
+      ∙ ap (λ (o : Option FitFault). option_or (image_fault naming (node_in_full files i)) o) (faults-same is at.1)
 
-  among-same : (o : Option (List (NodeOf Content))) → IfSome o (AllByRecursion AtData) → fault_among o ≡ filling_fault (option_map (λ (l : List (NodeOf Content)). map (node_in_full files) l) o)
+  among-same : (o : Option (List (NodeOf Content))) → IfSome o (AllByRecursion AtData) → fault_among naming o ≡ filling_fault naming (option_map (λ (l : List (NodeOf Content)). map (node_in_full files) l) o)
   among-same None at = refl
   among-same (Some is) at = faults-same is at
 
   -- the images of a tree are filled by the bytes of its files
-  each-same : (t : Unread) → FilesAtData t → each (filled_over files) t ≡ each (filled_image_by read bytes) t
+  each-same : (t : Unread) → FilesAtData t → each (filled_over naming files) t ≡ each (filled_image_by naming read bytes) t
   unfolding each
   each-same no_node at = refl
   each-same (a_node name own below after) at =
       let n : NodeOf Content = record { name = name; own = own; below = below } in
-      ap (λ (m : NodeOf Content). a_node m.name m.own m.below (each (filled_over files) after)) (image-same files n at.1)
-      ∙ ap (λ (u : Unread). a_node (filled_image_by read bytes n).name (filled_image_by read bytes n).own (filled_image_by read bytes n).below u) (each-same after at.2)
+      ap (λ (m : NodeOf Content). a_node m.name m.own m.below (each (filled_over naming files) after)) (image-same naming files n at.1)
+      ∙ ap (λ (u : Unread). a_node (filled_image_by naming read bytes n).name (filled_image_by naming read bytes n).own (filled_image_by naming read bytes n).below u) (each-same after at.2)
 
   in-step : (b : Bool) (name : List ℕ) (own : List (NamedOf Content)) (below after one two three four : Unread) → one ≡ two → three ≡ four
       → (if b then a_node name own one after else a_node name own below three) ≡ (if b then a_node name own two after else a_node name own below four)
   in-step true name own below after one two three four h k = ap (λ (u : Unread). a_node name own u after) h
   in-step false name own below after one two three four h k = ap (λ (u : Unread). a_node name own below u) k
 
-  in-same : (key : List ℕ) (t : Unread) → FilesAtData t → in_first key (each (filled_over files)) t ≡ in_first key (each (filled_image_by read bytes)) t
+  in-same : (key : List ℕ) (t : Unread) → FilesAtData t → in_first key (each (filled_over naming files)) t ≡ in_first key (each (filled_image_by naming read bytes)) t
   unfolding in_first
   in-same key no_node at = refl
   in-same key (a_node name own below after) at =
-      in-step (bytes_eq key name) name own below after (each (filled_over files) below) (each (filled_image_by read bytes) below)
-      (in_first key (each (filled_over files)) after) (in_first key (each (filled_image_by read bytes)) after) (each-same below at.1) (in-same key after at.2)
+      in-step (bytes_eq key name) name own below after (each (filled_over naming files) below) (each (filled_image_by naming read bytes) below)
+      (in_first key (each (filled_over naming files)) after) (in_first key (each (filled_image_by naming read bytes)) after) (each-same below at.1) (in-same key after at.2)
 
   -- a tree
   module _ (name : List ℕ) (own : List (NamedOf Content)) (below : Unread) where
@@ -239,28 +240,28 @@ module _ (files : List ℕ → Option (List ℕ)) where
     kept-below kept =
         weaker-in (NodeHas (IsKept files)) (IsKeptImage files) (λ n h. first-has (IsKept files) n.own (codes "data") h.0) (images_among below) (images-has (IsKept files) t kept)
 
-    told-fault : FilesAtData t → fault_among (images_among below) ≡ filling_fault (images (in_full files t))
+    told-fault : FilesAtData t → fault_among naming (images_among below) ≡ filling_fault naming (images (in_full files t))
     told-fault at =
-        among-same (images_among below) (images-at below at.1) ∙ sym (ap filling_fault (images-with read t))
+        among-same (images_among below) (images-at below at.1) ∙ sym (ap (filling_fault naming) (images-with read t))
 
     pub told-filled : (time : ℕ) (more : List (NamedOf Content)) (new : Unread) → FilesAtData t → AreKept files t → more ≡ with (codes "timestamp") (bytes (word time)) own
-        → fault_among (images_among below) ≡ None → new ≡ in_first (codes "images") (each (filled_over files)) below → Fills files time t (a_node name more new no_node)
+        → fault_among naming (images_among below) ≡ None → new ≡ in_first (codes "images") (each (filled_over naming files)) below → FillsBy naming files time t (a_node name more new no_node)
     told-filled time more new at kept set none is =
         let u : Unread = a_node name more new no_node in
-        let source : u ≡ filled_unread files time t =
+        let source : u ≡ filled_unread naming files time t =
         ap (λ (l : List (NamedOf Content)). a_node name l new no_node) set
         ∙ ap (λ (v : Unread). a_node name (with (codes "timestamp") (bytes (word time)) own) v no_node) (is ∙ in-same (codes "images") below at.1) in
-        let accepted : fill_of time (in_full files t) ≡ Ok (in_full files u) =
-        ap (λ (o : Option FitFault). fill_from o (filled time (in_full files t))) (sym (told-fault at) ∙ none)
-        ∙ ap (λ (v : Nodes). let r : Result Nodes FitFault = Ok v in r) (filled-read files time t ∙ ap (λ (v : Unread). in_full files v) (sym source)) in
+        let accepted : fill_by naming time (in_full files t) ≡ Ok (in_full files u) =
+        ap (λ (o : Option FitFault). fill_from o (filled naming time (in_full files t))) (sym (told-fault at) ∙ none)
+        ∙ ap (λ (v : Nodes). let r : Result Nodes FitFault = Ok v in r) (filled-read naming files time t ∙ ap (λ (v : Unread). in_full files v) (sym source)) in
         record {
           source = source;
           accepted = accepted;
-          is_filled = fill-filled time (in_full files t) (in_full files u) accepted;
-          kept = subst (λ (v : Unread). AreKept files v) (sym source) (filled-kept files time t kept);
+          is_filled = fill-filled naming time (in_full files t) (in_full files u) accepted;
+          kept = subst (λ (v : Unread). AreKept files v) (sym source) (filled-kept naming files time t kept);
         }
 
-    told-stop : FilesAtData t → StopsBelow below → StopsAtFile files t
+    told-stop : FilesAtData t → StopsBelow naming below → StopsAtFile naming files t
     unfolding first_fault
     told-stop at s =
         let m = s.stops in
@@ -272,17 +273,17 @@ module _ (files : List ℕ → Option (List ℕ)) where
           after = m.after;
           are_images = s.are_images ∙ ap (λ (l : List (NodeOf Content)). let o : Option (List (NodeOf Content)) = Some l in o) m.are;
           sound = sym (faults-same (m.before ++ m.image ∷ []) (front AtData m.before m.image m.after all))
-              ∙ fault-behind m.before (m.image ∷ []) m.sound ∙ ap (λ (o : Option FitFault). option_or o None) m.stops.sound;
+              ∙ fault-behind naming m.before (m.image ∷ []) m.sound ∙ ap (λ (o : Option FitFault). option_or o None) m.stops.sound;
           name = m.stops.name;
           size = m.stops.size;
           is_file = m.stops.is_file;
           is_hashed = m.stops.is_hashed;
         }
 
-    refusal : (time : ℕ) (fault : FitFault) → FilesAtData t → fault_among (images_among below) ≡ Some fault → fill_of time (in_full files t) ≡ Err fault
-    refusal time fault at h = ap (λ (o : Option FitFault). fill_from o (filled time (in_full files t))) (sym (told-fault at) ∙ h)
+    refusal : (time : ℕ) (fault : FitFault) → FilesAtData t → fault_among naming (images_among below) ≡ Some fault → fill_by naming time (in_full files t) ≡ Err fault
+    refusal time fault at h = ap (λ (o : Option FitFault). fill_from o (filled naming time (in_full files t))) (sym (told-fault at) ∙ h)
 
-    pub told-refused : (X Y : Type 0) (view : X → Unread) (time : ℕ) (new : Unread) (fault : FitFault) → FilesAtData t → FillsBelow {X = Y} files below new (Err fault) → FillsAnswer view files time t (Err fault)
+    pub told-refused : (X Y : Type 0) (view : X → Unread) (time : ℕ) (new : Unread) (fault : FitFault) → FilesAtData t → FillsBelow {X = Y} naming files below new (Err fault) → FillsAnswerBy naming view files time t (Err fault)
     told-refused X Y view time new NoImages at h = refusal time NoImages at h
     told-refused X Y view time new NoData at h = refusal time NoData at h
     told-refused X Y view time new DataOutside at h = refusal time DataOutside at h

@@ -3,11 +3,13 @@ use Rattle.std.proofs.Common.{◌≡◌, ◌≤◌, ◌<◌, ◌^◌, ℕ, ◌+�
 use Rattle.std.specs.{List.{flat_map, AllByRecursion}, Option.{option_map, option_and_then}}
 use Rattle.std.{specs.Str.bytes_eq, proofs.lemmas.{Bool.le-ltb, List.length-replicate}}
 use Rattle.std.proofs.Math.Seq.{drop-append_seam}
+use Rattle.uimg_names.specs.declared.naming.Naming.TheVariants.{Profile}
 use Rattle.uimg_texts.specs.Numbers.{be32, up4}
 use Rattle.uimg_blob_reading.specs.{Plain.{Named, Nodes, no_node, a_node, AreNamed}, Spots.Spot}
 use Rattle.uimg_blob_reading.specs.LookUps.{NodeOf, first, images, hashes}
 use Rattle.uimg_blob_writing.{specs.Alignment.{padding_by, padded_by}, proofs.TokenLaws.drop-piece}
-use Rattle.uimg_blob_writing.specs.Encoding.{word, structure, strings, names_of, encode_by}
+use Rattle.uimg_blob_writing.specs.Encoding.{word, structure, structure_offset, strings, names_of, encode_with}
+use Rattle.uimg_blob_writing.specs.declared.reservation.Reservation.{Reservation}
 use Rattle.uimg_blob_writing.proofs.AlignmentLaws.{aligned-words}
 use Rattle.uimg_blob_writing.proofs.ReadsBackLaw.{length-encode, totalsize}
 use Rattle.uimg_fit_base.specs.{declared.fault.FitFault.FitFault, Files.{number, cell}}
@@ -16,7 +18,7 @@ use Rattle.uimg_fit_base.specs.Places.{place, bytes_at}
 use Rattle.uimg_base.specs.{Results.◌>>=◌, declared.spans.Span.Span}
 use Rattle.uimg_fit_building.specs.Filling.{in_first, IsFilledImage, IsFilled, IsDigest}
 use Rattle.uimg_fit_building.specs.ReadsBack.{ReadsBack}
-use Rattle.uimg_fit_building.specs.Building.{data_of, padded_size, moved_own, moved_from, placed_blob, payloads, built}
+use Rattle.uimg_fit_building.specs.Building.{data_of, padded_size, moved_own, moved_from, placed_with, payloads, built_with}
 use Rattle.uimg_fit_building.proofs.{SpotLaws.{piece-within, piece-lies}, LookUpLaws.first-with}
 use Rattle.uimg_fit_building.proofs.SoundLaws.{plain, IsSound, AreSound, reads_back-sound}
 use Rattle.uimg_fit_building.proofs.InsideLaw.{images-read}
@@ -43,11 +45,11 @@ stored align is = flat_map (λ image. padded_by align (data_of image.own)) is
 -- an alignment, a key under which payloads are placed, the other key, and where their places are counted from
 module _ (align : ℕ) (key other : List ℕ) (base : ℕ) (file : List ℕ)
     (key_key : bytes_eq key key ≡ true) (size_key : bytes_eq (codes "data-size") key ≡ false) (other_key : bytes_eq other key ≡ false) (other_size : bytes_eq other (codes "data-size") ≡ false)
-    (no_key : (i : NodeOf (List ℕ)) → IsFilledImage i → first i.own key ≡ None) (no_other : (i : NodeOf (List ℕ)) → IsFilledImage i → first i.own other ≡ None)
+    (no_key : (i : NodeOf (List ℕ)) → IsFilledImage Profile i → first i.own key ≡ None) (no_other : (i : NodeOf (List ℕ)) → IsFilledImage Profile i → first i.own other ≡ None)
     (placed : (i : NodeOf Spot) (at size : ℕ) → cell i.own key ≡ Some at → cell i.own (codes "data-size") ≡ Some size → cell i.own other ≡ None → place file i ≡ Ok (record { place = base + at; length = size }))
     (fits : length file < 2 ^ 32) where
   -- a payload that stands where it was placed is sound
-  outside-image : (i : NodeOf Spot) (f : NodeOf (List ℕ)) (at : ℕ) (rest : List ℕ) → plain i ≡ moved_node key at f → IsFilledImage f → base + at ≤ length file
+  outside-image : (i : NodeOf Spot) (f : NodeOf (List ℕ)) (at : ℕ) (rest : List ℕ) → plain i ≡ moved_node key at f → IsFilledImage Profile f → base + at ≤ length file
       → drop (base + at) file ≡ padded_by align (data_of f.own) ++ rest → IsSound file i (data_of f.own)
   unfolding bytes_at
   outside-image i f at rest same filled within h =
@@ -65,13 +67,13 @@ module _ (align : ℕ) (key other : List ℕ) (base : ℕ) (file : List ℕ)
       let spot : place file i ≡ Ok (record { place = base + at; length = length message }) = placed i at (length message) at_cell size_cell other_cell in
       let inside : nat_lt (length file) (base + at + length message) ≡ false = le-ltb _ _ ends in
       let bytes : bytes_at file (record { place = base + at; length = length message }) ≡ Ok message = rw (inside, piece-lies file (base + at) message (pad ++ rest) here) refl in
-      let digests : AllByRecursion (IsDigest message) (hashes f) = subst (λ (w : List ℕ). AllByRecursion (IsDigest w) (hashes f)) is_data filled.digests in
+      let digests : AllByRecursion (IsDigest Profile message) (hashes f) = subst (λ (w : List ℕ). AllByRecursion (IsDigest Profile w) (hashes f)) is_data filled.digests in
       record {
         is = ap (λ (r : Result Span FitFault). r >>= bytes_at file) spot ∙ bytes;
-        digests = subst (λ (n : NodeOf (List ℕ)). AllByRecursion (IsDigest message) (hashes n)) (sym same) digests;
+        digests = subst (λ (n : NodeOf (List ℕ)). AllByRecursion (IsDigest Profile message) (hashes n)) (sym same) digests;
       }
 
-  pub outside-images : (is : List (NodeOf Spot)) (fs : List (NodeOf (List ℕ))) (at : ℕ) (rest : List ℕ) → map plain is ≡ moved_nodes align key at fs → AllByRecursion IsFilledImage fs → base + at ≤ length file
+  pub outside-images : (is : List (NodeOf Spot)) (fs : List (NodeOf (List ℕ))) (at : ℕ) (rest : List ℕ) → map plain is ≡ moved_nodes align key at fs → AllByRecursion (IsFilledImage Profile) fs → base + at ≤ length file
       → drop (base + at) file ≡ stored align fs ++ rest → AreSound file is (map (λ f. data_of f.own) fs)
   unfolding moved_nodes
   outside-images [] [] at rest same filled within h = tt
@@ -97,57 +99,57 @@ payloads-found align t found are =
     ap (λ (o : Option (List (NodeOf (List ℕ)))). stored align (unwrap_or o [])) are ∙ sym (append-nil (stored align found))
 
 -- the length of a blob is a multiple of 4
-encode-aligned : (align : ℕ) (t : Nodes) → up4 (length (encode_by align t)) ≡ length (encode_by align t)
-encode-aligned align t = let end = 56 + length (structure t) + length (strings (names_of t)) in omega (arith, length-encode align t, aligned-words align end)
+encode-aligned : (align : ℕ) (rs : List Reservation) (t : Nodes) → up4 (length (encode_with align rs t)) ≡ length (encode_with align rs t)
+encode-aligned align rs t = let end = structure_offset rs + length (structure t) + length (strings (names_of t)) in omega (arith, length-encode align rs t, aligned-words align end)
 
-module _ (align : ℕ) (name : List ℕ) (own : List Named) (below : Nodes)
+module _ (align : ℕ) (rs : List Reservation) (name : List ℕ) (own : List Named) (below : Nodes)
     (named : let t : Nodes = a_node name own below no_node in AreNamed t) (filled : let t : Nodes = a_node name own below no_node in IsFilled t) where
   abbrev t : Nodes
   t = a_node name own below no_node
 
-  pub built-after : length (built t (After align)) < 2 ^ 32 → ReadsBack (built t (After align)) t
+  pub built-after : length (built_with rs t (After align)) < 2 ^ 32 → ReadsBack (built_with rs t (After align)) t
   built-after fits =
       let key = codes "data-offset" in
       let other = codes "data-position" in
       let moved_below = in_first (codes "images") (moved_from align key 0) below in
       let u : Nodes = a_node name own moved_below no_node in
       let more = payloads align t in
-      let file = encode_by align u ++ more in
-      let all : length file ≡ length (encode_by align u) + length more = length-append (encode_by align u) more in
-      let blob_fits : length (encode_by align u) < 2 ^ 32 = omega (arith, all, fits) in
+      let file = encode_with align rs u ++ more in
+      let all : length file ≡ length (encode_with align rs u) + length more = length-append (encode_with align rs u) more in
+      let blob_fits : length (encode_with align rs u) < 2 ^ 32 = omega (arith, all, fits) in
       let named_u : AreNamed u = named-images align key 0 t offset_is_name named in
       let are_u : images u ≡ Some (moved_nodes align key 0 filled.found) = images-moved align key 0 t ∙ ap (λ (o : Option (List (NodeOf (List ℕ)))). option_map (moved_nodes align key 0) o) filled.are_images in
-      let r = images-read align name own moved_below more (moved_nodes align key 0 filled.found) named_u blob_fits are_u in
-      let total : up4 (be32 file 4) ≡ length (encode_by align u) = ap (λ (n : ℕ). up4 n) (totalsize align name own moved_below named_u blob_fits more) ∙ encode-aligned align u in
-      let none : length (encode_by align u) + 0 ≡ length (encode_by align u) = omega arith in
-      let here : drop (length (encode_by align u) + 0) file ≡ stored align filled.found ++ [] =
-      ap (λ (k : ℕ). drop k file) none ∙ drop-append_seam (encode_by align u) more ∙ payloads-found align t filled.found filled.are_images in
-      let sound = outside-images align key other (length (encode_by align u)) file refl refl refl refl (λ i f. f.no_offset) (λ i f. f.no_position)
+      let r = images-read align rs name own moved_below more (moved_nodes align key 0 filled.found) named_u blob_fits are_u in
+      let total : up4 (be32 file 4) ≡ length (encode_with align rs u) = ap (λ (n : ℕ). up4 n) (totalsize align rs name own moved_below named_u blob_fits more) ∙ encode-aligned align rs u in
+      let none : length (encode_with align rs u) + 0 ≡ length (encode_with align rs u) = omega arith in
+      let here : drop (length (encode_with align rs u) + 0) file ≡ stored align filled.found ++ [] =
+      ap (λ (k : ℕ). drop k file) none ∙ drop-append_seam (encode_with align rs u) more ∙ payloads-found align t filled.found filled.are_images in
+      let sound = outside-images align key other (length (encode_with align rs u)) file refl refl refl refl (λ i f. f.no_offset) (λ i f. f.no_position)
       (λ i at size at_cell size_cell other_cell. rw (other_cell, at_cell, size_cell, total) refl)
       fits r.placed filled.found 0 [] r.same filled.each_filled (omega (arith, all)) here in
       reads_back-sound file t r.placed filled.found r.are filled.are_images sound
 
-  pub built-at : (p : ℕ) → length (placed_blob t (At p align)) ≤ p → length (built t (At p align)) < 2 ^ 32 → ReadsBack (built t (At p align)) t
+  pub built-at : (p : ℕ) → length (placed_with rs t (At p align)) ≤ p → length (built_with rs t (At p align)) < 2 ^ 32 → ReadsBack (built_with rs t (At p align)) t
   built-at p above fits =
       let key = codes "data-position" in
       let other = codes "data-offset" in
       let moved_below = in_first (codes "images") (moved_from align key p) below in
       let u : Nodes = a_node name own moved_below no_node in
-      let gap : List ℕ = replicate (p - length (encode_by align u)) 0 in
+      let gap : List ℕ = replicate (p - length (encode_with align rs u)) 0 in
       let more = gap ++ payloads align t in
-      let file = encode_by align u ++ more in
-      let all : length file ≡ length (encode_by align u) + length more = length-append (encode_by align u) more in
+      let file = encode_with align rs u ++ more in
+      let all : length file ≡ length (encode_with align rs u) + length more = length-append (encode_with align rs u) more in
       let all_more : length more ≡ length gap + length (payloads align t) = length-append gap (payloads align t) in
-      let gap_length : length gap ≡ p - length (encode_by align u) = length-replicate {A = ℕ} (p - length (encode_by align u)) 0 in
-      let front : length (encode_by align u ++ gap) ≡ p = omega (arith, length-append (encode_by align u) gap, gap_length, above) in
-      let from_start : 0 + p ≡ length (encode_by align u ++ gap) = omega (arith, front) in
-      let blob_fits : length (encode_by align u) < 2 ^ 32 = omega (arith, all, fits) in
+      let gap_length : length gap ≡ p - length (encode_with align rs u) = length-replicate {A = ℕ} (p - length (encode_with align rs u)) 0 in
+      let front : length (encode_with align rs u ++ gap) ≡ p = omega (arith, length-append (encode_with align rs u) gap, gap_length, above) in
+      let from_start : 0 + p ≡ length (encode_with align rs u ++ gap) = omega (arith, front) in
+      let blob_fits : length (encode_with align rs u) < 2 ^ 32 = omega (arith, all, fits) in
       let named_u : AreNamed u = named-images align key p t position_is_name named in
       let are_u : images u ≡ Some (moved_nodes align key p filled.found) = images-moved align key p t ∙ ap (λ (o : Option (List (NodeOf (List ℕ)))). option_map (moved_nodes align key p) o) filled.are_images in
-      let r = images-read align name own moved_below more (moved_nodes align key p filled.found) named_u blob_fits are_u in
+      let r = images-read align rs name own moved_below more (moved_nodes align key p filled.found) named_u blob_fits are_u in
       let here : drop (0 + p) file ≡ stored align filled.found ++ [] =
-      ap (λ (k : ℕ). drop k file) from_start ∙ ap (λ (w : List ℕ). drop (length (encode_by align u ++ gap)) w) (sym (append_assoc (encode_by align u) gap (payloads align t)))
-      ∙ drop-append_seam (encode_by align u ++ gap) (payloads align t) ∙ payloads-found align t filled.found filled.are_images in
+      ap (λ (k : ℕ). drop k file) from_start ∙ ap (λ (w : List ℕ). drop (length (encode_with align rs u ++ gap)) w) (sym (append_assoc (encode_with align rs u) gap (payloads align t)))
+      ∙ drop-append_seam (encode_with align rs u ++ gap) (payloads align t) ∙ payloads-found align t filled.found filled.are_images in
       let sound = outside-images align key other 0 file refl refl refl refl (λ i f. f.no_position) (λ i f. f.no_offset)
       (λ i at size at_cell size_cell other_cell. rw (at_cell, size_cell) refl)
       fits r.placed filled.found p [] r.same filled.each_filled (omega (arith, all, all_more, gap_length, above)) here in

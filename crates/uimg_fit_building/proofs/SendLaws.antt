@@ -3,13 +3,14 @@ use Rattle.std.proofs.Common.{◌≡◌, ℕ, List, ◌++◌, Option, Result, Ok
 use Rattle.std.specs.Result.{IsErrAnd}
 use Rattle.uimg_base.specs.{Device.RisesIf, Named.FileMap, Sink.Sink, Writing.Written}
 use Rattle.uimg_base.proofs.{SinkLaws.prefix_first, WritingLaws.written_then}
-use Rattle.uimg_blob_writing.specs.{declared.fault.TreeFault.TreeFault, Encoding.encode_by}
+use Rattle.uimg_blob_writing.specs.{declared.fault.TreeFault.TreeFault, Encoding.encode_with}
+use Rattle.uimg_blob_writing.specs.declared.reservation.Reservation.{Reservation}
 use Rattle.uimg_blob_writing.specs.{Content.{Unread, AreKept, in_full}, UsingFiles.UsesFiles}
 use Rattle.uimg_blob_writing.specs.{Faults.{is_no_file, is_put, is_read}, Pieces.WritesPieces}
-use Rattle.uimg_blob_writing.{specs.Layouts.{plan_of, totalsize}, proofs.WritesLaws.rises-then}
+use Rattle.uimg_blob_writing.{specs.Layouts.{plan_with, totalsize}, proofs.WritesLaws.rises-then}
 use Rattle.uimg_fit_base.specs.declared.placement.AlignedPlacement.{AlignedPlacement}
 use Rattle.uimg_fit_base.specs.Placements.{align_of}
-use Rattle.uimg_fit_building.specs.{Behind.behind_pieces, Building.{placed_blob, behind}}
+use Rattle.uimg_fit_building.specs.{Behind.behind_pieces, Building.{placed_with, behind_with}}
 use Rattle.uimg_fit_building.specs.{BuildSteps.WritesTextBetween, UnreadTrees.moved_unread}
 use Rattle.uimg_fit_building.proofs.BehindLaws.{behind-kept, behind-joined}
 use Rattle.uimg_fit_building.proofs.{BuildLaws.{placed-kept, placed-size}, UnreadLaws.moved-unread}
@@ -61,33 +62,33 @@ module _ (steady : Bool) (t : Unread) where
   refused (Ok x) f m n s u a h p = absurd h
   refused (Err e) f m n s u a h p = subst (λ (g : TreeFault). WritesTextBetween steady t (failed g) m n s u a) (sym h) p
 
-  module _ (placement : AlignedPlacement) (r : Answer) (m n : FileMap) (s u : Sink) where
+  module _ (rs : List Reservation) (placement : AlignedPlacement) (r : Answer) (m n : FileMap) (s u : Sink) where
     -- the blob of a tree whose payloads are placed
     pub blob-sent : (placed : Unread) → placed ≡ moved_unread t placement → UsesFiles (is_no_file r) m n → RisesIf (is_put r) s.faults u.faults
         → (IsTrue m.complete → AreKept m.bytes placed → is_no_file r ≡ false)
         → (IsTrue steady → IsTrue m.honest → AreKept m.bytes placed → is_read r ≡ false)
-        → (IsTrue m.honest → AreKept m.bytes placed → Written (is_err r) s u (encode_by (align_of placement) (in_full m.bytes placed)))
-        → WritesTextBetween steady t r m n s u (λ files. placed_blob (in_full files t) placement)
+        → (IsTrue m.honest → AreKept m.bytes placed → Written (is_err r) s u (encode_with (align_of placement) rs (in_full m.bytes placed)))
+        → WritesTextBetween steady t r m n s u (λ files. placed_with rs (in_full files t) placement)
     blob-sent placed is files faults found reads written = record {
       files = files;
       faults = faults;
       found = λ complete kept. found complete (all_kept kept);
       reads = λ always honest kept. reads always honest (all_kept kept);
       written = λ honest kept.
-          subst (λ (w : List ℕ). Written (is_err r) s u w) (ap (λ (p : Unread). encode_by (align_of placement) (in_full m.bytes p)) is ∙ ap (encode_by (align_of placement)) (sym (moved-unread m.bytes t placement kept)))
+          subst (λ (w : List ℕ). Written (is_err r) s u w) (ap (λ (p : Unread). encode_with (align_of placement) rs (in_full m.bytes p)) is ∙ ap (encode_with (align_of placement) rs) (sym (moved-unread m.bytes t placement kept)))
           (written honest (all_kept kept));
     }
       where
         all_kept : AreKept m.bytes t → AreKept m.bytes placed
-        all_kept kept = subst (λ (p : Unread). AreKept m.bytes p) (sym is) (placed-kept t placement m.bytes kept)
+        all_kept kept = subst (λ (p : Unread). AreKept m.bytes p) (sym is) (placed-kept rs t placement m.bytes kept)
 
     -- what stands behind it
-    pub behind-sent : (size : ℕ) → totalsize (plan_of (align_of placement) (moved_unread t placement)) ≡ size → WritesPieces steady r m n s u (behind_pieces size t placement) → WritesTextBetween steady t r m n s u (λ files. behind (in_full files t) placement)
+    pub behind-sent : (size : ℕ) → totalsize (plan_with (align_of placement) rs (moved_unread t placement)) ≡ size → WritesPieces steady r m n s u (behind_pieces size t placement) → WritesTextBetween steady t r m n s u (λ files. behind_with rs (in_full files t) placement)
     behind-sent size is p = record {
       files = p.files;
       faults = p.faults;
       found = λ complete kept. p.found complete (behind-kept m.bytes size t placement kept);
       reads = λ always honest kept. p.reads always honest (behind-kept m.bytes size t placement kept);
       written = λ honest kept.
-          subst (λ (w : List ℕ). Written (is_err r) s u w) (behind-joined m.bytes size t placement kept (placed-size t placement m.bytes kept ∙ is)) (p.written honest);
+          subst (λ (w : List ℕ). Written (is_err r) s u w) (behind-joined m.bytes rs size t placement kept (placed-size rs t placement m.bytes kept ∙ is)) (p.written honest);
     }

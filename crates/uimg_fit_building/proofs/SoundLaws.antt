@@ -3,6 +3,7 @@ use Rattle.std.proofs.Common.{◌≡◌, ℕ, zero, suc, List, [], ◌∷◌, le
 use Rattle.std.specs.{Bool.⊤, List.{slice_get, AllByRecursion}, Str.bytes_eq}
 use Rattle.std.{specs.Option.{option_map, option_and_then}, proofs.lemmas.Bool.eq-eqb}
 use Rattle.std.proofs.lemmas.{Option.slice_get-map, Slice.Eq.bytes_eq-Decides}
+use Rattle.uimg_names.specs.declared.naming.Naming.TheVariants.{Profile}
 use Rattle.uimg_sums.{specs.declared.algo.Algo.Algo, proofs.DigestSizes.length-digest_by}
 use Rattle.uimg_sums.specs.Algorithms.{algo_named, digest_size, digest_by}
 use Rattle.uimg_base.specs.{Outcome.{done, told, unless_refused}, Results.◌>>=◌}
@@ -29,7 +30,7 @@ compared-digest algo value message e =
     rw (is_size, same) refl
 
 by_known : (name : Option (List ℕ)) (value : Option (List ℕ)) (message : List ℕ) (algo : Algo) → option_and_then (λ n. algo_named (text n)) name ≡ Some algo → value ≡ Some (digest_by algo message)
-    → by_name (option_map text name) value message ≡ Right
+    → by_name Profile (option_map text name) value message ≡ Right
 by_known None value message algo known is = absurd (cc)
 by_known (Some n) value message algo known is =
     ap (λ (a : Option Algo). by_algo a value message) known
@@ -37,14 +38,14 @@ by_known (Some n) value message algo known is =
     ∙ compared-digest algo (digest_by algo message) message refl
 
 -- the word of a hash node that has the digest
-word-right : (message : List ℕ) (h : NodeOf Spot) → IsDigest message (plain h) → word_of message h ≡ Right
+word-right : (message : List ℕ) (h : NodeOf Spot) → IsDigest Profile message (plain h) → word_of message h ≡ Right
 word-right message h d =
     let name : option_and_then (λ n. algo_named (text n)) (value_bytes h.own (codes "algo")) ≡ Some d.algo =
     ap (λ (o : Option (List ℕ)). option_and_then (λ n. algo_named (text n)) o) (sym (first-with (λ s. s.bytes) h.own (codes "algo"))) ∙ d.known in
     let value : value_bytes h.own (codes "value") ≡ Some (digest_by d.algo message) = sym (first-with (λ s. s.bytes) h.own (codes "value")) ∙ d.value in
     by_known (value_bytes h.own (codes "algo")) (value_bytes h.own (codes "value")) message d.algo name value
 
-all-right : (message : List ℕ) (hs : List (NodeOf Spot)) → AllByRecursion (IsDigest message) (map plain hs) → are_right message hs ≡ true
+all-right : (message : List ℕ) (hs : List (NodeOf Spot)) → AllByRecursion (IsDigest Profile message) (map plain hs) → are_right message hs ≡ true
 all-right message [] d = refl
 all-right message (h ∷ hs) d =
     rw (word-right message h d.0, all-right message hs d.1) refl
@@ -52,7 +53,7 @@ all-right message (h ∷ hs) d =
 -- An image's payload is this, and its hash nodes have its digests.
 pub record IsSound (file : List ℕ) (image : NodeOf Spot) (message : List ℕ) : Type 0 where
   pub is : payload file image ≡ Ok message
-  pub digests : AllByRecursion (IsDigest message) (hashes (plain image))
+  pub digests : AllByRecursion (IsDigest Profile message) (hashes (plain image))
 
 -- The same of images and payloads, one by one.
 abbrev pub AreSound : List ℕ → List (NodeOf Spot) → List (List ℕ) → Type 0
@@ -63,8 +64,8 @@ AreSound file (i ∷ is) (m ∷ ms) = IsSound file i m × AreSound file is ms
 
 image-right : (file : List ℕ) (image : NodeOf Spot) (message : List ℕ) → IsSound file image message → are_right message (hashes image) ≡ true
 image-right file image message s =
-    let over : AllByRecursion (IsDigest message) (map plain (hashes image)) =
-    subst (λ (l : List (NodeOf (List ℕ))). AllByRecursion (IsDigest message) l) (hashes-with (λ s. s.bytes) image) s.digests in
+    let over : AllByRecursion (IsDigest Profile message) (map plain (hashes image)) =
+    subst (λ (l : List (NodeOf (List ℕ))). AllByRecursion (IsDigest Profile message) l) (hashes-with (λ s. s.bytes) image) s.digests in
     all-right message (hashes image) over
 
 pub report-done : (file : List ℕ) (is : List (NodeOf Spot)) (ms : List (List ℕ)) → AreSound file is ms → (report file is).end ≡ done

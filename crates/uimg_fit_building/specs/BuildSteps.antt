@@ -1,19 +1,20 @@
 -- Steps of building.
-use Rattle.std.specs.Prelude.{◌≡◌, ◌<◌, ℕ, Bool, IsTrue, List, Option, Some, None, Result, Ok, Err}
+use Rattle.std.specs.Prelude.{◌≡◌, ◌<◌, ℕ, Bool, IsTrue, List, [], Option, Some, None, Result, Ok, Err}
 use Rattle.std.specs.{Prelude.{⊤, false, is_err}, Result.OnOk}
 use Rattle.uimg_base.specs.{Device.RisesIf, Lent.Lent, Named.FileMap, Sink.Sink, Writing.Written}
 use Rattle.uimg_blob_reading.specs.declared.fault.BlobFault.{BlobFault}
 use Rattle.uimg_blob_reading.specs.declared.fault.BlobFault.TheVariants as blob
 use Rattle.uimg_blob_writing.specs.{declared.fault.TreeFault.TreeFault, Measured.bad_name}
 use Rattle.uimg_blob_writing.specs.{Content.{Unread, AreKept, in_full}, UsingFiles.UsesFiles}
-use Rattle.uimg_blob_writing.specs.Layouts.{Plan, plan_of, totalsize}
+use Rattle.uimg_blob_writing.specs.Layouts.{Plan, plan_with, totalsize}
+use Rattle.uimg_blob_writing.specs.declared.reservation.Reservation.{Reservation}
 use Rattle.uimg_blob_writing.specs.declared.fault.TreeFault.TheVariants as tree
 use Rattle.uimg_blob_writing.specs.Faults as writing
 use Rattle.uimg_fit_base.specs.declared.fault.Fault.{Fault, TheVariants.{Blob, Fit, Read, Put}}
 use Rattle.uimg_fit_base.specs.declared.fault.FitFault.TheVariants.{TooLarge, OutOfMemory, NoFile}
 use Rattle.uimg_fit_base.specs.declared.placement.AlignedPlacement.{AlignedPlacement}
 use Rattle.uimg_fit_base.specs.Faults.{is_read, is_put}
-use Rattle.uimg_fit_building.specs.BuildAnswers.{is_no_file, is_before_writing, BuildsAnswer}
+use Rattle.uimg_fit_building.specs.BuildAnswers.{is_no_file, is_before_writing, AnswersWith}
 
 -- the fault of a tree that cannot be measured: its blob is too large for a file, memory was
 -- refused, or a name is bad
@@ -28,16 +29,16 @@ of_writing tree.Put = Put
 of_writing tree.Read = Read
 of_writing tree.NoFile = Fit NoFile
 
--- What the result of measuring says of a tree, with an alignment.
-abbrev pub MeasuresTree : ℕ → Result Plan Fault → Unread → Type 0
-MeasuresTree align (Ok p) t = (bad_name t ≡ None) × (plan_of align t ≡ p)
-MeasuresTree align (Err (Blob fault at)) t = (bad_name t ≡ Some fault) × (at ≡ 0)
-MeasuresTree align (Err (Fit TooLarge)) t =
-    (bad_name t ≡ None) × (4294967295 < totalsize (plan_of align t))
-MeasuresTree align (Err (Fit OutOfMemory)) t = ⊤
-MeasuresTree align (Err (Fit fault)) t = ⊥
-MeasuresTree align (Err Read) t = ⊥
-MeasuresTree align (Err Put) t = ⊥
+-- What the result of measuring says of a tree, with an alignment and reservations.
+abbrev pub MeasuresTree : ℕ → List Reservation → Result Plan Fault → Unread → Type 0
+MeasuresTree align rs (Ok p) t = (bad_name t ≡ None) × (plan_with align rs t ≡ p)
+MeasuresTree align rs (Err (Blob fault at)) t = (bad_name t ≡ Some fault) × (at ≡ 0)
+MeasuresTree align rs (Err (Fit TooLarge)) t =
+    (bad_name t ≡ None) × (4294967295 < totalsize (plan_with align rs t))
+MeasuresTree align rs (Err (Fit OutOfMemory)) t = ⊤
+MeasuresTree align rs (Err (Fit fault)) t = ⊥
+MeasuresTree align rs (Err Read) t = ⊥
+MeasuresTree align rs (Err Put) t = ⊥
 
 -- What a call does that writes a text, which depends on files, if those of a tree are kept.
 pub record WritesTextBetween {X : Type 0} (steady : Bool) (t : Unread) (answer : Result X TreeFault)
@@ -57,8 +58,9 @@ WritesText steady map t answer files out text =
     out.exit.now text
 
 -- What building does to files and to an output.
-pub record BuildsBetween {X : Type 0} (steady : Bool) (t : Unread) (placement : AlignedPlacement)
-    (answer : Result X Fault) (old new : FileMap) (s u : Sink) : Type 0 where
+pub record BuildsBetween {X : Type 0} (steady : Bool) (rs : List Reservation) (t : Unread)
+    (placement : AlignedPlacement) (answer : Result X Fault) (old new : FileMap) (s u : Sink)
+    : Type 0 where
   -- no call changes the files; `NoFile` is returned if and only if their refusals rose
   pub files : UsesFiles (is_no_file answer) old new
   -- complete files of the stored sizes refuse no open
@@ -73,10 +75,16 @@ pub record BuildsBetween {X : Type 0} (steady : Bool) (t : Unread) (placement : 
   pub kept : IsTrue old.honest → OnOk answer (AreKept old.bytes t)
   -- over honest files of the stored sizes, what the result says of the file of the tree
   pub told : IsTrue old.honest → AreKept old.bytes t
-      → BuildsAnswer (in_full old.bytes t) placement answer s u
+      → AnswersWith rs (in_full old.bytes t) placement answer s u
 
+abbrev pub BuildsWith : {F X : Type 0} → Bool → (F → FileMap) → List Reservation → Unread
+    → AlignedPlacement → Result X Fault → Lent F → Lent Sink → Type 0
+BuildsWith steady map rs t placement answer files out =
+    BuildsBetween steady rs t placement answer (map files.entry.now) (map files.exit.now)
+    out.entry.now out.exit.now
+
+-- the same of a tree without reservations
 abbrev pub Builds : {F X : Type 0} → Bool → (F → FileMap) → Unread → AlignedPlacement
     → Result X Fault → Lent F → Lent Sink → Type 0
 Builds steady map t placement answer files out =
-    BuildsBetween steady t placement answer (map files.entry.now) (map files.exit.now) out.entry.now
-    out.exit.now
+    BuildsWith steady map [] t placement answer files out

@@ -3,7 +3,8 @@ use Rattle.std.specs.Prelude.{ℕ, ◌+◌, ◌-◌, List, [], ◌∷◌, ◌++�
 use Rattle.std.specs.{Prelude.{codes, unwrap_or}, List.flat_map, Option.option_map_or, Str.bytes_eq}
 use Rattle.uimg_blob_reading.specs.Plain.{NamedOf, NodesOf, Named, Nodes, no_node, a_node}
 use Rattle.uimg_blob_reading.specs.LookUps.{first, images}
-use Rattle.uimg_blob_writing.specs.{Alignment.{aligned, padded_by}, Encoding.{word, encode_by}}
+use Rattle.uimg_blob_writing.specs.{Alignment.{aligned, padded_by}, Encoding.{word, encode_with}}
+use Rattle.uimg_blob_writing.specs.declared.reservation.Reservation.{Reservation}
 use Rattle.uimg_fit_base.specs.declared.placement.AlignedPlacement.{AlignedPlacement}
 use Rattle.uimg_fit_base.specs.declared.placement.AlignedPlacement.TheVariants.{Inside, After, At}
 use Rattle.uimg_fit_base.specs.Placements.{align_of}
@@ -67,16 +68,24 @@ moved = moved_by (λ value. length value) (λ value. value)
 abbrev pub payloads : ℕ → Nodes → List ℕ
 payloads align t = flat_map (λ image. padded_by align (data_of image.own)) (unwrap_or (images t) [])
 
--- the blob of a tree with its payloads placed
-abbrev pub placed_blob : Nodes → AlignedPlacement → List ℕ
-placed_blob t placement = encode_by (align_of placement) (moved t placement)
+-- the blob of a tree with its payloads placed, with reservations
+abbrev pub placed_with : List Reservation → Nodes → AlignedPlacement → List ℕ
+placed_with rs t placement = encode_with (align_of placement) rs (moved t placement)
 
 -- what follows the blob
-abbrev pub behind : Nodes → AlignedPlacement → List ℕ
-behind t Inside = []
-behind t (After align) = payloads align t
-behind t (At p align) = replicate (p - length (placed_blob t (At p align))) 0 ++ payloads align t
+abbrev pub behind_with : List Reservation → Nodes → AlignedPlacement → List ℕ
+behind_with rs t Inside = []
+behind_with rs t (After align) = payloads align t
+behind_with rs t (At p align) =
+    replicate (p - length (placed_with rs t (At p align))) 0 ++ payloads align t
 
--- the file of a tree
+-- the file of a tree with reservations
+abbrev pub built_with : List Reservation → Nodes → AlignedPlacement → List ℕ
+built_with rs t placement = placed_with rs t placement ++ behind_with rs t placement
+
+-- the blob and the file of a tree without reservations
+abbrev pub placed_blob : Nodes → AlignedPlacement → List ℕ
+placed_blob = placed_with []
+
 abbrev pub built : Nodes → AlignedPlacement → List ℕ
-built t placement = placed_blob t placement ++ behind t placement
+built = built_with []

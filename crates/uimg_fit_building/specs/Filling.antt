@@ -2,11 +2,13 @@
 use Rattle.std.specs.Prelude.{◌≡◌, ℕ, List, [], ◌∷◌, if◌then◌else◌, not, Option, Some, None, codes}
 use Rattle.std.specs.{List.{filter, list_any, AllByRecursion}, Str.bytes_eq}
 use Rattle.std.specs.Option.{option_and_then, option_map_or}
-use Rattle.uimg_sums.specs.{declared.algo.Algo.Algo, Algorithms.{algo_named, digest_by}}
+use Rattle.uimg_names.specs.declared.naming.Naming.{Naming, TheVariants.Profile}
+use Rattle.uimg_sums.specs.{declared.algo.Algo.Algo, Algorithms.digest_by}
 use Rattle.uimg_blob_reading.specs.{Roles.is_hash, LookUps.{NodeOf, first, images, hashes}}
 use Rattle.uimg_blob_reading.specs.Plain.{NamedOf, NodesOf, Named, Nodes, no_node, a_node}
 use Rattle.uimg_texts.specs.Nul.{text}
 use Rattle.uimg_blob_writing.specs.Encoding.{word}
+use Rattle.uimg_fit_base.specs.AlgoNames.{algo_by}
 
 -- properties, with the first of a name set to a value, or with one more
 unfoldable pub with : {V : Type 0} → List ℕ → V → List (NamedOf V) → List (NamedOf V)
@@ -52,72 +54,80 @@ with_root key value no_node = no_node
 with_root key value (a_node name own below after) = a_node name (with key value own) below after
 
 -- The steps of filling work on any values: `read` gives the bytes of a value, `made` the value of
--- some bytes.
+-- some bytes. The algorithms are those of a set of names.
 
 -- the algorithm of a hash node, if its name is known
-abbrev pub algo_by : {V : Type 0} → (V → List ℕ) → List (NamedOf V) → Option Algo
-algo_by read own =
-    option_and_then (λ name. algo_named (text (read name))) (first own (codes "algo"))
+abbrev pub hash_algo : {V : Type 0} → Naming → (V → List ℕ) → List (NamedOf V) → Option Algo
+hash_algo naming read own =
+    option_and_then (λ name. algo_by naming (text (read name))) (first own (codes "algo"))
 
 -- a hash node with the digest of a payload; one of an unknown algorithm is unchanged
-abbrev pub with_digest_by : {V : Type 0} → (V → List ℕ) → (List ℕ → V) → List ℕ → NodeOf V
+abbrev pub with_digest_by : {V : Type 0} → Naming → (V → List ℕ) → (List ℕ → V) → List ℕ → NodeOf V
     → NodeOf V
-with_digest_by read made message h =
+with_digest_by naming read made message h =
     option_map_or (λ algo. record h {
       own = with (codes "value") (made (digest_by algo message))
           h.own;
-    }) (algo_by read h.own) h
+    }) (hash_algo naming read h.own) h
 
 -- a child of an image: a hash node with the digest, any other unchanged
-abbrev pub hashed_by : {V : Type 0} → (V → List ℕ) → (List ℕ → V) → List ℕ → NodeOf V → NodeOf V
-hashed_by read made message h = if is_hash h.name then with_digest_by read made message h else h
+abbrev pub hashed_by : {V : Type 0} → Naming → (V → List ℕ) → (List ℕ → V) → List ℕ → NodeOf V
+    → NodeOf V
+hashed_by naming read made message h =
+    if is_hash h.name then with_digest_by naming read made message h else h
 
 -- an image with the digests of its first `data`, and no offset outside the blob
-abbrev pub filled_image_by : {V : Type 0} → (V → List ℕ) → (List ℕ → V) → NodeOf V → NodeOf V
-filled_image_by read made image = record image {
+abbrev pub filled_image_by : {V : Type 0} → Naming → (V → List ℕ) → (List ℕ → V) → NodeOf V
+    → NodeOf V
+filled_image_by naming read made image = record image {
   own = without_external image.own;
   below =
-      option_map_or (λ payload. each (hashed_by read made (read payload)) image.below)
+      option_map_or (λ payload. each (hashed_by naming read made (read payload)) image.below)
       (first image.own (codes "data")) image.below;
 }
 
 -- a tree with a timestamp and its images' digests
-abbrev pub filled_by : {V : Type 0} → (V → List ℕ) → (List ℕ → V) → ℕ → NodesOf V → NodesOf V
-filled_by read made time t =
+abbrev pub filled_by : {V : Type 0} → Naming → (V → List ℕ) → (List ℕ → V) → ℕ → NodesOf V
+    → NodesOf V
+filled_by naming read made time t =
     with_root (codes "timestamp") (made (word time))
-    (with_images (each (filled_image_by read made)) t)
+    (with_images (each (filled_image_by naming read made)) t)
 
 -- the same for values that are bytes
-abbrev pub algo_in : List Named → Option Algo
-algo_in own = algo_by (λ value. value) own
+abbrev pub algo_in : Naming → List Named → Option Algo
+algo_in naming own = hash_algo naming (λ value. value) own
 
-abbrev pub hashed : List ℕ → NodeOf (List ℕ) → NodeOf (List ℕ)
-hashed message h = hashed_by (λ value. value) (λ value. value) message h
+abbrev pub hashed : Naming → List ℕ → NodeOf (List ℕ) → NodeOf (List ℕ)
+hashed naming message h = hashed_by naming (λ value. value) (λ value. value) message h
 
-abbrev pub filled_image : NodeOf (List ℕ) → NodeOf (List ℕ)
-filled_image image = filled_image_by (λ value. value) (λ value. value) image
+abbrev pub filled_image : Naming → NodeOf (List ℕ) → NodeOf (List ℕ)
+filled_image naming image = filled_image_by naming (λ value. value) (λ value. value) image
 
-abbrev pub filled : ℕ → Nodes → Nodes
-filled time t = filled_by (λ value. value) (λ value. value) time t
+abbrev pub filled : Naming → ℕ → Nodes → Nodes
+filled naming time t = filled_by naming (λ value. value) (λ value. value) time t
 
 -- A hash node's algorithm is known and its first `value` is the digest of a payload.
-pub record IsDigest (message : List ℕ) (h : NodeOf (List ℕ)) : Type 0 where
+pub record IsDigest (naming : Naming) (message : List ℕ) (h : NodeOf (List ℕ)) : Type 0 where
   pub algo : Algo
-  pub known : algo_in h.own ≡ Some algo
+  pub known : algo_in naming h.own ≡ Some algo
   pub value : first h.own (codes "value") ≡ Some (digest_by algo message)
 
 -- An image has `data` and no offset outside the blob, and each of its hash nodes has the digest of
 -- its first `data`.
-pub record IsFilledImage (image : NodeOf (List ℕ)) : Type 0 where
+pub record IsFilledImage (naming : Naming) (image : NodeOf (List ℕ)) : Type 0 where
   pub message : List ℕ
   pub has : first image.own (codes "data") ≡ Some message
   pub no_offset : first image.own (codes "data-offset") ≡ None
   pub no_size : first image.own (codes "data-size") ≡ None
   pub no_position : first image.own (codes "data-position") ≡ None
-  pub digests : AllByRecursion (IsDigest message) (hashes image)
+  pub digests : AllByRecursion (IsDigest naming message) (hashes image)
 
 -- A tree has `images`, and each image is filled.
-pub record IsFilled (t : Nodes) : Type 0 where
+pub record IsFilledBy (naming : Naming) (t : Nodes) : Type 0 where
   pub found : List (NodeOf (List ℕ))
   pub are_images : images t ≡ Some found
-  pub each_filled : AllByRecursion IsFilledImage found
+  pub each_filled : AllByRecursion (IsFilledImage naming) found
+
+-- the same by the algorithms of the profile
+abbrev pub IsFilled : Nodes → Type 0
+IsFilled t = IsFilledBy Profile t

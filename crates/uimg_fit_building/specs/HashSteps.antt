@@ -1,6 +1,7 @@
 -- Steps that set the digests of hash nodes.
 use Rattle.std.specs.Prelude.{◌≡◌, ℕ, List, map, true, Result, OnOk, IsOkUnless}
 use Rattle.std.specs.List.{filter, AllByRecursion}
+use Rattle.uimg_names.specs.declared.naming.Naming.{Naming}
 use Rattle.uimg_base.specs.Lent.{Lent}
 use Rattle.uimg_blob_reading.specs.Roles.{is_hash}
 use Rattle.uimg_blob_writing.specs.{declared.tree.Node.Node, Content.bytes, Trees.siblings}
@@ -21,24 +22,26 @@ pub record SetsDigests {T X : Type 0} (digests : Digests) (AreCovered : Type 0)
   pub memory : IsOkUnless result OutOfMemory
 
 -- in a hash node
-abbrev pub SetsHash : {A X : Type 0} → Digests → Result X FitFault → Lent (Node A) → Type 0
-SetsHash digests result node =
-    SetsDigests digests (CoversHash (set_of digests) (entry node.entry.now))
-    (λ message. with_digest_by in_memory bytes message (entry node.entry.now)) zeroed_hash
-    (entry node.exit.now) result
+abbrev pub SetsHash : {A X : Type 0} → Naming → Digests → Result X FitFault → Lent (Node A) → Type 0
+SetsHash naming digests result node =
+    SetsDigests digests (CoversHash naming (set_of digests) (entry node.entry.now))
+    (λ message. with_digest_by naming in_memory bytes message (entry node.entry.now))
+    (zeroed_hash naming) (entry node.exit.now) result
 
 -- in a child of an image, if it is a hash node
-abbrev pub SetsChild : {A X : Type 0} → Digests → Result X FitFault → Lent (Node A) → Type 0
-SetsChild digests result node =
+abbrev pub SetsChild : {A X : Type 0} → Naming → Digests → Result X FitFault → Lent (Node A)
+    → Type 0
+SetsChild naming digests result node =
     SetsDigests digests
-    (is_hash node.entry.now.name ≡ true → CoversHash (set_of digests) (entry node.entry.now))
-    (λ message. hashed_in message (entry node.entry.now)) zeroed_child (entry node.exit.now) result
+    (is_hash node.entry.now.name ≡ true → CoversHash naming (set_of digests) (entry node.entry.now))
+    (λ message. hashed_in naming message (entry node.entry.now)) (zeroed_child naming)
+    (entry node.exit.now) result
 
 -- in the hash nodes among the children of an image
-abbrev pub SetsChildren : {A X : Type 0} → Digests → Result X FitFault → Lent (List (Node A))
-    → Type 0
-SetsChildren digests result nodes =
-    SetsDigests digests (AllByRecursion (CoversHash (set_of digests))
+abbrev pub SetsChildren : {A X : Type 0} → Naming → Digests → Result X FitFault
+    → Lent (List (Node A)) → Type 0
+SetsChildren naming digests result nodes =
+    SetsDigests digests (AllByRecursion (CoversHash naming (set_of digests))
     (filter (λ h. is_hash h.name) (map entry nodes.entry.now)))
-    (λ message. each (hashed_in message) (siblings nodes.entry.now)) (each zeroed_child)
-    (siblings nodes.exit.now) result
+    (λ message. each (hashed_in naming message) (siblings nodes.entry.now))
+    (each (zeroed_child naming)) (siblings nodes.exit.now) result

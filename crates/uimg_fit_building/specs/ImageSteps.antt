@@ -1,6 +1,7 @@
 -- Steps that fill images.
 use Rattle.std.specs.{Prelude.{Bool, IsTrue, List, Option, Result}, List.AllByRecursion}
 use Rattle.std.specs.Option.{IfSome}
+use Rattle.uimg_names.specs.declared.naming.Naming.{Naming}
 use Rattle.uimg_base.specs.{Lent.Lent, Named.FileMap}
 use Rattle.uimg_blob_reading.specs.LookUps.{NodeOf}
 use Rattle.uimg_blob_writing.specs.Content.{Content}
@@ -15,7 +16,8 @@ OpensImages steady map found result files =
     OpensKept steady map (λ there. IfSome found (AllByRecursion (IsKeptImage there))) result files
 
 -- Over honest files the result is that of filling the root's images in order.
-abbrev pub AnswersInOrder : {F X : Type 0} → Bool → (F → FileMap) → Option (List (NodeOf Content))
-    → Result X FitFault → Lent F → Type 0
-AnswersInOrder steady map found result files =
-    IsTrue (map files.entry.now).honest → FillsInOrder (map files.entry.now) steady found result
+abbrev pub AnswersInOrder : {F X : Type 0} → Naming → Bool → (F → FileMap)
+    → Option (List (NodeOf Content)) → Result X FitFault → Lent F → Type 0
+AnswersInOrder naming steady map found result files =
+    IsTrue (map files.entry.now).honest
+    → FillsInOrder naming (map files.entry.now) steady found result

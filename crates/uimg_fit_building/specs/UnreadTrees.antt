@@ -1,5 +1,6 @@
 -- Filling and placing if payloads stay in their files.
 use Rattle.std.specs.Prelude.{ℕ, List, Option}
+use Rattle.uimg_names.specs.declared.naming.Naming.{Naming}
 use Rattle.uimg_blob_reading.specs.Plain.{NamedOf}
 use Rattle.uimg_blob_writing.specs.Content.{Content, Unread, bytes, content_bytes, size_of}
 use Rattle.uimg_fit_base.specs.declared.placement.AlignedPlacement.{AlignedPlacement}
@@ -8,8 +9,8 @@ use Rattle.uimg_fit_building.specs.Filling.{filled_by}
 
 -- a tree with a timestamp and its images' digests, over files with these bytes; each file stays a
 -- file
-abbrev pub filled_unread : (List ℕ → Option (List ℕ)) → ℕ → Unread → Unread
-filled_unread files time t = filled_by (content_bytes files) bytes time t
+abbrev pub filled_unread : Naming → (List ℕ → Option (List ℕ)) → ℕ → Unread → Unread
+filled_unread naming files time t = filled_by naming (content_bytes files) bytes time t
 
 -- the size of an image's payload, rounded up to an alignment
 abbrev pub padded_size_of : ℕ → List (NamedOf Content) → ℕ

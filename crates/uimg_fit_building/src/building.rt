@@ -1,10 +1,10 @@
 //! Building: the blob of a filled tree is written, and the payloads after it.
 
 ghost use Rattle.std.specs.Prelude.{◌≡◌, OnOk, false};
-ghost use Rattle.uimg_blob_writing.specs.{Content.{AreKept, in_full}, Layouts.{plan_of, totalsize}};
+ghost use Rattle.uimg_blob_writing.specs.{Content.{AreKept, in_full}, Layouts.{plan_with, totalsize}};
 ghost use Rattle.uimg_blob_writing.specs.{Trees.node_of, LentFiles.{OfHonest, IfInFull}};
-ghost use Rattle.uimg_fit_building.specs.BuildSteps.{of_measure, of_writing, MeasuresTree, WritesText, Builds};
-ghost use Rattle.uimg_fit_building.specs.{Building.built, Filling.IsFilled, ReadsBack.ReadsBack};
+ghost use Rattle.uimg_fit_building.specs.BuildSteps.{of_measure, of_writing, MeasuresTree, WritesText, BuildsWith, Builds};
+ghost use Rattle.uimg_fit_building.specs.{Building.{built, built_with}, Filling.IsFilled, ReadsBack.ReadsBack};
 ghost use Rattle.uimg_fit_building.specs.{Refusing.is_low, UnreadTrees.moved_unread};
 ghost use Rattle.uimg_fit_base.specs.Placements.{align_of, aligned_by};
 
@@ -18,8 +18,18 @@ use std::alloc::Allocator;
 use std::io::Write;
 use uimg_base::{Files, Out, Source};
 use uimg_blob_reading::BlobFault;
-use uimg_blob_writing::{Layout, Tree, TreeFault, measure_by, write_tree};
+use uimg_blob_writing::{Layout, Reservation, Tree, TreeFault, measure_with, write_tree};
 use uimg_fit_base::{AlignedPlacement, Fault, FitFault, Placement, WORD_ALIGNMENT};
+
+/// What a FIT image has beside its tree.
+#[derive(Clone, Copy)]
+pub struct Frame<'a> {
+    /// Where the payloads go.
+    pub placement: AlignedPlacement,
+
+    /// The memory that the blob reserves.
+    pub reservations: &'a [Reservation],
+}
 
 // Turns the fault of measuring a tree into one of building.
 fn of_measure(fault: BlobFault) -> Fault
@@ -43,15 +53,16 @@ fn of_writing(fault: TreeFault) -> Fault
     }
 }
 
-// Measures the blob of a tree, with an alignment.
+// Measures the blob of a tree, with an alignment and reservations.
 fn measure_placed<'a, A: Allocator>(
     alloc: A,
     placed: &'a Tree<A>,
     align: u32,
+    reservations: &'a [Reservation],
 ) -> Result<Layout<'a, A>, Fault>
-    ensures { MeasuresTree align result (node_of placed.now.root) }
+    ensures { MeasuresTree align reservations.now result (node_of placed.now.root) }
 {
-    match measure_by(alloc, placed, align) {
+    match measure_with(alloc, placed, align, reservations) {
         Ok(layout) => Ok(layout),
         Err(fault) => Err(of_measure(fault)),
     }
@@ -66,13 +77,15 @@ fn write_file<F: Files, W: Write, A: Allocator>(
     files: &mut F,
     out: &mut Out<W>,
 ) -> Result<(), TreeFault>
-    requires plan { layout.now ≡ plan_of (align_of placement) (node_of placed.now.root) }
+    requires plan { layout.now
+        ≡ plan_with (align_of placement) layout.now.reservations (node_of placed.now.root) }
     requires placed { node_of placed.now.root ≡ moved_unread (node_of tree.now.root) placement }
     requires high { is_low (totalsize layout.now) placement ≡ false }
     ensures kept { OfHonest F.map files (λ there.
         OnOk result (AreKept there (node_of tree.now.root))) }
     ensures sent { WritesText F.Opened.steady F.map (node_of tree.now.root) result files out
-        (λ there. built (in_full there (node_of tree.now.root)) placement) }
+        (λ there.
+        built_with layout.now.reservations (in_full there (node_of tree.now.root)) placement) }
 {
     write_tree(placed, layout, files, out)?;
     put_behind(layout.totalsize(), tree, placement, files, out)
@@ -83,14 +96,17 @@ fn build_placed<F: Files, W: Write, A: Allocator>(
     alloc: A,
     placed: &Tree<A>,
     tree: &Tree<A>,
-    placement: AlignedPlacement,
+    frame: Frame<'_>,
     files: &mut F,
     out: &mut Out<W>,
 ) -> Result<(), Fault>
-    requires { node_of placed.now.root ≡ moved_unread (node_of tree.now.root) placement }
-    ensures { Builds F.Opened.steady F.map (node_of tree.now.root) placement result files out }
+    requires { node_of placed.now.root
+        ≡ moved_unread (node_of tree.now.root) frame.placement }
+    ensures { BuildsWith F.Opened.steady F.map frame.entry.reservations.now
+        (node_of tree.now.root) frame.entry.placement result files out }
 {
-    let layout = measure_placed(alloc, placed, placement.align())?;
+    let placement = frame.placement;
+    let layout = measure_placed(alloc, placed, placement.align(), frame.reservations)?;
     check_payloads(layout.totalsize(), tree, placement)?;
     match write_file(placed, &layout, tree, placement, files, out) {
         Ok(()) => Ok(()),
@@ -102,25 +118,26 @@ fn build_placed<F: Files, W: Write, A: Allocator>(
 fn place_and_build<F: Files, W: Write, A: Allocator + Copy>(
     alloc: A,
     tree: &Tree<A>,
-    placement: AlignedPlacement,
+    frame: Frame<'_>,
     files: &mut F,
     out: &mut Out<W>,
 ) -> Result<(), Fault>
-    ensures { Builds F.Opened.steady F.map (node_of tree.now.root) placement result files out }
+    ensures { BuildsWith F.Opened.steady F.map frame.entry.reservations.now
+        (node_of tree.now.root) frame.entry.placement result files out }
 {
-    match placement {
-        AlignedPlacement::Inside => build_placed(alloc, tree, tree, placement, files, out),
+    match frame.placement {
+        AlignedPlacement::Inside => build_placed(alloc, tree, tree, frame, files, out),
         AlignedPlacement::After { align } => {
             let Ok(placed) = place(alloc, tree, align, b"data-offset", 0) else {
                 return Err(Fault::Fit(FitFault::OutOfMemory));
             };
-            build_placed(alloc, &placed, tree, placement, files, out)
+            build_placed(alloc, &placed, tree, frame, files, out)
         }
         AlignedPlacement::At { position, align } => {
             let Ok(placed) = place(alloc, tree, align, b"data-position", position) else {
                 return Err(Fault::Fit(FitFault::OutOfMemory));
             };
-            build_placed(alloc, &placed, tree, placement, files, out)
+            build_placed(alloc, &placed, tree, frame, files, out)
         }
     }
 }
@@ -182,5 +199,28 @@ pub fn build_by<F: Files, W: Write, A: Allocator + Copy>(
     ensures reads_back { IfInFull F.map files (node_of tree.now.root) (λ t.
         IsFilled t → OnOk result (ReadsBack (built t placement) t)) }
 {
-    place_and_build(alloc, tree, placement, files, out)
+    let frame = Frame {
+        placement,
+        reservations: &[],
+    };
+    build_with(alloc, tree, files, frame, out)
+}
+
+/// Builds the FIT image of a tree as `build_by` does, with the reservations of the frame in its blob
+/// (Devicetree Specification, section 5.3).
+pub fn build_with<F: Files, W: Write, A: Allocator + Copy>(
+    alloc: A,
+    tree: &Tree<A>,
+    files: &mut F,
+    frame: Frame<'_>,
+    out: &mut Out<W>,
+) -> Result<(), Fault>
+    ensures builds { BuildsWith F.Opened.steady F.map frame.entry.reservations.now
+        (node_of tree.now.root) frame.entry.placement result files out }
+    // Here `t` is the tree with the bytes of its files.
+    ensures reads_back { IfInFull F.map files (node_of tree.now.root) (λ t.
+        IsFilled t → OnOk result (ReadsBack
+        (built_with frame.entry.reservations.now t frame.entry.placement) t)) }
+{
+    place_and_build(alloc, tree, frame, files, out)
 }

@@ -7,7 +7,9 @@ ghost use Rattle.uimg_blob_writing.specs.{Content.{bytes, FilesAtData}, Encoding
 ghost use Rattle.uimg_blob_writing.specs.{Trees.{node_of, siblings}, UsingFiles.UsesFiles};
 ghost use Rattle.uimg_blob_writing.specs.LentFiles.{OfHonest, IfKept, IfComplete, IfSteady};
 ghost use Rattle.uimg_fit_building.specs.{Filling.{with, each, in_first}, PayloadSums.no_files};
-ghost use Rattle.uimg_fit_building.specs.FillAnswers.{opens_no_file, fails_to_read, FillsAnswer};
+ghost use Rattle.uimg_fit_building.specs.FillAnswers.{opens_no_file, fails_to_read};
+ghost use Rattle.uimg_fit_building.specs.FillAnswers.{FillsAnswer, FillsAnswerBy};
+ghost use Rattle.uimg_names.specs.declared.naming.Naming.TheVariants.{Profile};
 ghost use Rattle.uimg_fit_building.specs.ImageSteps.{OpensImages, AnswersInOrder};
 ghost use Rattle.uimg_fit_building.specs.SettingSteps.{MakesUnlessMemory};
 ghost use Rattle.uimg_fit_building.specs.UnreadTrees.{filled_unread};
@@ -26,6 +28,7 @@ use std::mem;
 use uimg_base::{Files, Source};
 use uimg_blob_writing::{Node, Nodes, Props, Tree, Value};
 use uimg_fit_base::FitFault;
+use uimg_names::Naming;
 
 // Sets the timestamp among properties.
 fn with_time<A: Allocator + Copy>(
@@ -51,19 +54,23 @@ fn before_images<A: Allocator>(nodes: &[Node<A>]) -> usize
 fn fill_parent<F: Files, A: Allocator + Copy>(
     alloc: A,
     parent: &mut Node<A>,
+    naming: Naming,
     files: &mut F,
 ) -> Result<(), FitFault>
     ensures opens { OpensImages F.Opened.steady F.map (Some (listed parent.old.children))
         result files }
-    ensures filled { OfHonest F.map files (λ there. FillsParent there parent.old parent.new result) }
-    ensures order { AnswersInOrder F.Opened.steady F.map (Some (listed parent.old.children))
+    ensures filled { OfHonest F.map files (λ there.
+        FillsParent naming there parent.old parent.new result) }
+    ensures order { AnswersInOrder naming F.Opened.steady F.map (Some (listed parent.old.children))
         result files }
-    ensures rest { OnOk result (zeroed_parent parent.new
-        ≡ zeroed_parent (record parent.old { children = each (filled_over no_files) parent.old.children })) }
+    ensures rest { OnOk result (zeroed_parent naming parent.new
+        ≡ zeroed_parent naming (record parent.old {
+          children = each (filled_over naming no_files) parent.old.children;
+        })) }
 {
     let nodes = mem::replace(&mut parent.children, Nodes::of(Vec::new(alloc)));
     let mut images = nodes.into_vec();
-    let answer = fill_images(alloc, images.as_mut_slice(), files);
+    let answer = fill_images(alloc, images.as_mut_slice(), naming, files);
     parent.children = Nodes::of(images);
     answer
 }
@@ -72,22 +79,24 @@ fn fill_parent<F: Files, A: Allocator + Copy>(
 fn fill_below<F: Files, A: Allocator + Copy>(
     alloc: A,
     nodes: &mut [Node<A>],
+    naming: Naming,
     files: &mut F,
 ) -> Result<(), FitFault>
     ensures opens { OpensImages F.Opened.steady F.map (images_among (siblings nodes.old))
         result files }
     ensures filled { OfHonest F.map files (λ there.
-        FillsBelow there (siblings nodes.old) (siblings nodes.new) result) }
-    ensures order { AnswersInOrder F.Opened.steady F.map (images_among (siblings nodes.old))
+        FillsBelow naming there (siblings nodes.old) (siblings nodes.new) result) }
+    ensures order { AnswersInOrder naming F.Opened.steady F.map (images_among (siblings nodes.old))
         result files }
-    ensures rest { OnOk result (zeroed_below (siblings nodes.new)
-        ≡ zeroed_below (in_first (codes "images") (each (filled_over no_files)) (siblings nodes.old))) }
+    ensures rest { OnOk result (zeroed_below naming (siblings nodes.new)
+        ≡ zeroed_below naming (in_first (codes "images") (each (filled_over naming no_files))
+        (siblings nodes.old))) }
 {
     let at = before_images(nodes);
     if at >= nodes.len() {
         return Err(FitFault::NoImages);
     }
-    fill_parent(alloc, &mut nodes[at], files)
+    fill_parent(alloc, &mut nodes[at], naming, files)
 }
 
 /// Fills a tree before it is built: sets the root's `timestamp`, removes `data-offset`, `data-size`
@@ -126,10 +135,36 @@ pub fn fill<F: Files, A: Allocator + Copy>(
     // if its file has the size that the tree keeps, and stops at the first image that it cannot
     // pass. If the files are complete, `NoFile`, and if what they open is steady, `ReadFailed`,
     // means that the file of that image is missing or has another size, whatever the others are.
-    ensures order { AnswersInOrder F.Opened.steady F.map (images (node_of tree.root)) result files }
+    ensures order { AnswersInOrder Profile F.Opened.steady F.map (images (node_of tree.root))
+        result files }
     // Over any files, except for the bytes of its digests: the tree is the source's, filled.
-    ensures rest { IfOk result (λ filled. zeroed_tree (node_of filled.root)
-        ≡ zeroed_tree (filled_unread no_files time (node_of tree.root))) }
+    ensures rest { IfOk result (λ filled. zeroed_tree Profile (node_of filled.root)
+        ≡ zeroed_tree Profile (filled_unread Profile no_files time (node_of tree.root))) }
+{
+    fill_by(alloc, tree, time, Naming::Profile, files)
+}
+
+/// Fills a tree as `fill` does, by the algorithms of a set of names: with `Naming::All` a hash node
+/// may be of crc16-ccitt, too, whose `value` `verify` does not check.
+pub fn fill_by<F: Files, A: Allocator + Copy>(
+    alloc: A,
+    tree: Tree<A>,
+    time: u32,
+    naming: Naming,
+    files: &mut F,
+) -> Result<Tree<A>, FitFault>
+    requires { FilesAtData (node_of tree.root) }
+    ensures files { UsesFiles (opens_no_file result) (F.map files.old) (F.map files.new) }
+    ensures found { IfComplete F.map files (node_of tree.root) (opens_no_file result ≡ false) }
+    ensures steady { IfSteady F.Opened.steady F.map files (node_of tree.root)
+        (fails_to_read result ≡ false) }
+    ensures filled { IfKept F.map files (node_of tree.root) (λ there.
+        FillsAnswerBy naming (λ filled. node_of filled.root) there time (node_of tree.root)
+        result) }
+    ensures order { AnswersInOrder naming F.Opened.steady F.map (images (node_of tree.root))
+        result files }
+    ensures rest { IfOk result (λ filled. zeroed_tree naming (node_of filled.root)
+        ≡ zeroed_tree naming (filled_unread naming no_files time (node_of tree.root))) }
 {
     let Tree { root } = tree;
     let Node {
@@ -138,7 +173,7 @@ pub fn fill<F: Files, A: Allocator + Copy>(
         children,
     } = root;
     let mut nodes = children.into_vec();
-    fill_below(alloc, nodes.as_mut_slice(), files)?;
+    fill_below(alloc, nodes.as_mut_slice(), naming, files)?;
     let props = with_time(alloc, props, time)?;
     let children = Nodes::of(nodes);
     Ok(Tree {

@@ -12,7 +12,7 @@ mod filling;
 mod payloads;
 mod setting;
 
-pub use building::{build, build_by};
-pub use filling::fill;
+pub use building::{Frame, build, build_by, build_with};
+pub use filling::{fill, fill_by};
 pub use payloads::is_images;
 pub use setting::{first_value, with_value};

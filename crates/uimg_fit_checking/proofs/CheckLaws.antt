@@ -7,6 +7,7 @@ use Rattle.std.proofs.lemmas.Bool.{lt-ltb, le-ltb}
 use Rattle.std.proofs.lemmas.List.Sums.{sum_by-cons}
 use Rattle.uimg_sums.specs.declared.algo.Algo.{Algo}
 use Rattle.uimg_texts.specs.Slices.{slice}
+use Rattle.uimg_names.specs.declared.naming.Naming.TheVariants as naming
 use Rattle.uimg_base.specs.Results.{◌>>=◌}
 use Rattle.uimg_base.specs.declared.source.SourceFault.{SourceFault}
 use Rattle.uimg_base.specs.declared.spans.Span.{Span}
@@ -26,7 +27,7 @@ use Rattle.uimg_fit_base.specs.declared.verdicts.Verdict.{Verdict}
 use Rattle.uimg_fit_base.specs.AlgoSets.{is_empty, no_algos}
 use Rattle.uimg_fit_base.specs.Faults.{Gives}
 use Rattle.uimg_fit_base.specs.Places.{payload, TellsPlace}
-use Rattle.uimg_fit_base.specs.Report.{word_of, is_right}
+use Rattle.uimg_fit_base.specs.Report.{named_word, is_right}
 use Rattle.uimg_fit_base.proofs.FileLaws.{images_are}
 use Rattle.uimg_fit_checking.specs.declared.checking.Finding.{Finding}
 use Rattle.uimg_fit_checking.specs.declared.checking.Finding.TheVariants as fit_finding
@@ -52,20 +53,20 @@ use Rattle.uimg_fit_reading.proofs.SharesLaws.{hashes_allowed, images_allowed}
 pub record LeftRight (t : Siblings) (set : AlgoSet) (message : List ℕ) (hs : List (NodeOf Spot)) (asked new : ℕ) (next : Option ℕ) : Type 0 where
   pub left : List (NodeOf Spot)
   pub at : HashesAt t next left
-  pub covered : AllCovered set left
+  pub covered : AllCovered naming.All set left
   pub same : (name : List ℕ) → wrong_in name message hs ≡ wrong_in name message left
   pub paid : new + 96 * length left ≤ asked + 96 * length hs
 
-pub rights_first : (t : Siblings) (set : AlgoSet) (message : List ℕ) (hs : List (NodeOf Spot)) (asked : ℕ) (next : Option ℕ) → HashesAt t next hs → AllCovered set hs
+pub rights_first : (t : Siblings) (set : AlgoSet) (message : List ℕ) (hs : List (NodeOf Spot)) (asked : ℕ) (next : Option ℕ) → HashesAt t next hs → AllCovered naming.All set hs
     → LeftRight t set message hs asked asked next
 rights_first t set message hs asked next at covered = record { left = hs; at = at; covered = covered; same = λ name. refl; paid = omega arith }
 
-right_next : (name message : List ℕ) (h : NodeOf Spot) (hs : List (NodeOf Spot)) → is_right (word_of message h) ≡ true → wrong_in name message (h ∷ hs) ≡ wrong_in name message hs
+right_next : (name message : List ℕ) (h : NodeOf Spot) (hs : List (NodeOf Spot)) → is_right (named_word naming.All message h) ≡ true → wrong_in name message (h ∷ hs) ≡ wrong_in name message hs
 unfolding wrong_in
 right_next name message h hs is = rw is refl
 
-wrong_next : (name message : List ℕ) (h : NodeOf Spot) (hs : List (NodeOf Spot)) → is_right (word_of message h) ≡ false
-    → wrong_in name message (h ∷ hs) ≡ Some (fit_finding.Wrong name h.name (word_of message h))
+wrong_next : (name message : List ℕ) (h : NodeOf Spot) (hs : List (NodeOf Spot)) → is_right (named_word naming.All message h) ≡ false
+    → wrong_in name message (h ∷ hs) ≡ Some (fit_finding.Wrong name h.name (named_word naming.All message h))
 unfolding wrong_in
 wrong_next name message h hs is = rw is refl
 
@@ -74,12 +75,12 @@ unfolding wrong_in
 none_wrong name message = refl
 
 pub rights_more : (t : Siblings) (set : AlgoSet) (message : List ℕ) (hs : List (NodeOf Spot)) (asked new number : ℕ) (next : Option ℕ) (k : LeftRight t set message hs asked new next)
-    (f : FirstHash t number k.left) (word : Verdict) (following : Option ℕ) (later : ℕ) → word ≡ word_of message f.hash → is_right word ≡ true → later ≤ new + 96 → HashesAt t following f.more
+    (f : FirstHash t number k.left) (word : Verdict) (following : Option ℕ) (later : ℕ) → word ≡ named_word naming.All message f.hash → is_right word ≡ true → later ≤ new + 96 → HashesAt t following f.more
     → LeftRight t set message hs asked later following
 rights_more t set message hs asked new number next k f word following later is good paid at = record {
   left = f.more;
   at = at;
-  covered = (covered_first set k.left t number f k.covered).1;
+  covered = (covered_first naming.All set k.left t number f k.covered).1;
   same = λ name. k.same name ∙ ap (wrong_in name message) f.are ∙ right_next name message f.hash f.more (ap is_right (sym is) ∙ good);
   paid = omega (arith, paid, k.paid, ap (λ (l : List (NodeOf Spot)). length l) f.are);
 }
@@ -93,7 +94,7 @@ rights_cut t set file message hs asked new number next k f later r paid failed =
 }
 
 pub rights_end : (t : Siblings) (set : AlgoSet) (file message : List ℕ) (hs : List (NodeOf Spot)) (asked new number : ℕ) (next : Option ℕ) (hash : Span)
-    (k : LeftRight t set message hs asked new next) (f : FirstHash t number k.left) (word : Verdict) (later : ℕ) → word ≡ word_of message f.hash → is_right word ≡ false
+    (k : LeftRight t set message hs asked new next) (f : FirstHash t number k.left) (word : Verdict) (later : ℕ) → word ≡ named_word naming.All message f.hash → is_right word ≡ false
     → slice file hash.place hash.length ≡ f.hash.name → hash.length ≤ 255 → later ≤ new + 96
     → FindsWrongBetween file message hs asked later (Ok (Some (record { hash = hash; word = word })))
 rights_end t set file message hs asked new number next hash k f word later is bad named short paid = record {
@@ -114,21 +115,21 @@ rights_all t set file message hs asked new next none k =
     }
 
 -- what is read of a payload
-pub read_is : (image : NodeOf Spot) (message : List ℕ) (set : AlgoSet) (size : ℕ) → set ≡ with_all no_algos (hashes image) → length message ≡ size
-    → (if is_empty set then 0 else size) ≡ hashed_size image (Ok message)
+pub read_is : (image : NodeOf Spot) (message : List ℕ) (set : AlgoSet) (size : ℕ) → set ≡ with_all naming.All no_algos (hashes image) → length message ≡ size
+    → (if is_empty set then 0 else size) ≡ hashed_size naming.All image (Ok message)
 read_is image message set size is long =
-    ap (λ (s : AlgoSet). if is_empty s then 0 else size) is ∙ compared_size (hashes image) size
-    ∙ ap (λ (n : ℕ). if are_compared (hashes image) then n else 0) (sym long)
-    ∙ ap (λ (b : Bool). if b then length message else 0) (sym (compared_any message (hashes image)))
+    ap (λ (s : AlgoSet). if is_empty s then 0 else size) is ∙ compared_size naming.All (hashes image) size
+    ∙ ap (λ (n : ℕ). if are_compared naming.All (hashes image) then n else 0) (sym long)
+    ∙ ap (λ (b : Bool). if b then length message else 0) (sym (compared_any naming.All message (hashes image)))
 
 -- an image whose payload has more bytes than are left
-over : (need : Option Algo) (left size : ℕ) (image : NodeOf Spot) (message : List ℕ) → size ≡ hashed_size image (Ok message) → left < size → found_of need left image message ≡ Some (fit_finding.Overlapping image.name)
-over need left size image message is more = rw (lt-ltb left (hashed_size image (Ok message)) (omega (arith, is, more))) refl
+over : (need : Option Algo) (left size : ℕ) (image : NodeOf Spot) (message : List ℕ) → size ≡ hashed_size naming.All image (Ok message) → left < size → found_of need left image message ≡ Some (fit_finding.Overlapping image.name)
+over need left size image message is more = rw (lt-ltb left (hashed_size naming.All image (Ok message)) (omega (arith, is, more))) refl
 
 -- one whose payload has not
-within : (need : Option Algo) (left size : ℕ) (image : NodeOf Spot) (message : List ℕ) → size ≡ hashed_size image (Ok message) → size ≤ left
+within : (need : Option Algo) (left size : ℕ) (image : NodeOf Spot) (message : List ℕ) → size ≡ hashed_size naming.All image (Ok message) → size ≤ left
     → found_of need left image message ≡ or_weak (wrong_in image.name message (hashes image)) need image
-within need left size image message is few = rw (le-ltb left (hashed_size image (Ok message)) (omega (arith, is, few))) refl
+within need left size image message is few = rw (le-ltb left (hashed_size naming.All image (Ok message)) (omega (arith, is, few))) refl
 
 -- each hash node has its allowance
 pub some_nodes : (hs : List (NodeOf Spot)) → 760 * length hs ≤ sum_by node_allowance hs
@@ -138,7 +139,7 @@ some_nodes (h ∷ hs) = omega (arith, sum_by-cons node_allowance h hs, some_node
 nodes_paid : (image : NodeOf Spot) → 128 * length (hashes image) + 760 ≤ node_allowance image
 nodes_paid image = omega (arith, some_nodes (hashes image), hashes_allowed image)
 
-pub payload_over : (file : List ℕ) (need : Option Algo) (left size : ℕ) (image : NodeOf Spot) (message : List ℕ) (asked new : ℕ) (name : Span) → size ≡ hashed_size image (Ok message) → left < size
+pub payload_over : (file : List ℕ) (need : Option Algo) (left size : ℕ) (image : NodeOf Spot) (message : List ℕ) (asked new : ℕ) (name : Span) → size ≡ hashed_size naming.All image (Ok message) → left < size
     → slice file name.place name.length ≡ image.name → new ≤ asked + 32 * length (hashes image) → ChecksPayloadBetween file need left image message asked new (Ok (Ended (fit_finding.Overlapping name)))
 payload_over file need left size image message asked new name is more named paid = record {
   told = over need left size image message is more ∙ ap (λ (n : List ℕ). Some (fit_finding.Overlapping n)) (sym named);
@@ -158,7 +159,7 @@ payload_cut file need left image message asked new r failed paid = record {
 }
 
 -- a hash node is not right
-pub payload_wrong : (file : List ℕ) (need : Option Algo) (left size : ℕ) (image : NodeOf Spot) (message : List ℕ) (asked middle new : ℕ) (name : Span) (found : WrongHash) → size ≡ hashed_size image (Ok message) → size ≤ left
+pub payload_wrong : (file : List ℕ) (need : Option Algo) (left size : ℕ) (image : NodeOf Spot) (message : List ℕ) (asked middle new : ℕ) (name : Span) (found : WrongHash) → size ≡ hashed_size naming.All image (Ok message) → size ≤ left
     → middle ≤ asked + (size + 32 * length (hashes image)) → FindsWrongBetween file message (hashes image) middle new (Ok (Some found)) → slice file name.place name.length ≡ image.name
     → ChecksPayloadBetween file need left image message asked new (Ok (Ended (fit_finding.Wrong name found.hash found.word)))
 payload_wrong file need left size image message asked middle new name found is few paid w named = record {
@@ -175,12 +176,12 @@ finds_in file read message hs asked new o p same is w =
     (subst (λ (xs : List ℕ). FindsWrongBetween xs message hs asked new (Ok o)) same w)
 
 -- whether an image is weak, by its algorithms
-pub weak_by : (need : Option Algo) (image : NodeOf Spot) (set : AlgoSet) → set ≡ with_all no_algos (hashes image) → is_weak need image ≡ option_map_or (λ algo. not (has_from set algo)) need false
+pub weak_by : (need : Option Algo) (image : NodeOf Spot) (set : AlgoSet) → set ≡ with_all naming.All no_algos (hashes image) → is_weak need image ≡ option_map_or (λ algo. not (has_from set algo)) need false
 weak_by None image set is = refl
 weak_by (Some need) image set is = ap (λ (s : AlgoSet). not (has_from s need)) (sym is)
 
-pub payload_weak : (file : List ℕ) (need : Option Algo) (left size : ℕ) (image : NodeOf Spot) (message : List ℕ) (asked middle new : ℕ) (set : AlgoSet) (name : Span) → size ≡ hashed_size image (Ok message) → size ≤ left
-    → middle ≤ asked + (size + 32 * length (hashes image)) → FindsWrongBetween file message (hashes image) middle new (Ok None) → set ≡ with_all no_algos (hashes image)
+pub payload_weak : (file : List ℕ) (need : Option Algo) (left size : ℕ) (image : NodeOf Spot) (message : List ℕ) (asked middle new : ℕ) (set : AlgoSet) (name : Span) → size ≡ hashed_size naming.All image (Ok message) → size ≤ left
+    → middle ≤ asked + (size + 32 * length (hashes image)) → FindsWrongBetween file message (hashes image) middle new (Ok None) → set ≡ with_all naming.All no_algos (hashes image)
     → option_map_or (λ algo. not (has_from set algo)) need false ≡ true → slice file name.place name.length ≡ image.name
     → ChecksPayloadBetween file need left image message asked new (Ok (Ended (fit_finding.Weak name)))
 payload_weak file need left size image message asked middle new set name is few paid w algos lacks named = record {
@@ -189,8 +190,8 @@ payload_weak file need left size image message asked middle new set name is few 
   paid = omega (arith, paid, w.paid, few, nodes_paid image);
 }
 
-pub payload_on : (file : List ℕ) (need : Option Algo) (left size : ℕ) (image : NodeOf Spot) (message : List ℕ) (asked middle new : ℕ) (set : AlgoSet) (rest : ℕ) → size ≡ hashed_size image (Ok message) → size ≤ left
-    → middle ≤ asked + (size + 32 * length (hashes image)) → FindsWrongBetween file message (hashes image) middle new (Ok None) → set ≡ with_all no_algos (hashes image)
+pub payload_on : (file : List ℕ) (need : Option Algo) (left size : ℕ) (image : NodeOf Spot) (message : List ℕ) (asked middle new : ℕ) (set : AlgoSet) (rest : ℕ) → size ≡ hashed_size naming.All image (Ok message) → size ≤ left
+    → middle ≤ asked + (size + 32 * length (hashes image)) → FindsWrongBetween file message (hashes image) middle new (Ok None) → set ≡ with_all naming.All no_algos (hashes image)
     → option_map_or (λ algo. not (has_from set algo)) need false ≡ false → rest + size ≡ left → ChecksPayloadBetween file need left image message asked new (Ok (On rest))
 payload_on file need left size image message asked middle new set rest is few paid w algos lacks sum = record {
   told = (
@@ -203,9 +204,9 @@ payload_on file need left size image message asked middle new set rest is few pa
 
 -- an image whose payload is there
 checked_is : (file : List ℕ) (need : Option Algo) (left : ℕ) (image : NodeOf Spot) (message : List ℕ) (p : Result (List ℕ) FitFault) (step : Checked) → p ≡ Ok message
-    → IsChecked file left (hashed_size image (Ok message)) (found_of need left image message) step → TellsChecked file left (hashed_size image p) (image_finding need left image p) (Ok step)
+    → IsChecked file left (hashed_size naming.All image (Ok message)) (found_of need left image message) step → TellsChecked file left (hashed_size naming.All image p) (image_finding need left image p) (Ok step)
 checked_is file need left image message p (On rest) is checked =
-    (ap (image_finding need left image) is ∙ ap (λ (o : Option NamedFinding). Ok o) checked.0, omega (arith, checked.1, ap (hashed_size image) is))
+    (ap (image_finding need left image) is ∙ ap (λ (o : Option NamedFinding). Ok o) checked.0, omega (arith, checked.1, ap (hashed_size naming.All image) is))
 checked_is file need left image message p (Ended found) is checked =
     ap (image_finding need left image) is ∙ ap (λ (o : Option NamedFinding). Ok o) checked
 
@@ -234,7 +235,7 @@ lacks_payload file need left size image of.Put tells = tt
 pub image_lacks : (file : List ℕ) (need : Option Algo) (left : ℕ) (image : NodeOf Spot) (asked new : ℕ) (fault : Fault) → TellsPlace file image (Err fault) → new ≤ asked + 12
     → ChecksImageBetween file need left image asked new (Err fault)
 image_lacks file need left image asked new fault tells paid = record {
-  told = lacks_payload file need left (hashed_size image (payload file image)) image fault tells;
+  told = lacks_payload file need left (hashed_size naming.All image (payload file image)) image fault tells;
   paid = omega (arith, paid);
 }
 
@@ -247,7 +248,7 @@ pub record LeftChecked (t : Siblings) (file : List ℕ) (need : Option Algo) (fo
 
 -- an image, and those after it
 told_more : (need : Option Algo) (file : List ℕ) (left : ℕ) (image : NodeOf Spot) (more : List (NodeOf Spot))
-    → first_told need file left (image ∷ more) ≡ or_later (image_finding need left image (payload file image)) (first_told need file (left - hashed_size image (payload file image)) more)
+    → first_told need file left (image ∷ more) ≡ or_later (image_finding need left image (payload file image)) (first_told need file (left - hashed_size naming.All image (payload file image)) more)
 unfolding first_told
 told_more need file left image more = refl
 
@@ -259,12 +260,12 @@ pub images_more : (t : Siblings) (file : List ℕ) (need : Option Algo) (found :
     → (image : NodeOf Spot) (more : List (NodeOf Spot)) → k.rest ≡ image ∷ more → (later rest : ℕ) (following : Option ℕ) → ChecksImageBetween file need left image new later (Ok (On rest))
     → AreFrom t in_images following more → LeftChecked t file need found asked later rest following
 images_more t file need found asked new left next k image more are later rest following c from =
-    let fewer : left - hashed_size image (payload file image) ≡ rest = omega (arith, c.told.1) in
+    let fewer : left - hashed_size naming.All image (payload file image) ≡ rest = omega (arith, c.told.1) in
     record {
       rest = more;
       from = from;
       same = k.same ∙ ap (first_told need file left) are ∙ told_more need file left image more
-          ∙ ap (λ (r : Result (Option NamedFinding) Fault). or_later r (first_told need file (left - hashed_size image (payload file image)) more)) c.told.0
+          ∙ ap (λ (r : Result (Option NamedFinding) Fault). or_later r (first_told need file (left - hashed_size naming.All image (payload file image)) more)) c.told.0
           ∙ ap (λ (n : ℕ). first_told need file n more) fewer;
       paid = omega (arith, k.paid, c.paid, ap (sum_by node_allowance) are, sum_by-cons node_allowance image more);
     }
@@ -274,7 +275,7 @@ pub images_end : (t : Siblings) (file : List ℕ) (need : Option Algo) (found : 
     → ChecksImagesBetween file need found asked later (Ok (Some ended))
 images_end t file need found asked new left next k image more are later ended c = record {
   told = k.same ∙ ap (first_told need file left) are ∙ told_more need file left image more
-      ∙ ap (λ (r : Result (Option NamedFinding) Fault). or_later r (first_told need file (left - hashed_size image (payload file image)) more)) c.told;
+      ∙ ap (λ (r : Result (Option NamedFinding) Fault). or_later r (first_told need file (left - hashed_size naming.All image (payload file image)) more)) c.told;
   paid = omega (arith, k.paid, c.paid, ap (sum_by node_allowance) are, sum_by-cons node_allowance image more);
 }
 
@@ -290,8 +291,8 @@ pub images_cut : (t : Siblings) (file : List ℕ) (need : Option Algo) (found : 
     → (image : NodeOf Spot) (more : List (NodeOf Spot)) → k.rest ≡ image ∷ more → (later : ℕ) (fault : Fault) → ChecksImageBetween file need left image new later (Err fault)
     → ChecksImagesBetween file need found asked later (Err fault)
 images_cut t file need found asked new left next k image more are later fault c = record {
-  told = fault_gives file left (hashed_size image (payload file image)) (image_finding need left image (payload file image)) _
-      (first_told need file (left - hashed_size image (payload file image)) more) fault (k.same ∙ ap (first_told need file left) are ∙ told_more need file left image more) c.told;
+  told = fault_gives file left (hashed_size naming.All image (payload file image)) (image_finding need left image (payload file image)) _
+      (first_told need file (left - hashed_size naming.All image (payload file image)) more) fault (k.same ∙ ap (first_told need file left) are ∙ told_more need file left image more) c.told;
   paid = omega (arith, k.paid, c.paid, ap (sum_by node_allowance) are, sum_by-cons node_allowance image more);
 }
 

@@ -10,6 +10,7 @@ use Rattle.std.proofs.lemmas.List.Sums.{sum_by-cons}
 use Rattle.std.specs.Io.KnownBytes.{Appends}
 use Rattle.uimg_sums.specs.declared.algo.Algo.{Algo}
 use Rattle.uimg_texts.specs.Slices.{slice}
+use Rattle.uimg_names.specs.declared.naming.Naming.TheVariants as naming
 use Rattle.uimg_base.specs.declared.spans.Span.{Span}
 use Rattle.uimg_base.proofs.Slices.{length-slice}
 use Rattle.uimg_blob_reading.specs.Grammar.{Siblings}
@@ -45,7 +46,7 @@ filled_by a c bytes empty appended = filled c bytes (subst (λ (o : Option (List
 
 -- one that is kept
 pub kept_is : (need : Option Algo) (image : NodeOf Spot) (message name : List ℕ) (set : AlgoSet) (vouched : Option Vouched) (p : Result (List ℕ) FitFault) (old new : List Take) → name ≡ image.name
-    → None ≡ or_weak (wrong_in image.name message (hashes image)) need image → set ≡ with_all no_algos (hashes image) → vouched ≡ vouched_by set message → new ≡ old ++ kept name message vouched ∷ []
+    → None ≡ or_weak (wrong_in image.name message (hashes image)) need image → set ≡ with_all naming.All no_algos (hashes image) → vouched ≡ vouched_by set message → new ≡ old ++ kept name message vouched ∷ []
     → TakesTo true (take_of need image message) (Ok true) p old new
 kept_is need image message name set vouched p old new named told algos is given = (
   given ∙ ap (λ (n : List ℕ). old ++ kept n message vouched ∷ []) named ∙ ap (λ (v : Option Vouched). old ++ kept image.name message v ∷ []) is

@@ -6,6 +6,7 @@ use Rattle.std.specs.Option.{option_map, option_map_or}
 use Rattle.uimg_sums.specs.declared.algo.Algo.{Algo}
 use Rattle.uimg_sums.specs.Algorithms.{all_algos, digest_by}
 use Rattle.uimg_sums.specs.AnySum.{padded_digest}
+use Rattle.uimg_names.specs.declared.naming.Naming.TheVariants as naming
 use Rattle.uimg_base.specs.declared.source.SourceFault.{SourceFault}
 use Rattle.uimg_blob_reading.specs.LookUps.{NodeOf, hashes}
 use Rattle.uimg_blob_reading.specs.Spots.{Spot}
@@ -71,7 +72,7 @@ refusal_found file need image message asked middle new wrong refusal w is paid =
 }
 
 -- all hash nodes are right, and none is strong enough
-pub refusal_weak : (file : List ℕ) (need : Option Algo) (image : NodeOf Spot) (message : List ℕ) (asked new : ℕ) (set : AlgoSet) → FindsWrongBetween file message (hashes image) asked new (Ok None) → set ≡ with_all no_algos (hashes image)
+pub refusal_weak : (file : List ℕ) (need : Option Algo) (image : NodeOf Spot) (message : List ℕ) (asked new : ℕ) (set : AlgoSet) → FindsWrongBetween file message (hashes image) asked new (Ok None) → set ≡ with_all naming.All no_algos (hashes image)
     → option_map_or (λ algo. not (has_from set algo)) need false ≡ true → FindsRefusalBetween need image message asked new (Ok (Some Weak))
 refusal_weak file need image message asked new set w algos lacks = record {
   told = sym (ap (λ (o : Option NamedFinding). or_weak o need image) (sym (w.told image.name)) ∙ ap (λ (b : Bool). if b then Some (fit_finding.Weak image.name) else None) (weak_by need image set algos ∙ lacks));
@@ -79,7 +80,7 @@ refusal_weak file need image message asked new set w algos lacks = record {
 }
 
 -- or one is
-pub refusal_none : (file : List ℕ) (need : Option Algo) (image : NodeOf Spot) (message : List ℕ) (asked new : ℕ) (set : AlgoSet) → FindsWrongBetween file message (hashes image) asked new (Ok None) → set ≡ with_all no_algos (hashes image)
+pub refusal_none : (file : List ℕ) (need : Option Algo) (image : NodeOf Spot) (message : List ℕ) (asked new : ℕ) (set : AlgoSet) → FindsWrongBetween file message (hashes image) asked new (Ok None) → set ≡ with_all naming.All no_algos (hashes image)
     → option_map_or (λ algo. not (has_from set algo)) need false ≡ false → FindsRefusalBetween need image message asked new (Ok None)
 refusal_none file need image message asked new set w algos lacks = record {
   told = sym (ap (λ (o : Option NamedFinding). or_weak o need image) (sym (w.told image.name)) ∙ ap (λ (b : Bool). if b then Some (fit_finding.Weak image.name) else None) (weak_by need image set algos ∙ lacks));

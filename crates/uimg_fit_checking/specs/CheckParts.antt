@@ -4,6 +4,7 @@ use Rattle.std.specs.Prelude.{Ok, Err, IfOk, IfSome}
 use Rattle.std.specs.List.{sum_by}
 use Rattle.std.specs.Option.{option_map}
 use Rattle.uimg_sums.specs.declared.algo.Algo.{Algo}
+use Rattle.uimg_names.specs.declared.naming.Naming.TheVariants as naming
 use Rattle.uimg_base.specs.Device.{Device}
 use Rattle.uimg_base.specs.Lent.{Lent}
 use Rattle.uimg_base.specs.declared.spans.Span.{Span}
@@ -78,7 +79,7 @@ pub record ChecksPayloadBetween (file : List ℕ) (need : Option Algo) (left : �
     (image : NodeOf Spot) (message : List ℕ) (asked new : ℕ) (result : Result Checked SourceFault)
     : Type 0 where
   pub told : IfOk result
-      (IsChecked file left (hashed_size image (Ok message)) (found_of need left image message))
+      (IsChecked file left (hashed_size naming.All image (Ok message)) (found_of need left image message))
   pub paid : new + left_of result + 12 ≤ asked + left + node_allowance image
 
 abbrev pub ChecksPayload : {S : Type 0} → Option Algo → ℕ → NodeOf Spot → Span
@@ -91,7 +92,7 @@ ChecksPayload need left found payload result device source =
 -- An image was checked.
 pub record ChecksImageBetween (file : List ℕ) (need : Option Algo) (left : ℕ) (image : NodeOf Spot)
     (asked new : ℕ) (result : Result Checked Fault) : Type 0 where
-  pub told : TellsChecked file left (hashed_size image (payload file image))
+  pub told : TellsChecked file left (hashed_size naming.All image (payload file image))
       (image_finding need left image (payload file image)) result
   pub paid : new + left_of result ≤ asked + left + node_allowance image
 

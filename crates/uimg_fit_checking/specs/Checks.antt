@@ -4,6 +4,7 @@ use Rattle.std.specs.Prelude.{if◌then◌else◌, Option, Some, None, Result, O
 use Rattle.std.specs.List.{sum_by}
 use Rattle.uimg_sums.specs.declared.algo.Algo.{Algo}
 use Rattle.uimg_texts.specs.Slices.{slice}
+use Rattle.uimg_names.specs.declared.naming.Naming.TheVariants as naming
 use Rattle.uimg_base.specs.Results.{◌>>=◌}
 use Rattle.uimg_base.specs.declared.spans.Span.{Span}
 use Rattle.uimg_blob_reading.specs.LookUps.{NodeOf, hashes}
@@ -13,7 +14,7 @@ use Rattle.uimg_fit_base.specs.declared.fault.Fault.TheVariants as of
 use Rattle.uimg_fit_base.specs.declared.fault.FitFault.{FitFault}
 use Rattle.uimg_fit_base.specs.Files.{images_of}
 use Rattle.uimg_fit_base.specs.Places.{payload}
-use Rattle.uimg_fit_base.specs.Report.{word_of, is_right}
+use Rattle.uimg_fit_base.specs.Report.{named_word, is_right}
 use Rattle.uimg_fit_checking.specs.declared.checking.Finding.{Finding}
 use Rattle.uimg_fit_checking.specs.declared.checking.Finding.TheVariants.{Right, Unhashed, Wrong}
 use Rattle.uimg_fit_checking.specs.declared.checking.Finding.TheVariants.{Weak, Overlapping}
@@ -53,8 +54,8 @@ EndsInside size NoImage = ⊤
 unfoldable pub wrong_in : List ℕ → List ℕ → List (NodeOf Spot) → Option NamedFinding
 wrong_in image message [] = None
 wrong_in image message (h ∷ hs) =
-    if is_right (word_of message h) then wrong_in image message hs else Some
-    (Wrong image h.name (word_of message h))
+    if is_right (named_word naming.All message h) then wrong_in image message hs else Some
+    (Wrong image h.name (named_word naming.All message h))
 
 -- whether no hash node of an image is compared by an algorithm at least as strong as needed
 abbrev pub is_weak : Option Algo → NodeOf Spot → Bool
@@ -70,7 +71,7 @@ or_weak None need image = if is_weak need image then Some (Weak image.name) else
 -- longer, or else a hash node is not right, or else the image is weak
 abbrev pub found_of : Option Algo → ℕ → NodeOf Spot → List ℕ → Option NamedFinding
 found_of need left image message =
-    if nat_lt left (hashed_size image (Ok message)) then Some (Overlapping image.name)
+    if nat_lt left (hashed_size naming.All image (Ok message)) then Some (Overlapping image.name)
     else or_weak (wrong_in image.name message (hashes image)) need image
 
 -- the same, or the fault of the payload
@@ -92,7 +93,7 @@ unfoldable pub first_told : Option Algo → List ℕ → ℕ → List (NodeOf Sp
 first_told need file left [] = Ok None
 first_told need file left (image ∷ more) =
     or_later (image_finding need left image (payload file image))
-    (first_told need file (left - hashed_size image (payload file image)) more)
+    (first_told need file (left - hashed_size naming.All image (payload file image)) more)
 
 -- how many hash nodes these images have
 abbrev pub hash_count : List (NodeOf Spot) → ℕ

@@ -8,6 +8,7 @@ use Rattle.std.specs.Str.{bytes_eq}
 use Rattle.uimg_sums.specs.declared.algo.Algo.{Algo}
 use Rattle.uimg_sums.specs.Algorithms.{digest_by}
 use Rattle.uimg_sums.specs.AnySum.{padded_digest}
+use Rattle.uimg_names.specs.declared.naming.Naming.TheVariants as naming
 use Rattle.uimg_base.specs.Results.{◌>>=◌}
 use Rattle.uimg_blob_reading.specs.LookUps.{NodeOf, hashes}
 use Rattle.uimg_blob_reading.specs.Spots.{Spot}
@@ -69,7 +70,7 @@ vouched_by set bytes =
 -- a payload is kept if there is no finding, else refused
 abbrev pub take_by : NodeOf Spot → List ℕ → Option NamedFinding → Take
 take_by image message None =
-    kept image.name message (vouched_by (with_all no_algos (hashes image)) message)
+    kept image.name message (vouched_by (with_all naming.All no_algos (hashes image)) message)
 take_by image message (Some told) = refused image.name told
 
 -- A payload is kept if each hash node of its image is right and its image is not weak.

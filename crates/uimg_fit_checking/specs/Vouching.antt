@@ -3,6 +3,7 @@ use Rattle.std.specs.Prelude.{List, Bool, drop}
 use Rattle.std.specs.List.{list_any}
 use Rattle.uimg_sums.specs.Algorithms.{all_algos, number}
 use Rattle.uimg_sums.specs.declared.algo.Algo.{Algo}
+use Rattle.uimg_names.specs.declared.naming.Naming.TheVariants as naming
 use Rattle.uimg_blob_reading.specs.LookUps.{NodeOf, hashes}
 use Rattle.uimg_blob_reading.specs.Spots.{Spot}
 use Rattle.uimg_fit_base.specs.declared.algo_sets.AlgoSet.{AlgoSet}
@@ -19,4 +20,4 @@ has_from set need = list_any (has set) (from need)
 
 -- A hash node of an image is compared by an algorithm at least as strong as the needed one.
 abbrev pub is_vouched : Algo → NodeOf Spot → Bool
-is_vouched need image = has_from (with_all no_algos (hashes image)) need
+is_vouched need image = has_from (with_all naming.All no_algos (hashes image)) need

@@ -54,7 +54,7 @@ pub enum Finding<N> {
 /// Compares the hash nodes of a FIT image's images with their payloads, and returns the first
 /// finding. Images are checked in their order, each for `Overlapping` before its payload is read,
 /// then for `Wrong`, then for `Weak`. If nothing is found, returns `Right` or `Unhashed`. `need` is
-/// the needed strength, in the order CRC-32, MD5, SHA-1, SHA-256, SHA-384, SHA-512.
+/// the needed strength, in the order of `Algo`.
 ///
 /// Returns the faults of the blob, then `NoImages`, then `NoData` and `DataOutside` of an image
 /// before any finding about it; `OutOfMemory` exactly if the room refused to grow. Each payload is

@@ -1,6 +1,6 @@
 //! Unpacks the payloads of a FIT image: each is summed while it is written, kept if it is right.
 
-ghost use Rattle.std.specs.Prelude.{IsTrue};
+ghost use Rattle.std.specs.Prelude.{◌≡◌, IsTrue};
 ghost use Rattle.std.specs.Option.{option_map};
 ghost use Rattle.uimg_base.specs.Honest.{IfHonest};
 ghost use Rattle.uimg_fit_checking.specs.Unpacking.{Unpacks, unpack_of, unpack_work, as_bytes};
@@ -43,11 +43,11 @@ pub enum Unpacked {
 ///
 /// Each payload is written to a shelf of the taker while it is summed, by the algorithms of its
 /// image's hash nodes. It is kept if each hash node is right and, if a strength is needed, one of
-/// them is compared by that algorithm or a stronger one, in the order CRC-32, MD5, SHA-1, SHA-256,
-/// SHA-384, SHA-512. Otherwise it is refused, and the next one follows. Each byte of a payload is
-/// requested once. So what an honest taker keeps has the digest that is given with it, even if the
-/// source changes between reads. Over an honest source at most the file's length is requested
-/// beside metadata, and an honest taker is given exactly what the definition says of each payload.
+/// them is compared by that algorithm or a stronger one, in the order of `Algo`. Otherwise it is
+/// refused, and the next one follows. Each byte of a payload is requested once. So what an honest
+/// taker keeps has the digest that is given with it, even if the source changes between reads. Over
+/// an honest source at most the file's length is requested beside metadata, and an honest taker is
+/// given exactly what the definition says of each payload.
 ///
 /// Returns the faults of the blob, then `NoImages`, then `NoData` and `DataOutside` of the images
 /// in their order, all before anything is given; nothing is given either if payloads overlap.
@@ -61,6 +61,7 @@ pub fn unpack<S: Source, A: Allocator, T: Taker>(
     taker: &mut T,
 ) -> Result<Unpacked, Fault>
     ensures takes { TakesOut unpack_work result S.device source room }
+    ensures place { T.place taker.new ≡ T.place taker.old }
     ensures told { IfHonest S.device source (λ file. IsTrue T.honest → Unpacks result
         (unpack_of need (option_map as_bytes only) file) (T.takes taker.old) (T.takes taker.new)) }
     ensures claimed { IfHonest S.device source (λ file. IsTrue T.honest → IsTrue T.notes → ClaimsTo

@@ -1,6 +1,7 @@
 //! The first hash node of an image that is not right.
 
 ghost use Rattle.std.specs.Prelude.{◌≡◌, ℕ, ◌+◌, ◌≤◌, List, length, is_err, IfOk, IfSome};
+ghost use Rattle.uimg_names.specs.declared.naming.Naming.TheVariants as naming;
 ghost use Rattle.uimg_base.specs.Using.{Uses};
 ghost use Rattle.uimg_fit_base.specs.AlgoSets.{set_of, AreDigests};
 ghost use Rattle.uimg_fit_checking.specs.CheckParts.{FindsWrong};
@@ -14,6 +15,7 @@ use uimg_blob_reading::Blob;
 use uimg_fit_base::{Digests, Verdict, is_right};
 use uimg_fit_reading::judge;
 use uimg_fit_reading::nodes::{name_of, next_hash};
+use uimg_names::Naming;
 
 /// A hash node that is not right.
 #[derive(Clone, Copy, Debug, PartialEq, Eq)]
@@ -51,11 +53,11 @@ pub(crate) fn first_wrong<S: Source, A: Allocator>(
         w.hash.place + w.hash.length ≤ length (S.device source.old).bytes)) }
     ensures told { OfHashes (S.device source.old) blob.now room.now first
         (λ hs. (message : List ℕ) → AreDigests digests.now message →
-        AllCovered (set_of digests.now) hs → FindsWrong message hs result S.device source) }
+        AllCovered naming.All (set_of digests.now) hs → FindsWrong message hs result S.device source) }
 {
     let mut next = first;
     while let Some(hash) = next {
-        let word = judge(source, blob, room, hash, digests)?;
+        let word = judge(source, blob, room, Naming::All, hash, digests)?;
         if !is_right(word) {
             let hash = name_of(blob, room, hash);
             return Ok(Some(WrongHash { hash, word }));

@@ -10,6 +10,7 @@ use Rattle.uimg_base.proofs.SinkLaws.{Appends-none, prefix_first, prefix_none}
 use Rattle.uimg_blob_reading.specs.{Grammar.Siblings, LookUps.{NodeOf, hashes}, Roles.in_images}
 use Rattle.uimg_blob_reading.{specs.Spots.Spot, proofs.PhaseLaws.true_false}
 use Rattle.uimg_blob_reading.specs.Faults.{refuses_memory}
+use Rattle.uimg_names.specs.declared.naming.Naming.TheVariants.{Profile}
 use Rattle.uimg_fit_base.specs.{declared.fault.Fault.Fault, Faults.{end_of, of_move, unless_memory}}
 use Rattle.uimg_fit_base.specs.declared.fault.Fault.TheVariants.{Blob as OfBlob, Fit, Read, Put}
 use Rattle.uimg_fit_base.specs.{declared.fault.FitFault.FitFault, Places.{payload, TellsPlace}}
@@ -61,9 +62,9 @@ some_found t image name message size n asked new (Some first) result old now nam
 
 -- the digests that are compared, and the payload's length
 hashed_is : (file message : List ℕ) (image : NodeOf Spot) (size : ℕ) → payload file image ≡ Ok message → length message ≡ size
-    → hashed_size image (payload file image) ≡ (if are_compared (hashes image) then size else 0)
+    → hashed_size Profile image (payload file image) ≡ (if are_compared Profile (hashes image) then size else 0)
 hashed_is file message image size is long =
-    ap (hashed_size image) is ∙ ap (λ (b : Bool). if b then length message else 0) (compared_any message (hashes image)) ∙ ap (λ (k : ℕ). if are_compared (hashes image) then k else 0) long
+    ap (hashed_size Profile image) is ∙ ap (λ (b : Bool). if b then length message else 0) (compared_any Profile message (hashes image)) ∙ ap (λ (k : ℕ). if are_compared Profile (hashes image) then k else 0) long
 
 -- what a failed device tells of an image, whatever comes after it
 cut_tells : (fault : Fault) (image : NodeOf Spot) (message : List ℕ) (rest : Outcome Fault) (old now : Sink) → end_of (Err fault) ≡ None → AppendsPrefix old now (hash_lines image.name message (hashes image))

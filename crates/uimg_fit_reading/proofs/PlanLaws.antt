@@ -4,11 +4,13 @@ use Rattle.std.specs.{Prelude.{Result, Ok, Err, IfOk, is_err}, Str.bytes_eq}
 use Rattle.std.proofs.lemmas.List.{take-append-le, take_all}
 use Rattle.uimg_blob_reading.proofs.PhaseLaws.{true_false, by_bool}
 use Rattle.uimg_sums.{specs.declared.algo.Algo.Algo, proofs.DigestSizes.length-digest_by}
-use Rattle.uimg_sums.specs.{Algorithms.{digest_size, digest_by, algo_named}, AnySum.padded_digest}
+use Rattle.uimg_sums.specs.{Algorithms.{digest_size, digest_by}, AnySum.padded_digest}
 use Rattle.uimg_texts.specs.Slices.{slice}
 use Rattle.uimg_base.{proofs.Slices.length-slice, specs.declared.spans.Span.Span}
 use Rattle.uimg_fit_reading.specs.declared.report.plans.Plan.{Plan, TheVariants.Compared}
 use Rattle.uimg_fit_reading.specs.declared.report.plans.Plan.TheVariants as plan
+use Rattle.uimg_names.specs.declared.naming.Naming.{Naming}
+use Rattle.uimg_fit_base.specs.AlgoNames.{algo_by}
 use Rattle.uimg_fit_base.specs.{declared.algo_sets.AlgoSet.AlgoSet, AlgoSets.has, Files.bytes_in}
 use Rattle.uimg_fit_base.specs.declared.verdicts.Verdict.{Verdict, TheVariants.{Right, Wrong}}
 use Rattle.uimg_fit_base.specs.Report.{compared, by_value, by_algo, by_name}
@@ -59,10 +61,10 @@ by_known : (file message : List ℕ) (algo : Option Algo) (value : Option Span) 
 by_known file message None value within = refl
 by_known file message (Some algo) value within = by_span file message algo value within
 
-pub planned_word : (file message : List ℕ) (name : Option (List ℕ)) (value : Option Span) → IfSome value (λ s. s.place + s.length ≤ length file)
-    → word_by file message (plan_by_name name value) ≡ by_name name (bytes_in file value) message
-planned_word file message None value within = refl
-planned_word file message (Some name) value within = by_known file message (algo_named name) value within
+pub planned_word : (naming : Naming) (file message : List ℕ) (name : Option (List ℕ)) (value : Option Span) → IfSome value (λ s. s.place + s.length ≤ length file)
+    → word_by file message (plan_by_name naming name value) ≡ by_name naming name (bytes_in file value) message
+planned_word naming file message None value within = refl
+planned_word naming file message (Some name) value within = by_known file message (algo_by naming name) value within
 
 -- what holds of an answer
 pub of_answer : {X F : Type 0} (r : Result X F) (P Q : X → Type 0) → ((x : X) → P x → Q x) → IfOk r P → IfOk r Q

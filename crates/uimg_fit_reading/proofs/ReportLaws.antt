@@ -7,6 +7,7 @@ use Rattle.uimg_base.specs.declared.status.Status.{Status}
 use Rattle.uimg_blob_reading.specs.{Blob.tree, Counts.{index_cost, nodes_met, texts_met}}
 use Rattle.uimg_blob_reading.specs.{Grammar.Siblings, LookUps.{NodeOf, images}, Spots.{Spot, spots}}
 use Rattle.uimg_blob_reading.specs.Reading.{Fault as BlobFaultAt}
+use Rattle.uimg_names.specs.declared.naming.Naming.TheVariants.{Profile}
 use Rattle.uimg_fit_base.specs.{declared.fault.Fault.Fault, Faults.end_of, Files.images_of}
 use Rattle.uimg_fit_base.specs.{Places.payload, Report.{report, verify_of}}
 use Rattle.uimg_fit_base.proofs.FileLaws.{images_are}
@@ -24,13 +25,13 @@ pub found_told : (file : List ℕ) (t : Siblings) (found : List (NodeOf Spot)) (
 found_told file t found result s u is has tells =
     subst (λ (o : Outcome Fault). Tells (end_of result) o s u) (sym (report_is file (Ok found) (images_are file t (Some found) is has))) tells
 
-parted : (file : List ℕ) (found : List (NodeOf Spot)) → sum_by (image_work file) found ≡ sum_by (λ image. hashed_size image (payload file image)) found + sum_by node_allowance found
+parted : (file : List ℕ) (found : List (NodeOf Spot)) → sum_by (image_work file) found ≡ sum_by (λ image. hashed_size Profile image (payload file image)) found + sum_by node_allowance found
 parted file [] = refl
 parted file (n ∷ ns) =
     omega (
       arith,
       sum_by-cons (image_work file) n ns,
-      sum_by-cons (λ (image : NodeOf Spot). hashed_size image (payload file image)) n ns,
+      sum_by-cons (λ (image : NodeOf Spot). hashed_size Profile image (payload file image)) n ns,
       sum_by-cons node_allowance n ns,
       parted file ns,
     )

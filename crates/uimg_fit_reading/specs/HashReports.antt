@@ -2,6 +2,7 @@
 use Rattle.std.specs.Prelude.{◌≡◌, ◌≤◌, ◌+◌, ◌*◌, ℕ, List, ◌++◌, length, codes, if◌then◌else◌, Bool}
 use Rattle.std.specs.Prelude.{Option, Result, IfOk, is_err}
 use Rattle.std.specs.{List.{AllByRecursion, flat_map, sum_by}, Option.option_map_or}
+use Rattle.uimg_names.specs.declared.naming.Naming.{Naming, TheVariants.Profile}
 use Rattle.uimg_base.specs.{Device.Device, Lent.Lent, Outcome.line, Sink.Sink, Writing.Written}
 use Rattle.uimg_base.specs.declared.{spans.Span.Span, ranges.MoveFault.MoveFault}
 use Rattle.uimg_base.specs.declared.source.SourceFault.{SourceFault}
@@ -23,26 +24,26 @@ abbrev pub hash_cost : ℕ → NodeOf Spot → ℕ
 hash_cost n hash = n + 383 + algo_length hash
 
 -- The algorithm of each compared hash node is in a set.
-abbrev pub AllCovered : AlgoSet → List (NodeOf Spot) → Type 0
-AllCovered set hs = AllByRecursion (λ h. IsCovered set (hash_plan h)) hs
+abbrev pub AllCovered : Naming → AlgoSet → List (NodeOf Spot) → Type 0
+AllCovered naming set hs = AllByRecursion (λ h. IsCovered set (hash_plan naming h)) hs
 
 -- The algorithms of the compared hash nodes were found; 32 bytes a node were requested at most.
-pub record FindsAlgosBetween (hs : List (NodeOf Spot)) (asked new : ℕ)
+pub record FindsAlgosBetween (naming : Naming) (hs : List (NodeOf Spot)) (asked new : ℕ)
     (result : Result AlgoSet SourceFault) : Type 0 where
-  pub algos : IfOk result (λ set. set ≡ with_all no_algos hs)
+  pub algos : IfOk result (λ set. set ≡ with_all naming no_algos hs)
   pub paid : new ≤ asked + 32 * length hs
 
-abbrev pub FindsAlgos : {S : Type 0} → List (NodeOf Spot) → Result AlgoSet SourceFault
+abbrev pub FindsAlgos : {S : Type 0} → Naming → List (NodeOf Spot) → Result AlgoSet SourceFault
     → (S → Device) → Lent S → Type 0
-FindsAlgos hs result device source =
-    FindsAlgosBetween hs (device source.entry.now).asked (device source.exit.now).asked result
+FindsAlgos naming hs result device source =
+    FindsAlgosBetween naming hs (device source.entry.now).asked (device source.exit.now).asked result
 
 -- The digests of a payload were found. It was requested at most once, and not if none is compared.
 pub record FindsDigestsBetween (message : List ℕ) (size : ℕ) (hs : List (NodeOf Spot))
     (asked new : ℕ) (result : Result Digests SourceFault) : Type 0 where
   pub digests : IfOk result (λ found. AreDigests found message)
-  pub covered : IfOk result (λ found. AllCovered (set_of found) hs)
-  pub paid : new ≤ asked + ((if are_compared hs then size else 0) + 32 * length hs)
+  pub covered : IfOk result (λ found. AllCovered Profile (set_of found) hs)
+  pub paid : new ≤ asked + ((if are_compared Profile hs then size else 0) + 32 * length hs)
 
 -- The same of the hash nodes from a number on.
 abbrev pub FindsDigests : {S A : Type 0} → Span → Option ℕ → Result Digests SourceFault
@@ -69,7 +70,7 @@ abbrev pub PutsHash : {S A : Type 0} → Span → ℕ → Digests → Result Ver
     → (S → Device) → Lent (OpenFit S A) → Lent Sink → Type 0
 PutsHash image number digests result device fit out = InFit device fit.entry.now OfHash number
     (λ hash. (message : List ℕ) → AreDigests digests message
-    → IsCovered (set_of digests) (hash_plan hash)
+    → IsCovered (set_of digests) (hash_plan Profile hash)
     → PutsHashBetween (in_span (file_of device fit.entry.now) image) message image.length hash
     (device fit.entry.now.source.now).asked (device fit.exit.now.source.now).asked result
     out.entry.now out.exit.now)
@@ -85,7 +86,7 @@ pub record PutsHashesBetween (name message : List ℕ) (n : ℕ) (hs : List (Nod
 abbrev pub PutsHashes : {S A : Type 0} → Span → Option ℕ → Digests → Result Bool MoveFault
     → (S → Device) → Lent (OpenFit S A) → Lent Sink → Type 0
 PutsHashes image first digests result device fit out = InFit device fit.entry.now OfHashes first
-    (λ hs. (message : List ℕ) → AreDigests digests message → AllCovered (set_of digests) hs
+    (λ hs. (message : List ℕ) → AreDigests digests message → AllCovered Profile (set_of digests) hs
     → PutsHashesBetween (in_span (file_of device fit.entry.now) image) message image.length hs
     (device fit.entry.now.source.now).asked (device fit.exit.now.source.now).asked result
     out.entry.now out.exit.now)
@@ -95,7 +96,7 @@ pub record ReportsHashesBetween (name message : List ℕ) (size n : ℕ) (hs : L
     (asked new : ℕ) (result : Result Bool MoveFault) (old now : Sink) : Type 0 where
   pub right : IfOk result (λ right. right ≡ are_right message hs)
   pub written : Written (is_err result) old now (flat_map (hash_line name message) hs)
-  pub paid : new ≤ asked + ((if are_compared hs then size else 0) + sum_by (hash_cost n) hs)
+  pub paid : new ≤ asked + ((if are_compared Profile hs then size else 0) + sum_by (hash_cost n) hs)
 
 -- The same of the hash nodes from a number on.
 abbrev pub ReportsHashes : {S A : Type 0} → Span → Span → Option ℕ → Result Bool MoveFault

@@ -1,6 +1,7 @@
 -- Reports on images, one after the other.
 use Rattle.std.specs.Prelude.{◌≡◌, ◌≤◌, ◌+◌, ℕ, List, if◌then◌else◌, Bool, true, false, Result, Ok}
 use Rattle.std.specs.{Prelude.{Err, IfOk, is_err, Option}, List.sum_by}
+use Rattle.uimg_names.specs.declared.naming.Naming.TheVariants.{Profile}
 use Rattle.uimg_base.specs.{Device.Device, Lent.Lent, Outcome.{Outcome, Tells}, Writing.Written}
 use Rattle.uimg_base.specs.{Sink.{Sink, AppendsAll}, declared.spans.Span.Span}
 use Rattle.uimg_base.specs.declared.{ranges.MoveFault.MoveFault, status.Status.Status}
@@ -23,7 +24,7 @@ pub record ReportsFoundBetween (image : NodeOf Spot) (message : List ℕ) (size 
   pub right : IfOk result (λ right. right ≡ are_right message (hashes image))
   pub written : Written (is_err result) old now (hash_lines image.name message (hashes image))
   pub paid : new + 12 ≤ asked +
-      ((if are_compared (hashes image) then size else 0) + node_allowance image)
+      ((if are_compared Profile (hashes image) then size else 0) + node_allowance image)
 
 -- The same of the image at a number.
 abbrev pub ReportsFound : {S A : Type 0} → ℕ → Span → Result Bool MoveFault → (S → Device)
@@ -36,7 +37,7 @@ ReportsFound number payload result device fit out =
 
 -- the most bytes requested for an image
 abbrev pub image_work : List ℕ → NodeOf Spot → ℕ
-image_work file image = hashed_size image (payload file image) + node_allowance image
+image_work file image = hashed_size Profile image (payload file image) + node_allowance image
 
 -- An image was reported on.
 pub record ImageDone (file : List ℕ) (image : NodeOf Spot) (asked new : ℕ) (right : Bool)

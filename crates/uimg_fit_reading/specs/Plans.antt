@@ -3,14 +3,16 @@ use Rattle.std.specs.Prelude.{◌≡◌, ⊤, ℕ, ◌+◌, ◌≤◌, List, [],
 use Rattle.std.specs.Prelude.{false, if◌then◌else◌, Option, Some, None, IfSome, codes}
 use Rattle.std.specs.{List.list_any, Option.{option_map, option_map_or}, Str.bytes_eq}
 use Rattle.uimg_sums.specs.declared.algo.Algo.{Algo}
-use Rattle.uimg_sums.specs.Algorithms.{algo_named, digest_size, digest_by}
+use Rattle.uimg_sums.specs.Algorithms.{digest_size, digest_by}
+use Rattle.uimg_names.specs.declared.naming.Naming.{Naming}
 use Rattle.uimg_texts.specs.{Nul.text, Slices.slice}
 use Rattle.uimg_base.specs.{Outcome.line, declared.spans.Span.Span}
 use Rattle.uimg_blob_reading.specs.{LookUps.{NodeOf, first}, Indexed.value_span, Spots.Spot}
 use Rattle.uimg_fit_reading.specs.declared.report.plans.Plan.{Plan, TheVariants.Compared}
 use Rattle.uimg_fit_reading.specs.declared.report.plans.Plan.TheVariants.{Malformed, Unsupported}
 use Rattle.uimg_fit_reading.specs.declared.report.hash_lines.HashLine.{HashLine}
-use Rattle.uimg_fit_base.specs.{declared.algo_sets.AlgoSet.AlgoSet, AlgoSets.{has, marked}}
+use Rattle.uimg_fit_base.specs.{declared.algo_sets.AlgoSet.AlgoSet, AlgoNames.algo_by}
+use Rattle.uimg_fit_base.specs.AlgoSets.{has, marked}
 use Rattle.uimg_fit_base.specs.{declared.verdicts.Verdict.Verdict, Files.{bytes_in, value_bytes}}
 use Rattle.uimg_fit_base.specs.Report.{algo_name_of, word_text}
 use Rattle.uimg_fit_base.specs.declared.verdicts.Verdict.TheVariants as word
@@ -28,14 +30,14 @@ plan_by_algo None value = Unsupported
 plan_by_algo (Some algo) value = plan_by_value algo value
 
 -- the plan by an algorithm's name and a value's span, each of which may be missing
-abbrev pub plan_by_name : Option (List ℕ) → Option Span → Plan
-plan_by_name None value = Malformed
-plan_by_name (Some name) value = plan_by_algo (algo_named name) value
+abbrev pub plan_by_name : Naming → Option (List ℕ) → Option Span → Plan
+plan_by_name naming None value = Malformed
+plan_by_name naming (Some name) value = plan_by_algo (algo_by naming name) value
 
--- the plan for a hash node
-abbrev pub hash_plan : NodeOf Spot → Plan
-hash_plan hash =
-    plan_by_name (algo_name_of hash) (option_map value_span (first hash.own (codes "value")))
+-- the plan for a hash node, by the algorithms of a set of names
+abbrev pub hash_plan : Naming → NodeOf Spot → Plan
+hash_plan naming hash =
+    plan_by_name naming (algo_name_of hash) (option_map value_span (first hash.own (codes "value")))
 
 -- whether a plan compares a value with a digest
 abbrev pub compares : Plan → Bool
@@ -44,8 +46,8 @@ compares Unsupported = false
 compares (Compared algo span) = true
 
 -- whether the value of any of these hash nodes is compared
-abbrev pub are_compared : List (NodeOf Spot) → Bool
-are_compared hs = list_any (λ h. compares (hash_plan h)) hs
+abbrev pub are_compared : Naming → List (NodeOf Spot) → Bool
+are_compared naming hs = list_any (λ h. compares (hash_plan naming h)) hs
 
 -- The algorithm of a plan that compares is in a set.
 abbrev pub IsCovered : AlgoSet → Plan → Type 0
@@ -67,9 +69,9 @@ with_plan set Unsupported = set
 with_plan set (Compared algo span) = marked set algo
 
 -- a set with the algorithms of the compared hash nodes
-unfoldable pub with_all : AlgoSet → List (NodeOf Spot) → AlgoSet
-with_all set [] = set
-with_all set (h ∷ hs) = with_all (with_plan set (hash_plan h)) hs
+unfoldable pub with_all : Naming → AlgoSet → List (NodeOf Spot) → AlgoSet
+with_all naming set [] = set
+with_all naming set (h ∷ hs) = with_all naming (with_plan set (hash_plan naming h)) hs
 
 -- the text at a span of a file
 abbrev pub text_in : List ℕ → Option Span → Option (List ℕ)

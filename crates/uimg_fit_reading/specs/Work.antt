@@ -1,22 +1,24 @@
 -- The most bytes that a command requests.
 use Rattle.std.specs.Prelude.{ℕ, ◌+◌, ◌*◌, List, length, if◌then◌else◌, Result, Ok, Err}
 use Rattle.std.specs.List.{sum_by, list_any}
+use Rattle.uimg_names.specs.declared.naming.Naming.{Naming, TheVariants.Profile}
 use Rattle.uimg_blob_reading.specs.{LookUps.{NodeOf, hashes}, Spots.Spot}
 use Rattle.uimg_blob_reading.specs.Counts.{nodes_met, properties_met, texts_met, nops_met}
 use Rattle.uimg_fit_base.specs.{declared.fault.{Fault.Fault, FitFault.FitFault}, Files.images_of}
-use Rattle.uimg_fit_base.specs.{Places.payload, Report.{word_of, is_compared}}
+use Rattle.uimg_fit_base.specs.{Places.payload, Report.{named_word, is_compared}}
 use Rattle.uimg_fit_base.specs.Extraction.{extract_of}
 
 -- the most bytes requested of a payload: each once, however many hash nodes it has, and none if no
 -- hash node is compared
-abbrev pub hashed_size : NodeOf Spot → Result (List ℕ) FitFault → ℕ
-hashed_size image (Ok message) =
-    if list_any (λ h. is_compared (word_of message h)) (hashes image) then length message else 0
-hashed_size image (Err fault) = 0
+abbrev pub hashed_size : Naming → NodeOf Spot → Result (List ℕ) FitFault → ℕ
+hashed_size naming image (Ok message) =
+    if list_any (λ h. is_compared (named_word naming message h)) (hashes image)
+    then length message else 0
+hashed_size naming image (Err fault) = 0
 
--- the same for all images of a file
+-- the same for all images of a file, by the algorithms of the profile
 abbrev pub all_hashed : List ℕ → Result (List (NodeOf Spot)) Fault → ℕ
-all_hashed file (Ok found) = sum_by (λ image. hashed_size image (payload file image)) found
+all_hashed file (Ok found) = sum_by (λ image. hashed_size Profile image (payload file image)) found
 all_hashed file (Err fault) = 0
 
 -- the most bytes requested beside payloads: `meta` without the four bytes that the caller may have

@@ -1,3 +1,4 @@
+pub mod EntryLaws
 pub mod ReadLaws
 pub mod ImportLaws
 pub mod RefillLaws

@@ -1,10 +1,11 @@
 -- A tree in memory has no files, and what filling leaves of its root.
 use Rattle.std.proofs.Common.{◌≡◌, ℕ, List, [], ◌∷◌, Option, Result, Ok, Err, IfOk, ap}
 use Rattle.std.specs.List.{AllByRecursion}
+use Rattle.uimg_names.specs.declared.naming.Naming.{Naming}
 use Rattle.uimg_blob_reading.specs.Plain.{NamedOf, no_node, a_node, AllValues}
 use Rattle.uimg_blob_writing.specs.Content.{Content, Unread, bytes, file, IsBytes, IsKept, AreKept, StandsAtData, FilesAtData}
 use Rattle.uimg_fit_base.specs.declared.fault.FitFault.{FitFault}
-use Rattle.uimg_fit_building.specs.{FillAnswers.FillsAnswer, UnreadTrees.filled_unread}
+use Rattle.uimg_fit_building.specs.{FillAnswers.FillsAnswerBy, UnreadTrees.filled_unread}
 
 stands : (name : List ℕ) (c : Content) → IsBytes c → StandsAtData name c
 stands name (bytes b) h = tt
@@ -43,7 +44,7 @@ pub with_props : (m n : List ℕ) (o own other : List (NamedOf Content)) (b belo
 with_props m n o own other b below is = ap (λ (u : Unread). a_node (name_in u) own (children_in u) no_node) is
 
 -- what a result of filling says of the filled tree
-pub told_filled : {X : Type 0} (view : X → Unread) (files : List ℕ → Option (List ℕ)) (time : ℕ) (t : Unread) (r : Result X FitFault) → FillsAnswer view files time t r
-    → IfOk r (λ x. view x ≡ filled_unread files time t)
-told_filled view files time t (Ok x) h = h.source
-told_filled view files time t (Err fault) h = tt
+pub told_filled : {X : Type 0} (naming : Naming) (view : X → Unread) (files : List ℕ → Option (List ℕ)) (time : ℕ) (t : Unread) (r : Result X FitFault) → FillsAnswerBy naming view files time t r
+    → IfOk r (λ x. view x ≡ filled_unread naming files time t)
+told_filled naming view files time t (Ok x) h = h.source
+told_filled naming view files time t (Err fault) h = tt

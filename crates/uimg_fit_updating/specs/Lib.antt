@@ -1,3 +1,4 @@
+pub mod Reservations
 pub mod Reading
 pub mod Importing
 pub mod Updating

@@ -1,5 +1,5 @@
 -- Trees in memory that were read from a file.
-use Rattle.std.specs.Prelude.{◌≡◌, ℕ, List, length, map, replicate, Option, Ok}
+use Rattle.std.specs.Prelude.{◌≡◌, ℕ, List, length, map, Option, Some, Ok}
 use Rattle.uimg_texts.specs.{Numbers.be32, Slices.slice}
 use Rattle.uimg_base.specs.{Device.Device, Held.Held}
 use Rattle.uimg_blob_reading.specs.declared.{nodes.Blob.Blob, places.PropertyPlace.PropertyPlace}
@@ -7,7 +7,9 @@ use Rattle.uimg_blob_reading.specs.{Blob.tree, Grammar.Siblings, LookUps.NodeOf}
 use Rattle.uimg_blob_reading.specs.Plain.{NamedOf, NodesOf, with_value, with_values}
 use Rattle.uimg_blob_reading.specs.{Roles.Level, Spots.{Spot, spots}}
 use Rattle.uimg_blob_writing.specs.Content.{Content, Unread, bytes}
+use Rattle.uimg_blob_writing.specs.declared.reservation.Reservation.{Reservation}
 use Rattle.uimg_fit_reading.specs.Nodes.{Opened, AreFrom}
+use Rattle.uimg_fit_updating.specs.Reservations.{reservations_of}
 
 -- a value of a file, in memory
 abbrev pub held_value : Spot → Content
@@ -36,16 +38,12 @@ FromAnyLevel d blob room first P =
     (t : Siblings) → Opened d blob room t → (level : Level) (found : List (NodeOf Spot))
     → AreFrom t level first found → P found
 
--- The reservation block of a file is the pair of zeros that ends it (Devicetree Specification,
--- section 5.3).
-abbrev pub ReservesNothing : List ℕ → Type 0
-ReservesNothing file = slice file (be32 file 16) 16 ≡ replicate 16 0
-
--- The nodes are those of the tree of a file, with all properties in order, and the blob has this
--- size.
-pub record IsHeld (file : List ℕ) (nodes : Unread) (totalsize : ℕ) : Type 0 where
+-- The nodes are those of the tree of a file, with all properties in order, the entries those of its
+-- reservation block, and the blob has this size.
+pub record IsHeld (file : List ℕ) (nodes : Unread) (rs : List Reservation) (totalsize : ℕ)
+    : Type 0 where
   pub found : Siblings
   pub read : tree file ≡ Ok found
   pub is : nodes ≡ held (spots found)
   pub size : totalsize ≡ be32 file 4
-  pub reserves : ReservesNothing file
+  pub reserves : reservations_of file ≡ Some rs

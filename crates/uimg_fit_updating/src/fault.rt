@@ -12,9 +12,10 @@ pub enum UpdateFault {
     /// The image is refused, or a read failed.
     #[error("{0}")]
     Fit(Fault),
-    /// The blob reserves memory, which an image that is built cannot.
-    #[error("the reservation block has entries")]
-    Reserves,
+    /// The reservation block begins within the header, or no entry of size 0 ends it before the
+    /// structure block or the blob's end, and within 65536 bytes.
+    #[error("the reservation block has no end")]
+    Endless,
     /// The tree has more levels than are read.
     #[error("the tree has more than 64 levels")]
     TooDeep,

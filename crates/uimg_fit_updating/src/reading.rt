@@ -15,11 +15,11 @@ mod values;
 
 use crate::fault::UpdateFault;
 use crate::reading::nodes::read_nodes;
-use crate::reading::reservations::reserves;
+use crate::reading::reservations::read_reservations;
 use std::alloc::{Allocator, Global};
 use uimg_base::{Room, Source};
 use uimg_blob_reading::Blob;
-use uimg_blob_writing::{Nodes, Tree};
+use uimg_blob_writing::{Nodes, Reservation, Tree};
 use uimg_fit_reading::read_tree;
 pub(crate) use values::read_span;
 
@@ -58,25 +58,24 @@ fn read_indexed<S: Source, A: Allocator>(
 }
 
 /// Reads the blob that a FIT image begins with to a tree in memory: all nodes and properties in
-/// order (Devicetree Specification, chapter 5). Returns its size, too. What is after the blob is
-/// not read.
+/// order (Devicetree Specification, chapter 5). Returns the entries of its reservation block and its
+/// size, too. What is after the blob is not read.
 ///
-/// Returns the faults of the blob as `index` does, and `TooDeep` if it has more than 64 levels.
-/// Memory is taken for all names and values.
+/// Returns the faults of the blob as `index` does, `Endless` if its reservation block has no end
+/// within it and 65536 bytes, and `TooDeep` if it has more than 64 levels. Memory is taken for all
+/// names and values.
 pub fn read_fit<S: Source, A: Allocator>(
     alloc: Global,
     source: &mut S,
     room: &mut Room<A>,
-) -> Result<(Tree<Global>, u32), UpdateFault>
+) -> Result<(Tree<Global>, Vec<Reservation>, u32), UpdateFault>
     ensures same { SameDevice (S.device source.old) (S.device source.new) }
     ensures in_memory { IfOk result (λ read. AllValues IsBytes (node_of read.0.root)) }
     ensures told { HonestSource S.device source → IfOk result (λ read.
-        IsHeld (S.device source.old).bytes (node_of read.0.root) read.1) }
+        IsHeld (S.device source.old).bytes (node_of read.0.root) read.1.items read.2) }
 {
     let blob = read_tree(source, room)?;
-    if reserves(source)? {
-        return Err(UpdateFault::Reserves);
-    }
+    let reservations = read_reservations(alloc, source, room, blob.totalsize())?;
     let tree = read_indexed(alloc, source, &blob, room)?;
-    Ok((tree, blob.totalsize()))
+    Ok((tree, reservations, blob.totalsize()))
 }

@@ -4,6 +4,7 @@ ghost use Rattle.std.specs.Prelude.{◌≡◌, None, IfOk};
 ghost use Rattle.uimg_base.specs.{Device.SameDevice, Honest.HonestSource};
 ghost use Rattle.uimg_blob_reading.specs.Plain.{AllValues};
 ghost use Rattle.uimg_blob_writing.specs.{Content.IsBytes, Trees.node_of};
+ghost use Rattle.uimg_names.specs.declared.naming.Naming.TheVariants.{All};
 ghost use Rattle.uimg_fit_building.specs.{PayloadSums.no_files, UnreadTrees.filled_unread};
 ghost use Rattle.uimg_fit_updating.specs.Updating.{refilled, packed_size, with_room, IsUpdated};
 
@@ -13,9 +14,10 @@ use crate::reading::read_fit;
 use std::alloc::{Allocator, Global};
 use uimg_base::{MemFiles, Room, Source};
 use uimg_blob_reading::BlobFault;
-use uimg_blob_writing::{Node, Tree, copy_properties, measure};
+use uimg_blob_writing::{Node, Reservation, Tree, WORD_ALIGNMENT, copy_properties, measure_with};
 use uimg_fit_base::{Fault, FitFault};
-use uimg_fit_building::fill;
+use uimg_fit_building::fill_by;
+use uimg_names::Naming;
 
 // The bytes by which mkimage makes a blob longer until all fits.
 const ROOM: u64 = 1024;
@@ -24,10 +26,10 @@ const ROOM: u64 = 1024;
 fn fill_in_memory(alloc: Global, tree: Tree<Global>, time: u32) -> Result<Tree<Global>, FitFault>
     requires { AllValues IsBytes (node_of tree.root) }
     ensures { IfOk result (λ filled.
-        node_of filled.root ≡ filled_unread no_files time (node_of tree.root)) }
+        node_of filled.root ≡ filled_unread All no_files time (node_of tree.root)) }
 {
     let mut files = MemFiles::new(&[]);
-    fill(alloc, tree, time, &mut files)
+    fill_by(alloc, tree, time, Naming::All, &mut files)
 }
 
 // Fills a tree without files, and leaves the root's properties as they are.
@@ -75,17 +77,25 @@ pub struct Updated {
     /// Its nodes and properties.
     pub tree: Tree<Global>,
 
+    /// The memory that its blob reserves.
+    pub reservations: Vec<Reservation>,
+
     /// The size in bytes of its blob with the free room that mkimage leaves. If the blob needs more
     /// bytes than before the update, packed and with its payloads in it, that is the size before
     /// and as many times 1024 bytes.
     pub roomy_size: u32,
 }
 
-// Returns the size in bytes of a tree's blob.
-fn packed_size(alloc: Global, tree: &Tree<Global>) -> Result<u32, UpdateFault>
-    ensures { IfOk result (λ size. size ≡ packed_size (node_of tree.now.root)) }
+// Returns the size in bytes of the blob of a tree with reservations.
+fn packed_size(
+    alloc: Global,
+    tree: &Tree<Global>,
+    reservations: &[Reservation],
+) -> Result<u32, UpdateFault>
+    ensures { IfOk result (λ size.
+        size ≡ packed_size reservations.now (node_of tree.now.root)) }
 {
-    match measure(alloc, tree) {
+    match measure_with(alloc, tree, WORD_ALIGNMENT, reservations) {
         Ok(layout) => Ok(layout.totalsize()),
         Err(BlobFault::TooLarge) => Err(UpdateFault::Fit(Fault::Fit(FitFault::TooLarge))),
         Err(BlobFault::OutOfMemory) => Err(UpdateFault::OutOfMemory),
@@ -107,14 +117,16 @@ fn with_room(packed: u32, needed: u32) -> Result<u32, UpdateFault>
     }
 }
 
-/// Reads a FIT image to a tree, takes the payloads that are after its blob into it, and fills it:
-/// the `value` of each hash node is set, and the root's `timestamp` if there is a time, in seconds
-/// since 1970. An existing property is replaced in its place, a new one is appended; all other nodes
-/// and properties stay, but for `data-offset`, `data-size` and `data-position` of images.
+/// Reads a FIT image to a tree, takes the payloads that are after its blob into it, and fills it by
+/// the algorithms of `Naming::All`: the `value` of each hash node is set, and the root's `timestamp`
+/// if there is a time, in seconds since 1970. An existing property is replaced in its place, a new
+/// one is appended; all other nodes and properties and the reservations stay, but for `data-offset`,
+/// `data-size` and `data-position` of images.
 ///
 /// Returns the faults of `read_fit`, of payloads outside the file (`DataOutside`) or of more bytes
 /// than it (`TooLarge`), of a blob that would have more than 4294967295 bytes (`TooLarge`) or a name
-/// of more than 255 bytes (`BadNodeName` or `BadPropertyName`, at offset 0), and of `uimg_fit::fill`.
+/// of more than 255 bytes (`BadNodeName` or `BadPropertyName`, at offset 0), and of
+/// `uimg_fit_building::fill_by`.
 pub fn update<S: Source, A: Allocator>(
     alloc: Global,
     source: &mut S,
@@ -123,15 +135,17 @@ pub fn update<S: Source, A: Allocator>(
 ) -> Result<Updated, UpdateFault>
     ensures same { SameDevice (S.device source.old) (S.device source.new) }
     ensures told { HonestSource S.device source → IfOk result (λ updated.
-        IsUpdated (S.device source.old).bytes time (node_of updated.tree.root) updated.roomy_size) }
+        IsUpdated (S.device source.old).bytes time (node_of updated.tree.root)
+        updated.reservations.items updated.roomy_size) }
 {
-    let (tree, totalsize) = read_fit(alloc, source, room)?;
+    let (tree, reservations, totalsize) = read_fit(alloc, source, room)?;
     let tree = import(alloc, source, room, totalsize, tree)?;
-    let packed = packed_size(alloc, &tree)?;
+    let packed = packed_size(alloc, &tree, &reservations)?;
     let tree = fill_again(alloc, tree, time)?;
-    let needed = packed_size(alloc, &tree)?;
+    let needed = packed_size(alloc, &tree, &reservations)?;
     Ok(Updated {
         tree,
+        reservations,
         roomy_size: with_room(packed, needed)?,
     })
 }

@@ -24,6 +24,7 @@ fn settle<T: PartTaker>(right: bool, dcrc: u32, taker: &mut T) -> Result<bool, P
     requires { IsTrue right → IsTrue T.honest → AreRight dcrc (T.held taker.old) }
     ensures is { IfOk result (λ kept. kept ≡ right) }
     ensures kept { Settles right result T.honest T.held T.kept taker }
+    ensures stays { T.place taker.new ≡ T.place taker.old }
     ensures told { Tells (settling right dcrc) result T.notes T.told taker }
 {
     if right {
@@ -63,6 +64,7 @@ pub fn unpack<S: Source, A: Allocator, T: PartTaker>(
     ensures right { KeepsRight only result T.honest T.kept taker }
     ensures told { Unpacks only result S.device source T.honest T.kept taker }
     ensures extracts { Extracts result S.device source T.honest T.kept taker }
+    ensures stays { T.place taker.new ≡ T.place taker.old }
     ensures tells { TellsAll only result T.notes T.told taker }
 {
     room.clear();

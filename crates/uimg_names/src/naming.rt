@@ -12,7 +12,7 @@ pub enum Naming {
     /// The names of the profile; case matters.
     Profile,
 
-    /// All names of image.h of U-Boot 2023.01; case does not matter.
+    /// All names of image.h of U-Boot 2023.01, whose case does not matter, and of its algorithms.
     All,
 }
 

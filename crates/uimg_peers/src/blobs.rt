@@ -6,7 +6,7 @@ use std::rt::Files;
 use std::{fs, io};
 use uimg_base::{Out, Room, Source};
 use uimg_blob_reading::index;
-use uimg_blob_writing::{Tree, measure, write_tree};
+use uimg_blob_writing::{Reservation, Tree, WORD_ALIGNMENT, measure_with, write_tree};
 use uimg_dts::compile_all;
 use uimg_engine::DiskFiles;
 use uimg_its::compile;
@@ -18,7 +18,7 @@ pub(crate) fn compile_source<R: Files + Print + AllocGlobal>(rt: &R, path: &str)
     let Ok(tree) = compile(rt.alloc(), &text, &mut files) else {
         return Err(io::Error::from(ErrorKind::InvalidData));
     };
-    write_blob(rt, &tree, path)
+    write_blob(rt, &tree, &[], path)
 }
 
 // The same for a source in the whole language of dtc. A fault is printed.
@@ -26,7 +26,7 @@ pub(crate) fn compile_whole<R: Files + Print + AllocGlobal>(rt: &R, path: &str) 
     let text = fs::read(rt, path)?;
     let mut files = DiskFiles::new(rt, folder_of(path));
     match compile_all(rt.alloc(), &text, &mut files) {
-        Ok(compiled) => write_blob(rt, &compiled.tree, path),
+        Ok(compiled) => write_blob(rt, &compiled.tree, &compiled.reservations, path),
         Err(fault) => {
             println!(rt; "{fault}")?;
             Err(io::Error::from(ErrorKind::InvalidData))
@@ -34,14 +34,15 @@ pub(crate) fn compile_whole<R: Files + Print + AllocGlobal>(rt: &R, path: &str) 
     }
 }
 
-// Writes the blob of a tree to standard output.
+// Writes the blob of a tree with reservations to standard output.
 fn write_blob<R: Files + Print + AllocGlobal>(
     rt: &R,
     tree: &Tree<Global>,
+    reservations: &[Reservation],
     path: &str,
 ) -> io::Result<()> {
     let mut files = DiskFiles::new(rt, folder_of(path));
-    let Ok(layout) = measure(rt.alloc(), tree) else {
+    let Ok(layout) = measure_with(rt.alloc(), tree, WORD_ALIGNMENT, reservations) else {
         return Err(io::Error::from(ErrorKind::InvalidData));
     };
     match write_tree(tree, &layout, &mut files, &mut Out::new(io::writer(rt))) {

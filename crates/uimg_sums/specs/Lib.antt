@@ -1,5 +1,6 @@
 pub mod Digest
 pub mod Crc
+pub mod Crc16
 pub mod CrcSteps
 pub mod Algorithms
 pub mod AnySum

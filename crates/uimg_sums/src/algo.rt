@@ -1,13 +1,15 @@
 //! Algorithms: their names, and the lengths of their digests.
 
 ghost use Rattle.std.specs.Prelude.{◌≡◌};
-ghost use Rattle.uimg_sums.specs.Algorithms.{algo_named, algo_name, digest_size};
+ghost use Rattle.uimg_sums.specs.Algorithms.{all_algos, profile_algos, named_among, algo_named, algo_name, digest_size};
 
-/// A checksum or hash algorithm: ITU-T V.42 (CRC-32), RFC 1321 (MD5) or FIPS 180-4 (SHA).
+/// A checksum or hash algorithm: ITU-T V.41 (CRC-16), ITU-T V.42 (CRC-32), RFC 1321 (MD5) or FIPS
+/// 180-4 (SHA).
 ///
 /// Their order is that of their strength; the weakest is first.
 #[derive(Clone, Copy, Debug, PartialEq, Eq)]
 pub enum Algo {
+    Crc16,
     Crc32,
     Md5,
     Sha1,
@@ -17,7 +19,8 @@ pub enum Algo {
 }
 
 /// The algorithms in order.
-pub const ALGOS: [Algo; 6] = [
+pub const ALGOS: [Algo; 7] = [
+    Algo::Crc16,
     Algo::Crc32,
     Algo::Md5,
     Algo::Sha1,
@@ -26,20 +29,35 @@ pub const ALGOS: [Algo; 6] = [
     Algo::Sha512,
 ];
 
+// Looks up an algorithm by its name among others.
+fn named_among(among: &[Algo], name: &[u8]) -> Option<Algo>
+    ensures { result ≡ named_among among.now name.now }
+{
+    for algo in among {
+        if name == algo.name().as_bytes() {
+            return Some(*algo);
+        }
+    }
+    None
+}
+
 impl Algo {
-    /// Looks up an algorithm by its name. Returns `None` if the name is not in the table.
+    /// Looks up an algorithm of the profile, all but `Crc16`, by its name. Returns `None` if none of
+    /// them has it.
     ///
     /// The names are spelled as in the `algo` property of a FIT hash node and in U-Boot's `hash.c`.
     /// Case matters.
     pub fn named(name: &[u8]) -> Option<Algo>
         ensures { result ≡ algo_named name.now }
     {
-        for algo in ALGOS {
-            if name == algo.name().as_bytes() {
-                return Some(algo);
-            }
-        }
-        None
+        named_among(&ALGOS[1..], name)
+    }
+
+    /// Looks up any algorithm by its name. Returns `None` if none has it. Case matters.
+    pub fn known(name: &[u8]) -> Option<Algo>
+        ensures { result ≡ named_among all_algos name.now }
+    {
+        named_among(&ALGOS, name)
     }
 
     // Returns the name, and the length of a digest in bytes.
@@ -48,6 +66,7 @@ impl Algo {
         ensures size { result.1 ≡ digest_size self }
     {
         match self {
+            Algo::Crc16 => ("crc16-ccitt", 2),
             Algo::Crc32 => ("crc32", 4),
             Algo::Md5 => ("md5", 16),
             Algo::Sha1 => ("sha1", 20),

@@ -5,12 +5,14 @@ ghost use Rattle.uimg_sums.specs.{Algorithms.digest_by, AnySum.{algo_of, SumHold
 
 use crate::algo::Algo;
 use crate::crc::Crc;
+use crate::crc16::Crc16;
 use crate::digests::{Md5Sum, Sha1Sum, Sha256Sum, Sha384Sum, Sha512Sum};
 use crate::sums::Summer;
 
 /// A sum whose algorithm is chosen at run time.
 #[derive(Drop)]
 pub(crate) enum AnySum {
+    Crc16(Crc16),
     Crc32(Crc),
     Md5(Md5Sum),
     Sha1(Sha1Sum),
@@ -26,6 +28,7 @@ impl AnySum {
         ensures fed { SumHolds result [] }
     {
         match algo {
+            Algo::Crc16 => AnySum::Crc16(Crc16::start()),
             Algo::Crc32 => AnySum::Crc32(Crc::start()),
             Algo::Md5 => AnySum::Md5(Md5Sum::start()),
             Algo::Sha1 => AnySum::Sha1(Sha1Sum::start()),
@@ -42,6 +45,7 @@ impl AnySum {
             SumHolds self.new (fed ++ bytes.now) }
     {
         match self {
+            AnySum::Crc16(sum) => sum.feed(bytes),
             AnySum::Crc32(sum) => sum.feed(bytes),
             AnySum::Md5(sum) => sum.feed(bytes),
             AnySum::Sha1(sum) => sum.feed(bytes),
@@ -57,6 +61,7 @@ impl AnySum {
             result ≡ padded_digest (digest_by (algo_of self) fed) }
     {
         match self {
+            AnySum::Crc16(sum) => finished(sum),
             AnySum::Crc32(sum) => finished(sum),
             AnySum::Md5(sum) => finished(sum),
             AnySum::Sha1(sum) => finished(sum),

@@ -1,4 +1,4 @@
-//! Checksums and hashes over bytes that come in pieces: CRC-32, MD5 and SHA, by name, one or
+//! Checksums and hashes over bytes that come in pieces: CRC, MD5 and SHA, by name, one or
 //! several at once.
 #![tactic(auto)]
 
@@ -6,6 +6,7 @@ mod algo;
 mod any_sum;
 mod bundle;
 mod crc;
+mod crc16;
 mod crc_steps;
 mod crc_table;
 mod digests;
@@ -15,5 +16,6 @@ pub use algo::{ALGOS, Algo};
 pub use bundle::Bundle;
 pub use crc::{Crc, crc_of};
 pub use crc_table::crc_entry;
+pub use crc16::Crc16;
 pub use digests::{Md5Sum, Sha1Sum, Sha256Sum, Sha384Sum, Sha512Sum};
 pub use sums::{Summer, Sums};

@@ -1,3 +1,4 @@
 pub mod CheckEnds
 pub mod JsonLines
+pub mod KnownSources
 pub mod Statuses

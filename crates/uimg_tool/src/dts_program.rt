@@ -16,8 +16,9 @@ use uimg_blob_writing::Tree;
 use uimg_compat::{FitRequest, warn};
 use uimg_dts::{Compiled, DtsFault, DtsKind, Refusal, compile_all};
 use uimg_engine::Fault;
-use uimg_fit_building::fill;
+use uimg_fit_building::fill_by;
 use uimg_its::{FaultKind, ItsFault};
+use uimg_names::Naming;
 use uimg_printing::Printed;
 use uimg_requests::MakeRequest;
 
@@ -56,23 +57,19 @@ pub(crate) fn make_beyond<'x, R: rt::Files + AllocGlobal, W: Write, V: Write>(
         return tell(tool, err, &reason, REFUSED);
     }
     match compiled {
-        Ok(Compiled { tree, reservations }) if reservations.is_empty() => {
+        Ok(Compiled { tree, reservations }) => {
             let making = TreeRequest {
                 tool,
                 source: making.source,
                 image: making.outfile,
                 placement: request.placement,
+                reservations: reservations.as_slice(),
                 roomy_size: None,
                 manner: request.manner,
                 is_quiet: request.is_quiet,
             };
             warn(rt.alloc(), &tree, request.dtc.silenced, err);
             make_compiled(rt, making, tree, &mut files, out, err)
-        }
-        Ok(_) => {
-            let source = Printed(making.source.as_bytes());
-            let reason = format_args!("{source}: /memreserve/ is not supported");
-            tell(tool, err, &reason, REFUSED)
         }
         Err(fault) if fault.kind == DtsKind::NoFile => {
             let (source, name) = (Printed(making.source.as_bytes()), Printed(files.missing()));
@@ -84,8 +81,8 @@ pub(crate) fn make_beyond<'x, R: rt::Files + AllocGlobal, W: Write, V: Write>(
     }
 }
 
-// Fills the tree of a source, and makes its image.
-fn make_compiled<R: rt::Files + AllocGlobal, F: Files, W: Write, V: Write>(
+/// Fills the tree of a source by all algorithms, and makes its image.
+pub(crate) fn make_compiled<R: rt::Files + AllocGlobal, F: Files, W: Write, V: Write>(
     rt: &R,
     making: TreeRequest<'_>,
     tree: Tree<Global>,
@@ -96,7 +93,7 @@ fn make_compiled<R: rt::Files + AllocGlobal, F: Files, W: Write, V: Write>(
     requires { FilesAtData (node_of tree.root) }
     ensures { result ≤ 3 }
 {
-    match fill(rt.alloc(), tree, making.manner.time, files) {
+    match fill_by(rt.alloc(), tree, making.manner.time, Naming::All, files) {
         Ok(tree) => write_image(rt, making, &tree, files, out, err),
         Err(fault) => {
             let end = Err(RequestFault::Stopped(Fault::Fit(fault)));

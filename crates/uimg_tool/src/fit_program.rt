@@ -2,13 +2,15 @@
 
 ghost use Rattle.std.specs.Prelude.{◌≤◌};
 
-use crate::dts_program::{Beyond, make_beyond};
-use crate::known_sources::{Known, known_source, source_has_labels};
+use crate::dts_program::{Beyond, make_beyond, make_compiled};
+use crate::known_sources::{Known, files_of, known_source, source_has_labels};
 use crate::old_program::{make_image, tell, tell_end, tell_unread, tell_unwritten};
 use crate::old_tools::{Called, Tool};
+use crate::other_algos::has_other_algos;
 use crate::reasons::is_pipe;
 use crate::request_fault::{FAILED, REFUSED, RequestFault, WRONG_LINE};
 use crate::safe_path::{NewBeside, new_beside};
+use crate::tree_program::TreeRequest;
 use std::alloc::AllocError;
 use std::io::{Read, Write};
 use std::path::{Path, PathBuf};
@@ -176,7 +178,7 @@ fn read_input<R: Files + AllocGlobal>(rt: &R) -> io::Result<Vec<u8>> {
 }
 
 // Warns about the source, and makes the image: of a source that the profile refuses by the language
-// of dtc.
+// of dtc, and of one with algorithms outside the profile by all of them.
 fn warn_and_make<R: Files + AllocGlobal, W: Write, V: Write>(
     rt: &R,
     tool: Tool,
@@ -203,7 +205,14 @@ fn warn_and_make<R: Files + AllocGlobal, W: Write, V: Write>(
             };
             return make_beyond(rt, tool, request, &beyond, out, err);
         }
-        Known::Tree(tree) => warn(rt.alloc(), &tree, request.dtc.silenced, err),
+        Known::Tree(tree) => {
+            warn(rt.alloc(), &tree, request.dtc.silenced, err);
+            if has_other_algos(&tree) {
+                let mut files = files_of(rt, &making, &request.dtc);
+                let making = tree_request(tool, request, &making);
+                return make_compiled(rt, making, tree, &mut files, out, err);
+            }
+        }
         Known::Unread => {}
     }
     let called = Called {
@@ -212,4 +221,22 @@ fn warn_and_make<R: Files + AllocGlobal, W: Write, V: Write>(
         folders: request.dtc.folders.as_slice(),
     };
     make_image(rt, called, making, out, err)
+}
+
+// Returns what is made of the tree of a source.
+fn tree_request<'a>(
+    tool: Tool,
+    request: &FitRequest<'_>,
+    making: &MakeRequest<'a>,
+) -> TreeRequest<'a> {
+    TreeRequest {
+        tool,
+        source: making.source,
+        image: making.outfile,
+        placement: request.placement,
+        reservations: &[],
+        roomy_size: None,
+        manner: request.manner,
+        is_quiet: request.is_quiet,
+    }
 }

@@ -1,5 +1,7 @@
 //! The source of an image, before the image is made.
 
+ghost use Rattle.uimg_tool.specs.KnownSources.{HasFilesAtData};
+
 use crate::searched_files::SearchedFiles;
 use std::alloc::Global;
 use std::rt::Files;
@@ -26,11 +28,13 @@ pub(crate) fn known_source<R: Files + AllocGlobal>(
     rt: &R,
     request: &MakeRequest<'_>,
     dtc: &DtcWords<'_>,
-) -> Known {
+) -> Known
+    ensures { HasFilesAtData result }
+{
     let MakeCommand::Tree { source, .. } = &request.command else {
         return Known::Unread;
     };
-    let mut files = SearchedFiles::new(rt, request.folder, dtc.folders.as_slice(), request.outfile);
+    let mut files = files_of(rt, request, dtc);
     let Ok(mut source) = files.open(source) else {
         return Known::Unread;
     };
@@ -42,6 +46,15 @@ pub(crate) fn known_source<R: Files + AllocGlobal>(
         Err(fault) if is_of_text(fault.kind) => Known::Beyond(text, fault),
         Err(_) => Known::Unread,
     }
+}
+
+/// Returns the files of the source of a request.
+pub(crate) fn files_of<'a, R: Files + AllocGlobal>(
+    rt: &'a R,
+    request: &MakeRequest<'a>,
+    dtc: &'a DtcWords<'_>,
+) -> SearchedFiles<'a, R> {
+    SearchedFiles::new(rt, request.folder, dtc.folders.as_slice(), request.outfile)
 }
 
 // Returns whether a fault is of the text alone.
@@ -62,7 +75,7 @@ pub(crate) fn source_has_labels<R: Files + AllocGlobal>(
     let MakeCommand::Tree { source, .. } = &request.command else {
         return false;
     };
-    let mut files = SearchedFiles::new(rt, request.folder, dtc.folders.as_slice(), request.outfile);
+    let mut files = files_of(rt, request, dtc);
     match files.open(source) {
         Ok(mut source) => text_of(rt.alloc(), &mut source).is_some_and(|text| has_labels(&text)),
         Err(_) => false,

@@ -18,6 +18,7 @@ mod moments;
 mod new_shelf;
 mod old_program;
 mod old_tools;
+mod other_algos;
 mod path_list;
 mod progress;
 mod reasons;

@@ -1,7 +1,8 @@
 //! The function `program`, the whole program: opens the files that a command line names, carries
 //! out its request, and turns the end into a line and an exit status.
 
-ghost use Rattle.std.specs.Prelude.{◌≡◌, ◌≤◌};
+ghost use Rattle.std.specs.Prelude.{◌≡◌, ◌≤◌, map, option_map};
+ghost use Rattle.uimg_cli.specs.Reading.{AsksNothing, ReadsWords};
 ghost use Rattle.uimg_tool.specs.Statuses.{end_status, words_status};
 
 use crate::check_program::check_images;
@@ -52,6 +53,7 @@ pub fn program<R: Files + AllocGlobal, W: Write, V: Write>(
 }
 
 // Carries out the words of `uimg`, the program's name first.
+#[tactic(auto, using(uimg_cli::proofs::ReadingLaws::nothing_read))]
 fn carry_out_words<R: Files + AllocGlobal, W: Write, V: Write>(
     rt: &R,
     words: &[&str],
@@ -60,7 +62,9 @@ fn carry_out_words<R: Files + AllocGlobal, W: Write, V: Write>(
     out: &mut W,
     err: &mut V,
 ) -> u8
-    ensures { result ≤ 3 }
+    ensures status { result ≤ 3 }
+    ensures nothing { AsksNothing (option_map (λ text. text.now) epoch.entry) now
+        (map (λ word. word.now) words.entry.now) → 2 ≤ result }
 {
     match asked_by(rt.alloc(), words, epoch, now) {
         Ok(asked) => carry_out_asked(rt, &asked, out, err),
@@ -76,7 +80,10 @@ fn asked_by<'a>(
     words: &'a [&'a str],
     epoch: Option<&str>,
     now: u32,
-) -> Result<Asked<'a>, WordsFault> {
+) -> Result<Asked<'a>, WordsFault>
+    ensures { ReadsWords (option_map (λ text. text.now) epoch.entry) now
+        (map (λ word. word.now) words.entry.now) result }
+{
     read_words(alloc, words, epoch, now)
 }
 

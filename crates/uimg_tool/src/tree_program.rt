@@ -15,20 +15,21 @@ use std::fs::OpenFile;
 use std::io::{BufWriter, Write};
 use std::{fs, io, rt};
 use uimg_base::{Files, Out, Room, Status};
-use uimg_blob_writing::Tree;
+use uimg_blob_writing::{Reservation, Tree};
 use uimg_compat::OldFault;
 use uimg_engine::{Fault, TreeManner, make_tree};
 use uimg_fit_base::Placement;
 use uimg_requests::Manner;
 
 /// The image that is made of a tree: by which tool, of the file at which path, at which path and how,
-/// and the size of its blob if that has free room.
+/// the memory that it reserves, and the size of its blob if that has free room.
 #[derive(Clone, Copy)]
 pub(crate) struct TreeRequest<'a> {
     pub(crate) tool: Tool,
     pub(crate) source: &'a str,
     pub(crate) image: &'a str,
     pub(crate) placement: Placement,
+    pub(crate) reservations: &'a [Reservation],
     pub(crate) roomy_size: Option<u32>,
     pub(crate) manner: Manner,
     pub(crate) is_quiet: bool,
@@ -121,6 +122,7 @@ fn make_on<'a, R: rt::Files + AllocGlobal, F: Files, W: Write>(
     let code = Cell::new(None);
     let manner = TreeManner {
         placement: request.placement.aligned_by(request.manner.align),
+        reservations: request.reservations,
         naming: request.manner.naming,
     };
     let made = make_tree(

@@ -40,6 +40,7 @@ pub(crate) fn update_image<R: Files + AllocGlobal, W: Write, V: Write>(
                 source: request.image,
                 image: request.image,
                 placement: request.placement,
+                reservations: updated.reservations.as_slice(),
                 roomy_size: roomy_size(request.placement, &updated),
                 manner: request.manner,
                 is_quiet: request.is_quiet,

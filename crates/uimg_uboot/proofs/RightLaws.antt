@@ -4,6 +4,7 @@ use Rattle.std.specs.List.{AllByRecursion}
 use Rattle.std.specs.Result.{result_ok}
 use Rattle.std.proofs.lemmas.Bool.{false≢true}
 use Rattle.uimg_sums.specs.declared.algo.Algo.{Algo}
+use Rattle.uimg_names.specs.declared.naming.Naming.TheVariants as naming
 use Rattle.uimg_base.specs.Results.{◌>>=◌}
 use Rattle.uimg_base.specs.declared.spans.Span.{Span}
 use Rattle.uimg_blob_reading.specs.Reading.{Fault as BlobFaultAt}
@@ -14,7 +15,7 @@ use Rattle.uimg_blob_reading.specs.Spots.{Spot, spots}
 use Rattle.uimg_blob_reading.proofs.PhaseLaws.{some_none, some_some}
 use Rattle.uimg_fit_base.specs.Files.{spots_in, listed_or}
 use Rattle.uimg_fit_base.specs.Places.{place, bytes_at, payload}
-use Rattle.uimg_fit_base.specs.Report.{word_of, is_right}
+use Rattle.uimg_fit_base.specs.Report.{named_word, is_right}
 use Rattle.uimg_fit_base.specs.declared.fault.Fault.{Fault}
 use Rattle.uimg_fit_base.specs.declared.fault.FitFault.{FitFault}
 use Rattle.uimg_fit_checking.specs.Checks.{NamedFinding, wrong_in, is_weak, or_weak, found_of, image_finding, or_later, first_told, or_right, some_told, check_of}
@@ -40,9 +41,9 @@ wrong_never : (name message : List ℕ) (hs : List (NodeOf Spot)) (told : NamedF
 unfolding wrong_in
 wrong_never name message [] told is = absurd (some_none (sym is))
 wrong_never name message (h ∷ hs) told is =
-    by_if (is_right (word_of message h)) (wrong_in name message hs) (Some (Wrong name h.name (word_of message h)))
+    by_if (is_right (named_word naming.All message h)) (wrong_in name message hs) (Some (Wrong name h.name (named_word naming.All message h)))
     (λ here so. wrong_never name message hs told (sym here ∙ is))
-    (λ here so. ap says_right (sym (some_some (Wrong name h.name (word_of message h)) told (sym here ∙ is))))
+    (λ here so. ap says_right (sym (some_some (Wrong name h.name (named_word naming.All message h)) told (sym here ∙ is))))
 
 weak_never : (o : Option NamedFinding) (need : Option Algo) (image : NodeOf Spot) (told : NamedFinding) → ((t : NamedFinding) → o ≡ Some t → says_right t ≡ false)
     → or_weak o need image ≡ Some told → says_right told ≡ false
@@ -54,7 +55,7 @@ weak_never None need image told never is =
 
 found_never : (need : Option Algo) (left : ℕ) (image : NodeOf Spot) (message : List ℕ) (told : NamedFinding) → found_of need left image message ≡ Some told → says_right told ≡ false
 found_never need left image message told is =
-    by_if (nat_lt left (hashed_size image (Ok message))) (Some (Overlapping image.name)) (or_weak (wrong_in image.name message (hashes image)) need image)
+    by_if (nat_lt left (hashed_size naming.All image (Ok message))) (Some (Overlapping image.name)) (or_weak (wrong_in image.name message (hashes image)) need image)
     (λ here so. ap says_right (sym (some_some (Overlapping image.name) told (sym here ∙ is))))
     (λ here so. weak_never (wrong_in image.name message (hashes image)) need image told (wrong_never image.name message (hashes image)) (sym here ∙ is))
 
@@ -72,8 +73,8 @@ never : (need : Option Algo) (file : List ℕ) (left : ℕ) (found : List (NodeO
 unfolding first_told
 never need file left [] told is = absurd (some_none (sym (ok_ok _ _ is)))
 never need file left (image ∷ more) told is =
-    later_never (image_finding need left image (payload file image)) (first_told need file (left - hashed_size image (payload file image)) more) told
-    (image_never need left image (payload file image)) (never need file (left - hashed_size image (payload file image)) more) is
+    later_never (image_finding need left image (payload file image)) (first_told need file (left - hashed_size naming.All image (payload file image)) more) told
+    (image_never need left image (payload file image)) (never need file (left - hashed_size naming.All image (payload file image)) more) is
 
 -- so nothing was found
 right_first : (need : Option Algo) (file : List ℕ) (found : List (NodeOf Spot)) (r : Result (Option NamedFinding) Fault) (n m : ℕ) → first_told need file (length file) found ≡ r
@@ -89,11 +90,11 @@ right_told (Some need) file [] n m is = absurd (false≢true (ap says_right (ok_
 right_told (Some need) file (image ∷ more) n m is = right_first (Some need) file (image ∷ more) _ n m refl is
 
 -- nothing found in hash nodes, in an image, in images
-all_right : (name message : List ℕ) (hs : List (NodeOf Spot)) → wrong_in name message hs ≡ None → AllByRecursion (λ h. is_right (word_of message h) ≡ true) hs
+all_right : (name message : List ℕ) (hs : List (NodeOf Spot)) → wrong_in name message hs ≡ None → AllByRecursion (λ h. is_right (named_word naming.All message h) ≡ true) hs
 unfolding wrong_in
 all_right name message [] is = tt
 all_right name message (h ∷ hs) is =
-    by_if (is_right (word_of message h)) (wrong_in name message hs) (Some (Wrong name h.name (word_of message h)))
+    by_if (is_right (named_word naming.All message h)) (wrong_in name message hs) (Some (Wrong name h.name (named_word naming.All message h)))
     (λ here so. (so, all_right name message hs (sym here ∙ is)))
     (λ here so. absurd (some_none (sym here ∙ is)))
 
@@ -103,7 +104,7 @@ no_weak None need image is = refl
 
 no_wrong : (need : Option Algo) (left : ℕ) (image : NodeOf Spot) (message : List ℕ) → found_of need left image message ≡ None → wrong_in image.name message (hashes image) ≡ None
 no_wrong need left image message is =
-    by_if (nat_lt left (hashed_size image (Ok message))) (Some (Overlapping image.name)) (or_weak (wrong_in image.name message (hashes image)) need image)
+    by_if (nat_lt left (hashed_size naming.All image (Ok message))) (Some (Overlapping image.name)) (or_weak (wrong_in image.name message (hashes image)) need image)
     (λ here so. absurd (some_none (sym here ∙ is)))
     (λ here so. no_weak (wrong_in image.name message (hashes image)) need image (sym here ∙ is))
 
@@ -130,9 +131,9 @@ all_payloads : (need : Option Algo) (file : List ℕ) (left : ℕ) (found : List
 unfolding first_told
 all_payloads need file left [] is = tt
 all_payloads need file left (image ∷ more) is =
-    let later = first_told need file (left - hashed_size image (payload file image)) more in (
+    let later = first_told need file (left - hashed_size naming.All image (payload file image)) more in (
       by_place need file left image (place file image) refl (later_first (image_finding need left image (payload file image)) later is),
-      all_payloads need file (left - hashed_size image (payload file image)) more (later_rest (image_finding need left image (payload file image)) later is),
+      all_payloads need file (left - hashed_size naming.All image (payload file image)) more (later_rest (image_finding need left image (payload file image)) later is),
     )
 
 -- nothing is refused of a file

@@ -1,6 +1,7 @@
 -- That U-Boot reads a FIT image as a check does.
 use Rattle.std.specs.Prelude.{◌≡◌, ⊤, ℕ, List, Option, Some, None, Ok, Bool, true, false}
 use Rattle.std.specs.List.{AllByRecursion}
+use Rattle.uimg_names.specs.declared.naming.Naming.TheVariants as naming
 use Rattle.uimg_base.specs.declared.spans.Span.{Span}
 use Rattle.uimg_blob_reading.specs.Blob.{tree}
 use Rattle.uimg_blob_reading.specs.Grammar.{Siblings}
@@ -8,7 +9,7 @@ use Rattle.uimg_blob_reading.specs.LookUps.{NodeOf, hashes, images}
 use Rattle.uimg_blob_reading.specs.Plain.{NodesOf}
 use Rattle.uimg_blob_reading.specs.Spots.{Spot, spots}
 use Rattle.uimg_fit_base.specs.Places.{place, bytes_at}
-use Rattle.uimg_fit_base.specs.Report.{word_of, is_right}
+use Rattle.uimg_fit_base.specs.Report.{named_word, is_right}
 use Rattle.uimg_sums.specs.declared.algo.Algo.{Algo}
 use Rattle.uimg_fit_checking.specs.Checks.{named_finding, check_of}
 use Rattle.uimg_fit_checking.specs.declared.checking.Finding.{Finding}
@@ -42,7 +43,7 @@ pub record RightPayload (file : List ℕ) (image : NodeOf Spot) : Type 0 where
   pub message : List ℕ
   pub is : place file image ≡ Ok at
   pub bytes : bytes_at file at ≡ Ok message
-  pub right : AllByRecursion (λ h. is_right (word_of message h) ≡ true) (hashes image)
+  pub right : AllByRecursion (λ h. is_right (named_word naming.All message h) ≡ true) (hashes image)
 
 -- A file has a tree with images, whose payloads are right, and U-Boot reads it as the check did.
 pub record ReadAsChecked (file : List ℕ) : Type 0 where

@@ -96,7 +96,9 @@ impl<'a, 'c, W: World, O: Write + Drop> FolderTaker<'a, 'c, W, O> {
     }
 
     // Checks, before any payload is written, whether the file of this one may be.
-    fn look(&mut self, name: &NodeName, length: u64) -> Result<(), Trouble> {
+    fn look(&mut self, name: &NodeName, length: u64) -> Result<(), Trouble>
+        ensures { self.new.staging.folder ≡ self.old.staging.folder }
+    {
         self.claimed.claim(length)?;
         match self.looked.next(name)? {
             Some(name) => self.staging.look(name.as_str()),
@@ -105,7 +107,9 @@ impl<'a, 'c, W: World, O: Write + Drop> FolderTaker<'a, 'c, W, O> {
     }
 
     // Creates the file of a payload, which gets its name later.
-    fn begin(&mut self, name: &NodeName) -> Result<NewFile<'c, W::File>, Trouble> {
+    fn begin(&mut self, name: &NodeName) -> Result<NewFile<'c, W::File>, Trouble>
+        ensures { self.new.staging.folder ≡ self.old.staging.folder }
+    {
         match self.taken.next(name)? {
             Some(name) => self.staging.begin(name),
             None => Err(Trouble::NoName),
@@ -118,7 +122,9 @@ impl<'a, 'c, W: World, O: Write + Drop> FolderTaker<'a, 'c, W, O> {
         name: &NodeName,
         file: NewFile<'c, W::File>,
         vouched: Option<Vouched>,
-    ) -> Result<(), Trouble> {
+    ) -> Result<(), Trouble>
+        ensures { self.new.staging.folder ≡ self.old.staging.folder }
+    {
         let size = self.staging.complete(file)?;
         if self.has_refused && !self.keeps_good {
             return Ok(());
@@ -134,14 +140,18 @@ impl<'a, 'c, W: World, O: Write + Drop> FolderTaker<'a, 'c, W, O> {
     }
 
     // Adds a line.
-    fn add(&mut self, line: &Line<'_>) -> Result<(), Trouble> {
+    fn add(&mut self, line: &Line<'_>) -> Result<(), Trouble>
+        ensures { self.new.staging.folder ≡ self.old.staging.folder }
+    {
         let line = told(self.alloc, self.json, line)?;
         self.lines.extend_from_slice(line.as_slice())?;
         Ok(())
     }
 
     // Removes a refused payload.
-    fn throw_away(&mut self, name: &NodeName, refusal: Refusal) -> Result<(), Trouble> {
+    fn throw_away(&mut self, name: &NodeName, refusal: Refusal) -> Result<(), Trouble>
+        ensures { self.new.staging.folder ≡ self.old.staging.folder }
+    {
         self.staging.refuse_last(self.keeps_good)?;
         if !self.keeps_good && !self.has_refused {
             self.lines.clear();
@@ -187,6 +197,8 @@ fn tell<O: Write>(
 
 impl<'a, 'c, W: World, O: Write + Drop> Taker for FolderTaker<'a, 'c, W, O> {
     type Shelf = NewFile<'c, W::File>;
+
+    ghost place = { λ t. t.staging.folder.path.now };
 
     ghost takes = { λ _. [] };
 

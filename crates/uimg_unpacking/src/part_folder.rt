@@ -41,6 +41,7 @@ impl<'a, 'c, W: World, O: Write + Drop> PartFolder<'a, 'c, W, O> {
         code: &'c ErrorCode,
     ) -> PartFolder<'a, 'c, W, O>
         requires { W.trace world ≡ [] }
+        ensures { result.staging.folder ≡ asked.now.folder }
     {
         PartFolder {
             alloc,
@@ -81,27 +82,35 @@ impl<'a, 'c, W: World, O: Write + Drop> PartFolder<'a, 'c, W, O> {
     }
 
     // Checks, before any part is written, whether the file of this one may be.
-    fn look(&mut self, number: u32) -> Result<(), Trouble> {
+    fn look(&mut self, number: u32) -> Result<(), Trouble>
+        ensures { self.new.staging.folder ≡ self.old.staging.folder }
+    {
         self.claimed.claim(0)?;
         let name = self.name_of(number)?;
         self.staging.look(name.as_str())
     }
 
     // Creates the file of a part, which gets its name later.
-    fn begin(&mut self, number: u32) -> Result<NewFile<'c, W::File>, Trouble> {
+    fn begin(&mut self, number: u32) -> Result<NewFile<'c, W::File>, Trouble>
+        ensures { self.new.staging.folder ≡ self.old.staging.folder }
+    {
         let name = self.name_of(number)?;
         self.staging.begin(name)
     }
 
     // Completes the file of a part.
-    fn complete(&mut self, number: u32, file: NewFile<'c, W::File>) -> Result<(), Trouble> {
+    fn complete(&mut self, number: u32, file: NewFile<'c, W::File>) -> Result<(), Trouble>
+        ensures { self.new.staging.folder ≡ self.old.staging.folder }
+    {
         let size = self.staging.complete(file)?;
         self.parts.push((number, size))?;
         Ok(())
     }
 
     // Gives the files their names, and prints the line of each.
-    fn finish(&mut self, dcrc: u32) -> Result<(), Trouble> {
+    fn finish(&mut self, dcrc: u32) -> Result<(), Trouble>
+        ensures { self.new.staging.folder ≡ self.old.staging.folder }
+    {
         self.staging.name_all()?;
         for (number, size) in &self.parts {
             let line = Line::Part {
@@ -119,6 +128,8 @@ impl<'a, 'c, W: World, O: Write + Drop> PartFolder<'a, 'c, W, O> {
 
 impl<'a, 'c, W: World, O: Write + Drop> PartTaker for PartFolder<'a, 'c, W, O> {
     type Shelf = NewFile<'c, W::File>;
+
+    ghost place = { λ t. t.staging.folder.path.now };
 
     ghost held = { λ _. [] };
 

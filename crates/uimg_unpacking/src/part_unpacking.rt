@@ -1,6 +1,7 @@
 //! Unpacks a legacy image into a folder.
 
-ghost use Rattle.std.specs.Prelude.{◌≡◌, []};
+ghost use Rattle.std.specs.Prelude.{◌≡◌, [], true};
+ghost use Rattle.uimg_unpacking.specs.Places.{stays_within};
 
 use crate::disk_world::DiskWorld;
 use crate::new_file::ErrorCode;
@@ -51,7 +52,8 @@ pub fn unpack_parts<R: Files + AllocGlobal, S: Source, W: Write + Drop>(
     ended
 }
 
-// As `unpack_parts`, in a world that is returned.
+// As `unpack_parts`, in a world that is returned. Nothing is changed outside the folder.
+#[tactic(auto, using(crate::proofs::Placing::stays_naming))]
 fn unpack_parts_in<W: World, S: Source, O: Write + Drop>(
     world: W,
     alloc: Global,
@@ -60,6 +62,7 @@ fn unpack_parts_in<W: World, S: Source, O: Write + Drop>(
     out: O,
 ) -> (W, PartsEnded)
     requires { W.trace world ≡ [] }
+    ensures { stays_within asked.now.folder.path.now true (W.trace result.0) ≡ true }
 {
     let mut room = Room::new(alloc);
     if !stands_by_crc32(asked.need) {
@@ -147,7 +150,7 @@ fn size_at<S: Source>(source: &mut S, number: u32) -> Result<u32, SourceFault> {
 // Returns whether CRC-32 is strong enough.
 fn stands_by_crc32(need: Option<Algo>) -> bool {
     match need {
-        None | Some(Algo::Crc32) => true,
+        None | Some(Algo::Crc16 | Algo::Crc32) => true,
         Some(_) => false,
     }
 }

@@ -1,6 +1,7 @@
 //! Unpacks a FIT image into a folder.
 
-ghost use Rattle.std.specs.Prelude.{◌≡◌, []};
+ghost use Rattle.std.specs.Prelude.{◌≡◌, [], true};
+ghost use Rattle.uimg_unpacking.specs.Places.{stays_within};
 
 use crate::disk_world::DiskWorld;
 use crate::folder::Folder;
@@ -81,7 +82,8 @@ pub fn unpack<R: Files + AllocGlobal, S: Source, W: Write + Drop>(
     ended
 }
 
-// As `unpack`, in a world that is returned.
+// As `unpack`, in a world that is returned. Nothing is changed outside the folder.
+#[tactic(auto, using(crate::proofs::Placing::stays_naming))]
 fn unpack_in<W: World, S: Source, O: Write + Drop>(
     world: W,
     alloc: Global,
@@ -90,6 +92,7 @@ fn unpack_in<W: World, S: Source, O: Write + Drop>(
     out: O,
 ) -> (W, Ended)
     requires { W.trace world ≡ [] }
+    ensures { stays_within asked.now.folder.path.now true (W.trace result.0) ≡ true }
 {
     let Some(only) = only_of(asked.only) else {
         return (world, Ended::Stopped(Fault::Fit(FitFault::NoSuchImage)));

@@ -4,8 +4,9 @@ mod algorithms;
 mod bundles;
 mod digests;
 
-/// CRC-32, MD5 and SHA of the counted text, from zlib and coreutils.
-const COUNTED_DIGESTS: [(&str, &str); 6] = [
+/// CRC, MD5 and SHA of the counted text, from zlib, coreutils and, for CRC-16, Python's binascii.
+const COUNTED_DIGESTS: [(&str, &str); 7] = [
+    ("crc16-ccitt", "90a4"),
     ("crc32", "c1607408"),
     ("md5", "046b3239eaade30920069f171518d956"),
     ("sha1", "e6937aa016bc06eda81d3b227fffde825d881ce5"),

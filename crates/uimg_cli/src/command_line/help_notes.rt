@@ -127,7 +127,7 @@ keeps the others. The lines:
   kernel: 3 bytes, sha256 ba7816..  Kept; its strongest hash, which is right
   kernel: 3 bytes, unhashed         Kept; its image has no hash
   kernel: bad hash-1                Not kept; this hash is wrong (or malformed, or
-                                    unsupported, as in verify)
+                                    unsupported, as in check)
   kernel: weak                      Not kept; no hash is strong enough
   kernel: overlapping               None is kept; with this one, the payloads are
                                     longer than the file

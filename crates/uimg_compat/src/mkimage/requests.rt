@@ -3,7 +3,7 @@
 ghost use Rattle.std.specs.Prelude.{◌≡◌, true, map, option_map, Ok};
 ghost use Rattle.uimg_compat.specs.Asked.{asked_of, auto_of, making_of};
 ghost use Rattle.uimg_compat.specs.Mkimage.{setting_of};
-ghost use Rattle.uimg_compat.specs.Requests.{Answers, align_asked, auto_asked, auto_source_asked};
+ghost use Rattle.uimg_compat.specs.Requests.{align_asked, auto_asked, auto_source_asked};
 ghost use Rattle.uimg_compat.specs.Requests.{data_asked, default_entry, listing_asked, making_by};
 ghost use Rattle.uimg_compat.specs.Requests.{manner_asked, options_of, placed, request_asked};
 ghost use Rattle.uimg_compat.specs.Requests.{signature_by, source_asked, sourced_asked, time_asked};
@@ -36,7 +36,6 @@ const NO_DATA: &str = "/dev/null";
 
 impl<'a> Settings<'a> {
     /// Returns the request, once all words are read.
-    #[tactic(auto, using(crate::proofs::Telling::answers))]
     pub(super) fn request(
         self,
         alloc: Global,
@@ -44,7 +43,7 @@ impl<'a> Settings<'a> {
         epoch: Option<&str>,
         now: u32,
     ) -> Result<OldRequest<'a>, OldFault<'a>>
-        ensures { Answers (request_asked (map (λ word. word.now) words.entry.now)
+        ensures { Tells asked_of (request_asked (map (λ word. word.now) words.entry.now)
             (option_map (λ text. text.now) epoch.entry) now (setting_of self.entry)) result }
     {
         let Some(image) = self.image else {
@@ -60,7 +59,6 @@ impl<'a> Settings<'a> {
     }
 
     // Returns the request of an update or a making at a time.
-    #[tactic(auto, using(crate::proofs::Telling::answers))]
     fn timed(
         self,
         alloc: Global,
@@ -68,7 +66,7 @@ impl<'a> Settings<'a> {
         image: &'a str,
         time: u32,
     ) -> Result<OldRequest<'a>, OldFault<'a>>
-        ensures { Answers (timed_asked (setting_of self.entry)
+        ensures { Tells asked_of (timed_asked (setting_of self.entry)
             (map (λ word. word.now) words.entry.now) image.entry.now time) result }
     {
         match self.source {
@@ -79,7 +77,6 @@ impl<'a> Settings<'a> {
     }
 
     // Returns the request of a making with a source.
-    #[tactic(auto, using(crate::proofs::Telling::answers))]
     fn sourced(
         self,
         alloc: Global,
@@ -88,7 +85,7 @@ impl<'a> Settings<'a> {
         time: u32,
         image: &'a str,
     ) -> Result<OldRequest<'a>, OldFault<'a>>
-        ensures { Answers (sourced_asked (setting_of self.entry)
+        ensures { Tells asked_of (sourced_asked (setting_of self.entry)
             (map (λ word. word.now) words.entry.now) source.entry.now time image.entry.now) result }
     {
         if source == AUTO {
@@ -169,7 +166,7 @@ impl<'a> Settings<'a> {
         time: u32,
         image: &'a str,
     ) -> Result<OldRequest<'a>, OldFault<'a>>
-        ensures { Answers
+        ensures { Tells asked_of
             (source_asked (setting_of self.entry) source.entry.now time image.entry.now) result }
     {
         self.check_signing()?;

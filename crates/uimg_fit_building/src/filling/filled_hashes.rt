@@ -4,7 +4,7 @@ ghost use Rattle.std.specs.{Prelude.{◌≡◌, ℕ, List, map, true, IsOkUnless
 ghost use Rattle.uimg_sums.specs.Algorithms.{digest_by};
 ghost use Rattle.uimg_blob_reading.specs.Roles.{is_hash};
 ghost use Rattle.uimg_blob_writing.specs.{Content.bytes, Properties.content};
-ghost use Rattle.uimg_fit_building.specs.{Filling.algo_by, Behind.entry, DigestBytes.zeroed};
+ghost use Rattle.uimg_fit_building.specs.{Filling.hash_algo, Behind.entry, DigestBytes.zeroed};
 ghost use Rattle.uimg_fit_building.specs.HashSteps.{SetsHash, SetsChild, SetsChildren};
 ghost use Rattle.uimg_fit_building.specs.PayloadSums.{in_memory, all_marked};
 ghost use Rattle.uimg_fit_base.specs.AlgoSets.{has, no_algos, set_of, AreDigests};
@@ -15,7 +15,8 @@ use std::alloc::Allocator;
 use std::mem;
 use uimg_base::{Algo, before_nul};
 use uimg_blob_writing::{ByteList, Node, Props, Value};
-use uimg_fit_base::{AlgoSet, Digests, FitFault};
+use uimg_fit_base::{AlgoSet, Digests, FitFault, algo_by};
+use uimg_names::Naming;
 
 // Returns whether a child of an image is a hash node.
 fn is_hash(name: &[u8]) -> bool
@@ -26,11 +27,11 @@ fn is_hash(name: &[u8]) -> bool
 
 // Returns the algorithm of a hash node, if its name is known.
 #[tactic(auto, using(crate::proofs::FilledHashLaws::no_name))]
-fn algo_of<A: Allocator>(props: &Props<A>) -> Option<Algo>
-    ensures { result ≡ algo_by in_memory props.now }
+fn algo_of<A: Allocator>(naming: Naming, props: &Props<A>) -> Option<Algo>
+    ensures { result ≡ hash_algo naming in_memory props.now }
 {
     match first_value(props, b"algo") {
-        Some(Value::Bytes(name)) => Algo::named(before_nul(name.items())),
+        Some(Value::Bytes(name)) => algo_by(naming, before_nul(name.items())),
         Some(Value::File { name: _, size: _ }) => None,
         None => None,
     }
@@ -38,13 +39,14 @@ fn algo_of<A: Allocator>(props: &Props<A>) -> Option<Algo>
 
 /// Returns the algorithms of the hash nodes among nodes, if all are known.
 #[tactic(auto, unfolding(crate::specs::PayloadSums::all_marked))]
-pub(crate) fn algos_of<A: Allocator>(nodes: &[Node<A>]) -> Option<AlgoSet>
-    ensures { result ≡ all_marked no_algos (filter (λ h. is_hash h.name) (map entry nodes.now)) }
+pub(crate) fn algos_of<A: Allocator>(naming: Naming, nodes: &[Node<A>]) -> Option<AlgoSet>
+    ensures { result
+        ≡ all_marked naming no_algos (filter (λ h. is_hash h.name) (map entry nodes.now)) }
 {
     let mut set = AlgoSet::none();
     for node in nodes {
         if is_hash(node.name.items()) {
-            let Some(algo) = algo_of(&node.props) else {
+            let Some(algo) = algo_of(naming, &node.props) else {
                 return None;
             };
             set = set.marked(algo);
@@ -68,11 +70,12 @@ fn digest_value<A: Allocator>(alloc: A, digests: &Digests, algo: Algo) -> Result
 fn fill_hash<A: Allocator + Copy>(
     alloc: A,
     node: &mut Node<A>,
+    naming: Naming,
     digests: &Digests,
 ) -> Result<(), FitFault>
-    ensures { SetsHash digests.now result node }
+    ensures { SetsHash naming digests.now result node }
 {
-    let Some(algo) = algo_of(&node.props) else {
+    let Some(algo) = algo_of(naming, &node.props) else {
         return Ok(());
     };
     let value = digest_value(alloc, digests, algo)?;
@@ -85,12 +88,13 @@ fn fill_hash<A: Allocator + Copy>(
 fn fill_child<A: Allocator + Copy>(
     alloc: A,
     node: &mut Node<A>,
+    naming: Naming,
     digests: &Digests,
 ) -> Result<(), FitFault>
-    ensures { SetsChild digests.now result node }
+    ensures { SetsChild naming digests.now result node }
 {
     if is_hash(node.name.items()) {
-        return fill_hash(alloc, node, digests);
+        return fill_hash(alloc, node, naming, digests);
     }
     Ok(())
 }
@@ -99,12 +103,13 @@ fn fill_child<A: Allocator + Copy>(
 pub(crate) fn fill_children<A: Allocator + Copy>(
     alloc: A,
     nodes: &mut [Node<A>],
+    naming: Naming,
     digests: &Digests,
 ) -> Result<(), FitFault>
-    ensures { SetsChildren digests.now result nodes }
+    ensures { SetsChildren naming digests.now result nodes }
 {
     for node in nodes.iter_mut() {
-        fill_child(alloc, node, digests)?;
+        fill_child(alloc, node, naming, digests)?;
     }
     Ok(())
 }

@@ -19,32 +19,36 @@ use std::mem;
 use uimg_base::Files;
 use uimg_blob_writing::{Node, Nodes, Props, Value};
 use uimg_fit_base::FitFault;
+use uimg_names::Naming;
 
 // Sets the digests of a payload in the hash nodes among the children of an image.
 fn fill_hashes<F: Files, A: Allocator + Copy>(
     alloc: A,
     nodes: &mut [Node<A>],
     payload: &Value<A>,
+    naming: Naming,
     files: &mut F,
 ) -> Result<(), FitFault>
     ensures opens { OpensKept F.Opened.steady F.map (λ there. IsKept there (content payload.now))
         result files }
-    ensures filled { OfHonest F.map files (λ there. FillsHashes (λ u. siblings nodes.new) there
+    ensures filled { OfHonest F.map files (λ there.
+        FillsHashes naming (λ u. siblings nodes.new) there
         (content payload.now) (siblings nodes.old) result) }
     ensures kept { OfHonest F.map files (λ there. OnOk result (
         filter (λ h. is_hash h.name) (listed (siblings nodes.old)) ≢ [] →
         IsKept there (content payload.now))) }
     ensures rest { (message : List ℕ) → OnOk result (
-        each zeroed_child (siblings nodes.new) ≡ each zeroed_child (each (hashed_in message) (siblings nodes.old))) }
+        each (zeroed_child naming) (siblings nodes.new)
+        ≡ each (zeroed_child naming) (each (hashed_in naming message) (siblings nodes.old))) }
 {
-    let Some(set) = algos_of(nodes) else {
+    let Some(set) = algos_of(naming, nodes) else {
         return Err(FitFault::UnknownAlgo);
     };
     if set.is_empty() {
         return Ok(());
     }
     match payload_digests(set, payload, files) {
-        Ok(digests) => fill_children(alloc, nodes, &digests),
+        Ok(digests) => fill_children(alloc, nodes, naming, &digests),
         Err(fault) => Err(fault),
     }
 }
@@ -53,23 +57,25 @@ fn fill_hashes<F: Files, A: Allocator + Copy>(
 fn fill_image<F: Files, A: Allocator + Copy>(
     alloc: A,
     image: &mut Node<A>,
+    naming: Naming,
     files: &mut F,
 ) -> Result<(), FitFault>
     ensures opens { OpensKept F.Opened.steady F.map (λ there. IsKeptImage there (entry image.old))
         result files }
     ensures filled { OfHonest F.map files (λ there.
-        FillsImage there (entry image.old) (entry image.new) result) }
+        FillsImage naming there (entry image.old) (entry image.new) result) }
     ensures order { IsTrue (F.map files.old).honest →
-        FillsNext (F.map files.old) F.Opened.steady (entry image.old) result }
+        FillsNext naming (F.map files.old) F.Opened.steady (entry image.old) result }
     ensures rest { OnOk result (
-        zeroed_image (entry image.new) ≡ zeroed_image (filled_over no_files (entry image.old))) }
+        zeroed_image naming (entry image.new)
+        ≡ zeroed_image naming (filled_over naming no_files (entry image.old))) }
 {
     let Some(payload) = payload_of(&image.props) else {
         return Err(FitFault::NoData);
     };
     let nodes = mem::replace(&mut image.children, Nodes::of(Vec::new(alloc)));
     let mut list = nodes.into_vec();
-    let answer = fill_hashes(alloc, list.as_mut_slice(), payload, files);
+    let answer = fill_hashes(alloc, list.as_mut_slice(), payload, naming, files);
     image.children = Nodes::of(list);
     let props = mem::replace(&mut image.props, Props::of(Vec::new(alloc)));
     image.props = without_external(props);
@@ -80,17 +86,20 @@ fn fill_image<F: Files, A: Allocator + Copy>(
 pub(crate) fn fill_images<F: Files, A: Allocator + Copy>(
     alloc: A,
     images: &mut [Node<A>],
+    naming: Naming,
     files: &mut F,
 ) -> Result<(), FitFault>
     ensures opens { OpensImages F.Opened.steady F.map (Some (map entry images.old)) result files }
     ensures filled { OfHonest F.map files (λ there.
-        FillsImages there (map entry images.old) (map entry images.new) result) }
-    ensures order { AnswersInOrder F.Opened.steady F.map (Some (map entry images.old)) result files }
+        FillsImages naming there (map entry images.old) (map entry images.new) result) }
+    ensures order { AnswersInOrder naming F.Opened.steady F.map (Some (map entry images.old))
+        result files }
     ensures rest { OnOk result (
-        each zeroed_image (siblings images.new) ≡ each zeroed_image (each (filled_over no_files) (siblings images.old))) }
+        each (zeroed_image naming) (siblings images.new)
+        ≡ each (zeroed_image naming) (each (filled_over naming no_files) (siblings images.old))) }
 {
     for image in images.iter_mut() {
-        fill_image(alloc, image, files)?;
+        fill_image(alloc, image, naming, files)?;
     }
     Ok(())
 }

@@ -16,6 +16,7 @@ use uimg_blob_reading::Blob;
 use uimg_fit_base::AlgoSet;
 use uimg_fit_reading::nodes::{first_hash, name_of};
 use uimg_fit_reading::{compared_algos, payload_digests};
+use uimg_names::Naming;
 
 /// The result of checking an image.
 #[derive(Clone, Copy, Debug, PartialEq, Eq)]
@@ -62,7 +63,7 @@ pub(crate) fn check_payload<S: Source, A: Allocator>(
 {
     let name = name_of(blob, room, payload.image);
     let first = first_hash(blob, room, payload.image);
-    let set = compared_algos(source, blob, room, first)?;
+    let set = compared_algos(source, blob, room, Naming::All, first)?;
     let size = read_size(set, payload.span);
     if size > left {
         return Ok(Checked::Ended(Finding::Overlapping(name)));

@@ -1,6 +1,7 @@
 //! Whether the hash nodes of an image vouch for what was written of its payload.
 
 ghost use Rattle.std.specs.Prelude.{◌≡◌, ◌≤◌, ◌+◌, ℕ, List, length, is_err, IfOk};
+ghost use Rattle.uimg_names.specs.declared.naming.Naming.TheVariants as naming;
 ghost use Rattle.uimg_base.specs.Honest.{HonestSource};
 ghost use Rattle.uimg_base.specs.Using.{Asks, Uses};
 ghost use Rattle.uimg_blob_reading.specs.LookUps.{hashes};
@@ -77,7 +78,7 @@ pub(super) fn refusal_of<S: Source, A: Allocator>(
     ensures uses { Uses (is_err result) (S.device source.old) (S.device source.new) }
     ensures told { OfNode (S.device source.old) blob.now room.now in_images image
         (λ found. (message : List ℕ) → AreDigests digests.now message →
-        set_of digests.now ≡ with_all no_algos (hashes found) →
+        set_of digests.now ≡ with_all naming.All no_algos (hashes found) →
         FindsRefusal need found message result S.device source) }
 {
     let first = first_hash(blob, room, image);

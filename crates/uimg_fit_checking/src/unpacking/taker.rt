@@ -41,6 +41,9 @@ pub trait Taker {
     /// What a payload is written to before anything vouches for it. Only `keep` gives it its name.
     type Shelf: Write + Drop;
 
+    /// Where payloads go. No call changes it, so a taker is never another one afterwards.
+    ghost place: { Self → List ℕ } = { λ _. [] };
+
     /// Whether shelves hold what is written to them, and the list has all that was given.
     ghost honest: { Bool } = { false };
 
@@ -56,12 +59,14 @@ pub trait Taker {
     /// Announces a payload and its length in bytes, before any is unpacked. Nothing is unpacked if
     /// it refuses.
     fn claim(&mut self, name: &NodeName, length: u64) -> Result<(), PutFault>
+        ensures place { place self.new ≡ place self.old }
         ensures told { IsTrue notes → claimed self.new ≡ claimed self.old
             ++ claim (as_bytes name.now) length ∷ [] }
         ensures same { IsTrue honest → takes self.new ≡ takes self.old };
 
     /// Returns an empty shelf to write the payload of an image to.
     fn shelf(&mut self, name: &NodeName) -> Result<Self::Shelf, PutFault>
+        ensures place { place self.new ≡ place self.old }
         ensures none { IsTrue notes → claimed self.new ≡ claimed self.old }
         ensures same { IsTrue honest → takes self.new ≡ takes self.old }
         ensures empty { IsTrue honest → IfOk result (λ shelf. Self.Shelf.contents shelf ≡ Some []) };
@@ -76,6 +81,7 @@ pub trait Taker {
     ) -> Result<(), PutFault>
         requires { IsTrue honest → (bytes : List ℕ) → Self.Shelf.contents shelf ≡ Some bytes →
             IsVouched bytes vouched }
+        ensures place { place self.new ≡ place self.old }
         ensures none { IsTrue notes → claimed self.new ≡ claimed self.old }
         ensures given { IsTrue honest → (bytes : List ℕ) → Self.Shelf.contents shelf ≡ Some bytes →
             AddsIf result (takes self.old) (takes self.new)
@@ -88,6 +94,7 @@ pub trait Taker {
         shelf: Self::Shelf,
         refusal: Refusal,
     ) -> Result<(), PutFault>
+        ensures place { place self.new ≡ place self.old }
         ensures none { IsTrue notes → claimed self.new ≡ claimed self.old }
         ensures given { IsTrue honest → AddsIf result (takes self.old) (takes self.new)
             (refused (as_bytes name.now) (told_of (as_bytes name.now) refusal)) };

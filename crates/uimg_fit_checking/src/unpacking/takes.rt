@@ -21,6 +21,7 @@ use uimg_blob_reading::Blob;
 use uimg_fit_base::Fault;
 use uimg_fit_reading::compared_algos;
 use uimg_fit_reading::nodes::{first_hash, next_of};
+use uimg_names::Naming;
 
 // Takes a requested payload. Returns whether it is kept.
 fn take_requested<S: Source, A: Allocator, T: Taker>(
@@ -35,6 +36,7 @@ fn take_requested<S: Source, A: Allocator, T: Taker>(
     requires inside { payload.span.place + payload.span.length
         ≤ length (S.device source.old).bytes }
     ensures leaves { LeavesImage result S.device source room }
+    ensures place { T.place taker.new ≡ T.place taker.old }
     ensures none_claimed { IsTrue T.notes → T.claimed taker.new ≡ T.claimed taker.old }
     ensures paid { OfNode (S.device source.old) blob.now room.old in_images payload.image
         (λ found. Pays (payload.span.length + 383 * length (hashes found)) S.device source) }
@@ -45,7 +47,7 @@ fn take_requested<S: Source, A: Allocator, T: Taker>(
 {
     let shelf = taker.shelf(&payload.name)?;
     let first = first_hash(blob, room, payload.image);
-    let set = compared_algos(source, blob, room, first)?;
+    let set = compared_algos(source, blob, room, Naming::All, first)?;
     let mut out = Out::new(shelf);
     let digests = take_payload(source, room, set, payload.span, &mut out)?;
     let shelf = out.into_inner();
@@ -68,6 +70,7 @@ fn take_image<S: Source, A: Allocator, T: Taker>(
 ) -> Result<bool, Fault>
     requires { HasNode (S.device source.old) blob.now room.old image }
     ensures leaves { LeavesImage result S.device source room }
+    ensures place { T.place taker.new ≡ T.place taker.old }
     ensures none_claimed { IsTrue T.notes → T.claimed taker.new ≡ T.claimed taker.old }
     ensures paid { OfNode (S.device source.old) blob.now room.old in_images image
         (λ found. Pays (size_if (is_asked (option_map as_bytes request.only) found.name)
@@ -95,6 +98,7 @@ pub(super) fn take_images<S: Source, A: Allocator, T: Taker>(
 ) -> Result<bool, Fault>
     requires { HasNodes (S.device source.old) blob.now room.old first }
     ensures leaves { LeavesImage result S.device source room }
+    ensures place { T.place taker.new ≡ T.place taker.old }
     ensures none_claimed { IsTrue T.notes → T.claimed taker.new ≡ T.claimed taker.old }
     ensures paid { OfNodes (S.device source.old) blob.now room.old in_images first
         (λ found. Fitting (option_map as_bytes request.only) (S.device source.old).bytes found

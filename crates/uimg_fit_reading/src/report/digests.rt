@@ -13,6 +13,7 @@ use std::alloc::Allocator;
 use uimg_base::{Room, Source, SourceFault, Span, feed_through};
 use uimg_blob_reading::Blob;
 use uimg_fit_base::{AlgoSet, Digests};
+use uimg_names::Naming;
 
 // Adds the algorithm of a plan that compares to a set.
 fn with_plan(set: AlgoSet, plan: Plan) -> AlgoSet
@@ -24,22 +25,23 @@ fn with_plan(set: AlgoSet, plan: Plan) -> AlgoSet
     }
 }
 
-/// Returns the algorithms of the compared hash nodes, from one on.
+/// Returns the algorithms of the compared hash nodes, from one on, among those of a set of names.
 pub fn compared_algos<S: Source, A: Allocator>(
     source: &mut S,
     blob: &Blob,
     room: &Room<A>,
+    naming: Naming,
     first: Option<usize>,
 ) -> Result<AlgoSet, SourceFault>
     requires { HasNodes (S.device source.old) blob.now room.now first }
     ensures uses { Uses (is_err result) (S.device source.old) (S.device source.new) }
     ensures found { OfHashes (S.device source.old) blob.now room.now first
-        (λ hs. FindsAlgos hs result S.device source) }
+        (λ hs. FindsAlgos naming hs result S.device source) }
 {
     let mut set = AlgoSet::none();
     let mut next = first;
     while let Some(hash) = next {
-        let plan = plan_at(source, blob, room, hash)?;
+        let plan = plan_at(source, blob, room, naming, hash)?;
         set = with_plan(set, plan);
         next = next_hash(blob, room, hash);
     }
@@ -69,7 +71,7 @@ pub fn payload_digests<S: Source, A: Allocator>(
     Ok(Digests::of(set, sums))
 }
 
-// Returns the digests of a payload that the hash nodes from one on are compared with.
+// Returns the digests of a payload that the hash nodes from one on are compared with in a report.
 pub(crate) fn compared_digests<S: Source, A: Allocator>(
     fit: &mut OpenFit<'_, S, A>,
     first: Option<usize>,
@@ -80,6 +82,6 @@ pub(crate) fn compared_digests<S: Source, A: Allocator>(
     ensures keeps { Keeps (is_err result) S.device fit }
     ensures found { FindsDigests span first result S.device fit }
 {
-    let set = compared_algos(fit.source, &fit.blob, fit.room, first)?;
+    let set = compared_algos(fit.source, &fit.blob, fit.room, Naming::Profile, first)?;
     payload_digests(fit.source, fit.room, set, span)
 }

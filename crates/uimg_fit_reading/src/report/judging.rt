@@ -1,7 +1,7 @@
 //! The word of a hash node, and its line.
 ghost use Rattle.std.specs.Prelude.{◌≡◌, ℕ, ◌+◌, ◌≤◌, List, length, is_err, IfOk};
 ghost use Rattle.uimg_base.specs.Using.{Asks};
-ghost use Rattle.uimg_fit_base.specs.{AlgoSets.{set_of, AreDigests}, Report.word_of};
+ghost use Rattle.uimg_fit_base.specs.{AlgoSets.{set_of, AreDigests}, Report.named_word};
 ghost use Rattle.uimg_fit_reading.specs.{HashReports.{PutsHash, verdict_line}, Telling.Lists};
 ghost use Rattle.uimg_fit_reading.specs.{Nodes.{OfHash, HasNode}, OpenFits.{file_of, InFit}};
 ghost use Rattle.uimg_fit_reading.specs.{Plans.{IsCovered, algo_length, hash_plan}, Puts.Leaves};
@@ -16,12 +16,15 @@ use std::io::Write;
 use uimg_base::{MoveFault, Out, Room, Source, SourceFault, Span};
 use uimg_blob_reading::{Blob, Key};
 use uimg_fit_base::{Digests, Verdict};
+use uimg_names::Naming;
 
-/// Returns the word of a hash node, by the digests of its payload. Requests at most 96 bytes.
+/// Returns the word of a hash node, by the algorithms of a set of names and the digests of its
+/// payload. Requests at most 96 bytes.
 pub fn judge<S: Source, A: Allocator>(
     source: &mut S,
     blob: &Blob,
     room: &Room<A>,
+    naming: Naming,
     hash: usize,
     digests: &Digests,
 ) -> Result<Verdict, SourceFault>
@@ -29,10 +32,10 @@ pub fn judge<S: Source, A: Allocator>(
     ensures uses { Asks 96 (is_err result) (S.device source.old) (S.device source.new) }
     ensures word { OfHash (S.device source.old) blob.now room.now hash (λ found.
         (message : List ℕ) → AreDigests digests.now message →
-        IsCovered (set_of digests.now) (hash_plan found) →
-        IfOk result (λ word. word ≡ word_of message found)) }
+        IsCovered (set_of digests.now) (hash_plan naming found) →
+        IfOk result (λ word. word ≡ named_word naming message found)) }
 {
-    let plan = plan_at(source, blob, room, hash)?;
+    let plan = plan_at(source, blob, room, naming, hash)?;
     judged(source, plan, digests)
 }
 
@@ -73,7 +76,14 @@ pub(crate) fn put_hash<S: Source, A: Allocator, W: Write>(
     ensures leaves { Leaves result S.device fit out }
     ensures told { PutsHash image hash digests.now result S.device fit out }
 {
-    let Ok(word) = judge(fit.source, &fit.blob, fit.room, hash, digests) else {
+    let Ok(word) = judge(
+        fit.source,
+        &fit.blob,
+        fit.room,
+        Naming::Profile,
+        hash,
+        digests,
+    ) else {
         return Err(MoveFault::Read);
     };
     put_judged(fit, image, hash, word, out)?;

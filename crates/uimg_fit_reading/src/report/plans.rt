@@ -1,9 +1,9 @@
 //! The plan for a hash node before its payload is read, and its word afterwards.
 ghost use Rattle.std.specs.Prelude.{◌≡◌, ◌+◌, ◌≤◌, ℕ, List, length, take, is_err, IfOk};
 ghost use Rattle.std.specs.Str.{bytes_eq};
-ghost use Rattle.uimg_sums.specs.Algorithms.{algo_named};
 ghost use Rattle.uimg_base.specs.{Honest.HonestSource, Using.Asks};
-ghost use Rattle.uimg_fit_base.specs.{AlgoSets.{set_of, AreDigests}, Report.word_of};
+ghost use Rattle.uimg_fit_base.specs.{AlgoNames.algo_by, AlgoSets.{set_of, AreDigests}};
+ghost use Rattle.uimg_fit_base.specs.Report.{named_word};
 ghost use Rattle.uimg_fit_reading.specs.{Nodes.{OfHash, HasNode}, Values.in_span};
 ghost use Rattle.uimg_fit_reading.specs.PayloadPlaces.{Ends};
 ghost use Rattle.uimg_fit_reading.specs.Plans.{plan_by_value, plan_by_algo, plan_by_name, hash_plan, text_in, IsOf, EndsIn, IsCovered, IsCompared, word_by};
@@ -12,7 +12,8 @@ use crate::nodes::value_of;
 use std::alloc::Allocator;
 use uimg_base::{Algo, Room, Source, SourceFault, Span};
 use uimg_blob_reading::{Blob, Key, short_text};
-use uimg_fit_base::{Digests, Verdict};
+use uimg_fit_base::{Digests, Verdict, algo_by};
+use uimg_names::Naming;
 
 /// The plan for a hash node, made before any payload is read.
 #[derive(Clone, Copy)]
@@ -35,11 +36,11 @@ fn plan_by(algo: Algo, value: Option<Span>) -> Plan
 }
 
 // Returns the plan for a value by the name of an algorithm.
-fn plan_named(name: &[u8], value: Option<Span>) -> Plan
-    ensures plan { result ≡ plan_by_algo (algo_named name.now) value }
+fn plan_named(naming: Naming, name: &[u8], value: Option<Span>) -> Plan
+    ensures plan { result ≡ plan_by_algo (algo_by naming name.now) value }
     ensures value { IsOf value result }
 {
-    match Algo::named(name) {
+    match algo_by(naming, name) {
         Some(algo) => plan_by(algo, value),
         None => Plan::Unsupported,
     }
@@ -48,13 +49,14 @@ fn plan_named(name: &[u8], value: Option<Span>) -> Plan
 // Returns the plan by the spans of an algorithm's name and of a value.
 fn planned<S: Source>(
     source: &mut S,
+    naming: Naming,
     algo: Option<Span>,
     value: Option<Span>,
 ) -> Result<Plan, SourceFault>
     requires { Ends (length (S.device source.old).bytes) algo }
     ensures uses { Asks 32 (is_err result) (S.device source.old) (S.device source.new) }
     ensures plan { HonestSource S.device source → IfOk result (λ plan.
-        plan ≡ plan_by_name (text_in (S.device source.old).bytes algo) value) }
+        plan ≡ plan_by_name naming (text_in (S.device source.old).bytes algo) value) }
     ensures value { IfOk result (IsOf value) }
 {
     let Some(span) = algo else {
@@ -62,7 +64,7 @@ fn planned<S: Source>(
     };
     let mut bytes = [0; 32];
     match short_text(source, span, &mut bytes)? {
-        Some(length) => Ok(plan_named(&bytes[..length], value)),
+        Some(length) => Ok(plan_named(naming, &bytes[..length], value)),
         None => Ok(Plan::Unsupported),
     }
 }
@@ -72,20 +74,21 @@ pub(crate) fn plan_at<S: Source, A: Allocator>(
     source: &mut S,
     blob: &Blob,
     room: &Room<A>,
+    naming: Naming,
     hash: usize,
 ) -> Result<Plan, SourceFault>
     requires { HasNode (S.device source.old) blob.now room.now hash }
     ensures uses { Asks 32 (is_err result) (S.device source.old) (S.device source.new) }
     ensures ends { IfOk result (EndsIn (length (S.device source.old).bytes)) }
     ensures plan { OfHash (S.device source.old) blob.now room.now hash (λ found.
-        IfOk result (λ plan. plan ≡ hash_plan found)) }
+        IfOk result (λ plan. plan ≡ hash_plan naming found)) }
     ensures word { OfHash (S.device source.old) blob.now room.now hash (λ found.
         (message : List ℕ) → IfOk result (λ plan.
-        word_by (S.device source.old).bytes message plan ≡ word_of message found)) }
+        word_by (S.device source.old).bytes message plan ≡ named_word naming message found)) }
 {
     let algo = value_of(blob, room, hash, Key::Algo);
     let value = value_of(blob, room, hash, Key::Value);
-    planned(source, algo, value)
+    planned(source, naming, algo, value)
 }
 
 // Returns whether the value at a span equals the beginning of a digest.

@@ -11,6 +11,7 @@ mod name_rows;
 mod node_rows;
 mod property_rows;
 mod refused_rows;
+mod reservation_rows;
 mod sample_rows;
 mod size_rows;
 mod source_rows;

@@ -18,6 +18,9 @@ pub trait PartTaker {
     /// What a part is written to.
     type Shelf: Write + Drop;
 
+    /// Where parts go. No call changes it, so a taker is never another one afterwards.
+    ghost place: { Self → List ℕ } = { λ _. [] };
+
     /// Whether shelves hold what is written to them, and the lists have all parts that were given.
     ghost honest: { Bool } = { false };
 
@@ -35,12 +38,14 @@ pub trait PartTaker {
 
     /// Announces a part, before any is unpacked. Nothing is unpacked if it refuses.
     fn claim(&mut self, number: u32) -> Result<(), PutFault>
+        ensures stays { place self.new ≡ place self.old }
         ensures told { IsTrue notes → told self.new ≡ told self.old ++ Claimed number ∷ [] }
         ensures held { IsTrue honest → held self.new ≡ held self.old }
         ensures kept { IsTrue honest → kept self.new ≡ kept self.old };
 
     /// Returns an empty shelf to write a part to.
     fn shelf(&mut self, number: u32) -> Result<Self::Shelf, PutFault>
+        ensures stays { place self.new ≡ place self.old }
         ensures told { IsTrue notes → told self.new ≡ told self.old ++ Shelved number ∷ [] }
         ensures held { IsTrue honest → held self.new ≡ held self.old }
         ensures kept { IsTrue honest → kept self.new ≡ kept self.old }
@@ -48,6 +53,7 @@ pub trait PartTaker {
 
     /// Takes a written part, to hold it.
     fn hold(&mut self, number: u32, shelf: Self::Shelf) -> Result<(), PutFault>
+        ensures stays { place self.new ≡ place self.old }
         ensures told { IsTrue notes → told self.new ≡ told self.old ++ Given number ∷ [] }
         ensures held { IsTrue honest → (bytes : List ℕ) → Self.Shelf.contents shelf ≡ Some bytes →
             OnOk result (held self.new ≡ held self.old ++ part_if true number bytes) }
@@ -58,12 +64,14 @@ pub trait PartTaker {
     /// were read from.
     fn keep(&mut self, dcrc: u32) -> Result<(), PutFault>
         requires { IsTrue honest → AreRight dcrc (held self.old) }
+        ensures stays { place self.new ≡ place self.old }
         ensures told { IsTrue notes → told self.new ≡ told self.old ++ Kept dcrc ∷ [] }
         ensures ok { IsTrue honest → OnOk result (kept self.new ≡ kept self.old ++ held self.old) }
         ensures err { IsTrue honest → OnErr result (kept self.new ≡ kept self.old) };
 
     /// Discards the held parts, because the data's CRC is not that in the header.
     fn refuse(&mut self) -> Result<(), PutFault>
+        ensures stays { place self.new ≡ place self.old }
         ensures told { IsTrue notes → told self.new ≡ told self.old ++ Refused ∷ [] }
         ensures kept { IsTrue honest → kept self.new ≡ kept self.old };
 }

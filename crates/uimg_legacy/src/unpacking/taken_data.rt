@@ -29,6 +29,7 @@ fn is_there(only: Option<u32>, count: u32) -> bool
 fn claim_parts<T: PartTaker>(only: Option<u32>, count: u32, taker: &mut T) -> Result<(), PutFault>
     ensures held { IsTrue T.honest → T.held taker.new ≡ T.held taker.old }
     ensures kept { IsTrue T.honest → T.kept taker.new ≡ T.kept taker.old }
+    ensures stays { T.place taker.new ≡ T.place taker.old }
     ensures told { Tells (claims only count) result T.notes T.told taker }
 {
     if let Some(number) = only {
@@ -53,6 +54,7 @@ fn take_whole<S: Source, A: Allocator, T: PartTaker>(
     ensures takes { Takes (UsesAtMost header.now.size) result
         S.device source room T.honest T.kept taker }
     ensures taken { TakesData only header.now result S.device source T.honest T.held taker }
+    ensures stays { T.place taker.new ≡ T.place taker.old }
     ensures told { TellsData only result T.notes T.told taker }
 {
     if !is_there(only, 1) {
@@ -83,6 +85,7 @@ fn take_listed<S: Source, A: Allocator, T: PartTaker>(
     ensures takes { Takes (UsesAtMost (listed_work header.now (S.device source.old).bytes)) result
         S.device source room T.honest T.kept taker }
     ensures taken { TakesData only header.now result S.device source T.honest T.held taker }
+    ensures stays { T.place taker.new ≡ T.place taker.old }
     ensures told { TellsData only result T.notes T.told taker }
 {
     let mut sum = Crc::start();
@@ -122,6 +125,7 @@ pub(super) fn take_data<S: Source, A: Allocator, T: PartTaker>(
     ensures takes { Takes (UsesAtMost (data_work header.now (S.device source.old).bytes)) result
         S.device source room T.honest T.kept taker }
     ensures taken { TakesData only header.now result S.device source T.honest T.held taker }
+    ensures stays { T.place taker.new ≡ T.place taker.old }
     ensures told { TellsData only result T.notes T.told taker }
 {
     if has_parts(header.kind) {

@@ -68,6 +68,7 @@ pub(super) fn take_part<S: Source, A: Allocator, T: PartTaker>(
     ensures takes { Takes (Asks part.len) result S.device source room T.honest T.kept taker }
     ensures accepted { is_refused result ≡ false }
     ensures taken { TakesPart true part result S.device source sum T.honest T.held taker }
+    ensures stays { T.place taker.new ≡ T.place taker.old }
     ensures told { Tells (takes_if true part.number) result T.notes T.told taker }
 {
     let mut out = Out::new(taker.shelf(part.number)?);
@@ -89,6 +90,7 @@ fn take_if<S: Source, A: Allocator, T: PartTaker>(
     ensures takes { Takes (Asks part.len) result S.device source room T.honest T.kept taker }
     ensures accepted { is_refused result ≡ false }
     ensures taken { TakesPart asked part result S.device source sum T.honest T.held taker }
+    ensures stays { T.place taker.new ≡ T.place taker.old }
     ensures told { Tells (takes_if asked part.number) result T.notes T.told taker }
 {
     if asked {
@@ -115,6 +117,7 @@ fn take_next<S: Source, A: Allocator, T: PartTaker>(
         S.device source room T.honest T.kept taker }
     ensures paid { PaysWalked 4 result S.device source walk }
     ensures taken { TakesNext parts number result S.device source walk T.honest T.held taker }
+    ensures stays { T.place taker.new ≡ T.place taker.old }
     ensures told { Tells (takes_if (is_part_asked parts.only number) number) result
         T.notes T.told taker }
     ensures at_part { RefusesPart result }
@@ -156,6 +159,7 @@ pub(super) fn take_parts<S: Source, A: Allocator, T: PartTaker>(
         S.device source room T.honest T.kept taker }
     ensures paid { PaysWalked (4 * parts.count) result S.device source walk }
     ensures taken { Walks parts result S.device source walk T.honest T.held taker }
+    ensures stays { T.place taker.new ≡ T.place taker.old }
     ensures told { Tells (takes_to parts.only parts.count) result T.notes T.told taker }
     ensures at_part { RefusesPart result }
     ensures refused { IfHonest S.device source (λ file.

@@ -2,8 +2,9 @@
 
 use uimg_base::{Algo, crc_entry};
 
-// Names and the lengths of their digests, all different; 0 if no algorithm has the name.
-const NAMES: [(&str, usize); 14] = [
+// Names and the lengths of their digests, all different; 0 if no algorithm of the profile has the
+// name.
+const NAMES: [(&str, usize); 16] = [
     ("crc32", 4),
     ("md5", 16),
     ("sha1", 20),
@@ -12,6 +13,8 @@ const NAMES: [(&str, usize); 14] = [
     ("sha512", 64),
     ("", 0),
     ("crc", 0),
+    ("crc16-ccitt", 0),
+    ("crc16", 0),
     ("CRC32", 0),
     ("sha3", 0),
     ("sha256 ", 0),
@@ -39,6 +42,16 @@ fn digest_length(name: &str) -> usize {
 fn names_of_algorithms(rt: HostRuntime) {
     for (name, length) in &NAMES {
         assert_eq!(rt; digest_length(name), *length, "{name}");
+    }
+}
+
+// crc16-ccitt is known beside the algorithms of the profile.
+#[test]
+fn known_algorithms(rt: HostRuntime) {
+    for (name, length) in &NAMES {
+        let known = Algo::known(name.as_bytes()).map_or(0, |algo| algo.len());
+        let wanted = if *name == "crc16-ccitt" { 2 } else { *length };
+        assert_eq!(rt; known, wanted, "{name}");
     }
 }
 

@@ -6,7 +6,7 @@ use uimg_base::{Algo, Bundle};
 
 // The name, the algorithms that are added before the counted text is fed and those that are tried
 // after it, and the number of sums.
-const BUNDLES: [(&str, &str, &str, usize); 6] = [
+const BUNDLES: [(&str, &str, &str, usize); 7] = [
     (
         "eight sums are fed at once",
         "crc32 md5 sha1 sha256 sha384 sha512 md5 crc32",
@@ -18,6 +18,12 @@ const BUNDLES: [(&str, &str, &str, usize); 6] = [
         "sha512 sha512 crc32",
         "",
         3,
+    ),
+    (
+        "crc16-ccitt beside others",
+        "sha1 crc16-ccitt crc16-ccitt crc32",
+        "",
+        4,
     ),
     ("no sum", "", "", 0),
     (
@@ -40,7 +46,7 @@ fn adds(bundle: &mut Bundle, algorithms: &str, place: usize) -> bool {
     let mut same = true;
     for (number, name) in algorithms.split_whitespace().enumerate() {
         let count = bundle.len();
-        let added = match Algo::named(name.as_bytes()) {
+        let added = match Algo::known(name.as_bytes()) {
             Some(algo) => bundle.add(algo),
             None => false,
         };
@@ -54,12 +60,13 @@ fn adds(bundle: &mut Bundle, algorithms: &str, place: usize) -> bool {
 // Returns the digest of the counted text for an algorithm, or none for another name.
 fn digest_by(algorithm: &str) -> &'static str {
     match algorithm {
-        "crc32" => COUNTED_DIGESTS[0].1,
-        "md5" => COUNTED_DIGESTS[1].1,
-        "sha1" => COUNTED_DIGESTS[2].1,
-        "sha256" => COUNTED_DIGESTS[3].1,
-        "sha384" => COUNTED_DIGESTS[4].1,
-        "sha512" => COUNTED_DIGESTS[5].1,
+        "crc16-ccitt" => COUNTED_DIGESTS[0].1,
+        "crc32" => COUNTED_DIGESTS[1].1,
+        "md5" => COUNTED_DIGESTS[2].1,
+        "sha1" => COUNTED_DIGESTS[3].1,
+        "sha256" => COUNTED_DIGESTS[4].1,
+        "sha384" => COUNTED_DIGESTS[5].1,
+        "sha512" => COUNTED_DIGESTS[6].1,
         _ => "",
     }
 }

@@ -1,12 +1,17 @@
 //! Digests of published messages.
 
-// Vectors of RFC 1321, section A.5, and NIST's examples for FIPS 180; CRC-32 is from zlib.
+// Vectors of RFC 1321, section A.5, and NIST's examples for FIPS 180; CRC-32 is from zlib, CRC-16
+// from the catalogue of CRC algorithms (CRC-16/XMODEM) and Python's binascii.
 use super::super::counted::counted;
 use super::{COUNTED_DIGESTS, is_entry, is_spelled};
 use uimg_base::{Crc, Md5Sum, Sha1Sum, Sha256Sum, Sha384Sum, Sha512Sum, Summer, crc_of};
+use uimg_sums::Crc16;
 
 // The name, the algorithm, the text and its digest.
-const VECTORS: [(&str, &str, &str, &str); 15] = [
+const VECTORS: [(&str, &str, &str, &str); 18] = [
+    ("crc16 of 123456789", "crc16-ccitt", "123456789", "31c3"),
+    ("crc16 of abc", "crc16-ccitt", "abc", "9dd6"),
+    ("crc16 of nothing", "crc16-ccitt", "", "0000"),
     ("crc-vectors: 123456789", "crc32", "123456789", "cbf43926"),
     ("crc-vectors: abc", "crc32", "abc", "352441c2"),
     ("crc-vectors: nothing", "crc32", "", "00000000"),
@@ -118,6 +123,7 @@ fn has_digest<S: Summer>(text: &[u8], hex: &str) -> bool {
 
 fn sums_to(algorithm: &str, text: &[u8], hex: &str) -> bool {
     match algorithm {
+        "crc16-ccitt" => has_digest::<Crc16>(text, hex),
         "crc32" => has_digest::<Crc>(text, hex) && has_crc(text, hex),
         "md5" => has_digest::<Md5Sum>(text, hex),
         "sha1" => has_digest::<Sha1Sum>(text, hex),

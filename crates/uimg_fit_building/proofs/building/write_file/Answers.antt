@@ -2,44 +2,47 @@ use Rattle.std.proofs.Common.{◌≡◌, ℕ, List, Option, Bool, true, false, I
 use Rattle.std.specs.{Bool.OnFalse, List.AllByRecursion}
 use Rattle.uimg_base.specs.{Sink.Sink, Writing.Written}
 use Rattle.uimg_blob_reading.specs.Plain.{Nodes}
-use Rattle.uimg_blob_writing.specs.{Content.{Unread, AreKept, IsKept, in_full}, Encoding.encode_by}
-use Rattle.uimg_blob_writing.specs.{Layouts.{Plan, plan_of, totalsize}, Trees.node_of}
+use Rattle.uimg_blob_writing.specs.{Content.{Unread, AreKept, IsKept, in_full}, Encoding.encode_with}
+use Rattle.uimg_blob_writing.specs.declared.reservation.Reservation.{Reservation}
+use Rattle.uimg_blob_writing.specs.{Layouts.{Plan, plan_with, totalsize}, Trees.node_of}
 use Rattle.uimg_fit_base.specs.Placements.{align_of}
-use Rattle.uimg_fit_building.specs.{Behind.behind_pieces, Building.{placed_blob, behind}}
+use Rattle.uimg_fit_building.specs.{Behind.behind_pieces, Building.{placed_with, behind_with}}
 use Rattle.uimg_fit_building.specs.UnreadTrees.{moved_unread}
 use Rattle.uimg_fit_building.proofs.KeptLaws.{kept-then}
 use Rattle.uimg_fit_building.proofs.SendLaws.{Text, went_well, failed, goes, stops, refused, blob-sent, behind-sent}
 use Rattle.uimg_fit_building.proofs.building.write_file.Goals as goal
 
 -- the blob of a layout is that of its alignment
-blob-by : (b : Bool) (s u : Sink) (t : Nodes) (p q : ℕ) → p ≡ q → Written b s u (encode_by p t) → Written b s u (encode_by q t)
-blob-by b s u t p q same w = subst (λ (align : ℕ). Written b s u (encode_by align t)) same w
+blob-by : (b : Bool) (s u : Sink) (rs : List Reservation) (t : Nodes) (p q : ℕ) → p ≡ q → Written b s u (encode_with p rs t) → Written b s u (encode_with q rs t)
+blob-by b s u rs t p q same w = subst (λ (align : ℕ). Written b s u (encode_with align rs t)) same w
 
 pub write_tree-requires : goal.write_tree-requires
 write_tree-requires g c =
-    c.requires.plan ∙ ap (λ (align : ℕ). plan_of align (node_of c.args.placed.now.root)) (sym (ap (λ (p : Plan). p.align) c.requires.plan))
+    c.requires.plan ∙ ap (λ (align : ℕ). plan_with align c.args.layout.now.reservations (node_of c.args.placed.now.root)) (sym (ap (λ (p : Plan). p.align) c.requires.plan))
 
 pub returns-in_err-write_tree-clause-sent : goal.returns-in_err-write_tree-clause-sent
 returns-in_err-write_tree-clause-sent g c =
     let steady = g.F.Opened.Source.steady in
     let t = node_of c.args.tree.now.root in
     let placement = c.args.placement in
+    let rs = c.args.layout.now.reservations in
     let m = g.F.Files.map c.args.files.now in
     let n = g.F.Files.map c.write_tree.new.files in
     let s = c.args.out.now in
     let u = c.write_tree.new.out in
     let e = c.in_err-write_tree.field-0.0 in
     let w = c.in_err-write_tree.ensures in
-    let a : Text = λ files. placed_blob (in_full files t) placement in
-    let b : Text = λ files. behind (in_full files t) placement in
+    let a : Text = λ files. placed_with rs (in_full files t) placement in
+    let b : Text = λ files. behind_with rs (in_full files t) placement in
     refused steady t c.from_residual.result e m n s u _ c.from_residual.ensures.1
-    (stops steady t e m n s u a b (blob-sent steady t placement (failed e) m n s u (node_of c.args.placed.now.root) c.requires.placed w.files w.faults w.found w.steady
-    (λ honest kept. blob-by true s u _ _ _ (ap (λ (p : Plan). p.align) c.requires.plan) (w.written honest kept))))
+    (stops steady t e m n s u a b (blob-sent steady t rs placement (failed e) m n s u (node_of c.args.placed.now.root) c.requires.placed w.files w.faults w.found w.steady
+    (λ honest kept. blob-by true s u rs _ _ _ (ap (λ (p : Plan). p.align) c.requires.plan) (w.written honest kept))))
 
 pub returns-clause-kept : goal.returns-clause-kept
 returns-clause-kept g c = λ honest.
     let t = node_of c.args.tree.now.root in
     let placement = c.args.placement in
+    let rs = c.args.layout.now.reservations in
     let size = c.totalsize.result in
     let m = g.F.Files.map c.args.files.now in
     let r = c.put_behind.result in
@@ -53,6 +56,7 @@ returns-clause-sent g c =
     let steady = g.F.Opened.Source.steady in
     let t = node_of c.args.tree.now.root in
     let placement = c.args.placement in
+    let rs = c.args.layout.now.reservations in
     let m = g.F.Files.map c.args.files.now in
     let n = g.F.Files.map c.write_tree.new.files in
     let k = g.F.Files.map c.put_behind.new.files in
@@ -61,10 +65,10 @@ returns-clause-sent g c =
     let v = c.put_behind.new.out in
     let r = c.put_behind.result in
     let w = c.in_ok-write_tree.ensures in
-    let a : Text = λ files. placed_blob (in_full files t) placement in
-    let b : Text = λ files. behind (in_full files t) placement in
-    let size : totalsize (plan_of (align_of placement) (moved_unread t placement)) ≡ c.totalsize.result =
-    ap (λ (p : Unread). totalsize (plan_of (align_of placement) p)) (sym c.requires.placed) ∙ ap totalsize (sym c.requires.plan) ∙ sym c.totalsize.ensures in
-    goes steady t r m n k s u v a b (blob-sent steady t placement went_well m n s u (node_of c.args.placed.now.root) c.requires.placed w.files w.faults w.found w.steady
-    (λ honest kept. blob-by false s u _ _ _ (ap (λ (p : Plan). p.align) c.requires.plan) (w.written honest kept)))
-    (behind-sent steady t placement r n k u v c.totalsize.result size c.put_behind.ensures)
+    let a : Text = λ files. placed_with rs (in_full files t) placement in
+    let b : Text = λ files. behind_with rs (in_full files t) placement in
+    let size : totalsize (plan_with (align_of placement) rs (moved_unread t placement)) ≡ c.totalsize.result =
+    ap (λ (p : Unread). totalsize (plan_with (align_of placement) rs p)) (sym c.requires.placed) ∙ ap totalsize (sym c.requires.plan) ∙ sym c.totalsize.ensures in
+    goes steady t r m n k s u v a b (blob-sent steady t rs placement went_well m n s u (node_of c.args.placed.now.root) c.requires.placed w.files w.faults w.found w.steady
+    (λ honest kept. blob-by false s u rs _ _ _ (ap (λ (p : Plan). p.align) c.requires.plan) (w.written honest kept)))
+    (behind-sent steady t rs placement r n k u v c.totalsize.result size c.put_behind.ensures)

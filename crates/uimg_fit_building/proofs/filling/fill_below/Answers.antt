@@ -11,7 +11,7 @@ use Rattle.uimg_fit_building.proofs.filling.fill_below.Goals as goal
 
 pub returns-then-at-nodes-clause-filled : goal.returns-then-at-nodes-clause-filled
 returns-then-at-nodes-clause-filled g c = λ honest.
-    no-images c.args.nodes.now (let past : length c.args.nodes.now ≤ before c.args.nodes.now = omega (arith, c.if-at-nodes.true, c.before_images-at.ensures) in past)
+    no-images c.args.naming c.args.nodes.now (let past : length c.args.nodes.now ≤ before c.args.nodes.now = omega (arith, c.if-at-nodes.true, c.before_images-at.ensures) in past)
 
 pub returns-then-at-nodes-clause-order : goal.returns-then-at-nodes-clause-order
 returns-then-at-nodes-clause-order g c = λ honest.
@@ -26,14 +26,14 @@ returns-clause-opens g c = record {
       let within : before ns < length ns = omega (arith, c.if-at-nodes.false, c.before_images-at.ensures) in
       let is : get_or ns c.before_images-at.result d ≡ get_or ns (before ns) d = ap (λ (k : ℕ). get_or ns k d) c.before_images-at.ensures in
       c.fill_parent.ensures.opens.found complete
-      (subst (λ (n : Node _). AllByRecursion (IsKeptImage (g.F.Files.map c.args.files.now).bytes) (listed n.children)) (sym is) (images-kept (g.F.Files.map c.args.files.now).bytes ns d c.fill_parent.new.parent within all));
+      (subst (λ (n : Node _). AllByRecursion (IsKeptImage (g.F.Files.map c.args.files.now).bytes) (listed n.children)) (sym is) (images-kept c.args.naming (g.F.Files.map c.args.files.now).bytes ns d c.fill_parent.new.parent within all));
   steady = λ steady honest all.
       let ns = c.args.nodes.now in
       let d = c.index-nodes-at.result in
       let within : before ns < length ns = omega (arith, c.if-at-nodes.false, c.before_images-at.ensures) in
       let is : get_or ns c.before_images-at.result d ≡ get_or ns (before ns) d = ap (λ (k : ℕ). get_or ns k d) c.before_images-at.ensures in
       c.fill_parent.ensures.opens.steady steady honest
-      (subst (λ (n : Node _). AllByRecursion (IsKeptImage (g.F.Files.map c.args.files.now).bytes) (listed n.children)) (sym is) (images-kept (g.F.Files.map c.args.files.now).bytes ns d c.fill_parent.new.parent within all));
+      (subst (λ (n : Node _). AllByRecursion (IsKeptImage (g.F.Files.map c.args.files.now).bytes) (listed n.children)) (sym is) (images-kept c.args.naming (g.F.Files.map c.args.files.now).bytes ns d c.fill_parent.new.parent within all));
 }
 
 pub returns-clause-filled : goal.returns-clause-filled
@@ -44,9 +44,9 @@ returns-clause-filled g c = λ honest.
     let files = (g.F.Files.map c.args.files.now).bytes in
     let within : before ns < length ns = omega (arith, c.if-at-nodes.false, c.before_images-at.ensures) in
     let is : get_or ns c.before_images-at.result d ≡ get_or ns (before ns) d = ap (λ (k : ℕ). get_or ns k d) c.before_images-at.ensures in
-    let told = subst (λ (n : Node _). FillsParent files n new c.fill_parent.result) is (c.fill_parent.ensures.filled honest) in
-    subst (λ (k : ℕ). FillsBelow files (siblings ns) (siblings (set ns k new)) c.fill_parent.result) (sym c.before_images-at.ensures)
-    (root-told files ns d new within ⊤ c.fill_parent.result told)
+    let told = subst (λ (n : Node _). FillsParent c.args.naming files n new c.fill_parent.result) is (c.fill_parent.ensures.filled honest) in
+    subst (λ (k : ℕ). FillsBelow c.args.naming files (siblings ns) (siblings (set ns k new)) c.fill_parent.result) (sym c.before_images-at.ensures)
+    (root-told c.args.naming files ns d new within ⊤ c.fill_parent.result told)
 
 pub returns-clause-order : goal.returns-clause-order
 returns-clause-order g c = λ honest.
@@ -55,8 +55,8 @@ returns-clause-order g c = λ honest.
     let files = g.F.Files.map c.args.files.now in
     let within : before ns < length ns = omega (arith, c.if-at-nodes.false, c.before_images-at.ensures) in
     let is : get_or ns c.before_images-at.result d ≡ get_or ns (before ns) d = ap (λ (k : ℕ). get_or ns k d) c.before_images-at.ensures in
-    let told = subst (λ (n : Node _). FillsInOrder files g.F.Opened.Source.steady (Some (listed n.children)) c.fill_parent.result) is (c.fill_parent.ensures.order honest) in
-    subst (λ (o : Option (List (NodeOf Content))). FillsInOrder files g.F.Opened.Source.steady o c.fill_parent.result) (sym (among-found ns d within)) told
+    let told = subst (λ (n : Node _). FillsInOrder c.args.naming files g.F.Opened.Source.steady (Some (listed n.children)) c.fill_parent.result) is (c.fill_parent.ensures.order honest) in
+    subst (λ (o : Option (List (NodeOf Content))). FillsInOrder c.args.naming files g.F.Opened.Source.steady o c.fill_parent.result) (sym (among-found ns d within)) told
 
 pub returns-clause-rest : goal.returns-clause-rest
 returns-clause-rest g c =
@@ -66,6 +66,6 @@ returns-clause-rest g c =
     let within : before ns < length ns = omega (arith, c.if-at-nodes.false, c.before_images-at.ensures) in
     let is : get_or ns c.before_images-at.result d ≡ get_or ns (before ns) d = ap (λ (k : ℕ). get_or ns k d) c.before_images-at.ensures in
     on-ok c.fill_parent.result
-    (λ same. ap (λ (k : ℕ). zeroed_below (siblings (set ns k new))) c.before_images-at.ensures
-    ∙ below-zeroed (each (filled_over no_files)) ns d new within (same ∙ ap (λ (n : Node _). zeroed_parent (with_children (each (filled_over no_files)) n)) is))
+    (λ same. ap (λ (k : ℕ). zeroed_below c.args.naming (siblings (set ns k new))) c.before_images-at.ensures
+    ∙ below-zeroed c.args.naming (each (filled_over c.args.naming no_files)) ns d new within (same ∙ ap (λ (n : Node _). zeroed_parent c.args.naming (with_children (each (filled_over c.args.naming no_files)) n)) is))
     c.fill_parent.ensures.rest

@@ -36,15 +36,15 @@ returns-clause-filled g c = λ honest.
     let long : length c.into_vec-images.result.items ≡ c.into_vec-images.result.len = ap (λ (l : List (Node _)). length l) (sym slots.value) ∙ slots.len in
     let back = written-back c.into_vec-images.result.len now c.into_vec-images.result.items (omega (arith, long, slots.len, c.fill_images-answer.auto.images)) long (omega (arith, slots.len, c.fill_images-answer.auto.images)) in
     let made = λ (t : Unread). let n : Node g.row.A.Denot = record { name = parent.name; props = parent.props; children = t } in n in
-    parent-told ⊤ c.fill_images-answer.result files parent (made c.of-2.result) (map entry was) (map entry now) are
-    (λ changed. ap made (c.of-2.ensures ∙ ap siblings back ∙ siblings-each (filled_over files) was now changed ∙ ap (λ (t : Unread). each (filled_over files) t) below))
+    parent-told c.args.naming ⊤ c.fill_images-answer.result files parent (made c.of-2.result) (map entry was) (map entry now) are
+    (λ changed. ap made (c.of-2.ensures ∙ ap siblings back ∙ siblings-each (filled_over c.args.naming files) was now changed ∙ ap (λ (t : Unread). each (filled_over c.args.naming files) t) below))
     (c.fill_images-answer.ensures.filled honest)
 
 pub returns-clause-order : goal.returns-clause-order
 returns-clause-order g c = λ honest.
     let below : siblings c.as_mut_slice.result.now ≡ c.args.parent.now.children = ap siblings c.as_mut_slice.ensures.value ∙ c.into_vec-images.ensures ∙ c.replace-nodes.ensures.value in
     let are : map entry c.as_mut_slice.result.now ≡ listed c.args.parent.now.children = sym (listed-siblings c.as_mut_slice.result.now) ∙ ap (λ (t : Unread). listed t) below in
-    subst (λ (l : List (NodeOf Content)). FillsInOrder (g.F.Files.map c.args.files.now) g.F.Opened.Source.steady (Some l) c.fill_images-answer.result) are (c.fill_images-answer.ensures.order honest)
+    subst (λ (l : List (NodeOf Content)). FillsInOrder c.args.naming (g.F.Files.map c.args.files.now) g.F.Opened.Source.steady (Some l) c.fill_images-answer.result) are (c.fill_images-answer.ensures.order honest)
 
 pub returns-clause-rest : goal.returns-clause-rest
 returns-clause-rest g c =
@@ -56,5 +56,5 @@ returns-clause-rest g c =
     let back = written-back c.into_vec-images.result.len now c.into_vec-images.result.items (omega (arith, long, slots.len, c.fill_images-answer.auto.images)) long (omega (arith, slots.len, c.fill_images-answer.auto.images)) in
     let made = λ (t : Unread). let n : Node g.row.A.Denot = record { name = parent.name; props = parent.props; children = t } in n in
     on-ok c.fill_images-answer.result
-    (λ same. ap made (ap (each zeroed_image) (c.of-2.ensures ∙ ap siblings back) ∙ same ∙ ap (λ (t : Unread). each zeroed_image (each (filled_over no_files) t)) below))
+    (λ same. ap made (ap (each (zeroed_image c.args.naming)) (c.of-2.ensures ∙ ap siblings back) ∙ same ∙ ap (λ (t : Unread). each (zeroed_image c.args.naming) (each (filled_over c.args.naming no_files) t)) below))
     c.fill_images-answer.ensures.rest

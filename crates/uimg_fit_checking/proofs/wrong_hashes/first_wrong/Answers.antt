@@ -1,6 +1,7 @@
 use Rattle.std.proofs.Common.{rules, ◌≡◌, ℕ, Option, true, false, refl, subst}
 use Rattle.std.specs.Prelude.{is_err}
 use Rattle.uimg_blob_reading.specs.Roles.{in_image}
+use Rattle.uimg_names.specs.declared.naming.Naming.TheVariants as naming
 use Rattle.uimg_fit_base.specs.AlgoSets.{set_of}
 use Rattle.uimg_fit_base.specs.Report.{is_right}
 use Rattle.uimg_fit_reading.specs.Nodes.{HashesAt}
@@ -30,7 +31,7 @@ returns-then-not-is_right-clause-told g c = λ t o hs at message are covered.
     let k = c.loop-next.invariant.left t o hs at message are covered in
     let f = subst (λ (x : Option ℕ). HashesAt t x k.left) c.in-Some.is k.at in
     let here = still c.loop-next.invariant.same refl o in
-    let word = c.in_ok-word.ensures.word t here f.hash f.more f.at message are (covered_first set k.left t c.in-Some.hash f k.covered).0 in
+    let word = c.in_ok-word.ensures.word t here f.hash f.more f.at message are (covered_first naming.All set k.left t c.in-Some.hash f k.covered).0 in
     let bad : is_right c.in_ok-word.word ≡ false = search rules in
     rights_end t set _ message hs _ _ c.in-Some.hash c.loop-next.next c.name_of-hash.result k f c.in_ok-word.word _ word bad
     (c.name_of-hash.ensures.name _ t o.read in_image f.hash f.at.node) (c.name_of-hash.ensures.short _ t o.read in_image f.hash f.at.node) c.judge.ensures.uses.asked
@@ -45,7 +46,7 @@ loop-next-preserved g c = record {
       let k = c.loop-next.invariant.left t o hs at message are covered in
       let f = subst (λ (x : Option ℕ). HashesAt t x k.left) c.in-Some.is k.at in
       let here = still c.loop-next.invariant.same refl o in
-      let word = c.in_ok-word.ensures.word t here f.hash f.more f.at message are (covered_first set k.left t c.in-Some.hash f k.covered).0 in
+      let word = c.in_ok-word.ensures.word t here f.hash f.more f.at message are (covered_first naming.All set k.left t c.in-Some.hash f k.covered).0 in
       let good : is_right c.in_ok-word.word ≡ true = search rules in
       rights_more t set message hs _ _ c.in-Some.hash c.loop-next.next k f c.in_ok-word.word _ _ word good c.judge.ensures.uses.asked
       (c.next_hash-next.ensures.hashes t o.read.indexed f.hash f.more f.at);

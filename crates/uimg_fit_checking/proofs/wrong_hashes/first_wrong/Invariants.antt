@@ -1,5 +1,6 @@
 use Rattle.std.proofs.Common.{◌≡◌, ◌-◌, ◌<◌, ℕ, List, length, IfSome}
 use Rattle.std.specs.Option.{option_map_or}
+use Rattle.uimg_names.specs.declared.naming.Naming.TheVariants as naming
 use Rattle.uimg_base.specs.Device.{SameDevice}
 use Rattle.uimg_blob_reading.specs.Grammar.{Siblings}
 use Rattle.uimg_blob_reading.specs.LookUps.{NodeOf}
@@ -19,7 +20,7 @@ invariant-loop-next g l =
       failures : (device l.source).failures ≡ (device l.fn.source).failures;
       within : IfSome l.next (λ i. i < length l.room.entries);
       left : (t : Siblings) → Opened (device l.fn.source) l.blob l.room t → (hs : List (NodeOf Spot)) → HashesAt t l.fn.first hs
-          → (message : List ℕ) → AreDigests l.digests message → AllCovered (set_of l.digests) hs
+          → (message : List ℕ) → AreDigests l.digests message → AllCovered naming.All (set_of l.digests) hs
           → LeftRight t (set_of l.digests) message hs (device l.fn.source).asked (device l.source).asked l.next;
     }
 

@@ -3,9 +3,10 @@ use super::super::answers::is_said;
 use super::making::built;
 use std::alloc::{AllocError, Global};
 use std::test::Fail;
-use uimg_base::{FuseSource, MemFiles, MemSource, Room};
-use uimg_blob_writing::{ByteList, Node, Nodes, Props, Tree};
-use uimg_fit::Fault;
+use uimg_base::{FuseSource, MemFiles, MemSource, Out, Room};
+use uimg_blob_writing::{ByteList, Node, Nodes, Props, Reservation, Tree};
+use uimg_fit::{AlignedPlacement, Fault};
+use uimg_fit_building::{Frame, build_with};
 use uimg_fit_updating::{UpdateFault, update};
 use uimg_its::compile;
 
@@ -159,5 +160,67 @@ fn failing_calls(rt: HostRuntime) -> Result<(), Fail> {
     }
     assert!(rt; calls > 20 && calls < 200, "{calls} calls");
     assert!(rt; fails_to_read(rt.alloc(), &image, calls).is_none());
+    Ok(())
+}
+
+// The reservations of an image.
+const RESERVED: [Reservation; 2] = [
+    Reservation {
+        address: 0x1000,
+        size: 0x1234_5678_9abc_def0,
+    },
+    Reservation {
+        address: 0xfedc_ba98_7654_3210,
+        size: 1,
+    },
+];
+
+// Returns the image of a tree with these reservations.
+fn reserved_image(alloc: Global) -> Option<Vec<u8>> {
+    let text = b"/dts-v1/; / { images { a { data = [00]; }; }; };";
+    let tree = compile(alloc, text, &mut MemFiles::new(&[])).ok()?;
+    let frame = Frame {
+        placement: AlignedPlacement::Inside,
+        reservations: &RESERVED,
+    };
+    let mut out = Out::new(Vec::new(alloc));
+    build_with(alloc, &tree, &mut MemFiles::new(&[]), frame, &mut out).ok()?;
+    Some(out.into_inner())
+}
+
+// An update keeps the reservations, up to one of no memory. A block that begins within the header,
+// ends where the structure block begins, or begins at the blob's end is refused.
+#[test]
+fn reservations(rt: HostRuntime) -> Result<(), Fail> {
+    let alloc = rt.alloc();
+    let Some(mut image) = reserved_image(alloc) else {
+        panic!(rt; "the image is not built");
+    };
+    let mut room = Room::new(alloc);
+    match update(alloc, &mut MemSource::new(&image), &mut room, None) {
+        Ok(updated) => assert_eq!(rt; updated.reservations.as_slice(), RESERVED.as_slice()),
+        Err(fault) => panic!(rt; "{fault}"),
+    }
+    image[87] = 2;
+    let found = answer(alloc, &image);
+    is_said(
+        &rt,
+        found,
+        "the reservation block has no end",
+        "a last entry",
+        0,
+    );
+    image[87] = 0;
+    for place in [8, 39, image.len() as u32] {
+        image[16..20].copy_from_slice(&place.to_be_bytes());
+        let found = answer(alloc, &image);
+        is_said(&rt, found, "the reservation block has no end", "outside", 0);
+    }
+    image[16..20].copy_from_slice(&40u32.to_be_bytes());
+    image[48..56].copy_from_slice(&[0; 8]);
+    match update(alloc, &mut MemSource::new(&image), &mut room, None) {
+        Ok(updated) => assert!(rt; updated.reservations.is_empty()),
+        Err(fault) => panic!(rt; "{fault}"),
+    }
     Ok(())
 }

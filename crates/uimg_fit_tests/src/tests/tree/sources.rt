@@ -2,7 +2,9 @@
 use crate::sources::FOUR_HASH;
 use std::alloc::Global;
 use uimg_base::{MemFiles, Out};
-use uimg_blob_writing::{Tree, WORD_ALIGNMENT, measure_by, write_tree};
+use uimg_blob_writing::{
+    Layout, Reservation, Tree, WORD_ALIGNMENT, measure_by, measure_with, write_tree,
+};
 use uimg_its::compile;
 
 /// The files of the tests.
@@ -69,9 +71,30 @@ pub(super) fn blob_by(
     named: &[(&[u8], &[u8])],
 ) -> Option<Vec<u8>> {
     let layout = measure_by(alloc, tree, align).ok()?;
+    written(alloc, tree, &layout, named)
+}
+
+/// Returns the same with reservations.
+pub(super) fn blob_with(
+    alloc: Global,
+    tree: &Tree<Global>,
+    reservations: &[Reservation],
+    named: &[(&[u8], &[u8])],
+) -> Option<Vec<u8>> {
+    let layout = measure_with(alloc, tree, WORD_ALIGNMENT, reservations).ok()?;
+    written(alloc, tree, &layout, named)
+}
+
+// Returns the blob of a layout, if it is written and has its size.
+fn written(
+    alloc: Global,
+    tree: &Tree<Global>,
+    layout: &Layout<Global>,
+    named: &[(&[u8], &[u8])],
+) -> Option<Vec<u8>> {
     let mut files = MemFiles::new(named);
     let mut out = Out::new(Vec::new(alloc));
-    let answer = write_tree(tree, &layout, &mut files, &mut out);
+    let answer = write_tree(tree, layout, &mut files, &mut out);
     let blob = out.into_inner();
     if answer.is_ok() && blob.len() == layout.totalsize() as usize {
         Some(blob)

@@ -7,5 +7,5 @@ use Rattle.uimg_fit_building.proofs.filling.filled_hashes.algos_of.Given as goal
 -- the set so far with the algorithms of what is left is the set of all
 abbrev pub invariant-loop-node : goal.invariant-loop-node
 invariant-loop-node g l =
-    all_marked l.set (filter (λ h. is_hash h.name) (map entry (drop l.node-index l.nodes)))
-    ≡ all_marked no_algos (filter (λ h. is_hash h.name) (map entry l.nodes))
+    all_marked l.naming l.set (filter (λ h. is_hash h.name) (map entry (drop l.node-index l.nodes)))
+    ≡ all_marked l.naming no_algos (filter (λ h. is_hash h.name) (map entry l.nodes))

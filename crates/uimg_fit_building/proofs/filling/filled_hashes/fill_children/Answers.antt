@@ -24,16 +24,16 @@ loop-node-preserved g c =
       long = length-set now i c.fill_child.new.node ∙ c.loop-node.invariant.long;
       changed = λ message all covered.
           let was = c.loop-node.invariant.changed message all covered in
-          let here : child ≡ get_or old i d = same-at entry (hashed_in message) old now i d in_old in_now was.rest in
-          let covers : is_hash child.name ≡ true → CoversHash set (entry child) =
-          λ is. subst (λ (n : Node _). CoversHash set (entry n)) (sym here) (covered-at set old i d in_old covered (subst (λ (n : Node _). is_hash n.name ≡ true) here is)) in
-          changed-more entry (hashed_in message) old now i d c.fill_child.new.node in_old in_now was
-          (c.in_ok-fill_child.ensures.filled message all covers ∙ ap (λ (n : Node _). hashed_in message (entry n)) here);
+          let here : child ≡ get_or old i d = same-at entry (hashed_in c.args.naming message) old now i d in_old in_now was.rest in
+          let covers : is_hash child.name ≡ true → CoversHash c.args.naming set (entry child) =
+          λ is. subst (λ (n : Node _). CoversHash c.args.naming set (entry n)) (sym here) (covered-at c.args.naming set old i d in_old covered (subst (λ (n : Node _). is_hash n.name ≡ true) here is)) in
+          changed-more entry (hashed_in c.args.naming message) old now i d c.fill_child.new.node in_old in_now was
+          (c.in_ok-fill_child.ensures.filled message all covers ∙ ap (λ (n : Node _). hashed_in c.args.naming message (entry n)) here);
       rest = rest-more old now i d c.fill_child.new.node in_old in_now c.loop-node.invariant.rest;
       zeroed = λ message.
-          let here : child ≡ get_or old i d = same-at entry (hashed_in message) old now i d in_old in_now c.loop-node.invariant.rest in
-          agree-more (λ (n : Node _). zeroed_child (entry n)) (λ (n : Node _). zeroed_child (hashed_in message (entry n))) old now i d c.fill_child.new.node in_old in_now
-          (c.loop-node.invariant.zeroed message) (c.in_ok-fill_child.ensures.rest message ∙ ap (λ (n : Node _). zeroed_child (hashed_in message (entry n))) here);
+          let here : child ≡ get_or old i d = same-at entry (hashed_in c.args.naming message) old now i d in_old in_now c.loop-node.invariant.rest in
+          agree-more (λ (n : Node _). zeroed_child c.args.naming (entry n)) (λ (n : Node _). zeroed_child c.args.naming (hashed_in c.args.naming message (entry n))) old now i d c.fill_child.new.node in_old in_now
+          (c.loop-node.invariant.zeroed message) (c.in_ok-fill_child.ensures.rest message ∙ ap (λ (n : Node _). zeroed_child c.args.naming (hashed_in c.args.naming message (entry n))) here);
     }
 
 pub returns : goal.returns
@@ -43,10 +43,10 @@ returns g c =
     let i = c.loop-node.node-index in
     let s = c.loop-node.invariant in
     record {
-      filled = λ message all covered. siblings-each (hashed_in message) old now
-          (changed-all entry (hashed_in message) old now i (omega (arith, s.long)) (omega arith) (s.changed message all covered));
-      rest = λ message. each-agrees zeroed_child (hashed_in message) old now
-          (agree-all (λ (n : Node _). zeroed_child (entry n)) (λ (n : Node _). zeroed_child (hashed_in message (entry n))) old now i
+      filled = λ message all covered. siblings-each (hashed_in c.args.naming message) old now
+          (changed-all entry (hashed_in c.args.naming message) old now i (omega (arith, s.long)) (omega arith) (s.changed message all covered));
+      rest = λ message. each-agrees (zeroed_child c.args.naming) (hashed_in c.args.naming message) old now
+          (agree-all (λ (n : Node _). zeroed_child c.args.naming (entry n)) (λ (n : Node _). zeroed_child c.args.naming (hashed_in c.args.naming message (entry n))) old now i
           (omega (arith, s.long)) (omega arith) (s.zeroed message));
       memory = search rules;
     }

@@ -12,8 +12,8 @@ abbrev pub invariant-loop-node : goal.invariant-loop-node
 invariant-loop-node g l = record {
   long : length l.nodes ≡ length l.fn.nodes;
   changed : (message : List ℕ) → AreDigests l.digests message
-      → AllByRecursion (CoversHash (set_of l.digests)) (filter (λ h. is_hash h.name) (map entry l.fn.nodes))
-      → ChangedTo entry (hashed_in message) l.fn.nodes l.nodes l.node-index;
+      → AllByRecursion (CoversHash l.naming (set_of l.digests)) (filter (λ h. is_hash h.name) (map entry l.fn.nodes))
+      → ChangedTo entry (hashed_in l.naming message) l.fn.nodes l.nodes l.node-index;
   rest : drop l.node-index l.nodes ≡ drop l.node-index l.fn.nodes;
-  zeroed : (message : List ℕ) → AgreeTo (λ n. zeroed_child (entry n)) (λ n. zeroed_child (hashed_in message (entry n))) l.fn.nodes l.nodes l.node-index;
+  zeroed : (message : List ℕ) → AgreeTo (λ n. zeroed_child l.naming (entry n)) (λ n. zeroed_child l.naming (hashed_in l.naming message (entry n))) l.fn.nodes l.nodes l.node-index;
 }

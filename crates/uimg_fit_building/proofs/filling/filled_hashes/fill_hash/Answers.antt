@@ -14,8 +14,8 @@ returns g c =
     let own = c.in_ok-node.ensures.made ∙ ap (λ (l : List (NamedOf Content)). with (codes "value") value l) c.replace-props.ensures.value in
     record {
       filled = λ message all covered. ap (λ (l : List (NamedOf Content)). let n : NodeOf Content = record h { own = l } in n) own
-          ∙ hash-filled (set_of c.args.digests.now) h c.in-Some.algo value message known covered (c.in_ok-value.ensures.digest message all);
-      rest = λ message. ap (λ (l : List (NamedOf Content)). let n : NodeOf Content = record h { own = l } in zeroed_hash n) own
-          ∙ hash-zeroed h c.in-Some.algo known value message (c.in_ok-value.ensures.rest message);
+          ∙ hash-filled c.args.naming (set_of c.args.digests.now) h c.in-Some.algo value message known covered (c.in_ok-value.ensures.digest message all);
+      rest = λ message. ap (λ (l : List (NamedOf Content)). let n : NodeOf Content = record h { own = l } in zeroed_hash c.args.naming n) own
+          ∙ hash-zeroed c.args.naming h c.in-Some.algo known value message (c.in_ok-value.ensures.rest message);
       memory = search rules;
     }

@@ -18,7 +18,7 @@ loop-image-init g c = record {
   refusals = refl;
   rest = refl;
   filled = λ honest. record { rest = refl; done = refl };
-  sound = λ honest. none-sound;
+  sound = λ honest. none-sound c.args.naming;
   zeroed = refl;
   passed = λ honest. tt;
 }
@@ -35,7 +35,7 @@ returns-in_err-fill_image-clause-opens g c = record {
       let files = (g.F.Files.map c.args.files.now).bytes in
       let in_now : i < length now = omega arith in
       let in_old : i < length old = omega (arith, s.long) in
-      let here : get_or now i d ≡ get_or old i d = same-at entry (filled_over files) old now i d in_old in_now s.rest in
+      let here : get_or now i d ≡ get_or old i d = same-at entry (filled_over c.args.naming files) old now i d in_old in_now s.rest in
       let kept = subst (λ (n : Node _). IsKeptImage files (entry n)) (sym here) (entry-at (IsKeptImage files) old i d in_old all) in
       by-refusal (λ r. opens_no_file r ≡ false) c.from_residual.result c.in_err-fill_image.field-0.0 c.from_residual.ensures.1
       (c.in_err-fill_image.ensures.opens.found (subst (λ (b : Bool). IsTrue b) (sym s.same.complete) complete)
@@ -49,7 +49,7 @@ returns-in_err-fill_image-clause-opens g c = record {
       let files = (g.F.Files.map c.args.files.now).bytes in
       let in_now : i < length now = omega arith in
       let in_old : i < length old = omega (arith, s.long) in
-      let here : get_or now i d ≡ get_or old i d = same-at entry (filled_over files) old now i d in_old in_now s.rest in
+      let here : get_or now i d ≡ get_or old i d = same-at entry (filled_over c.args.naming files) old now i d in_old in_now s.rest in
       let kept = subst (λ (n : Node _). IsKeptImage files (entry n)) (sym here) (entry-at (IsKeptImage files) old i d in_old all) in
       by-refusal (λ r. fails_to_read r ≡ false) c.from_residual.result c.in_err-fill_image.field-0.0 c.from_residual.ensures.1
       (c.in_err-fill_image.ensures.opens.steady steady (subst (λ (b : Bool). IsTrue b) (sym s.same.honest) honest)
@@ -67,13 +67,13 @@ returns-in_err-fill_image-clause-filled g c = λ honest.
     let new = entry c.fill_image.new.image in
     let in_now : i < length now = omega arith in
     let in_old : i < length old = omega (arith, s.long) in
-    let here : get_or now i d ≡ get_or old i d = same-at entry (filled_over files) old now i d in_old in_now s.rest in
+    let here : get_or now i d ≡ get_or old i d = same-at entry (filled_over c.args.naming files) old now i d in_old in_now s.rest in
     let fault = c.in_err-fill_image.field-0.0 in
     let told = c.in_err-fill_image.ensures.filled (subst (λ (b : Bool). IsTrue b) (sym s.same.honest) honest) in
-    let same = subst (λ (b : List ℕ → Option (List ℕ)). FillsImage {X = ⊤} b (entry (get_or now i d)) new (Err fault)) s.same.bytes told in
-    by-refusal (λ r. FillsImages files (map entry old) (map entry (set now i c.fill_image.new.image)) r) c.from_residual.result fault c.from_residual.ensures.1
-    (images-refused files old i d in_old (s.sound honest) ⊤ ⊤ new (map entry (set now i c.fill_image.new.image)) fault
-    (subst (λ (n : Node _). FillsImage {X = ⊤} files (entry n) new (Err fault)) here same))
+    let same = subst (λ (b : List ℕ → Option (List ℕ)). FillsImage {X = ⊤} c.args.naming b (entry (get_or now i d)) new (Err fault)) s.same.bytes told in
+    by-refusal (λ r. FillsImages c.args.naming files (map entry old) (map entry (set now i c.fill_image.new.image)) r) c.from_residual.result fault c.from_residual.ensures.1
+    (images-refused c.args.naming files old i d in_old (s.sound honest) ⊤ ⊤ new (map entry (set now i c.fill_image.new.image)) fault
+    (subst (λ (n : Node _). FillsImage {X = ⊤} c.args.naming files (entry n) new (Err fault)) here same))
 
 pub returns-in_err-fill_image-clause-order : goal.returns-in_err-fill_image-clause-order
 returns-in_err-fill_image-clause-order g c = λ honest.
@@ -86,12 +86,12 @@ returns-in_err-fill_image-clause-order g c = λ honest.
     let steady = g.F.Opened.Source.steady in
     let in_now : i < length now = omega arith in
     let in_old : i < length old = omega (arith, s.long) in
-    let here : get_or now i d ≡ get_or old i d = same-at entry (filled_over files.bytes) old now i d in_old in_now s.rest in
+    let here : get_or now i d ≡ get_or old i d = same-at entry (filled_over c.args.naming files.bytes) old now i d in_old in_now s.rest in
     let fault = c.in_err-fill_image.field-0.0 in
     let told = c.in_err-fill_image.ensures.order (subst (λ (b : Bool). IsTrue b) (sym s.same.honest) honest) in
-    let same = refused-before files (g.F.Files.map c.loop-image.files) s.same steady (entry (get_or now i d)) fault told in
-    by-refusal (λ r. FillsInOrder files steady (Some (map entry old)) r) c.from_residual.result fault c.from_residual.ensures.1
-    (order-refused files steady old i d in_old (s.passed honest) ⊤ fault (subst (λ (n : Node _). IsImageRefused files steady (entry n) fault) here same))
+    let same = refused-before c.args.naming files (g.F.Files.map c.loop-image.files) s.same steady (entry (get_or now i d)) fault told in
+    by-refusal (λ r. FillsInOrder c.args.naming files steady (Some (map entry old)) r) c.from_residual.result fault c.from_residual.ensures.1
+    (order-refused c.args.naming files steady old i d in_old (s.passed honest) ⊤ fault (subst (λ (n : Node _). IsImageRefused c.args.naming files steady (entry n) fault) here same))
 
 pub loop-image-preserved : goal.loop-image-preserved
 loop-image-preserved g c =
@@ -105,7 +105,7 @@ loop-image-preserved g c =
     let new = c.fill_image.new.image in
     let in_now : i < length now = omega arith in
     let in_old : i < length old = omega (arith, s.long) in
-    let here : get_or now i d ≡ get_or old i d = same-at entry (filled_over files) old now i d in_old in_now s.rest in
+    let here : get_or now i d ≡ get_or old i d = same-at entry (filled_over c.args.naming files) old now i d in_old in_now s.rest in
     record {
       long = length-set now i new ∙ s.long;
       same = record { bytes = used.same.bytes ∙ s.same.bytes; honest = used.same.honest ∙ s.same.honest; complete = used.same.complete ∙ s.same.complete };
@@ -113,29 +113,29 @@ loop-image-preserved g c =
       rest = rest-more old now i d new in_old in_now s.rest;
       filled = λ honest.
           let told = c.in_ok-fill_image.ensures.filled (subst (λ (b : Bool). IsTrue b) (sym s.same.honest) honest) in
-          changed-more entry (filled_over files) old now i d new in_old in_now (s.filled honest)
-          (told.1 ∙ ap (λ (b : List ℕ → Option (List ℕ)). filled_over b (entry (get_or now i d))) s.same.bytes ∙ ap (λ (n : Node _). filled_over files (entry n)) here);
+          changed-more entry (filled_over c.args.naming files) old now i d new in_old in_now (s.filled honest)
+          (told.1 ∙ ap (λ (b : List ℕ → Option (List ℕ)). filled_over c.args.naming b (entry (get_or now i d))) s.same.bytes ∙ ap (λ (n : Node _). filled_over c.args.naming files (entry n)) here);
       sound = λ honest.
           let told = c.in_ok-fill_image.ensures.filled (subst (λ (b : Bool). IsTrue b) (sym s.same.honest) honest) in
-          sound-more old i d in_old (s.sound honest) (subst (λ (n : Node _). fault_in_memory (entry n) ≡ None) here told.0);
-      zeroed = agree-more (λ (n : Node _). zeroed_image (entry n)) (λ (n : Node _). zeroed_image (filled_over no_files (entry n))) old now i d new in_old in_now s.zeroed
-          (c.in_ok-fill_image.ensures.rest ∙ ap (λ (n : Node _). zeroed_image (filled_over no_files (entry n))) here);
+          sound-more c.args.naming old i d in_old (s.sound honest) (subst (λ (n : Node _). fault_in_memory c.args.naming (entry n) ≡ None) here told.0);
+      zeroed = agree-more (λ (n : Node _). zeroed_image c.args.naming (entry n)) (λ (n : Node _). zeroed_image c.args.naming (filled_over c.args.naming no_files (entry n))) old now i d new in_old in_now s.zeroed
+          (c.in_ok-fill_image.ensures.rest ∙ ap (λ (n : Node _). zeroed_image c.args.naming (filled_over c.args.naming no_files (entry n))) here);
       passed = λ honest.
           let told = c.in_ok-fill_image.ensures.order (subst (λ (b : Bool). IsTrue b) (sym s.same.honest) honest) in
-          let same = subst (λ (b : List ℕ → Option (List ℕ)). IsPassed b (entry (get_or now i d))) s.same.bytes told in
-          all-more (IsPassed files) old i d in_old (s.passed honest) (subst (λ (n : Node _). IsPassed files (entry n)) here same);
+          let same = subst (λ (b : List ℕ → Option (List ℕ)). IsPassed c.args.naming b (entry (get_or now i d))) s.same.bytes told in
+          all-more (IsPassed c.args.naming files) old i d in_old (s.passed honest) (subst (λ (n : Node _). IsPassed c.args.naming files (entry n)) here same);
     }
 
 pub returns-clause-order : goal.returns-clause-order
 returns-clause-order g c = λ honest.
     let s = c.loop-image.invariant in
-    all-of (IsPassed (g.F.Files.map c.args.files.now).bytes) c.args.images.now c.loop-image.image-index (omega (arith, s.long)) (s.passed honest)
+    all-of (IsPassed c.args.naming (g.F.Files.map c.args.files.now).bytes) c.args.images.now c.loop-image.image-index (omega (arith, s.long)) (s.passed honest)
 
 pub returns-clause-rest : goal.returns-clause-rest
 returns-clause-rest g c =
     let old = c.args.images.now in
     let now = c.loop-image.images in
     let s = c.loop-image.invariant in
-    each-agrees zeroed_image (filled_over no_files) old now
-    (agree-all (λ (n : Node _). zeroed_image (entry n)) (λ (n : Node _). zeroed_image (filled_over no_files (entry n))) old now c.loop-image.image-index
+    each-agrees (zeroed_image c.args.naming) (filled_over c.args.naming no_files) old now
+    (agree-all (λ (n : Node _). zeroed_image c.args.naming (entry n)) (λ (n : Node _). zeroed_image c.args.naming (filled_over c.args.naming no_files (entry n))) old now c.loop-image.image-index
     (omega (arith, s.long)) (omega arith) s.zeroed)

@@ -16,8 +16,8 @@ invariant-loop-image g l =
       same : SameFiles files (g.F.Files.map l.files);
       refusals : (g.F.Files.map l.files).refusals ≡ files.refusals;
       rest : drop l.image-index l.images ≡ drop l.image-index l.fn.images;
-      filled : IsTrue files.honest → ChangedTo entry (filled_over files.bytes) l.fn.images l.images l.image-index;
-      sound : IsTrue files.honest → first_in_memory (map entry (take l.image-index l.fn.images)) ≡ None;
-      zeroed : AgreeTo (λ n. zeroed_image (entry n)) (λ n. zeroed_image (filled_over no_files (entry n))) l.fn.images l.images l.image-index;
-      passed : IsTrue files.honest → AllByRecursion (IsPassed files.bytes) (map entry (take l.image-index l.fn.images));
+      filled : IsTrue files.honest → ChangedTo entry (filled_over l.naming files.bytes) l.fn.images l.images l.image-index;
+      sound : IsTrue files.honest → first_in_memory l.naming (map entry (take l.image-index l.fn.images)) ≡ None;
+      zeroed : AgreeTo (λ n. zeroed_image l.naming (entry n)) (λ n. zeroed_image l.naming (filled_over l.naming no_files (entry n))) l.fn.images l.images l.image-index;
+      passed : IsTrue files.honest → AllByRecursion (IsPassed l.naming files.bytes) (map entry (take l.image-index l.fn.images));
     }

@@ -1,6 +1,7 @@
 use Rattle.std.proofs.Common.{rules, ◌≡◌, ◌∙◌, ℕ, List, Some, None, true, refl, subst, sym, arith}
 use Rattle.std.specs.Prelude.{is_err, Ok}
 use Rattle.uimg_texts.specs.Slices.{slice}
+use Rattle.uimg_names.specs.declared.naming.Naming.TheVariants as naming
 use Rattle.uimg_base.proofs.Slices.{length-slice}
 use Rattle.uimg_blob_reading.specs.LookUps.{hashes}
 use Rattle.uimg_blob_reading.specs.Roles.{in_images}
@@ -58,7 +59,7 @@ returns-in_err-wrong-clause-told g c = λ t o found n.
     let here = still one refl o in
     let there = still two c.payload_digests.ensures.room here in
     let are = subst (λ (xs : List ℕ). AreDigests c.in_ok-digests.digests (slice xs span.place span.length)) one.bytes (c.in_ok-digests.ensures.digests here.honest) in
-    let covered = subst (λ (s : AlgoSet). AllCovered s (hashes found)) (sym (c.in_ok-digests.ensures.set ∙ algos.algos)) (all_covered no_algos (hashes found)) in
+    let covered = subst (λ (s : AlgoSet). AllCovered naming.All s (hashes found)) (sym (c.in_ok-digests.ensures.set ∙ algos.algos)) (all_covered naming.All no_algos (hashes found)) in
     let failed : is_err c.from_residual-in_err-wrong.result ≡ true = search rules in
     payload_cut file c.args.need c.args.left found message _ _ c.from_residual-in_err-wrong.result failed
     (omega (arith, algos.paid, c.payload_digests.ensures.uses.asked, c.read_size-size.ensures, c.if-size-left.false, (c.in_err-wrong.ensures.told t there (hashes found) at message are covered).paid))
@@ -77,7 +78,7 @@ returns-in-Some-clause-told g c = λ t o found n.
     let here = still one refl o in
     let there = still two c.payload_digests.ensures.room here in
     let are = subst (λ (xs : List ℕ). AreDigests c.in_ok-digests.digests (slice xs span.place span.length)) one.bytes (c.in_ok-digests.ensures.digests here.honest) in
-    let covered = subst (λ (s : AlgoSet). AllCovered s (hashes found)) (sym (c.in_ok-digests.ensures.set ∙ algos.algos)) (all_covered no_algos (hashes found)) in
+    let covered = subst (λ (s : AlgoSet). AllCovered naming.All s (hashes found)) (sym (c.in_ok-digests.ensures.set ∙ algos.algos)) (all_covered naming.All no_algos (hashes found)) in
     let wrong = finds_in file _ message (hashes found) _ _ c.in_ok-wrong.field-0 (Some c.in-Some.wrong) (two.bytes ∙ one.bytes) c.in-Some.is (c.in_ok-wrong.ensures.told t there (hashes found) at message are covered) in
     subst (λ (x : Finding Span). ChecksPayloadBetween file c.args.need c.args.left found message (g.S.Source.device c.args.source.now).asked (g.S.Source.device c.first_wrong.new.source).asked (Ok (Ended x))) (sym c.finding.ensures)
     (payload_wrong file c.args.need c.args.left c.read_size-size.result found message _ _ _ c.name_of-name.result c.in-Some.wrong size c.if-size-left.false
@@ -97,7 +98,7 @@ returns-then-lacks-clause-told g c = λ t o found n.
     let here = still one refl o in
     let there = still two c.payload_digests.ensures.room here in
     let are = subst (λ (xs : List ℕ). AreDigests c.in_ok-digests.digests (slice xs span.place span.length)) one.bytes (c.in_ok-digests.ensures.digests here.honest) in
-    let covered = subst (λ (s : AlgoSet). AllCovered s (hashes found)) (sym (c.in_ok-digests.ensures.set ∙ algos.algos)) (all_covered no_algos (hashes found)) in
+    let covered = subst (λ (s : AlgoSet). AllCovered naming.All s (hashes found)) (sym (c.in_ok-digests.ensures.set ∙ algos.algos)) (all_covered naming.All no_algos (hashes found)) in
     let wrong = finds_in file _ message (hashes found) _ _ c.in_ok-wrong.field-0 None (two.bytes ∙ one.bytes) c.in_default.is (c.in_ok-wrong.ensures.told t there (hashes found) at message are covered) in
     payload_weak file c.args.need c.args.left c.read_size-size.result found message _ _ _ c.in_ok-set.set c.name_of-name.result size c.if-size-left.false
     (omega (arith, algos.paid, c.payload_digests.ensures.uses.asked, c.read_size-size.ensures)) wrong algos.algos (sym c.lacks.ensures ∙ c.if-lacks.true) named
@@ -116,7 +117,7 @@ returns-clause-told g c = λ t o found n.
     let here = still one refl o in
     let there = still two c.payload_digests.ensures.room here in
     let are = subst (λ (xs : List ℕ). AreDigests c.in_ok-digests.digests (slice xs span.place span.length)) one.bytes (c.in_ok-digests.ensures.digests here.honest) in
-    let covered = subst (λ (s : AlgoSet). AllCovered s (hashes found)) (sym (c.in_ok-digests.ensures.set ∙ algos.algos)) (all_covered no_algos (hashes found)) in
+    let covered = subst (λ (s : AlgoSet). AllCovered naming.All s (hashes found)) (sym (c.in_ok-digests.ensures.set ∙ algos.algos)) (all_covered naming.All no_algos (hashes found)) in
     let wrong = finds_in file _ message (hashes found) _ _ c.in_ok-wrong.field-0 None (two.bytes ∙ one.bytes) c.in_default.is (c.in_ok-wrong.ensures.told t there (hashes found) at message are covered) in
     payload_on file c.args.need c.args.left c.read_size-size.result found message _ _ _ c.in_ok-set.set _ size c.if-size-left.false
     (omega (arith, algos.paid, c.payload_digests.ensures.uses.asked, c.read_size-size.ensures)) wrong algos.algos (sym c.lacks.ensures ∙ c.if-lacks.false) (omega (arith, c.if-size-left.false))

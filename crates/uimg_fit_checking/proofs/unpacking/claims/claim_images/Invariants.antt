@@ -19,6 +19,7 @@ invariant-loop-next g l =
       same : SameDevice (device l.fn.source) (device l.source);
       failures : (device l.source).failures ≡ (device l.fn.source).failures;
       room : l.room ≡ l.fn.room;
+      place : g.T.Taker.place l.taker ≡ g.T.Taker.place l.fn.taker;
       within : IfSome l.next (λ i. i < length l.fn.room.entries);
       none_given : IsTrue g.T.Taker.honest → g.T.Taker.takes l.taker ≡ g.T.Taker.takes l.fn.taker;
       told : (t : Siblings) → Opened (device l.fn.source) l.blob l.fn.room t → (found : List (NodeOf Spot)) → AreFrom t in_images l.fn.first found

@@ -21,6 +21,7 @@ invariant-loop-next g l =
       same : SameDevice (device l.fn.source) (device l.source);
       failures : (device l.source).failures ≡ (device l.fn.source).failures;
       room : l.room ≡ l.fn.room;
+      place : g.T.Taker.place l.taker ≡ g.T.Taker.place l.fn.taker;
       within : IfSome l.next (λ i. i < length l.fn.room.entries);
       none_claimed : IsTrue g.T.Taker.notes → g.T.Taker.claimed l.taker ≡ g.T.Taker.claimed l.fn.taker;
       paid : (t : Siblings) → Opened (device l.fn.source) l.blob l.fn.room t → (found : List (NodeOf Spot)) → AreFrom t in_images l.fn.first found

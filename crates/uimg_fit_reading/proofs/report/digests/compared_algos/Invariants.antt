@@ -14,7 +14,7 @@ invariant-loop-next g l =
       failures : (device l.source).failures ≡ (device l.fn.source).failures;
       within : IfSome l.next (λ i. i < length l.room.entries);
       left : (t : Siblings) → Opened (device l.fn.source) l.blob l.room t → (hs : List (NodeOf Spot)) → HashesAt t l.fn.first hs
-          → AlgosLeft t hs (device l.fn.source).asked (device l.source).asked l.set l.next;
+          → AlgosLeft l.fn.naming t hs (device l.fn.source).asked (device l.source).asked l.set l.next;
     }
 
 abbrev pub decreases-loop-next : goal.decreases-loop-next

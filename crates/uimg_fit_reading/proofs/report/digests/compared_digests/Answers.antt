@@ -1,5 +1,6 @@
 use Rattle.std.proofs.Common.{◌∙◌, ℕ, List, refl, subst, sym, ap, arith, if◌then◌else◌}
 use Rattle.uimg_texts.specs.Slices.{slice}
+use Rattle.uimg_names.specs.declared.naming.Naming.TheVariants.{Profile}
 use Rattle.uimg_fit_base.specs.declared.algo_sets.AlgoSet.{AlgoSet}
 use Rattle.uimg_fit_base.specs.AlgoSets.{is_empty, no_algos, AreDigests}
 use Rattle.uimg_fit_reading.specs.HashReports.{AllCovered}
@@ -26,12 +27,12 @@ returns-clause-found g c = λ t o hs at.
     let span = c.args.span in
     record {
       digests = of_answer c.payload_digests.result _ _ (λ x are. subst (λ (xs : List ℕ). AreDigests x (slice xs span.place span.length)) same.bytes are) (c.payload_digests.ensures.digests here.honest);
-      covered = of_answer c.payload_digests.result _ _ (λ x is. subst (λ (s : AlgoSet). AllCovered s hs) (sym (is ∙ found.algos)) (all_covered no_algos hs)) c.payload_digests.ensures.set;
+      covered = of_answer c.payload_digests.result _ _ (λ x is. subst (λ (s : AlgoSet). AllCovered Profile s hs) (sym (is ∙ found.algos)) (all_covered Profile no_algos hs)) c.payload_digests.ensures.set;
       paid = omega (
         arith,
         found.paid,
         c.payload_digests.ensures.uses.asked,
         ap (λ (s : AlgoSet). if is_empty s then 0 else span.length) found.algos,
-        read_where_compared hs span.length,
+        read_where_compared Profile hs span.length,
       );
     }

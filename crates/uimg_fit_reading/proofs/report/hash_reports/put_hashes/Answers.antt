@@ -2,6 +2,7 @@ use Rattle.std.proofs.Common.{rules, refl, ◌∙◌, ◌&&◌, ℕ, List, Optio
 use Rattle.uimg_texts.specs.Slices.{slice}
 use Rattle.uimg_base.specs.Writing.{Written}
 use Rattle.uimg_fit_base.specs.{AlgoSets.set_of, Report.hash_line}
+use Rattle.uimg_names.specs.declared.naming.Naming.TheVariants.{Profile}
 use Rattle.uimg_fit_reading.specs.Nodes.{HashesAt}
 use Rattle.uimg_fit_reading.proofs.OpenedLaws.{kept, kept_then, stays}
 use Rattle.uimg_fit_reading.proofs.PassedLaws.{failed_of, leaves_stops, leaves_then}
@@ -26,7 +27,7 @@ returns-in_err-word-clause-told g c = λ t o hs at message are covered.
     let here = stays keeps o in
     let f = subst (λ (x : Option ℕ). HashesAt t x k.left) c.in-Some.is k.at in
     let failed = failed_of c.from_residual.result c.from_residual.ensures.0 in
-    let put = c.in_err-word.ensures.told t here f.hash f.more f.at message are (covered_first set k.left t c.in-Some.hash f k.covered).0 in
+    let put = c.in_err-word.ensures.told t here f.hash f.more f.at message are (covered_first Profile set k.left t c.in-Some.hash f k.covered).0 in
     let written = subst (λ (xs : List ℕ). Written true c.loop-next.out c.put_hash.new.out (hash_line (slice xs image.place image.length) message f.hash)) keeps.uses.same.bytes put.written in
     lines_cut t set _ message image.length hs _ _ c.args.out.now c.loop-next.out c.loop-next.are_right c.loop-next.next c.in-Some.hash k f c.put_hash.new.out _
     c.from_residual.result failed written put.paid
@@ -44,7 +45,7 @@ loop-next-preserved g c = record {
       let keeps = c.loop-next.invariant.keeps in
       let here = stays keeps o in
       let f = subst (λ (x : Option ℕ). HashesAt t x k.left) c.in-Some.is k.at in
-      let put = c.in_ok-word.ensures.told t here f.hash f.more f.at message are (covered_first set k.left t c.in-Some.hash f k.covered).0 in
+      let put = c.in_ok-word.ensures.told t here f.hash f.more f.at message are (covered_first Profile set k.left t c.in-Some.hash f k.covered).0 in
       let name = slice (d c.args.fit.now.source.now).bytes image.place image.length in
       let written = subst (λ (xs : List ℕ). Written false c.loop-next.out c.put_hash.new.out (hash_line (slice xs image.place image.length) message f.hash)) keeps.uses.same.bytes put.written in
       let indexed = (stays c.put_hash.ensures.leaves.keeps here).read.indexed in

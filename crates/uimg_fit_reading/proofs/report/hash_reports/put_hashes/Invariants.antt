@@ -1,6 +1,7 @@
 use Rattle.std.proofs.Common.{◌≡◌, ◌-◌, ◌<◌, ℕ, List, length, IfSome, false}
 use Rattle.std.specs.Option.{option_map_or}
 use Rattle.uimg_texts.specs.Slices.{slice}
+use Rattle.uimg_names.specs.declared.naming.Naming.TheVariants.{Profile}
 use Rattle.uimg_blob_reading.specs.{Grammar.Siblings, LookUps.NodeOf, Spots.Spot}
 use Rattle.uimg_fit_base.specs.AlgoSets.{set_of, AreDigests}
 use Rattle.uimg_fit_reading.specs.{HashReports.AllCovered, Nodes.{HashesAt, Opened}}
@@ -18,7 +19,7 @@ invariant-loop-next g l =
       faults : l.out.faults ≡ l.fn.out.faults;
       within : IfSome l.next (λ i. i < length l.fn.fit.room.now.entries);
       left : (t : Siblings) → InFit device l.fn.fit Opened t → (hs : List (NodeOf Spot)) → HashesAt t l.fn.first hs
-          → (message : List ℕ) → AreDigests l.digests message → AllCovered (set_of l.digests) hs
+          → (message : List ℕ) → AreDigests l.digests message → AllCovered Profile (set_of l.digests) hs
           → LinesLeft t (set_of l.digests) (slice file l.image.place l.image.length) message l.image.length hs
           (device l.fn.fit.source.now).asked (device l.fit.source.now).asked l.fn.out l.out l.are_right l.next;
     }

@@ -12,6 +12,7 @@ loop-number-init g c = record {
   within = omega (arith, c.requires.table, c.requires.place);
   room = refl;
   kept = λ known. refl;
+  stays = refl;
   told = λ known. takes_none c.args.parts.only _;
   taken = walked_none c.args.parts.only g.T.PartTaker.honest c.args.parts.size _ _ _ (omega (arith, c.requires.table, c.requires.place));
 }
@@ -27,6 +28,7 @@ loop-number-preserved g c =
       within = omega (arith, next.place);
       room = c.take_next.ensures.takes.room ∙ inv.room;
       kept = λ known. c.take_next.ensures.takes.kept known ∙ inv.kept known;
+      stays = c.take_next.ensures.stays ∙ inv.stays;
       told = λ known. takes_more c.args.parts.only c.loop-number.number _ _ _ (inv.told known) (c.in_ok-take_next.ensures.told known);
       taken = walked_more c.args.parts.only g.T.PartTaker.honest c.loop-number.number c.args.parts.size _ _ _ _ _ _ _ _ inv.same inv.taken next;
     }
