@@ -2,9 +2,9 @@
 
 A board is compiled once with U-Boot's tools. tools/mkimage and tools/dumpimage of its build folder are
 callers, newer than their sources, so make leaves them; they log each call with its time. For each way
-to call the tools, all files that were written since the first call are removed, except objects and
-headers, and make has to make them anew. Then each file of the build folder, removed or not, has to be
-as after the first build. The remake with U-Boot's tools is the control."""
+to call the tools, all files that were written since the first call are removed, except objects,
+archives and headers, and make has to make them anew. Then each file of the build folder, removed or
+not, has to be as after the first build. The remake with U-Boot's tools is the control."""
 
 import hashlib
 import os
@@ -32,8 +32,8 @@ printf '%s\\t%s\\n' "$(date +%s)" "${0##*/} $*" >> "$UIMG_SUITE_CALLS"
 exec "$UIMG_SUITE_TOOLS/${0##*/}" "$@"
 """
 TOOLS = ("mkimage", "dumpimage")
-# What no image is part of: objects, headers, and what the compiler keeps of them.
-OBJECTS = re.compile(r".*\.(o|h|s|su)(\.d)?")
+# What no image is part of: objects, archives, headers, and what the compiler keeps of them.
+OBJECTS = re.compile(r".*\.(o|a|h|s|su)(\.d)?")
 # A program that does nothing, for the trusted firmware.
 FIRMWARE = ".globl _start\n_start: b _start\n.data\n.word 1\n"
 
