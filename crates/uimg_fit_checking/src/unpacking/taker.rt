@@ -41,7 +41,7 @@ pub trait Taker {
     /// What a payload is written to before anything vouches for it. Only `keep` gives it its name.
     type Shelf: Write + Drop;
 
-    /// Where payloads go. No call changes it, so a taker is never another one afterwards.
+    /// Where payloads go. No call changes it.
     ghost place: { Self → List ℕ } = { λ _. [] };
 
     /// Whether shelves hold what is written to them, and the list has all that was given.

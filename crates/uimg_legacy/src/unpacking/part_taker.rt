@@ -18,7 +18,7 @@ pub trait PartTaker {
     /// What a part is written to.
     type Shelf: Write + Drop;
 
-    /// Where parts go. No call changes it, so a taker is never another one afterwards.
+    /// Where parts go. No call changes it.
     ghost place: { Self → List ℕ } = { λ _. [] };
 
     /// Whether shelves hold what is written to them, and the lists have all parts that were given.
