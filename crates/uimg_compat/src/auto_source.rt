@@ -414,7 +414,8 @@ fn at_most(name: &[u8], length: usize) -> &[u8]
     name.get(..length).unwrap_or(name)
 }
 
-fn file_name(path: &[u8]) -> &[u8]
+/// Returns what is after the last slash of a path.
+pub fn file_name(path: &[u8]) -> &[u8]
     ensures { result.now ≡ file_name path.now }
 {
     &path[end_of_last(path, b'/')..]

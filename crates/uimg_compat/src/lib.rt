@@ -20,7 +20,7 @@ mod quoted;
 mod request;
 mod warnings;
 
-pub use auto_source::{AutoSource, TreePaths};
+pub use auto_source::{AutoSource, TreePaths, file_name};
 pub use c_numbers::{long_prefix, low_half, unsigned_long};
 pub use dtc_words::{DtcWords, Silenced};
 pub use dumpimage::read_dumpimage;

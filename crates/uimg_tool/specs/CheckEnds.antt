@@ -1,15 +1,18 @@
 -- What a check answers at its end.
-use Rattle.std.specs.Prelude.{◌≡◌, ◌≢◌, ⊤, ℕ, ◌==◌, codes, Option, Some, None, Result, Ok, Err}
-use Rattle.std.specs.Prelude.{Bool, false, IsTrue}
+use Rattle.std.specs.Prelude.{◌≡◌, ◌≢◌, ⊤, ℕ, ◌==◌, List, [], ◌∷◌, codes, Option, Some, None, Result, Ok, Err}
+use Rattle.std.specs.{Borrow.Bor, Option.option_map, Prelude.{Bool, true, false, IsTrue, is_some}}
 use Rattle.uimg_base.specs.declared.spans.Span.{Span}
 use Rattle.uimg_checks.specs.declared.answer.Format.{Format}
 use Rattle.uimg_checks.specs.declared.answer.Format.TheVariants as format
 use Rattle.uimg_checks.specs.declared.answer.Stop.{Stop}
 use Rattle.uimg_checks.specs.declared.answer.Answer.{Answer}
-use Rattle.uimg_checks.specs.declared.answer.Answer.TheVariants.{Found, Missing, Loose, Refused}
-use Rattle.uimg_checks.specs.declared.answer.Answer.TheVariants.{Failed}
+use Rattle.uimg_checks.specs.declared.answer.Answer.TheVariants.{Found, Refused, Failed}
+use Rattle.uimg_checks.specs.declared.answer.Answer.TheVariants as answer
 use Rattle.uimg_checks.specs.declared.finding.Checked.{Checked}
 use Rattle.uimg_checks.specs.declared.finding.Checked.TheVariants as checked
+use Rattle.uimg_checks.specs.Properties.{property_name}
+use Rattle.uimg_checks.specs.declared.references.missing.Missing.{Missing}
+use Rattle.uimg_strict.specs.declared.loose.{Loose.Loose, Looseness.Looseness}
 use Rattle.uimg_fit_checking.specs.declared.checking.Finding.{Finding}
 use Rattle.uimg_fit_checking.specs.declared.checking.Finding.TheVariants as fit
 use Rattle.uimg_engine.specs.declared.fault.Fault.{Fault}
@@ -81,3 +84,35 @@ AnswersEnding ending.Weak answer = answer ≡ Found checked.Weak None
 AnswersEnding ending.NoImage answer = answer ≡ Found (checked.Fit fit.NoImage) None
 AnswersEnding (ending.Stopped fault) answer = AnswersFault fault answer
 AnswersEnding (ending.Troubled trouble) answer = AnswersLine (trouble_status trouble == 1) answer
+
+-- What a strict check refuses of a FIT image, with the node's name; the root, whose name is empty, is
+-- told as `/`.
+abbrev pub node_name : List ℕ → List ℕ
+node_name [] = codes "/"
+node_name (byte ∷ rest) = byte ∷ rest
+
+abbrev pub names_node : Option (List ℕ) → Option (Bor (List ℕ)) → Type 0
+names_node None told = told ≡ None
+names_node (Some name) None = ⊥
+names_node (Some name) (Some told) = told.now ≡ node_name name
+
+abbrev pub IsLooseAs : Option (List ℕ) → Looseness → Answer → Type 0
+IsLooseAs name why (answer.Loose form told node) = (form ≡ format.Fit) × (told ≡ why) × names_node name node
+IsLooseAs name why other = ⊥
+
+abbrev pub AnswersLoose : Loose → Answer → Type 0
+AnswersLoose found answer = IsLooseAs (option_map (λ name. name.items) found.node) found.why answer
+
+-- A missing name is answered with its property, and the name of a configuration only if that gives
+-- it, or else that the name of the configuration cannot be read.
+abbrev pub names_configuration : Option Span → Option (Bor (List ℕ)) → Type 0
+names_configuration None told = told ≡ None
+names_configuration (Some place) None = ⊥
+names_configuration (Some place) (Some told) = ⊤
+
+abbrev pub AnswersMissing : Missing → Answer → Type 0
+AnswersMissing found (answer.Missing configuration property name) =
+    names_configuration found.configuration configuration
+    × (property.now ≡ property_name found.reference) × (name.now ≡ found.name.items)
+AnswersMissing found (Failed stop) = is_some found.configuration ≡ true
+AnswersMissing found other = ⊥

@@ -21,3 +21,7 @@ shown lead byte =
 abbrev pub shown_from : Bool → List ℕ → List ℕ
 shown_from lead [] = []
 shown_from lead (byte ∷ bytes) = shown lead byte ++ shown_from (byte == 194) bytes
+
+-- the line of a text
+abbrev pub shown_line : List ℕ → List ℕ
+shown_line text = shown_from false text ++ 10 ∷ []

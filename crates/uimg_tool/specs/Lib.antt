@@ -1,4 +1,16 @@
+pub mod AnswerTexts
+pub mod BesidePaths
 pub mod CheckEnds
+pub mod Checking
+pub mod Checks
+pub mod Complaints
+pub mod Finishing
 pub mod JsonLines
 pub mod KnownSources
+pub mod OtherAlgos
+pub mod Programs
+pub mod RequestEnds
 pub mod Statuses
+pub mod StrictEnds
+pub mod TreeSizes
+pub mod UnpackEnds

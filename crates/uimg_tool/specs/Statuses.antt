@@ -1,7 +1,7 @@
 -- The exit status of each end of a request: 0 if all is done, 1 if an image, a source or a file is
 -- refused or a sum is not right, 2 for a wrong command line, and 3 if a file could not be opened, or a
 -- read, a write or memory failed.
-use Rattle.std.specs.Prelude.{ℕ, ◌≤◌, Result, Ok, Err, if◌then◌else◌}
+use Rattle.std.specs.Prelude.{⊤, ℕ, ◌≤◌, Option, Some, None, Result, Ok, Err, Bool, true, false, if◌then◌else◌}
 use Rattle.uimg_base.specs.declared.status.Status.{Status, TheVariants.{Done, NotRight}}
 use Rattle.uimg_blob_reading.specs.Faults.{refuses_memory}
 use Rattle.uimg_fit_base.specs.declared.fault.FitFault.{FitFault}
@@ -16,6 +16,7 @@ use Rattle.uimg_compat.specs.declared.fault.OldFault.{OldFault}
 use Rattle.uimg_compat.specs.declared.fault.OldFault.TheVariants as old
 use Rattle.uimg_unpacking.specs.declared.trouble.Trouble.{Trouble}
 use Rattle.uimg_unpacking.specs.declared.trouble.Trouble.TheVariants as trouble
+use Rattle.uimg_tool.specs.declared.check_program.Stop.{Stop}
 use Rattle.uimg_tool.specs.declared.request_fault.RequestFault.{RequestFault}
 use Rattle.uimg_tool.specs.declared.request_fault.RequestFault.TheVariants as request
 
@@ -76,3 +77,18 @@ trouble_status other = 3
 pub record Grows (old new : ℕ) : Type 0 where
   pub least : old ≤ new
   pub most : old ≤ 3 → new ≤ 3
+
+-- the end of many checks: the greatest status, unless there is none or they stopped
+abbrev pub checked_status : Result ⊤ Stop → Option ℕ → ℕ
+checked_status (Ok done) (Some greatest) = greatest
+checked_status (Ok done) None = 2
+checked_status (Err stop) greatest = 3
+
+-- A trouble of the command line, of memory or of the output is told on standard error, though JSON is
+-- requested.
+abbrev pub is_of_command : Trouble → Bool
+is_of_command (trouble.IsImage path) = true
+is_of_command trouble.OutOfMemory = true
+is_of_command (trouble.CannotPrint reason) = true
+is_of_command trouble.Closed = true
+is_of_command other = false

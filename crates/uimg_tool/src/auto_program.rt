@@ -1,11 +1,11 @@
 //! Makes a FIT image from the source that mkimage makes itself.
 
-ghost use Rattle.std.specs.Prelude.{◌≤◌};
+ghost use Rattle.uimg_tool.specs.Complaints.{Ends};
 
+use crate::complaints::Complaints;
 use crate::fit_program::is_key;
-use crate::old_program::{make_image, tell, tell_unread, tell_unwritten};
-use crate::old_tools::{Called, Tool};
-use crate::request_fault::{FAILED, WRONG_LINE};
+use crate::old_files::{How, make_image};
+use crate::request_fault::WRONG_LINE;
 use crate::safe_path::{NewBeside, new_beside};
 use std::io::{BufWriter, Write};
 use std::rt::Files;
@@ -13,6 +13,7 @@ use std::{fs, io};
 use uimg_base::FileSource;
 use uimg_compat::{AutoRequest, AutoSource, OldFault};
 use uimg_requests::MakeRequest;
+use uimg_unpacking::DiskWorld;
 
 /// What faults call the source.
 const SOURCE_NAME: &str = "-f auto";
@@ -20,43 +21,41 @@ const SOURCE_NAME: &str = "-f auto";
 /// Makes the requested image. The text of its source is beside the image meanwhile.
 pub(crate) fn make_auto<R: Files + AllocGlobal, W: Write, V: Write>(
     rt: &R,
-    tool: Tool,
     request: &AutoRequest<'_>,
     out: &mut W,
-    err: &mut V,
+    complaints: &mut Complaints<'_, V>,
 ) -> u8
-    ensures { result ≤ 3 }
+    ensures { Ends result complaints.old.count complaints.new.count }
 {
     if is_key(rt, request.key) {
-        return tell(tool, err, &OldFault::Signs('g'), WRONG_LINE);
+        return complaints.tell(&OldFault::Signs('g'), WRONG_LINE);
     }
     if let Some(path) = unread_file(rt, &request.source) {
-        return tell_unread(rt, tool, path, err);
+        return complaints.tell_unread(rt, path);
     }
-    match new_beside(rt, request.outfile) {
+    match new_beside(&mut DiskWorld::new(rt), rt.alloc(), request.outfile) {
         Ok(Ok(NewBeside { file, path })) => {
             let status = match write_text(rt, file, &request.source) {
-                Ok(()) => make_of_text(rt, tool, request, path.as_str(), out, err),
-                Err(reason) => tell_unwritten(tool, request.outfile, &reason, err),
+                Ok(()) => make_of_text(rt, request, path.as_str(), out, complaints),
+                Err(reason) => complaints.tell_unwritten(request.outfile, &reason),
             };
             let _ = fs::remove_file(rt, path.as_str());
             status
         }
-        Ok(Err(reason)) => tell_unwritten(tool, request.outfile, &reason, err),
-        Err(_) => tell(tool, err, &OldFault::OutOfMemory, FAILED),
+        Ok(Err(reason)) => complaints.tell_unwritten(request.outfile, &reason),
+        Err(_) => complaints.tell_no_memory(),
     }
 }
 
 // Makes the image of a source whose text is at a path.
 fn make_of_text<R: Files + AllocGlobal, W: Write, V: Write>(
     rt: &R,
-    tool: Tool,
     request: &AutoRequest<'_>,
     path: &str,
     out: &mut W,
-    err: &mut V,
+    complaints: &mut Complaints<'_, V>,
 ) -> u8
-    ensures { result ≤ 3 }
+    ensures { Ends result complaints.old.count complaints.new.count }
 {
     let made = MakeRequest::of_source_here(
         rt.alloc(),
@@ -69,9 +68,9 @@ fn make_of_text<R: Files + AllocGlobal, W: Write, V: Write>(
         Ok(making) => {
             let mut making = named_source(making);
             making.manner = request.manner;
-            make_image(rt, Called::new(tool, request.is_quiet), making, out, err)
+            make_image(rt, How::new(request.is_quiet), making, out, complaints)
         }
-        Err(_) => tell(tool, err, &OldFault::OutOfMemory, FAILED),
+        Err(_) => complaints.tell_no_memory(),
     }
 }
 

@@ -1,7 +1,7 @@
 //! Turns the end of a check into its result.
 
-ghost use Rattle.std.specs.Prelude.{◌≡◌, ◌≤◌, false, IfSome};
-ghost use Rattle.uimg_tool.specs.CheckEnds.{AnswersEnd, AnswersFault, AnswersLine, format_of, nameless_fit, offset_of};
+ghost use Rattle.std.specs.Prelude.{◌≡◌, ◌≤◌, None, false, IfSome};
+ghost use Rattle.uimg_tool.specs.CheckEnds.{AnswersEnd, AnswersFault, AnswersLine, AnswersLoose, AnswersMissing, format_of, nameless_fit, offset_of};
 
 use crate::reasons::reason_unread;
 use crate::request_fault::{REFUSED, status_of_fault};
@@ -137,7 +137,9 @@ pub(crate) fn answer_of_missing<'a, S: Source>(
     missing: Missing,
     source: &mut S,
     names: &'a mut Names,
-) -> Answer<'a> {
+) -> Answer<'a>
+    ensures { AnswersMissing missing result }
+{
     let Missing {
         configuration,
         reference,
@@ -163,7 +165,9 @@ pub(crate) fn answer_of_missing<'a, S: Source>(
 
 /// Returns the result for what a strict check refuses of a FIT image. The root, whose name is empty,
 /// is told as `/`.
-pub(crate) fn answer_of_loose<'a>(loose: Loose, names: &'a mut Names) -> Answer<'a> {
+pub(crate) fn answer_of_loose<'a>(loose: Loose, names: &'a mut Names) -> Answer<'a>
+    ensures { AnswersLoose loose result }
+{
     let Loose { why, node } = loose;
     let Some(name) = node else {
         return Answer::Loose {
@@ -182,7 +186,9 @@ pub(crate) fn answer_of_loose<'a>(loose: Loose, names: &'a mut Names) -> Answer<
 }
 
 /// Returns the result for what a strict check refuses of a legacy image.
-pub(crate) fn answer_of_header<'a>(why: Looseness) -> Answer<'a> {
+pub(crate) fn answer_of_header<'a>(why: Looseness) -> Answer<'a>
+    ensures { result ≡ Answer.Loose Format.Legacy why None }
+{
     Answer::Loose {
         format: Format::Legacy,
         why,

@@ -1,12 +1,13 @@
 //! Checks many images, with a line for each.
 
-ghost use Rattle.std.specs.Prelude.{◌≡◌, ◌≤◌, max};
+ghost use Rattle.std.specs.Prelude.{◌≡◌, ◌≢◌, ◌≤◌, ◌+◌, ◌||◌, [], max, true, Some, None, OnOk, if◌then◌else◌};
+ghost use Rattle.std.specs.Io.{Buffered.{writer_buffer, writer_contents}, KnownBytes.Appends};
 ghost use Rattle.uimg_checks.specs.Answers.{answer_status};
-ghost use Rattle.uimg_tool.specs.Statuses.{Grows};
+ghost use Rattle.uimg_tool.specs.{AnswerTexts.{answer_text, object_line, text_line}, Checking.AnswersRequest, Complaints.Ends, Statuses.{Grows, checked_status}};
 
 use crate::check_answers::{NOT_UTF8, Names, answer_of, answer_of_unread};
+use crate::complaints::Complaints;
 use crate::json_lines::put_json;
-use crate::main_program::{tell, tell_unprinted};
 use crate::path_list::PathList;
 use crate::reasons::is_pipe;
 use crate::request_fault::{DONE, FAILED, RequestFault, WRONG_LINE};
@@ -33,12 +34,13 @@ pub(crate) fn check_images<R: Files + AllocGlobal, W: Write, V: Write>(
     rt: &R,
     request: &CheckRequest<'_>,
     out: &mut W,
-    err: &mut V,
+    complaints: &mut Complaints<'_, V>,
 ) -> u8
-    ensures { result ≤ 3 }
+    ensures ends { Ends result complaints.old.count complaints.new.count }
+    ensures told { AnswersRequest request.now result (W.contents out.old) (W.contents out.new) }
 {
     let Ok(gathered) = BufWriter::new(rt.alloc(), out) else {
-        return tell(err, &RequestFault::OutOfMemory, FAILED);
+        return complaints.tell_no_memory();
     };
     let mut checks = Checks {
         room: Room::new(rt.alloc()),
@@ -55,17 +57,42 @@ pub(crate) fn check_images<R: Files + AllocGlobal, W: Write, V: Write>(
     } = checks;
     // A failed write leaves text in the buffer, which its drop would try to write again.
     let (_, _) = out.into_parts();
+    let found = found(greatest, has_checked, request.allows_none);
+    tell_ended(ended, found, complaints)
+}
+
+// Returns the greatest status, unless no image was checked and that is not allowed.
+fn found(greatest: u8, has_checked: bool, allows_none: bool) -> Option<u8>
+    ensures { result ≡ (if has_checked || allows_none then Some greatest else None) }
+{
+    if has_checked || allows_none {
+        Some(greatest)
+    } else {
+        None
+    }
+}
+
+// Returns the greatest status, if there is one, or tells why there is none.
+fn tell_ended<V: Write>(
+    ended: Result<(), Stop<'_>>,
+    greatest: Option<u8>,
+    complaints: &mut Complaints<'_, V>,
+) -> u8
+    ensures status { result ≡ checked_status ended.entry greatest }
+    ensures once { complaints.new.count ≤ complaints.old.count + 1 }
+    ensures silent { result ≢ 2 → result ≢ 3 → complaints.new.count ≡ complaints.old.count }
+{
     match ended {
-        Ok(()) if !has_checked && !request.allows_none => {
-            tell(err, &WordsFault::NoImages, WRONG_LINE)
-        }
-        Ok(()) => greatest,
+        Ok(()) => match greatest {
+            Some(status) => status,
+            None => complaints.tell(&WordsFault::NoImages, WRONG_LINE),
+        },
         Err(Stop::NoNames(path, reason)) => {
             let path = Printed(path.as_bytes());
-            tell(err, &RequestFault::Unread(path, reason), FAILED)
+            complaints.tell(&RequestFault::Unread(path, reason), FAILED)
         }
-        Err(Stop::NoMemory) => tell(err, &RequestFault::OutOfMemory, FAILED),
-        Err(Stop::Put(error)) => tell_unprinted(error, err),
+        Err(Stop::NoMemory) => complaints.tell_no_memory(),
+        Err(Stop::Put(error)) => complaints.tell_unprinted(&error),
     }
 }
 
@@ -95,14 +122,16 @@ impl<'a> From<AllocError> for Stop<'a> {
 }
 
 // The checks so far: their shared room, their lines, the greatest status, and whether there was one.
-struct Checks<'a, W: Write> {
+struct Checks<W: Write + Drop> {
     room: Room<Global>,
-    out: BufWriter<&'a mut W>,
+    out: BufWriter<W, Global>,
     greatest: u8,
     has_checked: bool,
 }
 
-impl<'a, W: Write> Checks<'a, W> {
+impl<W: Write + Drop> Checks<W> {
+    ghost use Rattle.uimg_tool.specs.Checks.{Answers, AnswersAll, AnswersNamed, AnswersUnlessEmpty, told};
+
     // Checks all requested images.
     fn check_all<'b, R: Files + AllocGlobal>(
         &mut self,
@@ -110,6 +139,9 @@ impl<'a, W: Write> Checks<'a, W> {
         request: &CheckRequest<'b>,
     ) -> Result<(), Stop<'b>>
         ensures grows { Grows self.old.greatest self.new.greatest }
+        ensures told { OnOk result (AnswersAll request.now (told W.contents self.old)
+            (told W.contents self.new)) }
+        ensures flushed { writer_buffer self.old.out ≡ [] → OnOk result (writer_buffer self.new.out ≡ []) }
     {
         for path in &request.images {
             self.check(rt, request, path.as_bytes())?;
@@ -128,6 +160,9 @@ impl<'a, W: Write> Checks<'a, W> {
         path: &'b str,
     ) -> Result<(), Stop<'b>>
         ensures grows { Grows self.old.greatest self.new.greatest }
+        ensures told { OnOk result (AnswersNamed request.now (told W.contents self.old)
+            (told W.contents self.new)) }
+        ensures flushed { writer_buffer self.old.out ≡ [] → OnOk result (writer_buffer self.new.out ≡ []) }
     {
         let from = if path == "-" { STANDARD_INPUT } else { path };
         let file = match fs::open(rt, from) {
@@ -155,6 +190,9 @@ impl<'a, W: Write> Checks<'a, W> {
         path: &[u8],
     ) -> Result<(), Stop<'b>>
         ensures grows { Grows self.old.greatest self.new.greatest }
+        ensures told { OnOk result (AnswersUnlessEmpty request.now path.now
+            (told W.contents self.old) (told W.contents self.new)) }
+        ensures flushed { writer_buffer self.old.out ≡ [] → OnOk result (writer_buffer self.new.out ≡ []) }
     {
         if path.is_empty() {
             return Ok(());
@@ -170,6 +208,9 @@ impl<'a, W: Write> Checks<'a, W> {
         path: &[u8],
     ) -> Result<(), Stop<'b>>
         ensures grows { Grows self.old.greatest self.new.greatest }
+        ensures told { OnOk result (Answers request.now path.now (told W.contents self.old)
+            (told W.contents self.new)) }
+        ensures flushed { writer_buffer self.old.out ≡ [] → OnOk result (writer_buffer self.new.out ≡ []) }
     {
         let mut names = Names::new(rt.alloc());
         let answer = match str::from_utf8(path) {
@@ -180,37 +221,18 @@ impl<'a, W: Write> Checks<'a, W> {
         if request.is_quiet && answer.word() == "ok" {
             return Ok(());
         }
-        self.put_answer(rt.alloc(), request.as_json, path, &answer)
+        put_answer(rt.alloc(), request.as_json, path, &answer, &mut self.out)?;
+        Ok(())
     }
 
     // Notes the status of a result.
     fn note(&mut self, answer: &Answer<'_>)
-        ensures { self.new.greatest ≡ max self.old.greatest (answer_status answer.now) }
+        ensures greatest { self.new.greatest ≡ max self.old.greatest (answer_status answer.now) }
+        ensures checked { self.new.has_checked ≡ true }
+        ensures out { self.new.out ≡ self.old.out }
     {
         self.greatest = u8::max(self.greatest, answer.status());
         self.has_checked = true;
-    }
-
-    // Writes the line of a result, and flushes it.
-    fn put_answer<'b>(
-        &mut self,
-        alloc: Global,
-        as_json: bool,
-        path: &[u8],
-        answer: &Answer<'_>,
-    ) -> Result<(), Stop<'b>>
-        ensures same { self.new.greatest ≡ self.old.greatest }
-    {
-        if as_json {
-            let text = object_text(alloc, path, answer)?;
-            put_json(text.as_slice(), &mut self.out)?;
-        } else {
-            let text = line_text(alloc, path, answer)?;
-            self.out.write_all(text.as_bytes())?;
-            self.out.write_all(b"\n")?;
-        }
-        self.out.flush()?;
-        Ok(())
     }
 
     // Checks the file at a path.
@@ -222,6 +244,7 @@ impl<'a, W: Write> Checks<'a, W> {
         names: &'n mut Names,
     ) -> Answer<'n>
         ensures same { self.new.greatest ≡ self.old.greatest }
+        ensures out { self.new.out ≡ self.old.out }
     {
         if is_pipe(rt, path) {
             return answer_of_unread(rt, path, names);
@@ -238,6 +261,59 @@ impl<'a, W: Write> Checks<'a, W> {
             _ => answer_of(end, None, &mut source, names),
         }
     }
+}
+
+// Writes what is told of a result, and flushes it.
+fn put_answer<'b, W: Write + Drop>(
+    alloc: Global,
+    as_json: bool,
+    path: &[u8],
+    answer: &Answer<'_>,
+    out: &mut BufWriter<W, Global>,
+) -> Result<(), Stop<'b>>
+    ensures put { OnOk result (Appends (writer_contents W.contents out.old)
+        (writer_contents W.contents out.new) (answer_text as_json path.now answer.now)) }
+    ensures flushed { OnOk result (writer_buffer out.new ≡ []) }
+{
+    if as_json {
+        put_object(alloc, path, answer, out)?;
+        return Ok(());
+    }
+    put_line(alloc, path, answer, out)?;
+    Ok(())
+}
+
+fn put_object<'b, W: Write + Drop>(
+    alloc: Global,
+    path: &[u8],
+    answer: &Answer<'_>,
+    out: &mut BufWriter<W, Global>,
+) -> Result<(), Stop<'b>>
+    ensures put { OnOk result (Appends (writer_contents W.contents out.old)
+        (writer_contents W.contents out.new) (object_line path.now answer.now)) }
+    ensures flushed { OnOk result (writer_buffer out.new ≡ []) }
+{
+    let text = object_text(alloc, path, answer)?;
+    put_json(text.as_slice(), out)?;
+    out.flush()?;
+    Ok(())
+}
+
+fn put_line<'b, W: Write + Drop>(
+    alloc: Global,
+    path: &[u8],
+    answer: &Answer<'_>,
+    out: &mut BufWriter<W, Global>,
+) -> Result<(), Stop<'b>>
+    ensures put { OnOk result (Appends (writer_contents W.contents out.old)
+        (writer_contents W.contents out.new) (text_line path.now answer.now)) }
+    ensures flushed { OnOk result (writer_buffer out.new ≡ []) }
+{
+    let text = line_text(alloc, path, answer)?;
+    out.write_all(text.as_bytes())?;
+    out.write_all(b"\n")?;
+    out.flush()?;
+    Ok(())
 }
 
 // Returns why reading the paths stopped.

@@ -1,10 +1,10 @@
 //! Makes a FIT image from a source that the profile refuses, in the whole language of dtc.
 
-ghost use Rattle.std.specs.Prelude.{◌≤◌};
 ghost use Rattle.uimg_blob_writing.specs.{Content.FilesAtData, Trees.node_of};
+ghost use Rattle.uimg_tool.specs.Complaints.{Ends};
 
-use crate::old_program::{about_end, tell, tell_end};
-use crate::old_tools::Tool;
+use crate::complaints::Complaints;
+use crate::old_files::{about_end, tell_end};
 use crate::request_fault::{FAILED, REFUSED, RequestFault};
 use crate::searched_files::SearchedFiles;
 use crate::tree_program::{TreeRequest, write_image};
@@ -33,13 +33,12 @@ pub(crate) struct Beyond<'a> {
 /// Makes the image of a source that the profile refuses.
 pub(crate) fn make_beyond<'x, R: rt::Files + AllocGlobal, W: Write, V: Write>(
     rt: &'x R,
-    tool: Tool,
     request: &'x FitRequest<'x>,
     beyond: &'x Beyond<'x>,
     out: &mut W,
-    err: &mut V,
+    complaints: &mut Complaints<'_, V>,
 ) -> u8
-    ensures { result ≤ 3 }
+    ensures { Ends result complaints.old.count complaints.new.count }
 {
     let making = &beyond.making;
     let folders = request.dtc.folders.as_slice();
@@ -47,19 +46,18 @@ pub(crate) fn make_beyond<'x, R: rt::Files + AllocGlobal, W: Write, V: Write>(
     let compiled = compile_all(rt.alloc(), &beyond.text, &mut files);
     if compiled.is_err() && files.has_met_left_out() {
         let end = Err(RequestFault::WritesWhatIsRead(making.outfile));
-        return tell_end(rt, tool, &end, making.outfile, err);
+        return tell_end(rt, &end, making.outfile, complaints);
     }
     if files.is_ambiguous() {
         let source = Printed(making.source.as_bytes());
         let reason = format_args!(
             "{source}: a file that it includes is in several folders of -D -i"
         );
-        return tell(tool, err, &reason, REFUSED);
+        return complaints.tell(&reason, REFUSED);
     }
     match compiled {
         Ok(Compiled { tree, reservations }) => {
             let making = TreeRequest {
-                tool,
                 source: making.source,
                 image: making.outfile,
                 placement: request.placement,
@@ -68,16 +66,16 @@ pub(crate) fn make_beyond<'x, R: rt::Files + AllocGlobal, W: Write, V: Write>(
                 manner: request.manner,
                 is_quiet: request.is_quiet,
             };
-            warn(rt.alloc(), &tree, request.dtc.silenced, err);
-            make_compiled(rt, making, tree, &mut files, out, err)
+            warn(rt.alloc(), &tree, request.dtc.silenced, complaints.err);
+            make_compiled(rt, making, tree, &mut files, out, complaints)
         }
         Err(fault) if fault.kind == DtsKind::NoFile => {
             let (source, name) = (Printed(making.source.as_bytes()), Printed(files.missing()));
             let line = fault.line;
             let reason = format_args!("{source}: cannot read {name}, which line {line} names");
-            tell(tool, err, &reason, FAILED)
+            complaints.tell(&reason, FAILED)
         }
-        Err(fault) => tell_refused(rt, tool, beyond, fault, err),
+        Err(fault) => tell_refused(rt, beyond, fault, complaints),
     }
 }
 
@@ -88,17 +86,17 @@ pub(crate) fn make_compiled<R: rt::Files + AllocGlobal, F: Files, W: Write, V: W
     tree: Tree<Global>,
     files: &mut F,
     out: &mut W,
-    err: &mut V,
+    complaints: &mut Complaints<'_, V>,
 ) -> u8
     requires { FilesAtData (node_of tree.root) }
-    ensures { result ≤ 3 }
+    ensures { Ends result complaints.old.count complaints.new.count }
 {
     match fill_by(rt.alloc(), tree, making.manner.time, Naming::All, files) {
-        Ok(tree) => write_image(rt, making, &tree, files, out, err),
+        Ok(tree) => write_image(rt, making, &tree, files, out, complaints),
         Err(fault) => {
             let end = Err(RequestFault::Stopped(Fault::Fit(fault)));
             let about = about_end(&end, making.source, making.image);
-            tell_end(rt, making.tool, &end, about, err)
+            tell_end(rt, &end, about, complaints)
         }
     }
 }
@@ -107,12 +105,11 @@ pub(crate) fn make_compiled<R: rt::Files + AllocGlobal, F: Files, W: Write, V: W
 // for a construct of the whole language.
 fn tell_refused<R: rt::Files, V: Write>(
     rt: &R,
-    tool: Tool,
     beyond: &Beyond<'_>,
     fault: DtsFault,
-    err: &mut V,
+    complaints: &mut Complaints<'_, V>,
 ) -> u8
-    ensures { result ≤ 3 }
+    ensures { Ends result complaints.old.count complaints.new.count }
 {
     let source = beyond.making.source;
     let status = match fault.kind {
@@ -123,11 +120,11 @@ fn tell_refused<R: rt::Files, V: Write>(
         FaultKind::BadToken | FaultKind::BadSyntax | FaultKind::BadNumber
             if status == REFUSED && beyond.fault.line == fault.line => {
             let end = Err(RequestFault::Stopped(Fault::Its(beyond.fault)));
-            tell_end(rt, tool, &end, source, err)
+            tell_end(rt, &end, source, complaints)
         }
         _ => {
             let path = Printed(source.as_bytes());
-            tell(tool, err, &format_args!("{path}: {fault}"), status)
+            complaints.tell(&format_args!("{path}: {fault}"), status)
         }
     }
 }

@@ -1,14 +1,14 @@
 //! Makes a FIT image from a source, as mkimage does.
 
-ghost use Rattle.std.specs.Prelude.{◌≤◌};
+ghost use Rattle.uimg_tool.specs.Complaints.{Ends};
 
+use crate::complaints::Complaints;
 use crate::dts_program::{Beyond, make_beyond, make_compiled};
 use crate::known_sources::{Known, files_of, known_source, source_has_labels};
-use crate::old_program::{make_image, tell, tell_end, tell_unread, tell_unwritten};
-use crate::old_tools::{Called, Tool};
+use crate::old_files::{How, make_image, tell_end};
 use crate::other_algos::has_other_algos;
 use crate::reasons::is_pipe;
-use crate::request_fault::{FAILED, REFUSED, RequestFault, WRONG_LINE};
+use crate::request_fault::{REFUSED, RequestFault, WRONG_LINE};
 use crate::safe_path::{NewBeside, new_beside};
 use crate::tree_program::TreeRequest;
 use std::alloc::AllocError;
@@ -19,7 +19,7 @@ use std::{fs, io};
 use uimg_base::FileSource;
 use uimg_compat::{FitRequest, OldFault, warn};
 use uimg_requests::MakeRequest;
-use uimg_unpacking::FileId;
+use uimg_unpacking::{DiskWorld, FileId};
 
 /// The name of standard input as a source, and its path.
 const INPUT_NAME: &str = "-";
@@ -32,26 +32,25 @@ const MOST_INPUT: u64 = 1 << 26;
 /// Makes the requested image. A source from standard input is beside the image meanwhile.
 pub(crate) fn make_fit<R: Files + AllocGlobal, W: Write, V: Write>(
     rt: &R,
-    tool: Tool,
     request: &FitRequest<'_>,
     out: &mut W,
-    err: &mut V,
+    complaints: &mut Complaints<'_, V>,
 ) -> u8
-    ensures { result ≤ 3 }
+    ensures { Ends result complaints.old.count complaints.new.count }
 {
     if is_key(rt, request.key) {
-        return tell(tool, err, &OldFault::Signs('g'), WRONG_LINE);
+        return complaints.tell(&OldFault::Signs('g'), WRONG_LINE);
     }
     if request.source == INPUT_NAME {
-        return make_of_input(rt, tool, request, out, err);
+        return make_of_input(rt, request, out, complaints);
     }
     if FileSource::open(rt, request.source).is_ok() {
-        return make_of_path(rt, tool, request, request.source, out, err);
+        return make_of_path(rt, request, request.source, out, complaints);
     }
     match path_in_folders(rt, request) {
-        Ok(Some(path)) => make_of_path(rt, tool, request, path.as_str(), out, err),
-        Ok(None) => tell_unread(rt, tool, request.source, err),
-        Err(_) => tell(tool, err, &OldFault::OutOfMemory, FAILED),
+        Ok(Some(path)) => make_of_path(rt, request, path.as_str(), out, complaints),
+        Ok(None) => complaints.tell_unread(rt, request.source),
+        Err(_) => complaints.tell_no_memory(),
     }
 }
 
@@ -81,13 +80,12 @@ fn path_in_folders<R: Files + AllocGlobal>(
 
 fn make_of_path<R: Files + AllocGlobal, W: Write, V: Write>(
     rt: &R,
-    tool: Tool,
     request: &FitRequest<'_>,
     path: &str,
     out: &mut W,
-    err: &mut V,
+    complaints: &mut Complaints<'_, V>,
 ) -> u8
-    ensures { result ≤ 3 }
+    ensures { Ends result complaints.old.count complaints.new.count }
 {
     let made = MakeRequest::of_source(
         rt.alloc(),
@@ -97,57 +95,55 @@ fn make_of_path<R: Files + AllocGlobal, W: Write, V: Write>(
         request.outfile,
     );
     match made {
-        Ok(making) => warn_and_make(rt, tool, request, making, out, err),
-        Err(_) => tell(tool, err, &OldFault::OutOfMemory, FAILED),
+        Ok(making) => warn_and_make(rt, request, making, out, complaints),
+        Err(_) => complaints.tell_no_memory(),
     }
 }
 
 // Makes the image of standard input, which is copied to a new file first.
 fn make_of_input<R: Files + AllocGlobal, W: Write, V: Write>(
     rt: &R,
-    tool: Tool,
     request: &FitRequest<'_>,
     out: &mut W,
-    err: &mut V,
+    complaints: &mut Complaints<'_, V>,
 ) -> u8
-    ensures { result ≤ 3 }
+    ensures { Ends result complaints.old.count complaints.new.count }
 {
     let outfile = FileId::of(rt, request.outfile);
     if outfile.is_some() && outfile == FileId::of(rt, INPUT) {
         let end = Err(RequestFault::WritesWhatIsRead(request.outfile));
-        return tell_end(rt, tool, &end, request.outfile, err);
+        return tell_end(rt, &end, request.outfile, complaints);
     }
     let Ok(text) = read_input(rt) else {
-        return tell_unread(rt, tool, INPUT, err);
+        return complaints.tell_unread(rt, INPUT);
     };
     if text.len() as u64 > MOST_INPUT {
         let reason = format_args!("{INPUT_NAME}: a source of more than 64 MiB");
-        return tell(tool, err, &reason, REFUSED);
+        return complaints.tell(&reason, REFUSED);
     }
-    match new_beside(rt, request.outfile) {
+    match new_beside(&mut DiskWorld::new(rt), rt.alloc(), request.outfile) {
         Ok(Ok(NewBeside { mut file, path })) => {
             let status = match file.write_all(&text) {
-                Ok(()) => make_of_copy(rt, tool, request, path.as_str(), out, err),
-                Err(reason) => tell_unwritten(tool, request.outfile, &reason, err),
+                Ok(()) => make_of_copy(rt, request, path.as_str(), out, complaints),
+                Err(reason) => complaints.tell_unwritten(request.outfile, &reason),
             };
             drop(file);
             let _ = fs::remove_file(rt, path.as_str());
             status
         }
-        Ok(Err(reason)) => tell_unwritten(tool, request.outfile, &reason, err),
-        Err(_) => tell(tool, err, &OldFault::OutOfMemory, FAILED),
+        Ok(Err(reason)) => complaints.tell_unwritten(request.outfile, &reason),
+        Err(_) => complaints.tell_no_memory(),
     }
 }
 
 fn make_of_copy<R: Files + AllocGlobal, W: Write, V: Write>(
     rt: &R,
-    tool: Tool,
     request: &FitRequest<'_>,
     path: &str,
     out: &mut W,
-    err: &mut V,
+    complaints: &mut Complaints<'_, V>,
 ) -> u8
-    ensures { result ≤ 3 }
+    ensures { Ends result complaints.old.count complaints.new.count }
 {
     let made = MakeRequest::of_source_here(
         rt.alloc(),
@@ -157,8 +153,8 @@ fn make_of_copy<R: Files + AllocGlobal, W: Write, V: Write>(
         request.outfile,
     );
     match made {
-        Ok(making) => warn_and_make(rt, tool, request, named_input(making), out, err),
-        Err(_) => tell(tool, err, &OldFault::OutOfMemory, FAILED),
+        Ok(making) => warn_and_make(rt, request, named_input(making), out, complaints),
+        Err(_) => complaints.tell_no_memory(),
     }
 }
 
@@ -181,21 +177,20 @@ fn read_input<R: Files + AllocGlobal>(rt: &R) -> io::Result<Vec<u8>> {
 // of dtc, and of one with algorithms outside the profile by all of them.
 fn warn_and_make<R: Files + AllocGlobal, W: Write, V: Write>(
     rt: &R,
-    tool: Tool,
     request: &FitRequest<'_>,
     mut making: MakeRequest<'_>,
     out: &mut W,
-    err: &mut V,
+    complaints: &mut Complaints<'_, V>,
 ) -> u8
-    ensures { result ≤ 3 }
+    ensures { Ends result complaints.old.count complaints.new.count }
 {
     if request.dtc.has_symbols && source_has_labels(rt, &making, &request.dtc) {
-        return tell(tool, err, &OldFault::DtcSymbols, WRONG_LINE);
+        return complaints.tell(&OldFault::DtcSymbols, WRONG_LINE);
     }
     making.manner = request.manner;
     match known_source(rt, &making, &request.dtc) {
         Known::Beyond(_, _) if request.dtc.has_symbols => {
-            return tell(tool, err, &OldFault::DtcSymbols, WRONG_LINE);
+            return complaints.tell(&OldFault::DtcSymbols, WRONG_LINE);
         }
         Known::Beyond(text, fault) => {
             let beyond = Beyond {
@@ -203,34 +198,28 @@ fn warn_and_make<R: Files + AllocGlobal, W: Write, V: Write>(
                 text,
                 fault,
             };
-            return make_beyond(rt, tool, request, &beyond, out, err);
+            return make_beyond(rt, request, &beyond, out, complaints);
         }
         Known::Tree(tree) => {
-            warn(rt.alloc(), &tree, request.dtc.silenced, err);
+            warn(rt.alloc(), &tree, request.dtc.silenced, complaints.err);
             if has_other_algos(&tree) {
                 let mut files = files_of(rt, &making, &request.dtc);
-                let making = tree_request(tool, request, &making);
-                return make_compiled(rt, making, tree, &mut files, out, err);
+                let making = tree_request(request, &making);
+                return make_compiled(rt, making, tree, &mut files, out, complaints);
             }
         }
         Known::Unread => {}
     }
-    let called = Called {
-        tool,
+    let how = How {
         is_quiet: request.is_quiet,
         folders: request.dtc.folders.as_slice(),
     };
-    make_image(rt, called, making, out, err)
+    make_image(rt, how, making, out, complaints)
 }
 
 // Returns what is made of the tree of a source.
-fn tree_request<'a>(
-    tool: Tool,
-    request: &FitRequest<'_>,
-    making: &MakeRequest<'a>,
-) -> TreeRequest<'a> {
+fn tree_request<'a>(request: &FitRequest<'_>, making: &MakeRequest<'a>) -> TreeRequest<'a> {
     TreeRequest {
-        tool,
         source: making.source,
         image: making.outfile,
         placement: request.placement,

@@ -1,10 +1,11 @@
 //! Prints the facts of an image, as a line of JSON.
 
 ghost use Rattle.std.specs.Prelude.{◌≤◌, IfOk};
+ghost use Rattle.uimg_tool.specs.Complaints.{Ends};
 
 use crate::check_answers::{CHANGED, Names, answer_of_fault, answer_of_unread};
+use crate::complaints::Complaints;
 use crate::json_lines::put_json;
-use crate::main_program::{tell, tell_unprinted};
 use crate::reasons::is_pipe;
 use crate::request_fault::{DONE, FAILED, RequestFault};
 use std::alloc::{AllocError, Global};
@@ -24,16 +25,16 @@ pub(crate) fn tell_facts<R: Files + AllocGlobal, W: Write, V: Write>(
     rt: &R,
     request: &InfoRequest<'_>,
     out: &mut W,
-    err: &mut V,
+    complaints: &mut Complaints<'_, V>,
 ) -> u8
-    ensures { result ≤ 3 }
+    ensures { Ends result complaints.old.count complaints.new.count }
 {
     let Ok(mut gathered) = BufWriter::new(rt.alloc(), out) else {
-        return tell(err, &RequestFault::OutOfMemory, FAILED);
+        return complaints.tell_no_memory();
     };
     let status = match object_of(rt, request.image) {
-        Ok((text, status)) => put_object(text.as_slice(), status, &mut gathered, err),
-        Err(_) => tell(err, &RequestFault::OutOfMemory, FAILED),
+        Ok((text, status)) => put_object(text.as_slice(), status, &mut gathered, complaints),
+        Err(_) => complaints.tell_no_memory(),
     };
     // A failed write leaves text in the buffer, which its drop would try to write again.
     let (_, _) = gathered.into_parts();
@@ -45,13 +46,13 @@ pub(crate) fn put_object<W: Write, V: Write>(
     text: &[u8],
     status: u8,
     out: &mut W,
-    err: &mut V,
+    complaints: &mut Complaints<'_, V>,
 ) -> u8
-    ensures { status ≤ 3 → result ≤ 3 }
+    ensures { status ≤ 3 → Ends result complaints.old.count complaints.new.count }
 {
     match put_json(text, out).and_then(|()| out.flush()) {
         Ok(()) => status,
-        Err(error) => tell_unprinted(error, err),
+        Err(error) => complaints.tell_unprinted(&error),
     }
 }
 

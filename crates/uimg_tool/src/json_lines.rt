@@ -3,7 +3,7 @@
 ghost use Rattle.std.specs.Prelude.{◌≡◌, ◌<◌, false, OnOk};
 ghost use Rattle.std.specs.Fmt.{digit_glyph};
 ghost use Rattle.std.specs.Io.KnownBytes.{Appends};
-ghost use Rattle.uimg_tool.specs.JsonLines.{is_control, escape_of, shown, shown_from};
+ghost use Rattle.uimg_tool.specs.JsonLines.{is_control, escape_of, shown, shown_from, shown_line};
 
 use std::io;
 use std::io::Write;
@@ -45,7 +45,10 @@ impl<'a, W: Write> Write for JsonOut<'a, W> {
 }
 
 /// Writes a JSON text and a newline, escaped as by `JsonOut`.
-pub(crate) fn put_json<W: Write>(text: &[u8], out: &mut W) -> io::Result<()> {
+pub(crate) fn put_json<W: Write>(text: &[u8], out: &mut W) -> io::Result<()>
+    ensures { OnOk result (Appends (W.contents out.old) (W.contents out.new)
+        (shown_line text.now)) }
+{
     put_text(text, false, out)?;
     out.write_all(b"\n")
 }

@@ -1,5 +1,7 @@
 //! The source of an image, before the image is made.
 
+ghost use Rattle.std.specs.Prelude.{◌≡◌, not};
+ghost use Rattle.uimg_its.specs.Answers.{is_outside_text};
 ghost use Rattle.uimg_tool.specs.KnownSources.{HasFilesAtData};
 
 use crate::searched_files::SearchedFiles;
@@ -58,7 +60,9 @@ pub(crate) fn files_of<'a, R: Files + AllocGlobal>(
 }
 
 // Returns whether a fault is of the text alone.
-fn is_of_text(kind: FaultKind) -> bool {
+fn is_of_text(kind: FaultKind) -> bool
+    ensures { result ≡ not (is_outside_text kind) }
+{
     match kind {
         FaultKind::BadToken | FaultKind::BadSyntax | FaultKind::BadNumber => true,
         FaultKind::OutOfProfile(_) => true,

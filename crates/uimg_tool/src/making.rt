@@ -1,5 +1,8 @@
 //! Makes an image on a disk.
 
+ghost use Rattle.std.specs.Prelude.{◌≡◌, ◌⊎◌, [], true};
+ghost use Rattle.uimg_tool.specs.RequestEnds.{AsMade, IsFileAt, MakeEnds, StoppedAs};
+
 use crate::request_fault::RequestFault;
 use crate::searched_files::SearchedFiles;
 use crate::xip_files::XipFiles;
@@ -17,7 +20,9 @@ pub(crate) fn make_image<'a, R: rt::Files + AllocGlobal, H: Shelf, W: Write>(
     others: &'a [&'a str],
     shelf: H,
     out: &mut W,
-) -> Result<Status, RequestFault<'a>> {
+) -> Result<Status, RequestFault<'a>>
+    ensures { MakeEnds request.now result }
+{
     if request.is_xip {
         let files = DiskFiles::without(rt, request.folder, request.outfile);
         return make_xip(rt, request, files, shelf, out);
@@ -34,7 +39,10 @@ fn make_xip<'a, R: rt::Files + AllocGlobal, H: Shelf, W: Write>(
     files: DiskFiles<'a, R>,
     shelf: H,
     out: &mut W,
-) -> Result<Status, RequestFault<'a>> {
+) -> Result<Status, RequestFault<'a>>
+    requires { request.now.is_xip ≡ true }
+    ensures { MakeEnds request.now result }
+{
     let mut files = XipFiles::new(files);
     match make_over(rt, request, &mut files, shelf, out) {
         Err(Fault::NoFile(number)) if files.has_met_no_room() => {
@@ -72,7 +80,9 @@ fn end_of<'a>(
     request: &'a MakeRequest<'a>,
     made: Result<(), Fault>,
     has_met_outfile: bool,
-) -> Result<Status, RequestFault<'a>> {
+) -> Result<Status, RequestFault<'a>>
+    ensures { AsMade request.now made has_met_outfile result }
+{
     match made {
         Ok(()) => Ok(Status::Done),
         Err(_) if has_met_outfile => Err(RequestFault::WritesWhatIsRead(request.outfile)),
@@ -81,7 +91,9 @@ fn end_of<'a>(
 }
 
 // Returns why making an image stopped, with the path from the command line.
-fn stopped_making<'a>(request: &'a MakeRequest<'_>, fault: Fault) -> RequestFault<'a> {
+fn stopped_making<'a>(request: &'a MakeRequest<'_>, fault: Fault) -> RequestFault<'a>
+    ensures { StoppedAs request.now fault result }
+{
     match fault {
         Fault::NoFile(number) => RequestFault::CannotRead(file_path(request, number)),
         Fault::Keep => RequestFault::CannotRead(request.outfile),
@@ -90,12 +102,24 @@ fn stopped_making<'a>(request: &'a MakeRequest<'_>, fault: Fault) -> RequestFaul
 }
 
 // Returns the path of a file as the command line has it.
-fn file_path<'a>(request: &'a MakeRequest<'_>, number: u64) -> &'a str {
+fn file_path<'a>(request: &'a MakeRequest<'_>, number: u64) -> &'a str
+    ensures { IsFileAt request.now number result.now }
+{
     match &request.command {
         MakeCommand::Parts { options: _, files } => match files.get(number as usize) {
-            Some(name) => str::from_utf8(name).unwrap_or(""),
+            Some(name) => text_of(name),
             None => "",
         },
         MakeCommand::Tree { .. } => request.source,
+    }
+}
+
+// Returns a name as a text, or none if it is not UTF-8.
+fn text_of(name: &[u8]) -> &str
+    ensures { (result.now ≡ []) ⊎ (result.now ≡ name.now) }
+{
+    match str::from_utf8(name) {
+        Ok(name) => name,
+        Err(_) => "",
     }
 }

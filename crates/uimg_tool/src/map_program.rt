@@ -1,8 +1,8 @@
 //! Prints the map of an image's file, as lines or as a picture.
 
-ghost use Rattle.std.specs.Prelude.{◌≤◌};
+ghost use Rattle.uimg_tool.specs.Complaints.{Ends};
 
-use crate::main_program::{tell, tell_unprinted, tell_unread};
+use crate::complaints::Complaints;
 use crate::reasons::{is_pipe, reason_of_code};
 use crate::request_fault::{DONE, FAILED, REFUSED, RequestFault, WRONG_LINE};
 use crate::safe_path::{SafePath, Writing, writing_of};
@@ -23,32 +23,32 @@ pub(crate) fn map_image<R: Files + AllocGlobal, W: Write, V: Write>(
     rt: &R,
     request: &MapRequest<'_>,
     out: &mut W,
-    err: &mut V,
+    complaints: &mut Complaints<'_, V>,
 ) -> u8
-    ensures { result ≤ 3 }
+    ensures { Ends result complaints.old.count complaints.new.count }
 {
     if is_pipe(rt, request.image) {
-        return tell_unread(rt, request.image, err);
+        return complaints.tell_unread(rt, request.image);
     }
     let Ok(mut source) = FileSource::open(rt, request.image) else {
-        return tell_unread(rt, request.image, err);
+        return complaints.tell_unread(rt, request.image);
     };
     let map = match map_of(rt.alloc(), &mut source) {
         Ok(map) => map,
-        Err(fault) => return tell(err, &fault, FAILED),
+        Err(fault) => return complaints.tell(&fault, FAILED),
     };
     let ended = match request.picture {
         Some(path) if is_same_file(rt, path, request.image) => {
             let path = Printed(path.as_bytes());
-            return tell(err, &RequestFault::DrawsOverWhatIsRead(path), WRONG_LINE);
+            return complaints.tell(&RequestFault::DrawsOverWhatIsRead(path), WRONG_LINE);
         }
         Some(path) if !request.is_forced && is_taken(rt, path) => {
-            return tell(err, &RequestFault::Exists(Printed(path.as_bytes())), FAILED);
+            return complaints.tell(&RequestFault::Exists(Printed(path.as_bytes())), FAILED);
         }
         Some(path) => draw(rt, request, path, &mut source, &map),
         None => print(rt, &mut source, &map, out),
     };
-    tell_ended(ended, map.fault, err)
+    tell_ended(ended, map.fault, complaints)
 }
 
 // Returns whether a picture at a path would replace a file or a symbolic link. Devices and pipes are
@@ -73,20 +73,24 @@ enum Stop<'a> {
     Stopped(MapStop),
 }
 
-fn tell_ended<V: Write>(ended: Result<(), Stop<'_>>, fault: Option<MapFault>, err: &mut V) -> u8
-    ensures { result ≤ 3 }
+fn tell_ended<V: Write>(
+    ended: Result<(), Stop<'_>>,
+    fault: Option<MapFault>,
+    complaints: &mut Complaints<'_, V>,
+) -> u8
+    ensures { Ends result complaints.old.count complaints.new.count }
 {
     match (ended, fault) {
         (Ok(()), None) => DONE,
-        (Ok(()), Some(fault)) => tell(err, &fault, REFUSED),
+        (Ok(()), Some(fault)) => complaints.tell(&fault, REFUSED),
         (Err(Stop::CannotWrite(path, reason)), _) => {
             let path = Printed(path.as_bytes());
-            tell(err, &RequestFault::Unwritten(path, reason), FAILED)
+            complaints.tell(&RequestFault::Unwritten(path, reason), FAILED)
         }
-        (Err(Stop::CannotPrint(error)), _) => tell_unprinted(error, err),
+        (Err(Stop::CannotPrint(error)), _) => complaints.tell_unprinted(&error),
         (Err(Stop::Stopped(MapStop::Closed)), _) => FAILED,
-        (Err(Stop::Stopped(MapStop::Put)), _) => tell(err, &Fault::Put, FAILED),
-        (Err(Stop::Stopped(MapStop::Stopped(fault))), _) => tell(err, &fault, FAILED),
+        (Err(Stop::Stopped(MapStop::Put)), _) => complaints.tell(&Fault::Put, FAILED),
+        (Err(Stop::Stopped(MapStop::Stopped(fault))), _) => complaints.tell(&fault, FAILED),
     }
 }
 

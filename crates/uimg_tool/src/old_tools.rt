@@ -1,5 +1,9 @@
 //! The tools whose names the program may have.
 
+ghost use Rattle.std.specs.{Prelude.◌≡◌, Str.bytes_eq};
+
+use uimg_compat::file_name;
+
 /// A tool of U-Boot, whose command line the program takes if it has the tool's name.
 #[derive(Clone, Copy, Debug, PartialEq, Eq)]
 pub(crate) enum Tool {
@@ -7,45 +11,47 @@ pub(crate) enum Tool {
     Dumpimage,
 }
 
-/// A tool whose command line is carried out, whether it prints nothing, and the folders where it
-/// looks for files that are not in the folder of a source.
-#[derive(Clone, Copy, Debug, PartialEq, Eq)]
-pub(crate) struct Called<'a> {
-    pub(crate) tool: Tool,
-    pub(crate) is_quiet: bool,
-    pub(crate) folders: &'a [&'a str],
-}
+impl Tool {
+    ghost use Rattle.std.specs.Prelude.{◌≡◌, map, codes};
+    ghost use Rattle.uimg_tool.specs.Programs.{tool_named, tool_of, name_of};
 
-impl<'a> Called<'a> {
-    /// Returns a tool that looks for files in no other folder.
-    pub(crate) fn new(tool: Tool, is_quiet: bool) -> Called<'a> {
-        Called {
-            tool,
-            is_quiet,
-            folders: &[],
+    /// Returns the tool of a command line, whose first word is the program's path.
+    pub(crate) fn of_words(words: &[&str]) -> Option<Tool>
+        ensures { result ≡ tool_of (map (λ word. word.now) words.now) }
+    {
+        match words.first() {
+            Some(path) => Tool::named(file_name(path.as_bytes())),
+            None => None,
         }
     }
-}
 
-impl Tool {
-    /// Returns the tool whose name comes after the last slash of a program's path.
-    pub(crate) fn of_path(path: &str) -> Option<Tool> {
-        let name = match path.rsplit_once('/') {
-            Some((_, name)) => name,
-            None => path,
-        };
-        match name.strip_prefix("uimg-").unwrap_or(name) {
-            "mkimage" => Some(Tool::Mkimage),
-            "dumpimage" => Some(Tool::Dumpimage),
-            _ => None,
+    // Returns the tool of a name.
+    #[tactic(auto, unfolding(crate::specs::Programs::tool_named))]
+    fn named(name: &[u8]) -> Option<Tool>
+        ensures { result ≡ tool_named name.now }
+    {
+        if is(name, "mkimage") || is(name, "uimg-mkimage") {
+            Some(Tool::Mkimage)
+        } else if is(name, "dumpimage") || is(name, "uimg-dumpimage") {
+            Some(Tool::Dumpimage)
+        } else {
+            None
         }
     }
 
     /// Returns the tool's own name, which begins each line of a fault.
-    pub(crate) fn name(self) -> &'static str {
+    pub(crate) fn name(self) -> &'static str
+        ensures { result.now ≡ name_of self }
+    {
         match self {
             Tool::Mkimage => "mkimage",
             Tool::Dumpimage => "dumpimage",
         }
     }
+}
+
+fn is(name: &[u8], text: &str) -> bool
+    ensures { result ≡ bytes_eq name.now text.now }
+{
+    name == text.as_bytes()
 }

@@ -1,10 +1,15 @@
 //! Where a file is written before it gets its name.
 
-use std::alloc::AllocError;
+ghost use Rattle.std.specs.Prelude.{◌≡◌, ◌++◌, codes, decimal, true, IfOk, string_bytes};
+ghost use Rattle.uimg_tool.specs.BesidePaths.{Finishes, is_beside, stays_beside};
+ghost use Rattle.uimg_unpacking.specs.Deeds.{answer_of};
+
+use std::alloc::{AllocError, Global};
 use std::io::ErrorKind;
 use std::os::unix::fs::FileTypeExt;
 use std::rt::Files;
 use std::{fs, io};
+use uimg_unpacking::{DiskWorld, World};
 
 /// How many names are tried beside a path. Commands that were stopped left those that exist.
 const TRIED: u32 = 10_000;
@@ -34,12 +39,34 @@ pub(crate) struct SafePath {
 
     /// The path that it gets when it is complete.
     pub(crate) whole: String,
+    ghost beside: { is_beside (string_bytes whole) (string_bytes new) ≡ true },
+}
+
+impl SafePath {
+    /// Gives the file its path if it is complete, and else removes it, as if it cannot get that. Returns
+    /// why it cannot.
+    pub(crate) fn finish<W: World>(&self, world: &mut W, is_complete: bool) -> io::Result<()>
+        ensures { Finishes (string_bytes self.now.new) (string_bytes self.now.whole) is_complete
+            (answer_of result) (W.trace world.old) (W.trace world.new) }
+    {
+        let (new, whole) = (self.new.as_str(), self.whole.as_str());
+        if !is_complete {
+            return world.remove_file(new);
+        }
+        match world.rename(new, whole) {
+            Ok(()) => Ok(()),
+            Err(reason) => {
+                let _ = world.remove_file(new);
+                Err(reason)
+            }
+        }
+    }
 }
 
 /// A new file beside a path, with its own path.
 #[derive(Drop)]
-pub(crate) struct NewBeside<R: Files> {
-    pub(crate) file: R::File,
+pub(crate) struct NewBeside<F: Drop> {
+    pub(crate) file: F,
     pub(crate) path: String,
 }
 
@@ -60,7 +87,7 @@ pub(crate) fn writing_of<R: Files + AllocGlobal>(
         Err(_) if fs::symlink_metadata(rt, path).is_ok() => return Ok(Writing::InPlace),
         Err(_) => String::from_str(rt.alloc(), path)?,
     };
-    match new_beside(rt, whole.as_str())? {
+    match new_beside(&mut DiskWorld::new(rt), rt.alloc(), whole.as_str())? {
         Ok(NewBeside { file, path: new }) => Ok(Writing::Beside(file, SafePath { new, whole })),
         Err(error) => Ok(Writing::Nowhere(error)),
     }
@@ -73,17 +100,30 @@ fn is_link<R: Files>(rt: &R, path: &str) -> bool {
 
 /// Creates a file beside a path, under the first free name. Returns why it cannot be created; fails
 /// if memory for its path is refused.
-pub(crate) fn new_beside<R: Files + AllocGlobal>(
-    rt: &R,
+pub(crate) fn new_beside<W: World>(
+    world: &mut W,
+    alloc: Global,
     path: &str,
-) -> Result<io::Result<NewBeside<R>>, AllocError> {
+) -> Result<io::Result<NewBeside<W::File>>, AllocError>
+    ensures made { IfOk result (λ tried. IfOk tried (λ new.
+        is_beside path.now (string_bytes new.path) ≡ true)) }
+    ensures within { stays_beside path.now (W.trace world.new)
+        ≡ stays_beside path.now (W.trace world.old) }
+{
     for number in 1..=TRIED {
-        let path = format!(in rt.alloc(); "{path}.uimg-new{number}")?;
-        match fs::File::create_new(rt, path.as_str()) {
+        let path = path_beside(alloc, path, number)?;
+        match world.create_new(path.as_str()) {
             Ok(file) => return Ok(Ok(NewBeside { file, path })),
             Err(error) if error.kind() == ErrorKind::AlreadyExists => {}
             Err(error) => return Ok(Err(error)),
         }
     }
     Ok(Err(io::Error::from(ErrorKind::AlreadyExists)))
+}
+
+fn path_beside(alloc: Global, path: &str, number: u32) -> Result<String, AllocError>
+    ensures { IfOk result (λ new. string_bytes new
+        ≡ path.now ++ codes ".uimg-new" ++ decimal number) }
+{
+    format!(in alloc; "{path}.uimg-new{number}")
 }

@@ -1,6 +1,6 @@
 //! Files that are looked for in several folders.
 
-ghost use Rattle.std.specs.Prelude.{◌≡◌, None, false, IfOk};
+ghost use Rattle.std.specs.Prelude.{◌≡◌, ◌-◌, length, take, None, false, IfOk, IfSome};
 ghost use Rattle.uimg_base.specs.Device.{IsFresh};
 
 use std::alloc::Global;
@@ -60,7 +60,9 @@ impl<'a, R: rt::Files + AllocGlobal> SearchedFiles<'a, R> {
 
     /// Returns whether a file was in several folders, and another that may name it was found in one of
     /// the others. If that one names it, dtc looks in its folder first.
-    pub(crate) fn is_ambiguous(&self) -> bool {
+    pub(crate) fn is_ambiguous(&self) -> bool
+        ensures { result ≡ self.now.is_ambiguous }
+    {
         self.is_ambiguous
     }
 
@@ -196,7 +198,9 @@ fn folder_of(name: &[u8]) -> &[u8] {
 }
 
 // Returns the folder of the file that names another: what is before `./` and what it calls that.
-fn folder_before<'n>(name: &'n [u8], own: &[u8]) -> &'n [u8] {
+fn folder_before<'n>(name: &'n [u8], own: &[u8]) -> &'n [u8]
+    ensures { result.now ≡ take (length name.now - length own.now - 2) name.now }
+{
     let length = name.len().saturating_sub(own.len()).saturating_sub(2);
     name.get(..length).unwrap_or(&[])
 }
@@ -234,7 +238,9 @@ fn file_in<R: rt::Files + AllocGlobal>(rt: &R, folder: &str, name: &[u8]) -> Opt
 }
 
 // Copies a name, if there is memory for it.
-fn copied(alloc: Global, name: &[u8]) -> Option<Vec<u8>> {
+fn copied(alloc: Global, name: &[u8]) -> Option<Vec<u8>>
+    ensures { IfSome result (λ copy. copy.items ≡ name.now) }
+{
     let mut copy = Vec::new(alloc);
     match copy.extend_from_slice(name) {
         Ok(()) => Some(copy),

@@ -1,5 +1,9 @@
 //! Checks strictly what a check found to be right.
 
+ghost use Rattle.std.specs.Prelude.{◌≡◌, IfOk};
+ghost use Rattle.uimg_base.specs.Honest.{IfHonest};
+ghost use Rattle.uimg_tool.specs.StrictEnds.{AnswersLegacy, AnswersStrictly, TellsFurther};
+
 use crate::check_answers::{
     CHANGED, Names, answer_of, answer_of_fault, answer_of_header, answer_of_loose,
     answer_of_missing,
@@ -31,7 +35,9 @@ pub(crate) fn answer_of_fit<'a, S: Source>(
     source: &mut S,
     room: &mut Room<Global>,
     names: &'a mut Names,
-) -> Answer<'a> {
+) -> Answer<'a>
+    ensures { IfHonest S.device source (λ file. AnswersStrictly file result) }
+{
     match look_further(alloc, source, room) {
         Ok(Further::Loose(loose)) => answer_of_loose(loose, names),
         Ok(Further::Missing(missing)) => answer_of_missing(missing, source, names),
@@ -47,7 +53,9 @@ fn look_further<S: Source>(
     alloc: Global,
     source: &mut S,
     room: &mut Room<Global>,
-) -> Result<Further, SurveyFault> {
+) -> Result<Further, SurveyFault>
+    ensures { IfHonest S.device source (λ file. IfOk result (TellsFurther file)) }
+{
     if let Some(loose) = find_loose(alloc, source, room)? {
         return Ok(Further::Loose(loose));
     }
@@ -68,7 +76,9 @@ fn count_nodes(configurations: &[ConfigurationFacts]) -> u64 {
 }
 
 /// Returns the result for a legacy image whose checksums are right.
-pub(crate) fn answer_of_legacy<'a, S: Source>(source: &mut S, names: &'a mut Names) -> Answer<'a> {
+pub(crate) fn answer_of_legacy<'a, S: Source>(source: &mut S, names: &'a mut Names) -> Answer<'a>
+    ensures { AnswersLegacy S.device source result }
+{
     match find_loose_header(source) {
         Ok(Some(why)) => answer_of_header(why),
         Ok(None) => answer_of(Ok(Checked::Right), None, source, names),

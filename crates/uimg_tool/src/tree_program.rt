@@ -1,13 +1,14 @@
 //! Writes the image of a tree, as mkimage does.
 
-ghost use Rattle.std.specs.Prelude.{◌≤◌};
+ghost use Rattle.uimg_tool.specs.Complaints.{Ends};
 
 use crate::blob_room::set_blob_size;
+use crate::complaints::Complaints;
 use crate::new_shelf::NewShelf;
-use crate::old_program::{Begun, about_end, tell, tell_unprinted, tell_unwritten, tell_written};
-use crate::old_tools::Tool;
+use crate::old_files::{Begun, about_end, tell_made};
 use crate::reasons::{Watched, reason_of_code};
-use crate::request_fault::{DONE, FAILED, RequestFault};
+use crate::request_fault::RequestFault;
+use crate::requests::Made;
 use crate::safe_path::{Writing, writing_of};
 use std::alloc::Global;
 use std::cell::Cell;
@@ -16,16 +17,15 @@ use std::io::{BufWriter, Write};
 use std::{fs, io, rt};
 use uimg_base::{Files, Out, Room, Status};
 use uimg_blob_writing::{Reservation, Tree};
-use uimg_compat::OldFault;
 use uimg_engine::{Fault, TreeManner, make_tree};
 use uimg_fit_base::Placement;
 use uimg_requests::Manner;
+use uimg_unpacking::DiskWorld;
 
-/// The image that is made of a tree: by which tool, of the file at which path, at which path and how,
+/// The image that is made of a tree: of the file at which path, at which path and how,
 /// the memory that it reserves, and the size of its blob if that has free room.
 #[derive(Clone, Copy)]
 pub(crate) struct TreeRequest<'a> {
-    pub(crate) tool: Tool,
     pub(crate) source: &'a str,
     pub(crate) image: &'a str,
     pub(crate) placement: Placement,
@@ -42,33 +42,27 @@ pub(crate) fn write_image<R: rt::Files + AllocGlobal, F: Files, W: Write, V: Wri
     tree: &Tree<Global>,
     files: &mut F,
     out: &mut W,
-    err: &mut V,
+    complaints: &mut Complaints<'_, V>,
 ) -> u8
-    ensures { result ≤ 3 }
+    ensures { Ends result complaints.old.count complaints.new.count }
 {
-    let tool = request.tool;
     match writing_of(rt, request.image) {
         Ok(Writing::Beside(file, path)) => {
             let begun = Begun { file, path: &path };
-            let (end, printed) = if request.is_quiet {
+            let made = if request.is_quiet {
                 make_beside(rt, request, tree, files, begun, &mut io::sink())
             } else {
                 make_beside(rt, request, tree, files, begun, out)
             };
-            if let (Err(RequestFault::Stopped(Fault::Put)), Err(error)) = (&end, &printed) {
-                let _ = fs::remove_file(rt, path.new.as_str());
-                return tell_unprinted(tool, error, err);
-            }
-            let about = about_end(&end, request.source, request.image);
-            let status = tell_written(rt, tool, &path, &end, about, err);
-            finished(tool, status, printed, err)
+            let about = about_end(&made.end, request.source, request.image);
+            tell_made(rt, &mut DiskWorld::new(rt), &path, &made, about, complaints)
         }
-        Ok(Writing::Nowhere(reason)) => tell_unwritten(tool, request.image, &reason, err),
+        Ok(Writing::Nowhere(reason)) => complaints.tell_unwritten(request.image, &reason),
         Ok(Writing::InPlace | Writing::Pipe) => {
             let reason = io::Error::other("it is not a regular file");
-            tell_unwritten(tool, request.image, &reason, err)
+            complaints.tell_unwritten(request.image, &reason)
         }
-        Err(_) => tell(tool, err, &OldFault::OutOfMemory, FAILED),
+        Err(_) => complaints.tell_no_memory(),
     }
 }
 
@@ -81,15 +75,15 @@ fn make_beside<'a, R: rt::Files + AllocGlobal, F: Files, W: Write>(
     files: &mut F,
     begun: Begun<'_, R>,
     out: &mut W,
-) -> (Result<Status, RequestFault<'a>>, io::Result<()>) {
+) -> Made<'a> {
     let Begun { file, path } = begun;
     let Ok(mut gathered) = BufWriter::new(rt.alloc(), out) else {
-        return (Err(RequestFault::OutOfMemory), Ok(()));
+        return Made::unprinted(RequestFault::OutOfMemory);
     };
     let again = match request.roomy_size {
         Some(size) => match file.try_clone() {
             Ok(again) => Some((again, size)),
-            Err(reason) => return (Err(RequestFault::NotPut(request.image, reason)), Ok(())),
+            Err(reason) => return Made::unprinted(RequestFault::NotPut(request.image, reason)),
         },
         None => None,
     };
@@ -104,10 +98,10 @@ fn make_beside<'a, R: rt::Files + AllocGlobal, F: Files, W: Write>(
         },
         (end, _) => end,
     };
-    let written = gathered.flush();
+    let printed = gathered.flush();
     // A failed write leaves text in the buffer, which its drop would try to write again.
     let (_, _) = gathered.into_parts();
-    (end, written)
+    Made { end, printed }
 }
 
 // Makes the image of a tree on a shelf.
@@ -141,15 +135,5 @@ fn make_on<'a, R: rt::Files + AllocGlobal, F: Files, W: Write>(
         }
         (Err(Fault::Keep), _) => Err(RequestFault::CannotRead(request.image)),
         (Err(fault), _) => Err(RequestFault::Stopped(fault)),
-    }
-}
-
-// Returns the status of an image that was written, unless its listing could not be printed.
-fn finished<V: Write>(tool: Tool, status: u8, printed: io::Result<()>, err: &mut V) -> u8
-    ensures { status ≤ 3 → result ≤ 3 }
-{
-    match printed {
-        Err(error) if status == DONE => tell_unprinted(tool, &error, err),
-        _ => status,
     }
 }

@@ -1,11 +1,12 @@
 //! Unpacks an image.
 
-ghost use Rattle.std.specs.Prelude.{◌≤◌};
+ghost use Rattle.std.specs.Prelude.{◌≡◌};
+ghost use Rattle.uimg_tool.specs.{Complaints.Ends, Statuses.{is_of_command, trouble_status}};
 
 use crate::check_answers::Names;
+use crate::complaints::Complaints;
 use crate::info_program::put_object;
 use crate::json_lines::JsonOut;
-use crate::main_program::{tell, tell_unprinted, tell_unread};
 use crate::reasons::is_pipe;
 use crate::request_fault::{DONE, FAILED, REFUSED, RequestFault, status_of};
 use crate::unpack_answers::{Ending, answer_of_ending, status_of_trouble};
@@ -25,12 +26,12 @@ pub(crate) fn unpack_image<R: Files + AllocGlobal, W: Write, V: Write>(
     rt: &R,
     request: &UnpackRequest<'_>,
     out: &mut W,
-    err: &mut V,
+    complaints: &mut Complaints<'_, V>,
 ) -> u8
-    ensures { result ≤ 3 }
+    ensures { Ends result complaints.old.count complaints.new.count }
 {
     let Ok(mut gathered) = BufWriter::new(rt.alloc(), out) else {
-        return tell(err, &RequestFault::OutOfMemory, FAILED);
+        return complaints.tell_no_memory();
     };
     let cleaned = if request.cleans {
         folder_of(request, None).clean(rt, request.image, &mut gathered)
@@ -38,10 +39,17 @@ pub(crate) fn unpack_image<R: Files + AllocGlobal, W: Write, V: Write>(
         Ok(())
     };
     let status = match (cleaned, request.image) {
-        (Err(trouble), _) => tell_trouble(trouble, err),
+        (Err(trouble), _) => tell_trouble(trouble, complaints),
         (Ok(()), Some(image)) => {
             let ending = unpack_at(rt, image, request, &mut gathered);
-            tell_ending(rt, image, request.as_json, ending, &mut gathered, err)
+            tell_ending(
+                rt,
+                image,
+                request.as_json,
+                ending,
+                &mut gathered,
+                complaints,
+            )
         }
         (Ok(()), None) => DONE,
     };
@@ -51,7 +59,14 @@ pub(crate) fn unpack_image<R: Files + AllocGlobal, W: Write, V: Write>(
 }
 
 // Returns the folder of a request, for an image that is this file.
-fn folder_of<'a>(request: &UnpackRequest<'a>, image: Option<FileId>) -> Folder<'a> {
+fn folder_of<'a>(request: &UnpackRequest<'a>, image: Option<FileId>) -> Folder<'a>
+    ensures { result ≡ record {
+      path = request.now.folder;
+      image = image;
+      is_forced = request.now.is_forced;
+      is_synced = request.now.is_synced;
+    } }
+{
     Folder {
         path: request.folder,
         image,
@@ -112,35 +127,38 @@ fn tell_ending<R: Files + AllocGlobal, W: Write, V: Write>(
     as_json: bool,
     ending: Ending,
     out: &mut W,
-    err: &mut V,
+    complaints: &mut Complaints<'_, V>,
 ) -> u8
-    ensures { result ≤ 3 }
+    ensures { Ends result complaints.old.count complaints.new.count }
 {
     match ending {
         Ending::Told(Status::Done) => DONE,
         Ending::Told(Status::NotRight) => REFUSED,
         Ending::Troubled(trouble) if !as_json || is_of_command(&trouble) => {
-            tell_trouble(trouble, err)
+            tell_trouble(trouble, complaints)
         }
-        ending if as_json => tell_object(rt, path, ending, out, err),
-        Ending::Unread => tell_unread(rt, path, err),
-        Ending::Weak => tell_weak(path, out, err),
-        Ending::NoImage => tell(err, &"no image has a hash, as there is none", REFUSED),
+        ending if as_json => tell_object(rt, path, ending, out, complaints),
+        Ending::Unread => complaints.tell_unread(rt, path),
+        Ending::Weak => tell_weak(path, out, complaints),
+        Ending::NoImage => complaints.tell(&"no image has a hash, as there is none", REFUSED),
         Ending::Stopped(fault) => {
             let fault = RequestFault::Stopped(fault);
-            tell(err, &fault, status_of(&fault))
+            complaints.tell(&fault, status_of(&fault))
         }
-        Ending::Troubled(trouble) => tell_trouble(trouble, err),
+        Ending::Troubled(trouble) => tell_trouble(trouble, complaints),
     }
 }
 
 // Returns whether a trouble is of the command line, of memory or of the output, and so is reported
 // on standard error, though JSON is requested.
-fn is_of_command(trouble: &Trouble) -> bool {
-    matches!(
-        trouble,
-        Trouble::IsImage(_) | Trouble::OutOfMemory | Trouble::CannotPrint(_) | Trouble::Closed
-    )
+fn is_of_command(trouble: &Trouble) -> bool
+    ensures { result ≡ is_of_command trouble.now }
+{
+    match trouble {
+        Trouble::IsImage(_) | Trouble::OutOfMemory | Trouble::CannotPrint(_) | Trouble::Closed =>
+            true,
+        _ => false,
+    }
 }
 
 // Reports an end as a JSON object.
@@ -149,37 +167,38 @@ fn tell_object<R: Files + AllocGlobal, W: Write, V: Write>(
     path: &str,
     ending: Ending,
     out: &mut W,
-    err: &mut V,
+    complaints: &mut Complaints<'_, V>,
 ) -> u8
-    ensures { result ≤ 3 }
+    ensures { Ends result complaints.old.count complaints.new.count }
 {
     let mut names = Names::new(rt.alloc());
     let answer = answer_of_ending(rt, path, ending, &mut names);
     match object_text(rt.alloc(), path.as_bytes(), &answer) {
-        Ok(text) => put_object(text.as_slice(), answer.status(), out, err),
-        Err(_) => tell(err, &RequestFault::OutOfMemory, FAILED),
+        Ok(text) => put_object(text.as_slice(), answer.status(), out, complaints),
+        Err(_) => complaints.tell_no_memory(),
     }
 }
 
 // Reports that a legacy image has CRC-32 alone.
-fn tell_weak<W: Write, V: Write>(path: &str, out: &mut W, err: &mut V) -> u8
-    ensures { result ≤ 3 }
+fn tell_weak<W: Write, V: Write>(path: &str, out: &mut W, complaints: &mut Complaints<'_, V>) -> u8
+    ensures { Ends result complaints.old.count complaints.new.count }
 {
     let told = writeln!(out, "{}: weak crc32", Printed(path.as_bytes()));
     match told.and_then(|()| out.flush()) {
         Ok(()) => REFUSED,
-        Err(error) => tell_unprinted(error, err),
+        Err(error) => complaints.tell_unprinted(&error),
     }
 }
 
-fn tell_trouble<V: Write>(trouble: Trouble, err: &mut V) -> u8
-    ensures { result ≤ 3 }
+fn tell_trouble<V: Write>(trouble: Trouble, complaints: &mut Complaints<'_, V>) -> u8
+    ensures status { result ≡ trouble_status trouble }
+    ensures ends { Ends result complaints.old.count complaints.new.count }
 {
     match trouble {
         Trouble::Closed => FAILED,
         trouble => {
             let status = status_of_trouble(&trouble);
-            tell(err, &trouble, status)
+            complaints.tell(&trouble, status)
         }
     }
 }

@@ -1,16 +1,17 @@
 //! Updates a FIT image.
 
-ghost use Rattle.std.specs.Prelude.{◌≤◌};
+ghost use Rattle.std.specs.Prelude.{◌≡◌};
+ghost use Rattle.uimg_tool.specs.{Complaints.Ends, TreeSizes.roomy_size_of};
 
-use crate::old_program::{tell, tell_end, tell_unread};
-use crate::old_tools::Tool;
+use crate::complaints::Complaints;
+use crate::old_files::tell_end;
 use crate::reasons::is_pipe;
 use crate::request_fault::{FAILED, REFUSED, RequestFault};
 use crate::tree_program::{TreeRequest, write_image};
 use std::io::Write;
 use std::rt::Files;
 use uimg_base::{FileSource, MemFiles, Room};
-use uimg_compat::{OldFault, UpdateRequest};
+use uimg_compat::UpdateRequest;
 use uimg_engine::Fault;
 use uimg_fit_base::Placement;
 use uimg_fit_updating::{UpdateFault, Updated, update};
@@ -19,24 +20,22 @@ use uimg_printing::Printed;
 /// Updates an image: makes the new one beside its name, which it gets when it is complete.
 pub(crate) fn update_image<R: Files + AllocGlobal, W: Write, V: Write>(
     rt: &R,
-    tool: Tool,
     request: &UpdateRequest<'_>,
     out: &mut W,
-    err: &mut V,
+    complaints: &mut Complaints<'_, V>,
 ) -> u8
-    ensures { result ≤ 3 }
+    ensures { Ends result complaints.old.count complaints.new.count }
 {
     if is_pipe(rt, request.image) {
-        return tell_unread(rt, tool, request.image, err);
+        return complaints.tell_unread(rt, request.image);
     }
     let Ok(mut source) = FileSource::open(rt, request.image) else {
-        return tell_unread(rt, tool, request.image, err);
+        return complaints.tell_unread(rt, request.image);
     };
     let time = request.sets_time.then_some(request.manner.time);
     match update(rt.alloc(), &mut source, &mut Room::new(rt.alloc()), time) {
         Ok(updated) => {
             let making = TreeRequest {
-                tool,
                 source: request.image,
                 image: request.image,
                 placement: request.placement,
@@ -45,14 +44,23 @@ pub(crate) fn update_image<R: Files + AllocGlobal, W: Write, V: Write>(
                 manner: request.manner,
                 is_quiet: request.is_quiet,
             };
-            write_image(rt, making, &updated.tree, &mut MemFiles::new(&[]), out, err)
+            write_image(
+                rt,
+                making,
+                &updated.tree,
+                &mut MemFiles::new(&[]),
+                out,
+                complaints,
+            )
         }
-        Err(fault) => tell_fault(rt, tool, request.image, fault, err),
+        Err(fault) => tell_fault(rt, request.image, fault, complaints),
     }
 }
 
 // Returns the size of a blob that has free room; one with payloads after it has none.
-fn roomy_size(placement: Placement, updated: &Updated) -> Option<u32> {
+fn roomy_size(placement: Placement, updated: &Updated) -> Option<u32>
+    ensures { result ≡ roomy_size_of placement updated.now.roomy_size }
+{
     match placement {
         Placement::Inside => Some(updated.roomy_size),
         Placement::After => None,
@@ -63,19 +71,18 @@ fn roomy_size(placement: Placement, updated: &Updated) -> Option<u32> {
 // Reports why an image is not updated.
 fn tell_fault<R: Files, V: Write>(
     rt: &R,
-    tool: Tool,
     image: &str,
     fault: UpdateFault,
-    err: &mut V,
+    complaints: &mut Complaints<'_, V>,
 ) -> u8
-    ensures { result ≤ 3 }
+    ensures { Ends result complaints.old.count complaints.new.count }
 {
     match fault {
         UpdateFault::Fit(fault) => {
             let end = Err(RequestFault::Stopped(Fault::from(fault)));
-            tell_end(rt, tool, &end, image, err)
+            tell_end(rt, &end, image, complaints)
         }
-        UpdateFault::OutOfMemory => tell(tool, err, &OldFault::OutOfMemory, FAILED),
+        UpdateFault::OutOfMemory => complaints.tell_no_memory(),
         fault => {
             let status = if fault == UpdateFault::Changed {
                 FAILED
@@ -83,7 +90,7 @@ fn tell_fault<R: Files, V: Write>(
                 REFUSED
             };
             let path = Printed(image.as_bytes());
-            tell(tool, err, &format_args!("{path}: {fault}"), status)
+            complaints.tell(&format_args!("{path}: {fault}"), status)
         }
     }
 }

@@ -27,6 +27,8 @@ pub struct WatchedFile<'a, R: Files + Clock, V: Write + Copy> {
 }
 
 impl<'a, R: Files + Clock, V: Write + Copy> Read for WatchedFile<'a, R, V> {
+    ghost remaining = { λ f. R.File.remaining f.file };
+
     fn read(&mut self, buf: &mut [u8]) -> io::Result<usize> {
         let count = self.file.read(buf)?;
         self.position = self.position.saturating_add(count as u64);
@@ -39,6 +41,10 @@ impl<'a, R: Files + Clock, V: Write + Copy> Read for WatchedFile<'a, R, V> {
 }
 
 impl<'a, R: Files + Clock, V: Write + Copy> Seek for WatchedFile<'a, R, V> {
+    ghost stream_position = { λ f. R.File.stream_position f.file };
+
+    ghost stream_bytes = { λ f. R.File.stream_bytes f.file };
+
     fn seek(&mut self, to: SeekFrom) -> io::Result<u64> {
         self.position = self.file.seek(to)?;
         if self.length >= LARGE {

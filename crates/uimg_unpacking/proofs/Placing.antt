@@ -42,14 +42,14 @@ pub all_digits : (p : ℕ → Bool) → all_below (λ d. p (digit_glyph false d)
 unfolding digits
 all_digits p each n = some_digits p each 64 n [] refl
 
-are_digits : (n : ℕ) → list_all is_digit (decimal n) ≡ true
+pub are_digits : (n : ℕ) → list_all is_digit (decimal n) ≡ true
 are_digits n = all_digits is_digit refl n
 
 -- what is behind a text
 same_byte : (byte : ℕ) → (byte == byte) ≡ true
 same_byte byte = search (rules)
 
-behind-self : (text more : List ℕ) → behind text (text ++ more) ≡ Some more
+pub behind-self : (text more : List ℕ) → behind text (text ++ more) ≡ Some more
 behind-self [] more = refl
 behind-self (byte ∷ text) more =
     ap (λ (b : Bool). if b then behind text (text ++ more) else None) (same_byte byte) ∙ behind-self text more

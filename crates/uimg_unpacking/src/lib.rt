@@ -24,11 +24,14 @@ mod trouble;
 mod unpacking;
 mod world;
 
+pub use disk_world::DiskWorld;
 pub use file_id::FileId;
 pub use file_names::is_file_name;
 pub use folder::Folder;
+pub use kind::Kind;
 pub use limits::Limits;
 pub use naming::give_name;
 pub use part_unpacking::{PartsEnded, unpack_parts};
 pub use trouble::Trouble;
 pub use unpacking::{Ended, Unpacking, unpack};
+pub use world::World;

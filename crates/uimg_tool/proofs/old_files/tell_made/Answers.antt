@@ -1,0 +1,6 @@
+use Rattle.std.proofs.Common.{rules}
+use Rattle.uimg_unpacking.specs.Deeds.{answer_of}
+use Rattle.uimg_tool.proofs.old_files.tell_made.Goals as goal
+
+pub returns-in-Err-Stopped-Put-Err-clause-named : goal.returns-in-Err-Stopped-Put-Err-clause-named
+returns-in-Err-Stopped-Put-Err-clause-named g c = (answer_of c.finish.result, (search rules))

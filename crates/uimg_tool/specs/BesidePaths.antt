@@ -1,0 +1,21 @@
+-- Files that are written beside their names.
+use Rattle.std.specs.Prelude.{◌≡◌, ℕ, List, [], ◌∷◌, ◌++◌, codes, decimal, Bool, true, false}
+use Rattle.std.specs.{List.list_all, Option.option_map_or}
+use Rattle.uimg_unpacking.specs.Deeds.{Answer, Done, Deed, Removes, Renames, changes_only}
+use Rattle.uimg_unpacking.specs.Naming.{GivesName, is_done}
+use Rattle.uimg_unpacking.specs.Places.{behind, is_digit}
+
+-- PATH.uimg-newN, for any N
+unfoldable pub is_beside : List ℕ → List ℕ → Bool
+is_beside path new = option_map_or (list_all is_digit) (behind (path ++ codes ".uimg-new") new) false
+
+-- Only files beside a path were made.
+abbrev pub stays_beside : List ℕ → List Deed → Bool
+stays_beside path deeds = list_all (changes_only (is_beside path)) deeds
+
+-- A file at NEW gets the path WHOLE if it is complete. If it is not, or cannot get that path, it is
+-- removed.
+pub data Finishes (new whole : List ℕ) (is_complete : Bool) (answer : Answer) (before after : List Deed) : Type 0 where
+  named : is_complete ≡ true → answer ≡ Done → after ≡ Renames new whole Done ∷ before → Finishes new whole is_complete answer before after
+  not_named : (removed : Answer) → is_complete ≡ true → is_done answer ≡ false → after ≡ Removes new removed ∷ Renames new whole answer ∷ before → Finishes new whole is_complete answer before after
+  incomplete : is_complete ≡ false → after ≡ Removes new answer ∷ before → Finishes new whole is_complete answer before after

@@ -1,0 +1,111 @@
+-- How a request ends: which faults it can have, and that each names a path that the words gave.
+use Rattle.std.specs.Prelude.{◌≡◌, ⊤, ◌⊎◌, ℕ, List, [], map, slice_get, Option, Some, None, Result, Ok, Err, Bool, true, false}
+use Rattle.std.specs.Borrow.{Bor}
+use Rattle.std.specs.declared.io.Error.{Error}
+use Rattle.uimg_base.specs.declared.status.Status.{Status, TheVariants.Done}
+use Rattle.uimg_cli.specs.declared.command_line.Request.{Request}
+use Rattle.uimg_cli.specs.declared.command_line.Request.TheVariants as asked
+use Rattle.uimg_engine.specs.Faults.{is_of_making}
+use Rattle.uimg_engine.specs.declared.fault.Fault.{Fault}
+use Rattle.uimg_engine.specs.declared.fault.Fault.TheVariants as engine
+use Rattle.uimg_fit_base.specs.declared.fault.FitFault.TheVariants as fit
+use Rattle.uimg_requests.specs.declared.make_command.MakeCommand.{MakeCommand}
+use Rattle.uimg_requests.specs.declared.make_command.MakeCommand.TheVariants.{Parts, Tree}
+use Rattle.uimg_requests.specs.declared.requests.{MakeRequest.MakeRequest, RunRequest.RunRequest}
+use Rattle.uimg_tool.specs.declared.request_fault.RequestFault.{RequestFault}
+use Rattle.uimg_tool.specs.declared.request_fault.RequestFault.TheVariants as request
+
+-- a command on an open image: it stops by no fault of a making
+abbrev pub OverEnds : Result Status RequestFault → Type 0
+OverEnds (Ok status) = ⊤
+OverEnds (Err (request.Stopped fault)) = is_of_making {X = ⊤} (Err fault) ≡ false
+OverEnds (Err fault) = ⊥
+
+-- a file that cannot be written, at a path
+abbrev pub IsUnwritten : Bor (List ℕ) → RequestFault → Type 0
+IsUnwritten path (request.CannotWrite told reason) = told ≡ path
+IsUnwritten path fault = ⊥
+
+-- A failed write to the file of a command is told with the file's path. It stops by no fault of a
+-- making.
+abbrev pub StopsRun : RunRequest → Fault → Type 0
+StopsRun asked engine.Put = asked.outfile ≡ None
+StopsRun asked fault = is_of_making {X = ⊤} (Err fault) ≡ false
+
+-- a command on an image
+abbrev pub RunEnds : RunRequest → Result Status RequestFault → Type 0
+RunEnds asked (Ok status) = ⊤
+RunEnds asked (Err (request.CannotRead path)) = path ≡ asked.image
+RunEnds asked (Err (request.WritesWhatIsRead path)) = asked.outfile ≡ Some path
+RunEnds asked (Err (request.CannotWrite path reason)) = asked.outfile ≡ Some path
+RunEnds asked (Err (request.NotPut path reason)) = asked.outfile ≡ Some path
+RunEnds asked (Err (request.Stopped fault)) = StopsRun asked fault
+RunEnds asked (Err fault) = ⊥
+
+-- The path is the source's, or the name of the file of a number, or none if there is no such name.
+abbrev pub IsFileOf : MakeCommand → List ℕ → ℕ → List ℕ → Type 0
+IsFileOf (Tree source placement) given number path = path ≡ given
+IsFileOf (Parts options files) given number path =
+    (path ≡ []) ⊎ (slice_get (map (λ name. name.items) files.items) number ≡ Some path)
+
+abbrev pub IsFileAt : MakeRequest → ℕ → List ℕ → Type 0
+IsFileAt asked number path = IsFileOf asked.command asked.source.now number path
+
+abbrev pub IsFile : MakeRequest → List ℕ → Type 0
+IsFile asked path = (number : ℕ) × IsFileAt asked number path
+
+-- a making that stopped: a file that cannot be opened is told by its path
+abbrev pub StoppedAs : MakeRequest → Fault → RequestFault → Type 0
+StoppedAs asked (engine.NoFile number) (request.CannotRead path) = IsFileAt asked number path.now
+StoppedAs asked (engine.NoFile number) fault = ⊥
+StoppedAs asked engine.Keep (request.CannotRead path) = path ≡ asked.outfile
+StoppedAs asked engine.Keep fault = ⊥
+StoppedAs asked fault (request.Stopped told) = told ≡ fault
+StoppedAs asked fault other = ⊥
+
+-- a making that has met its own outfile, or not
+abbrev pub AsMade : MakeRequest → Result ⊤ Fault → Bool → Result Status RequestFault → Type 0
+AsMade asked (Ok done) met (Ok status) = status ≡ Done
+AsMade asked (Err fault) true (Err (request.WritesWhatIsRead path)) = path ≡ asked.outfile
+AsMade asked (Err fault) false (Err told) = StoppedAs asked fault told
+AsMade asked made met result = ⊥
+
+-- the making of an image
+abbrev pub MakeEnds : MakeRequest → Result Status RequestFault → Type 0
+MakeEnds asked (Ok status) = status ≡ Done
+MakeEnds asked (Err (request.CannotRead path)) = (path ≡ asked.outfile) ⊎ IsFile asked path.now
+MakeEnds asked (Err (request.NoRoom path)) = (asked.is_xip ≡ true) × IsFile asked path.now
+MakeEnds asked (Err (request.WritesWhatIsRead path)) = path ≡ asked.outfile
+MakeEnds asked (Err (request.NotPut path reason)) = path ≡ asked.outfile
+MakeEnds asked (Err request.OutOfMemory) = ⊤
+MakeEnds asked (Err (request.Stopped fault)) = ⊤
+MakeEnds asked (Err fault) = ⊥
+
+-- the printing of a text
+abbrev pub ShowEnds : Result Status RequestFault → Type 0
+ShowEnds (Ok status) = status ≡ Done
+ShowEnds (Err (request.NotPrinted reason)) = ⊤
+ShowEnds (Err fault) = ⊥
+
+abbrev pub EndsOf : Request → Result Status RequestFault → Type 0
+EndsOf (asked.Run it) end = RunEnds it end
+EndsOf (asked.Make it) end = MakeEnds it end
+EndsOf (asked.Show text) end = ShowEnds end
+
+-- a request, without the flush of what it printed
+abbrev pub RequestEnds : Request → Result Status RequestFault → Type 0
+RequestEnds it (Err request.OutOfMemory) = ⊤
+RequestEnds it end = EndsOf it end
+
+-- a request
+abbrev pub PrintedEnds : Request → Result Status RequestFault → Type 0
+PrintedEnds it (Err (request.NotPrinted reason)) = ⊤
+PrintedEnds it end = RequestEnds it end
+
+-- The end is about the source, whose text or tree is refused, and not about the image.
+abbrev pub is_about_source : Result Status RequestFault → Bool
+is_about_source (Err (request.Stopped (engine.Fit fit.PositionTooLow))) = false
+is_about_source (Err (request.Stopped (engine.Fit fit.TooLarge))) = false
+is_about_source (Err (request.Stopped (engine.Fit fault))) = true
+is_about_source (Err (request.Stopped (engine.Its fault))) = true
+is_about_source end = false

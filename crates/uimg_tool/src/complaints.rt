@@ -1,0 +1,98 @@
+//! Standard error, where a fault is told in one line.
+
+ghost use Rattle.std.specs.{Prelude.{◌≡◌, ◌+◌, ◌≤◌}, IoError.error_kind};
+ghost use Rattle.uimg_tool.specs.Complaints.{is_closed_pipe};
+
+use crate::reasons::reason_unread;
+use crate::request_fault::{FAILED, RequestFault};
+use std::fmt::Display;
+use std::io;
+use std::io::{ErrorKind, Write};
+use std::rt::Files;
+use uimg_printing::Printed;
+
+/// Standard error of a program, whose name each line of a fault begins with. Failed writes are
+/// ignored.
+#[derive(Drop)]
+pub(crate) struct Complaints<'a, V: Write> {
+    name: &'a str,
+    /// Where other lines are written, too.
+    pub(crate) err: &'a mut V,
+
+    /// How many faults were told.
+    pub(crate) count: u64,
+}
+
+impl<'a, V: Write> Complaints<'a, V> {
+    /// Returns standard error of the program of this name, to which no fault was told.
+    pub(crate) fn new(name: &'a str, err: &'a mut V) -> Complaints<'a, V>
+        ensures { result.count ≡ 0 }
+    {
+        Complaints {
+            name,
+            err,
+            count: 0,
+        }
+    }
+
+    /// Tells a fault in a line, and returns the status.
+    pub(crate) fn tell<D: Display>(&mut self, fault: &D, status: u8) -> u8
+        ensures status { result ≡ status }
+        ensures once { self.new.count ≤ self.old.count + 1 }
+    {
+        self.count = self.count.saturating_add(1);
+        let _ = writeln!(self.err, "{}: {fault}", self.name);
+        status
+    }
+
+    /// Tells that memory was refused, and returns the status.
+    pub(crate) fn tell_no_memory(&mut self) -> u8
+        ensures status { result ≡ 3 }
+        ensures once { self.new.count ≤ self.old.count + 1 }
+    {
+        self.tell(&RequestFault::OutOfMemory, FAILED)
+    }
+
+    /// Tells that a file cannot be opened, with the reason if there is one. Returns the status.
+    pub(crate) fn tell_unread<R: Files>(&mut self, rt: &R, path: &str) -> u8
+        ensures status { result ≡ 3 }
+        ensures once { self.new.count ≤ self.old.count + 1 }
+    {
+        let reason = reason_unread(rt, path);
+        let path = Printed(path.as_bytes());
+        match reason {
+            Some(reason) => self.tell(&RequestFault::Unread(path, reason), FAILED),
+            None => self.tell(&format_args!("cannot read {path}"), FAILED),
+        }
+    }
+
+    /// Tells that a file cannot be written, with the reason. Returns the status.
+    pub(crate) fn tell_unwritten(&mut self, path: &str, reason: &io::Error) -> u8
+        ensures status { result ≡ 3 }
+        ensures once { self.new.count ≤ self.old.count + 1 }
+    {
+        let path = Printed(path.as_bytes());
+        self.tell(&format_args!("cannot write {path}: {reason}"), FAILED)
+    }
+
+    /// Tells that a text cannot be printed, unless nobody reads any more. Returns the status.
+    pub(crate) fn tell_unprinted(&mut self, error: &io::Error) -> u8
+        ensures status { result ≡ 3 }
+        ensures once { self.new.count ≤ self.old.count + 1 }
+    {
+        if is_closed(error) {
+            return FAILED;
+        }
+        self.tell(&format_args!("write failed: {error}"), FAILED)
+    }
+}
+
+/// Returns whether a write failed because nobody reads any more.
+pub(crate) fn is_closed(error: &io::Error) -> bool
+    ensures { result ≡ is_closed_pipe (error_kind error.now) }
+{
+    match error.kind() {
+        ErrorKind::BrokenPipe => true,
+        _ => false,
+    }
+}

@@ -1,0 +1,280 @@
+//! The files of mkimage and dumpimage: what they write is beside its name until it is complete.
+
+ghost use Rattle.std.specs.Prelude.{◌≡◌, [], is_ok, if◌then◌else◌};
+ghost use Rattle.uimg_tool.specs.{Complaints.Ends, Finishing.FinishesBy, RequestEnds.{PrintedEnds, is_about_source}};
+ghost use Rattle.uimg_tool.specs.Statuses.{end_status};
+
+use crate::complaints::Complaints;
+use crate::request_fault::{DONE, FAILED, REFUSED, RequestFault, status_of, status_of_fault};
+use crate::requests::{Made, Way, carry_out, carry_out_apart};
+use crate::safe_path::{SafePath, Writing, writing_of};
+use std::io;
+use std::io::Write;
+use std::rt::Files;
+use uimg_base::Status;
+use uimg_cli::Request;
+use uimg_compat::OldFault;
+use uimg_engine::Fault;
+use uimg_fit_base::FitFault;
+use uimg_printing::Printed;
+use uimg_requests::{MakeRequest, RunRequest};
+use uimg_unpacking::{DiskWorld, World};
+
+/// Whether a command prints nothing, and the folders where it looks for files that are not in the
+/// folder of a source.
+#[derive(Clone, Copy)]
+pub(crate) struct How<'a> {
+    pub(crate) is_quiet: bool,
+    pub(crate) folders: &'a [&'a str],
+}
+
+impl<'a> How<'a> {
+    /// Returns that files are looked for in no other folder.
+    pub(crate) fn new(is_quiet: bool) -> How<'a>
+        ensures quiet { result.is_quiet ≡ is_quiet }
+        ensures folders { result.folders.now ≡ [] }
+    {
+        How {
+            is_quiet,
+            folders: &[],
+        }
+    }
+}
+
+/// Runs a command on an image. An extracted part is written beside its name, which it gets when it
+/// is complete.
+pub(crate) fn run_command<R: Files + AllocGlobal, W: Write, V: Write>(
+    rt: &R,
+    how: How<'_>,
+    request: RunRequest<'_>,
+    out: &mut W,
+    complaints: &mut Complaints<'_, V>,
+) -> u8
+    ensures { Ends result complaints.old.count complaints.new.count }
+{
+    let Some(outfile) = request.outfile else {
+        return run_in_place(rt, how, request, out, complaints);
+    };
+    match writing_of(rt, outfile) {
+        Ok(Writing::InPlace | Writing::Pipe) => run_in_place(rt, how, request, out, complaints),
+        Ok(Writing::Beside(file, path)) => {
+            run_beside(rt, request, Begun { file, path: &path }, out, complaints)
+        }
+        Ok(Writing::Nowhere(reason)) => complaints.tell_unwritten(outfile, &reason),
+        Err(_) => complaints.tell_no_memory(),
+    }
+}
+
+fn run_in_place<R: Files + AllocGlobal, W: Write, V: Write>(
+    rt: &R,
+    how: How<'_>,
+    request: RunRequest<'_>,
+    out: &mut W,
+    complaints: &mut Complaints<'_, V>,
+) -> u8
+    ensures { Ends result complaints.old.count complaints.new.count }
+{
+    let image = request.image;
+    let request = Request::Run(request);
+    let end = carry_out_by(rt, &request, how, out);
+    tell_end(rt, &end, image, complaints)
+}
+
+/// A file that is written beside its name, and its paths.
+pub(crate) struct Begun<'a, R: Files> {
+    pub(crate) file: R::File,
+    pub(crate) path: &'a SafePath,
+}
+
+fn run_beside<'a, R: Files + AllocGlobal, W: Write, V: Write>(
+    rt: &'a R,
+    request: RunRequest<'a>,
+    begun: Begun<'a, R>,
+    out: &mut W,
+    complaints: &mut Complaints<'_, V>,
+) -> u8
+    ensures { Ends result complaints.old.count complaints.new.count }
+{
+    let image = request.image;
+    let request = Request::Run(request);
+    let Begun { file, path } = begun;
+    let end = carry_out(rt, &request, Way::to(Some(file)), out);
+    tell_written(rt, &mut DiskWorld::new(rt), path, &end, image, complaints)
+}
+
+/// Makes an image beside its name, which it gets when it is complete.
+pub(crate) fn make_image<R: Files + AllocGlobal, W: Write, V: Write>(
+    rt: &R,
+    how: How<'_>,
+    request: MakeRequest<'_>,
+    out: &mut W,
+    complaints: &mut Complaints<'_, V>,
+) -> u8
+    ensures { Ends result complaints.old.count complaints.new.count }
+{
+    match writing_of(rt, request.outfile) {
+        Ok(Writing::InPlace) => {
+            let (source, outfile) = (request.source, request.outfile);
+            let request = Request::Make(request);
+            let end = carry_out_by(rt, &request, how, out);
+            tell_end(rt, &end, about_end(&end, source, outfile), complaints)
+        }
+        Ok(Writing::Beside(file, path)) => {
+            make_beside(
+                rt,
+                how,
+                request,
+                Begun { file, path: &path },
+                out,
+                complaints,
+            )
+        }
+        Ok(Writing::Pipe) => {
+            let path = Printed(request.outfile.as_bytes());
+            complaints.tell(&OldFault::MadeAsPipe(path), FAILED)
+        }
+        Ok(Writing::Nowhere(reason)) => complaints.tell_unwritten(request.outfile, &reason),
+        Err(_) => complaints.tell_no_memory(),
+    }
+}
+
+// Makes an image at one path, and moves it to another, even if its listing could not be printed.
+fn make_beside<'a, R: Files + AllocGlobal, W: Write, V: Write>(
+    rt: &'a R,
+    how: How<'a>,
+    mut request: MakeRequest<'a>,
+    begun: Begun<'a, R>,
+    out: &mut W,
+    complaints: &mut Complaints<'_, V>,
+) -> u8
+    ensures { Ends result complaints.old.count complaints.new.count }
+{
+    let (source, outfile) = (request.source, request.outfile);
+    let Begun { file, path } = begun;
+    request.written = path.new.as_str();
+    let request = Request::Make(request);
+    let way = Way {
+        file: Some(file),
+        folders: how.folders,
+    };
+    let made = if how.is_quiet {
+        carry_out_apart(rt, &request, way, &mut io::sink())
+    } else {
+        carry_out_apart(rt, &request, way, out)
+    };
+    let about = about_end(&made.end, source, outfile);
+    tell_made(rt, &mut DiskWorld::new(rt), path, &made, about, complaints)
+}
+
+/// Gives an image that was made its name, even if its listing could not be printed, or removes its
+/// file. Reports the end, the path that it is about, and a listing that was not printed.
+pub(crate) fn tell_made<R: Files, D: World, V: Write>(
+    rt: &R,
+    world: &mut D,
+    path: &SafePath,
+    made: &Made<'_>,
+    about: &str,
+    complaints: &mut Complaints<'_, V>,
+) -> u8
+    ensures ends { Ends result complaints.old.count complaints.new.count }
+    ensures named { FinishesBy path.now (is_ok made.now.end) (D.trace world.old)
+        (D.trace world.new) }
+{
+    if let (Err(RequestFault::Stopped(Fault::Put)), Err(error)) = (&made.end, &made.printed) {
+        let _ = path.finish(world, false);
+        return complaints.tell_unprinted(error);
+    }
+    let status = tell_written(rt, world, path, &made.end, about, complaints);
+    match &made.printed {
+        Err(error) if status == DONE => complaints.tell_unprinted(error),
+        _ => status,
+    }
+}
+
+/// Returns the path that the end of a making is about: the source if its text or the tree that it
+/// means is refused, else the image.
+pub(crate) fn about_end<'a>(
+    end: &Result<Status, RequestFault<'_>>,
+    source: &'a str,
+    image: &'a str,
+) -> &'a str
+    ensures { result ≡ (if is_about_source end.now then source.entry else image.entry) }
+{
+    match end {
+        Err(RequestFault::Stopped(Fault::Fit(FitFault::PositionTooLow))) => image,
+        Err(RequestFault::Stopped(Fault::Fit(FitFault::TooLarge))) => image,
+        Err(RequestFault::Stopped(Fault::Its(_))) => source,
+        Err(RequestFault::Stopped(Fault::Fit(_))) => source,
+        _ => image,
+    }
+}
+
+// Gives the written file its name or removes it; reports the end and the path that it is about.
+fn tell_written<R: Files, D: World, V: Write>(
+    rt: &R,
+    world: &mut D,
+    path: &SafePath,
+    end: &Result<Status, RequestFault<'_>>,
+    about: &str,
+    complaints: &mut Complaints<'_, V>,
+) -> u8
+    ensures ends { Ends result complaints.old.count complaints.new.count }
+    ensures named { FinishesBy path.now (is_ok end.now) (D.trace world.old) (D.trace world.new) }
+{
+    let finished = path.finish(world, end.is_ok());
+    match (end, finished) {
+        (Ok(_), Err(reason)) => complaints.tell_unwritten(path.whole.as_str(), &reason),
+        _ => tell_end(rt, end, about, complaints),
+    }
+}
+
+// Carries out a request; a quiet one prints nothing.
+fn carry_out_by<'a, R: Files + AllocGlobal, W: Write>(
+    rt: &'a R,
+    request: &'a Request<'a>,
+    how: How<'a>,
+    out: &mut W,
+) -> Result<Status, RequestFault<'a>>
+    ensures { PrintedEnds request.now result }
+{
+    let way = Way {
+        file: None,
+        folders: how.folders,
+    };
+    if how.is_quiet {
+        carry_out(rt, request, way, &mut io::sink())
+    } else {
+        carry_out(rt, request, way, out)
+    }
+}
+
+/// Returns the status of an end, and reports its fault with the path that it is about.
+pub(crate) fn tell_end<R: Files, V: Write>(
+    rt: &R,
+    end: &Result<Status, RequestFault<'_>>,
+    path: &str,
+    complaints: &mut Complaints<'_, V>,
+) -> u8
+    ensures status { result ≡ end_status end.now }
+    ensures ends { Ends result complaints.old.count complaints.new.count }
+{
+    match end {
+        Ok(Status::Done) => DONE,
+        Ok(Status::NotRight) => REFUSED,
+        Err(RequestFault::Stopped(fault)) => {
+            let path = Printed(path.as_bytes());
+            let status = status_of_fault(*fault);
+            complaints.tell(&format_args!("{path}: {fault}"), status)
+        }
+        Err(RequestFault::CannotRead(path)) => complaints.tell_unread(rt, path),
+        Err(RequestFault::CannotWrite(path, reason) | RequestFault::NotPut(path, reason)) => {
+            complaints.tell_unwritten(path, reason)
+        }
+        Err(RequestFault::NotPrinted(error)) => complaints.tell_unprinted(error),
+        Err(RequestFault::WritesWhatIsRead(path)) => {
+            let fault = RequestFault::DrawsOverWhatIsRead(Printed(path.as_bytes()));
+            complaints.tell(&fault, status_of(&fault))
+        }
+        Err(fault) => complaints.tell(fault, status_of(fault)),
+    }
+}
