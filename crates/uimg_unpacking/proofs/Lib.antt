@@ -1,2 +1,4 @@
 pub mod Answered
+pub mod Cleaned
+pub mod NamingLaws
 pub mod Placing

@@ -1,6 +1,6 @@
 //! Writes the parts of a legacy image to a folder, with a line for each.
 
-ghost use Rattle.std.specs.Prelude.{◌≡◌, [], IfOk, string_bytes, true};
+ghost use Rattle.std.specs.Prelude.{◌≡◌, ◌++◌, ◌∷◌, [], IfOk, OnOk, string_bytes, true};
 ghost use Rattle.uimg_unpacking.specs.FileNames.{is_file_name};
 ghost use Rattle.uimg_unpacking.specs.Places.{stays_within};
 
@@ -100,7 +100,9 @@ impl<'a, 'c, W: World, O: Write + Drop> PartFolder<'a, 'c, W, O> {
 
     // Completes the file of a part.
     fn complete(&mut self, number: u32, file: NewFile<'c, W::File>) -> Result<(), Trouble>
-        ensures { self.new.staging.folder ≡ self.old.staging.folder }
+        ensures folder { self.new.staging.folder ≡ self.old.staging.folder }
+        ensures noted { OnOk result (self.new.parts.items
+            ≡ self.old.parts.items ++ (number, file.entry.size) ∷ []) }
     {
         let size = self.staging.complete(file)?;
         self.parts.push((number, size))?;

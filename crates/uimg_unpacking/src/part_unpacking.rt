@@ -1,6 +1,11 @@
 //! Unpacks a legacy image into a folder.
 
-ghost use Rattle.std.specs.Prelude.{◌≡◌, [], true};
+ghost use Rattle.std.specs.Prelude.{◌≡◌, [], true, is_err, IfOk};
+ghost use Rattle.uimg_base.specs.Device.{SameDevice};
+ghost use Rattle.uimg_base.specs.Honest.{HonestSource, IfHonest};
+ghost use Rattle.uimg_base.specs.Using.{Asks};
+ghost use Rattle.uimg_legacy.specs.Unpacking.{is_part_asked};
+ghost use Rattle.uimg_unpacking.specs.PartEnds.{stands_by_crc32, size_at, EndsUnlessRefused};
 ghost use Rattle.uimg_unpacking.specs.Places.{stays_within};
 
 use crate::disk_world::DiskWorld;
@@ -93,11 +98,10 @@ fn unpack_parts_in<W: World, S: Source, O: Write + Drop>(
 }
 
 // Returns an end, unless the image's header or its table of parts is refused.
-fn unless_refused<S: Source>(
-    source: &mut S,
-    room: &mut Room<Global>,
-    end: PartsEnded,
-) -> PartsEnded {
+fn unless_refused<S: Source>(source: &mut S, room: &mut Room<Global>, end: PartsEnded) -> PartsEnded
+    ensures told { IfHonest S.device source (λ file. EndsUnlessRefused file end result) }
+    ensures same { SameDevice (S.device source.old) (S.device source.new) }
+{
     match uimg_legacy::check(source, room) {
         Ok(_) => end,
         Err(fault) => PartsEnded::Stopped(fault),
@@ -128,7 +132,9 @@ fn bytes_of<S: Source>(only: Option<u32>, source: &mut S) -> Result<u64, Fault> 
 }
 
 // Returns whether the part of a number is requested.
-fn takes(only: Option<u32>, number: u32) -> bool {
+fn takes(only: Option<u32>, number: u32) -> bool
+    ensures { result ≡ is_part_asked only number }
+{
     match only {
         Some(one) => one == number,
         None => true,
@@ -136,7 +142,11 @@ fn takes(only: Option<u32>, number: u32) -> bool {
 }
 
 // Returns the size of a number in the table, or 0 if the file is too short.
-fn size_at<S: Source>(source: &mut S, number: u32) -> Result<u32, SourceFault> {
+fn size_at<S: Source>(source: &mut S, number: u32) -> Result<u32, SourceFault>
+    ensures uses { Asks 4 (is_err result) (S.device source.old) (S.device source.new) }
+    ensures size { HonestSource S.device source →
+        IfOk result (λ size. size ≡ size_at (S.device source.old).bytes number) }
+{
     let at = TABLE + 4 * number as u64;
     let end = source.size()?;
     if end < at || end - at < 4 {
@@ -148,7 +158,9 @@ fn size_at<S: Source>(source: &mut S, number: u32) -> Result<u32, SourceFault> {
 }
 
 // Returns whether CRC-32 is strong enough.
-fn stands_by_crc32(need: Option<Algo>) -> bool {
+fn stands_by_crc32(need: Option<Algo>) -> bool
+    ensures { result ≡ stands_by_crc32 need }
+{
     match need {
         None | Some(Algo::Crc16 | Algo::Crc32) => true,
         Some(_) => false,

@@ -1,5 +1,8 @@
 //! Why payloads are not written to a folder.
 
+ghost use Rattle.std.specs.Prelude.{◌≡◌};
+ghost use Rattle.uimg_unpacking.specs.Troubles.{done_in, noted};
+
 use std::alloc::{AllocError, AllocFailed};
 use std::fmt::{Display, Formatter, Write};
 use std::io::ErrorKind;
@@ -90,7 +93,10 @@ pub enum Trouble {
 pub(crate) fn kept<X>(
     done: Result<X, Trouble>,
     trouble: &mut Option<Trouble>,
-) -> Result<X, PutFault> {
+) -> Result<X, PutFault>
+    ensures done { done_in result ≡ done_in done }
+    ensures noted { trouble.new ≡ noted done trouble.old }
+{
     match done {
         Ok(done) => Ok(done),
         Err(found) => {

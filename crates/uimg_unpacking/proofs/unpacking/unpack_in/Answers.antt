@@ -11,4 +11,4 @@ returns g c =
     subst (λ (path : List ℕ). stays_within path true (g.W.World.trace c.end-world.result.0) ≡ true)
     (c.unpack-unpacked.ensures.place ∙ ap (λ (f : Folder). f.path.now) c.new-taker.ensures)
     (stays_naming taker.staging.folder.path.now (gives_names taker.keeps_good _ taker.has_refused)
-    (g.W.World.trace c.end-world.result.0) c.end-world.ensures)
+    (g.W.World.trace c.end-world.result.0) c.end-world.ensures.within)
