@@ -15,7 +15,7 @@ use Rattle.uimg_printing.specs.Members.{Member, object_of, string_member, number
 use Rattle.uimg_printing.specs.Printing.{digits_of}
 use Rattle.uimg_unpacking.specs.declared.lines.Line.{Line}
 use Rattle.uimg_unpacking.specs.declared.lines.Line.TheVariants as line
-use Rattle.uimg_unpacking.specs.Lines.{kept_line, refusal_text, line_of}
+use Rattle.uimg_unpacking.specs.Lines.{kept_line, refusal_text, unpacked_line, line_of}
 
 -- the members of each payload: status, verdict, format and the name of its image
 abbrev pub about_payload : ℕ → List ℕ → List ℕ → List Member
@@ -84,3 +84,11 @@ kept_told path name file size vouched =
 
 abbrev pub refused_told : Option (Bor (List ℕ)) → List ℕ → Refusal → List ℕ
 refused_told path name refusal = told_as path (refusal_text name refusal) (refused_members name refusal)
+
+-- the same of a part, and of parts with their lengths
+abbrev pub part_told : Option (Bor (List ℕ)) → ℕ → ℕ × ℕ → List ℕ
+part_told path dcrc part =
+    told_as path (unpacked_line part.0 part.1 dcrc) (part_members part.0 part.1 dcrc)
+
+abbrev pub parts_told : Option (Bor (List ℕ)) → ℕ → List (ℕ × ℕ) → List ℕ
+parts_told path dcrc = flat_map (part_told path dcrc)

@@ -52,7 +52,9 @@ pub fn unpack_parts<R: Files + AllocGlobal, S: Source, W: Write + Drop>(
     asked: &Unpacking<'_>,
     source: &mut S,
     out: W,
-) -> PartsEnded {
+) -> PartsEnded
+    ensures { SameDevice (S.device source.old) (S.device source.new) }
+{
     let (_, ended) = unpack_parts_in(DiskWorld::new(rt), rt.alloc(), asked, source, out);
     ended
 }
@@ -67,7 +69,8 @@ fn unpack_parts_in<W: World, S: Source, O: Write + Drop>(
     out: O,
 ) -> (W, PartsEnded)
     requires { W.trace world ≡ [] }
-    ensures { stays_within asked.now.folder.path.now true (W.trace result.0) ≡ true }
+    ensures within { stays_within asked.now.folder.path.now true (W.trace result.0) ≡ true }
+    ensures same { SameDevice (S.device source.old) (S.device source.new) }
 {
     let mut room = Room::new(alloc);
     if !stands_by_crc32(asked.need) {
@@ -109,7 +112,9 @@ fn unless_refused<S: Source>(source: &mut S, room: &mut Room<Global>, end: Parts
 }
 
 // Returns how many bytes the requested parts have together, by the header or the table of sizes.
-fn bytes_of<S: Source>(only: Option<u32>, source: &mut S) -> Result<u64, Fault> {
+fn bytes_of<S: Source>(only: Option<u32>, source: &mut S) -> Result<u64, Fault>
+    ensures { SameDevice (S.device source.old) (S.device source.new) }
+{
     let header = read_header(source)?;
     if header.kind != MULTI && header.kind != SCRIPT {
         return Ok(if takes(only, 0) {

@@ -1,8 +1,10 @@
 //! Unpacks a FIT image into a folder.
 
-ghost use Rattle.std.specs.Prelude.{◌≡◌, [], true};
+ghost use Rattle.std.specs.Prelude.{◌≡◌, ◌+◌, ◌≤◌, [], true};
 ghost use Rattle.std.specs.Option.{option_map};
-ghost use Rattle.uimg_fit_checking.specs.Unpacking.{as_bytes};
+ghost use Rattle.uimg_base.specs.Device.{SameDevice};
+ghost use Rattle.uimg_base.specs.Honest.{IfHonest};
+ghost use Rattle.uimg_fit_checking.specs.Unpacking.{as_bytes, unpack_work};
 ghost use Rattle.uimg_unpacking.specs.Ends.{asked_name, end_of_taken, TellsOverlap};
 ghost use Rattle.uimg_unpacking.specs.Places.{stays_within};
 
@@ -80,7 +82,11 @@ pub fn unpack<R: Files + AllocGlobal, S: Source, W: Write + Drop>(
     asked: &Unpacking<'_>,
     source: &mut S,
     out: W,
-) -> Ended {
+) -> Ended
+    ensures same { SameDevice (S.device source.old) (S.device source.new) }
+    ensures asked { IfHonest S.device source (λ file. (S.device source.new).asked
+        ≤ (S.device source.old).asked + unpack_work file) }
+{
     let (_, ended) = unpack_in(DiskWorld::new(rt), rt.alloc(), asked, source, out);
     ended
 }
@@ -95,7 +101,10 @@ fn unpack_in<W: World, S: Source, O: Write + Drop>(
     out: O,
 ) -> (W, Ended)
     requires { W.trace world ≡ [] }
-    ensures { stays_within asked.now.folder.path.now true (W.trace result.0) ≡ true }
+    ensures within { stays_within asked.now.folder.path.now true (W.trace result.0) ≡ true }
+    ensures same { SameDevice (S.device source.old) (S.device source.new) }
+    ensures asked { IfHonest S.device source (λ file. (S.device source.new).asked
+        ≤ (S.device source.old).asked + unpack_work file) }
 {
     let Some(only) = only_of(asked.only) else {
         return (world, Ended::Stopped(Fault::Fit(FitFault::NoSuchImage)));
