@@ -1,5 +1,7 @@
 -- What is read of a legacy image before its parts, and how its unpacking ends.
-use Rattle.std.specs.Prelude.{◌≡◌, ℕ, ◌+◌, ◌*◌, nat_lt, List, length, take, drop, Bool, true, false, if◌then◌else◌, Option, Some, None, Result, Ok, Err}
+use Rattle.std.specs.Prelude.{◌≡◌, ℕ, ◌+◌, ◌*◌, nat_lt, ◌==◌, ◌&&◌, not, List, length, slice_index, take, drop, Bool, true, false, if◌then◌else◌, Option, Some, None, Result, Ok, Err}
+use Rattle.std.specs.Char.{is_ascii_digit}
+use Rattle.std.specs.List.{list_all}
 use Rattle.std.specs.Int.{from_be_bytes, w32}
 use Rattle.uimg_sums.specs.declared.algo.Algo.{Algo}
 use Rattle.uimg_sums.specs.declared.algo.Algo.TheVariants as algo
@@ -7,6 +9,14 @@ use Rattle.uimg_legacy.specs.Checking.{Checks}
 use Rattle.uimg_legacy.specs.declared.fault.Fault.{Fault}
 use Rattle.uimg_unpacking.specs.declared.part_unpacking.PartsEnded.{PartsEnded}
 use Rattle.uimg_unpacking.specs.declared.part_unpacking.PartsEnded.TheVariants.{Stopped}
+
+-- a word of several digits begins with a zero
+abbrev pub has_leading_zero : List ℕ → Bool
+has_leading_zero word = nat_lt 1 (length word) && slice_index word 0 == 48
+
+-- whether a word is a number as in the name of a file
+abbrev pub is_number : List ℕ → Bool
+is_number word = not (has_leading_zero word) && list_all is_ascii_digit word
 
 -- whether a CRC-32 is as strong as needed
 abbrev pub stands_by_crc32 : Option Algo → Bool

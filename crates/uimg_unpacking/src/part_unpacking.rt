@@ -1,11 +1,13 @@
 //! Unpacks a legacy image into a folder.
 
 ghost use Rattle.std.specs.Prelude.{◌≡◌, [], true, is_err, IfOk};
+ghost use Rattle.std.specs.Char.{is_ascii_digit};
+ghost use Rattle.std.specs.List.{list_all};
 ghost use Rattle.uimg_base.specs.Device.{SameDevice};
 ghost use Rattle.uimg_base.specs.Honest.{HonestSource, IfHonest};
 ghost use Rattle.uimg_base.specs.Using.{Asks};
 ghost use Rattle.uimg_legacy.specs.Unpacking.{is_part_asked};
-ghost use Rattle.uimg_unpacking.specs.PartEnds.{stands_by_crc32, size_at, EndsUnlessRefused};
+ghost use Rattle.uimg_unpacking.specs.PartEnds.{has_leading_zero, is_number, stands_by_crc32, size_at, EndsUnlessRefused};
 ghost use Rattle.uimg_unpacking.specs.Places.{stays_within};
 
 use crate::disk_world::DiskWorld;
@@ -175,13 +177,26 @@ fn stands_by_crc32(need: Option<Algo>) -> bool
 // Returns the number of the part whose file has this name, or else one that no image has.
 fn number_of(name: &str) -> u32 {
     match name.strip_prefix("image-") {
-        Some(digits) if is_number(digits) => digits.parse().unwrap_or(u32::MAX),
+        Some(digits) if is_number(digits.as_bytes()) => digits.parse().unwrap_or(u32::MAX),
         _ => u32::MAX,
     }
 }
 
-// Returns whether a word is a number as in a file name.
-fn is_number(digits: &str) -> bool {
-    let has_zeros = digits.len() > 1 && digits.starts_with('0');
-    !has_zeros && digits.bytes().all(|digit| digit.is_ascii_digit())
+// Returns whether a word is a number as in a file name: digits, and no zero before others.
+fn is_number(word: &[u8]) -> bool
+    ensures { result ≡ is_number word.now }
+{
+    !has_leading_zero(word) && are_digits(word)
+}
+
+fn has_leading_zero(word: &[u8]) -> bool
+    ensures { result ≡ has_leading_zero word.now }
+{
+    word.len() > 1 && word[0] == b'0'
+}
+
+fn are_digits(word: &[u8]) -> bool
+    ensures { result ≡ list_all is_ascii_digit word.now }
+{
+    word.iter().all(|digit| digit.is_ascii_digit())
 }
