@@ -7,7 +7,7 @@ ghost use Rattle.uimg_unpacking.specs.Deeds.{Answer, Deed, answer_of};
 ghost use Rattle.uimg_unpacking.specs.Clearing.{unanswered, cleared};
 ghost use Rattle.uimg_unpacking.specs.FileNames.{is_file_name};
 ghost use Rattle.uimg_unpacking.specs.Places.{is_temporary_folder, is_temporary_file, is_begun_in, stays_within};
-ghost use Rattle.uimg_unpacking.specs.Refusals.{last_name, DropsLast, RefusesLast};
+ghost use Rattle.uimg_unpacking.specs.Refusals.{last_of, last_name, DropsLast, RefusesLast, TellsUnwritten};
 
 mod naming_all;
 
@@ -274,7 +274,9 @@ impl<'a, 'c, W: World> Staging<'a, 'c, W> {
     }
 
     /// Returns the trouble that a file cannot be written, if one is not complete.
-    pub(crate) fn unwritten(&self) -> Option<Trouble> {
+    pub(crate) fn unwritten(&self) -> Option<Trouble>
+        ensures { TellsUnwritten self.now.is_writing (last_of self.now.files.items) result }
+    {
         let last = self.files.last()?;
         if !self.is_writing {
             return None;
