@@ -1,2 +1,5 @@
 pub mod Answered
+pub mod Cleaned
+pub mod NamingLaws
 pub mod Placing
+pub mod Printed

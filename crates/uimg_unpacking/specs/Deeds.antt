@@ -1,5 +1,7 @@
 -- What was asked of a world of files, and what it answered.
-use Rattle.std.specs.Prelude.{ℕ, List, [], ◌∷◌, ◌==◌, if◌then◌else◌, slice_index, Option, Some, None, Result, Ok, Err, Bool, true, ◌&&◌}
+use Rattle.std.specs.Prelude.{◌≡◌, ℕ, List, [], ◌∷◌, ◌==◌, if◌then◌else◌, slice_index, Option, Some, None, Result, Ok, Err, Bool, true, ◌&&◌}
+use Rattle.std.specs.Fs.{IsDir, IsSymlink, file_type}
+use Rattle.std.specs.declared.fs.attrs.Metadata.{Metadata}
 use Rattle.std.specs.declared.io.Error.{Error}
 use Rattle.std.specs.declared.io.ErrorKind.{ErrorKind}
 use Rattle.std.specs.declared.io.ErrorKind.TheVariants.{AlreadyExists}
@@ -21,6 +23,14 @@ refusal _ = Failed
 abbrev pub answer_of : {T : Type 0} → Result T Error → Answer
 answer_of (Ok _) = Done
 answer_of (Err error) = refusal (error_kind error)
+
+-- what exists at a path, by its properties (POSIX, sys/stat.h), if it has any
+abbrev pub IsKindOf : {E : Type 0} → Result Metadata E → Kind → Type 0
+IsKindOf (Ok found) Folder = IsDir (file_type found)
+IsKindOf (Ok found) Link = IsSymlink (file_type found)
+IsKindOf (Ok found) File = (IsDir (file_type found) → ⊥) × (IsSymlink (file_type found) → ⊥)
+IsKindOf (Ok found) Nothing = ⊥
+IsKindOf (Err error) kind = kind ≡ Nothing
 
 -- a call, on which paths, and its answer
 pub data Deed : Type 0 where

@@ -8,3 +8,10 @@ is_something Nothing = false
 is_something File = true
 is_something Folder = true
 is_something Link = true
+
+-- what exists is no symbolic link
+abbrev pub is_no_link : Kind → Bool
+is_no_link Nothing = false
+is_no_link File = true
+is_no_link Folder = true
+is_no_link Link = false

@@ -2,7 +2,7 @@
 //! and returns what it answers.
 
 ghost use Rattle.std.specs.Prelude.{◌≡◌, []};
-ghost use Rattle.uimg_unpacking.specs.Deeds.{answer_of, answer_at, kind_at};
+ghost use Rattle.uimg_unpacking.specs.Deeds.{IsKindOf, answer_of, answer_at, kind_at};
 
 use crate::file_id::FileId;
 use crate::kind::Kind;
@@ -69,7 +69,9 @@ fn code_of<X>(answer: &io::Result<X>) -> u64
 }
 
 // Returns what a path's properties say that exists there.
-fn kind_of(found: &io::Result<fs::Metadata>) -> Kind {
+fn kind_of(found: &io::Result<fs::Metadata>) -> Kind
+    ensures { IsKindOf found.now result }
+{
     match found {
         Ok(found) if found.is_dir() => Kind::Folder,
         Ok(found) if found.file_type().is_symlink() => Kind::Link,

@@ -1,7 +1,10 @@
 //! The folder for payloads and parts, and the paths of their files.
 
-ghost use Rattle.std.specs.Prelude.{◌≡◌, ◌++◌, codes, IfOk, string_bytes, decimal, true, ℕ, List, Bool};
+ghost use Rattle.std.specs.Prelude.{◌≡◌, ◌++◌, codes, IfOk, string_bytes, decimal, false, true, is_ok, ℕ, List, Bool};
 ghost use Rattle.uimg_unpacking.specs.Allowing.{Allows};
+ghost use Rattle.uimg_unpacking.specs.Cleaning.{SeeksImage, CleansAt, removal};
+ghost use Rattle.uimg_unpacking.specs.Deeds.{answer_of};
+ghost use Rattle.uimg_unpacking.specs.Kinds.{is_no_link};
 ghost use Rattle.uimg_unpacking.specs.Places.{is_temporary_folder, stays_within};
 ghost use Rattle.uimg_unpacking.specs.Refusing.{refused_of};
 
@@ -115,36 +118,60 @@ impl<'a> Folder<'a> {
         alloc: Global,
         image: Option<&str>,
         out: &mut O,
-    ) -> Result<(), Trouble> {
+    ) -> Result<(), Trouble>
+        ensures { stays_within self.now.path.now false (W.trace world.new)
+            ≡ stays_within self.now.path.now false (W.trace world.old) }
+    {
         for number in 1..=TRIED {
             let path = self.unnamed(alloc, number)?;
-            if is_or_has(world, path.as_str(), image) {
-                return Err(Trouble::RemovesImage(ShownPath(path)));
+            if clean_at(world, path, image)? {
+                writeln!(out, ".uimg-new{number}: removed")?;
+                out.flush()?;
             }
-            let removed = match world.kind_at(path.as_str()) {
-                Kind::Folder => world.remove_dir_all(path.as_str()),
-                Kind::File | Kind::Link => world.remove_file(path.as_str()),
-                Kind::Nothing => continue,
-            };
-            if let Err(reason) = removed {
-                return Err(Trouble::CannotRemove(ShownPath(path), reason));
-            }
-            writeln!(out, ".uimg-new{number}: removed")?;
-            out.flush()?;
         }
         Ok(())
     }
 }
 
+// Removes what exists at a path, with all in it. Returns whether anything did. Stops before it
+// removes the image, or a folder that has it.
+fn clean_at<W: World>(world: &mut W, path: String, image: Option<&str>) -> Result<bool, Trouble>
+    ensures { CleansAt (string_bytes path) image.entry (is_ok result)
+        (W.trace world.old) (W.trace world.new) }
+{
+    if is_or_has(world, path.as_str(), image) {
+        return Err(Trouble::RemovesImage(ShownPath(path)));
+    }
+    let kind = world.kind_at(path.as_str());
+    match remove_at(world, path.as_str(), kind) {
+        Ok(()) => Ok(kind.is_something()),
+        Err(reason) => Err(Trouble::CannotRemove(ShownPath(path), reason)),
+    }
+}
+
+// Removes what exists at a path, by what it is.
+fn remove_at<W: World>(world: &mut W, path: &str, kind: Kind) -> io::Result<()>
+    ensures { W.trace world.new ≡ removal path.now kind (answer_of result) (W.trace world.old) }
+{
+    match kind {
+        Kind::Nothing => Ok(()),
+        Kind::File => world.remove_file(path),
+        Kind::Folder => world.remove_dir_all(path),
+        Kind::Link => world.remove_file(path),
+    }
+}
+
 // Returns whether the file of an image is at a path, or in a folder there, or may be: below a folder
 // whose name is not UTF-8, nothing tells.
-fn is_or_has<W: World>(world: &mut W, path: &str, image: Option<&str>) -> bool {
+fn is_or_has<W: World>(world: &mut W, path: &str, image: Option<&str>) -> bool
+    ensures { SeeksImage path.now image.entry result (W.trace world.old) (W.trace world.new) }
+{
     let Some(image) = image else {
         return false;
     };
     let found = world.canonicalize(path);
     let (Ok(path), Ok(image)) = (found, world.canonicalize(image)) else {
-        return is_no_link(world, path) && world.kind_at(image).is_something();
+        return is_no_link(world.kind_at(path)) && world.kind_at(image).is_something();
     };
     match image.as_str().strip_prefix(path.as_str()) {
         Some(rest) => rest.is_empty() || rest.starts_with('/'),
@@ -152,9 +179,11 @@ fn is_or_has<W: World>(world: &mut W, path: &str, image: Option<&str>) -> bool {
     }
 }
 
-// Returns whether something exists at a path that is not a symbolic link.
-fn is_no_link<W: World>(world: &mut W, path: &str) -> bool {
-    match world.kind_at(path) {
+// Returns whether what exists is not a symbolic link.
+fn is_no_link(kind: Kind) -> bool
+    ensures { result ≡ is_no_link kind }
+{
+    match kind {
         Kind::File | Kind::Folder => true,
         Kind::Link | Kind::Nothing => false,
     }

@@ -1,8 +1,12 @@
 //! Writes payloads to a folder, with a line for each.
 
-ghost use Rattle.std.specs.Prelude.{◌≡◌, [], false, true};
+ghost use Rattle.std.specs.Prelude.{◌≡◌, ◌++◌, ◌&&◌, ◌||◌, [], None, OnOk, not, is_ok, false, true};
+ghost use Rattle.uimg_fit_checking.specs.Unpacking.{as_bytes};
+ghost use Rattle.uimg_unpacking.specs.Objects.{told_of, kept_told, refused_told};
 ghost use Rattle.uimg_unpacking.specs.Places.{stays_within};
 ghost use Rattle.uimg_unpacking.specs.Plan.{gives_names};
+ghost use Rattle.uimg_unpacking.specs.Refusals.{last_name, RefusesLast};
+ghost use Rattle.uimg_unpacking.specs.Telling.{with_kept, with_refused, TellsIf, is_named};
 
 use crate::limits::Claimed;
 use crate::lines::Line;
@@ -71,9 +75,14 @@ impl<'a, 'c, W: World, O: Write + Drop> FolderTaker<'a, 'c, W, O> {
     /// Removes the others, and prints the lines. Returns the world, their writer, the number of
     /// payloads that were begun, and the trouble, if it is known.
     pub(crate) fn end(self, is_whole: bool) -> (W, O, usize, Option<Trouble>)
-        ensures { stays_within self.entry.staging.folder.path.now
+        ensures within { stays_within self.entry.staging.folder.path.now
             (gives_names self.entry.keeps_good is_whole self.entry.has_refused)
             (W.trace result.0) ≡ true }
+        ensures told { result.3 ≡ None → TellsIf
+            (gives_names self.entry.keeps_good is_whole self.entry.has_refused
+            || self.entry.has_refused)
+            (O.contents self.entry.out) (O.contents result.1) self.entry.lines.items }
+        ensures count { result.2 ≡ self.entry.taken.count }
     {
         let FolderTaker {
             alloc: _alloc,
@@ -123,7 +132,12 @@ impl<'a, 'c, W: World, O: Write + Drop> FolderTaker<'a, 'c, W, O> {
         file: NewFile<'c, W::File>,
         vouched: Option<Vouched>,
     ) -> Result<(), Trouble>
-        ensures { self.new.staging.folder ≡ self.old.staging.folder }
+        ensures folder { self.new.staging.folder ≡ self.old.staging.folder }
+        ensures files { self.new.staging.files ≡ self.old.staging.files }
+        ensures told { OnOk result (self.new.lines.items
+            ≡ with_kept (self.old.has_refused && not self.old.keeps_good) self.old.lines.items
+            (kept_told self.old.json (as_bytes name.now) (last_name self.old.staging.files.items)
+            file.entry.size vouched)) }
     {
         let size = self.staging.complete(file)?;
         if self.has_refused && !self.keeps_good {
@@ -141,7 +155,10 @@ impl<'a, 'c, W: World, O: Write + Drop> FolderTaker<'a, 'c, W, O> {
 
     // Adds a line.
     fn add(&mut self, line: &Line<'_>) -> Result<(), Trouble>
-        ensures { self.new.staging.folder ≡ self.old.staging.folder }
+        ensures staging { self.new.staging ≡ self.old.staging }
+        ensures refused { self.new.has_refused ≡ self.old.has_refused }
+        ensures told { OnOk result
+            (self.new.lines.items ≡ self.old.lines.items ++ told_of self.old.json line.now) }
     {
         let line = told(self.alloc, self.json, line)?;
         self.lines.extend_from_slice(line.as_slice())?;
@@ -150,7 +167,15 @@ impl<'a, 'c, W: World, O: Write + Drop> FolderTaker<'a, 'c, W, O> {
 
     // Removes a refused payload.
     fn throw_away(&mut self, name: &NodeName, refusal: Refusal) -> Result<(), Trouble>
-        ensures { self.new.staging.folder ≡ self.old.staging.folder }
+        ensures folder { self.new.staging.folder ≡ self.old.staging.folder }
+        ensures refused { OnOk result (self.new.has_refused ≡ true) }
+        ensures dropped { OnOk result (RefusesLast self.old.keeps_good
+            self.old.staging.files.items self.new.staging.files.items
+            self.old.staging.outdated.items self.new.staging.outdated.items
+            (W.trace self.old.staging.world) (W.trace self.new.staging.world)) }
+        ensures told { OnOk result (self.new.lines.items
+            ≡ with_refused (self.old.keeps_good || self.old.has_refused) self.old.lines.items
+            (refused_told self.old.json (as_bytes name.now) refusal)) }
     {
         self.staging.refuse_last(self.keeps_good)?;
         if !self.keeps_good && !self.has_refused {
@@ -186,7 +211,11 @@ fn tell<O: Write>(
     out: &mut O,
     lines: &[u8],
     is_told: bool,
-) -> Result<(), Trouble> {
+) -> Result<(), Trouble>
+    ensures told { OnOk result (TellsIf is_told (O.contents out.old) (O.contents out.new) lines.now) }
+    ensures named { OnOk result (is_named named ≡ true) }
+    ensures untold { is_ok named && is_told ≡ false → out.new ≡ out.old }
+{
     let removed = named?;
     if is_told {
         out.write_all(lines)?;

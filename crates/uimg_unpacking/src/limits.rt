@@ -1,5 +1,9 @@
 //! How many files an image may become, and how many bytes.
 
+ghost use Rattle.std.specs.Prelude.{◌≡◌};
+ghost use Rattle.uimg_unpacking.specs.Limiting.{none_claimed, with_file, exceeded};
+ghost use Rattle.uimg_unpacking.specs.Troubles.{trouble_in};
+
 use crate::trouble::Trouble;
 
 /// How many files an image may become, and how many bytes they may have together.
@@ -22,7 +26,9 @@ pub(crate) struct Claimed {
 
 impl Claimed {
     /// Returns that nothing was claimed.
-    pub(crate) fn new(limits: Limits) -> Claimed {
+    pub(crate) fn new(limits: Limits) -> Claimed
+        ensures { result ≡ none_claimed limits }
+    {
         Claimed {
             limits,
             files: 0,
@@ -31,7 +37,10 @@ impl Claimed {
     }
 
     /// Claims a file of a length. Fails if the files are too many or too long with it.
-    pub(crate) fn claim(&mut self, length: u64) -> Result<(), Trouble> {
+    pub(crate) fn claim(&mut self, length: u64) -> Result<(), Trouble>
+        ensures claimed { self.new ≡ with_file length self.old }
+        ensures told { trouble_in result ≡ exceeded self.new }
+    {
         self.files = self.files.saturating_add(1);
         self.bytes = self.bytes.saturating_add(length);
         if self.files > self.limits.files {

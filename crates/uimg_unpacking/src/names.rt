@@ -1,7 +1,9 @@
 //! The names of files, each used once.
 
-ghost use Rattle.std.specs.Prelude.{◌≡◌, ◌++◌, codes, decimal, IfOk, IfSome, string_bytes, true};
+ghost use Rattle.std.specs.Prelude.{◌≡◌, ◌++◌, [], codes, decimal, not, IfOk, IfSome, string_bytes, true};
+ghost use Rattle.std.specs.Bool.{OnFalse};
 ghost use Rattle.uimg_unpacking.specs.FileNames.{is_file_name};
+ghost use Rattle.uimg_unpacking.specs.Names.{is_used};
 
 use crate::file_names::is_file_name;
 use std::alloc::{AllocError, Global};
@@ -21,7 +23,10 @@ pub(crate) struct Names {
 
 impl Names {
     /// Returns an empty set of names.
-    pub(crate) fn new(alloc: Global) -> Names {
+    pub(crate) fn new(alloc: Global) -> Names
+        ensures none { result.given.keys ≡ [] }
+        ensures count { result.count ≡ 0 }
+    {
         Names {
             alloc,
             given: BTreeSet::new(alloc),
@@ -55,12 +60,18 @@ impl Names {
     }
 
     /// Returns the number of files.
-    pub(crate) fn count(&self) -> usize {
+    pub(crate) fn count(&self) -> usize
+        ensures { result ≡ self.now.count }
+    {
         self.count
     }
 
     // Uses a name, and returns whether it was not used before.
-    fn give(&mut self, name: &str) -> Result<bool, AllocError> {
+    fn give(&mut self, name: &str) -> Result<bool, AllocError>
+        ensures is_new { IfOk result (λ is_new. is_new ≡ not (is_used self.old.given name.now)) }
+        ensures same { IfOk result (λ is_new. OnFalse is_new (self.new.given.keys ≡ self.old.given.keys)) }
+        ensures count { self.new.count ≡ self.old.count }
+    {
         let mut small = Vec::from_slice(self.alloc, name.as_bytes())?;
         small.make_ascii_lowercase();
         Ok(self.given.insert(small)?)

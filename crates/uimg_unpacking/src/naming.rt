@@ -1,10 +1,11 @@
 //! Gives files their names, and takes names back.
 
-ghost use Rattle.std.specs.Prelude.{◌≡◌, None, length, ℕ, List, is_ok, true, string_bytes};
+ghost use Rattle.std.specs.Prelude.{◌≡◌, None, length, ℕ, List, nat_lt, is_ok, is_some, not, true, string_bytes};
 ghost use Rattle.std.specs.List.{list_all};
 ghost use Rattle.uimg_unpacking.specs.Deeds.{answer_of};
 ghost use Rattle.uimg_unpacking.specs.Naming.{GivesName, KeepsAs, PutsBack};
 ghost use Rattle.uimg_unpacking.specs.Naming.{Names, NamesOver, RemovesOld};
+ghost use Rattle.uimg_unpacking.specs.NamingAll.{NamesFiles, PutsBackFiles, UnlessLater, ForgetsOld};
 ghost use Rattle.uimg_unpacking.specs.Places.{is_begun_in, stays_within};
 
 use crate::begun::Begun;
@@ -98,6 +99,8 @@ pub(crate) fn name_files<W: World>(
 ) -> (usize, Option<Trouble>)
     requires { list_all (is_begun_in folder.now.path.now) files.now ≡ true }
     ensures all { result.1 ≡ None → result.0 ≡ length files.now }
+    ensures told { NamesFiles folder.now files.now result.0 (not (is_some result.1))
+        (W.trace world.old) (W.trace world.new) }
     ensures within { stays_within folder.now.path.now true (W.trace world.new)
         ≡ stays_within folder.now.path.now true (W.trace world.old) }
 {
@@ -119,7 +122,8 @@ pub(crate) fn put_back_all<W: World>(
     number: usize,
 ) -> bool
     requires { list_all (is_begun_in folder.now.path.now) files.now ≡ true }
-    ensures { stays_within folder.now.path.now true (W.trace world.new)
+    ensures told { PutsBackFiles files.now number result (W.trace world.old) (W.trace world.new) }
+    ensures within { stays_within folder.now.path.now true (W.trace world.new)
         ≡ stays_within folder.now.path.now true (W.trace world.old) }
 {
     let mut is_back = true;
@@ -133,7 +137,9 @@ pub(crate) fn put_back_all<W: World>(
 // Puts back what a file was to replace, unless its number is greater than another. Returns whether
 // it is back.
 fn put_back_before<W: World>(world: &mut W, its: &Begun, before: usize, number: usize) -> bool
-    ensures { (folder : List ℕ) → is_begun_in folder its.now ≡ true →
+    ensures told { UnlessLater (nat_lt number before) its.now (nat_lt before number) result
+        (W.trace world.old) (W.trace world.new) }
+    ensures within { (folder : List ℕ) → is_begun_in folder its.now ≡ true →
         stays_within folder true (W.trace world.new)
         ≡ stays_within folder true (W.trace world.old) }
 {
@@ -147,7 +153,8 @@ fn put_back_before<W: World>(world: &mut W, its: &Begun, before: usize, number: 
 /// Removes what files have replaced.
 pub(crate) fn forget_old<W: World>(world: &mut W, folder: &Folder<'_>, files: &[Begun])
     requires { list_all (is_begun_in folder.now.path.now) files.now ≡ true }
-    ensures { stays_within folder.now.path.now true (W.trace world.new)
+    ensures told { ForgetsOld files.now (W.trace world.old) (W.trace world.new) }
+    ensures within { stays_within folder.now.path.now true (W.trace world.new)
         ≡ stays_within folder.now.path.now true (W.trace world.old) }
 {
     for its in files {

@@ -1,7 +1,9 @@
 //! Writes the parts of a legacy image to a folder, with a line for each.
 
-ghost use Rattle.std.specs.Prelude.{◌≡◌, [], IfOk, string_bytes, true};
+ghost use Rattle.std.specs.Prelude.{◌≡◌, ◌++◌, ◌∷◌, [], IfOk, OnOk, string_bytes, true};
+ghost use Rattle.std.specs.Io.KnownBytes.{Appends};
 ghost use Rattle.uimg_unpacking.specs.FileNames.{is_file_name};
+ghost use Rattle.uimg_unpacking.specs.Objects.{part_told, parts_told};
 ghost use Rattle.uimg_unpacking.specs.Places.{stays_within};
 
 use crate::limits::Claimed;
@@ -100,7 +102,9 @@ impl<'a, 'c, W: World, O: Write + Drop> PartFolder<'a, 'c, W, O> {
 
     // Completes the file of a part.
     fn complete(&mut self, number: u32, file: NewFile<'c, W::File>) -> Result<(), Trouble>
-        ensures { self.new.staging.folder ≡ self.old.staging.folder }
+        ensures folder { self.new.staging.folder ≡ self.old.staging.folder }
+        ensures noted { OnOk result (self.new.parts.items
+            ≡ self.old.parts.items ++ (number, file.entry.size) ∷ []) }
     {
         let size = self.staging.complete(file)?;
         self.parts.push((number, size))?;
@@ -109,21 +113,55 @@ impl<'a, 'c, W: World, O: Write + Drop> PartFolder<'a, 'c, W, O> {
 
     // Gives the files their names, and prints the line of each.
     fn finish(&mut self, dcrc: u32) -> Result<(), Trouble>
-        ensures { self.new.staging.folder ≡ self.old.staging.folder }
+        ensures folder { self.new.staging.folder ≡ self.old.staging.folder }
+        ensures told { OnOk result (Appends (O.contents self.old.out) (O.contents self.new.out)
+            (parts_told self.old.json dcrc self.old.parts.items)) }
     {
         self.staging.name_all()?;
-        for (number, size) in &self.parts {
-            let line = Line::Part {
-                number: *number,
-                size: *size,
-                dcrc,
-            };
-            let line = told(self.alloc, self.json, &line)?;
-            self.out.write_all(line.as_slice())?;
-        }
+        tell(
+            self.alloc,
+            self.json,
+            dcrc,
+            self.parts.as_slice(),
+            &mut self.out,
+        )?;
         self.out.flush()?;
         Ok(())
     }
+}
+
+// Prints the line of each part.
+fn tell<O: Write>(
+    alloc: Global,
+    json: Option<&str>,
+    dcrc: u32,
+    parts: &[(u32, u64)],
+    out: &mut O,
+) -> Result<(), Trouble>
+    ensures { OnOk result (Appends (O.contents out.old) (O.contents out.new)
+        (parts_told json.entry dcrc parts.now)) }
+{
+    for part in parts {
+        tell_part(alloc, json, dcrc, *part, out)?;
+    }
+    Ok(())
+}
+
+// Prints the line of a part.
+fn tell_part<O: Write>(
+    alloc: Global,
+    json: Option<&str>,
+    dcrc: u32,
+    part: (u32, u64),
+    out: &mut O,
+) -> Result<(), Trouble>
+    ensures { OnOk result (Appends (O.contents out.old) (O.contents out.new)
+        (part_told json.entry dcrc part)) }
+{
+    let (number, size) = part;
+    let line = told(alloc, json, &Line::Part { number, size, dcrc })?;
+    out.write_all(line.as_slice())?;
+    Ok(())
 }
 
 impl<'a, 'c, W: World, O: Write + Drop> PartTaker for PartFolder<'a, 'c, W, O> {

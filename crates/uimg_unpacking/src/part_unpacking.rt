@@ -1,6 +1,13 @@
 //! Unpacks a legacy image into a folder.
 
-ghost use Rattle.std.specs.Prelude.{◌≡◌, [], true};
+ghost use Rattle.std.specs.Prelude.{◌≡◌, [], true, is_err, IfOk};
+ghost use Rattle.std.specs.Char.{is_ascii_digit};
+ghost use Rattle.std.specs.List.{list_all};
+ghost use Rattle.uimg_base.specs.Device.{SameDevice};
+ghost use Rattle.uimg_base.specs.Honest.{HonestSource, IfHonest};
+ghost use Rattle.uimg_base.specs.Using.{Asks};
+ghost use Rattle.uimg_legacy.specs.Unpacking.{is_part_asked};
+ghost use Rattle.uimg_unpacking.specs.PartEnds.{has_leading_zero, is_number, stands_by_crc32, size_at, EndsUnlessRefused};
 ghost use Rattle.uimg_unpacking.specs.Places.{stays_within};
 
 use crate::disk_world::DiskWorld;
@@ -47,7 +54,9 @@ pub fn unpack_parts<R: Files + AllocGlobal, S: Source, W: Write + Drop>(
     asked: &Unpacking<'_>,
     source: &mut S,
     out: W,
-) -> PartsEnded {
+) -> PartsEnded
+    ensures { SameDevice (S.device source.old) (S.device source.new) }
+{
     let (_, ended) = unpack_parts_in(DiskWorld::new(rt), rt.alloc(), asked, source, out);
     ended
 }
@@ -62,7 +71,8 @@ fn unpack_parts_in<W: World, S: Source, O: Write + Drop>(
     out: O,
 ) -> (W, PartsEnded)
     requires { W.trace world ≡ [] }
-    ensures { stays_within asked.now.folder.path.now true (W.trace result.0) ≡ true }
+    ensures within { stays_within asked.now.folder.path.now true (W.trace result.0) ≡ true }
+    ensures same { SameDevice (S.device source.old) (S.device source.new) }
 {
     let mut room = Room::new(alloc);
     if !stands_by_crc32(asked.need) {
@@ -93,11 +103,10 @@ fn unpack_parts_in<W: World, S: Source, O: Write + Drop>(
 }
 
 // Returns an end, unless the image's header or its table of parts is refused.
-fn unless_refused<S: Source>(
-    source: &mut S,
-    room: &mut Room<Global>,
-    end: PartsEnded,
-) -> PartsEnded {
+fn unless_refused<S: Source>(source: &mut S, room: &mut Room<Global>, end: PartsEnded) -> PartsEnded
+    ensures told { IfHonest S.device source (λ file. EndsUnlessRefused file end result) }
+    ensures same { SameDevice (S.device source.old) (S.device source.new) }
+{
     match uimg_legacy::check(source, room) {
         Ok(_) => end,
         Err(fault) => PartsEnded::Stopped(fault),
@@ -105,7 +114,9 @@ fn unless_refused<S: Source>(
 }
 
 // Returns how many bytes the requested parts have together, by the header or the table of sizes.
-fn bytes_of<S: Source>(only: Option<u32>, source: &mut S) -> Result<u64, Fault> {
+fn bytes_of<S: Source>(only: Option<u32>, source: &mut S) -> Result<u64, Fault>
+    ensures { SameDevice (S.device source.old) (S.device source.new) }
+{
     let header = read_header(source)?;
     if header.kind != MULTI && header.kind != SCRIPT {
         return Ok(if takes(only, 0) {
@@ -128,7 +139,9 @@ fn bytes_of<S: Source>(only: Option<u32>, source: &mut S) -> Result<u64, Fault> 
 }
 
 // Returns whether the part of a number is requested.
-fn takes(only: Option<u32>, number: u32) -> bool {
+fn takes(only: Option<u32>, number: u32) -> bool
+    ensures { result ≡ is_part_asked only number }
+{
     match only {
         Some(one) => one == number,
         None => true,
@@ -136,7 +149,11 @@ fn takes(only: Option<u32>, number: u32) -> bool {
 }
 
 // Returns the size of a number in the table, or 0 if the file is too short.
-fn size_at<S: Source>(source: &mut S, number: u32) -> Result<u32, SourceFault> {
+fn size_at<S: Source>(source: &mut S, number: u32) -> Result<u32, SourceFault>
+    ensures uses { Asks 4 (is_err result) (S.device source.old) (S.device source.new) }
+    ensures size { HonestSource S.device source →
+        IfOk result (λ size. size ≡ size_at (S.device source.old).bytes number) }
+{
     let at = TABLE + 4 * number as u64;
     let end = source.size()?;
     if end < at || end - at < 4 {
@@ -148,7 +165,9 @@ fn size_at<S: Source>(source: &mut S, number: u32) -> Result<u32, SourceFault> {
 }
 
 // Returns whether CRC-32 is strong enough.
-fn stands_by_crc32(need: Option<Algo>) -> bool {
+fn stands_by_crc32(need: Option<Algo>) -> bool
+    ensures { result ≡ stands_by_crc32 need }
+{
     match need {
         None | Some(Algo::Crc16 | Algo::Crc32) => true,
         Some(_) => false,
@@ -158,13 +177,26 @@ fn stands_by_crc32(need: Option<Algo>) -> bool {
 // Returns the number of the part whose file has this name, or else one that no image has.
 fn number_of(name: &str) -> u32 {
     match name.strip_prefix("image-") {
-        Some(digits) if is_number(digits) => digits.parse().unwrap_or(u32::MAX),
+        Some(digits) if is_number(digits.as_bytes()) => digits.parse().unwrap_or(u32::MAX),
         _ => u32::MAX,
     }
 }
 
-// Returns whether a word is a number as in a file name.
-fn is_number(digits: &str) -> bool {
-    let has_zeros = digits.len() > 1 && digits.starts_with('0');
-    !has_zeros && digits.bytes().all(|digit| digit.is_ascii_digit())
+// Returns whether a word is a number as in a file name: digits, and no zero before others.
+fn is_number(word: &[u8]) -> bool
+    ensures { result ≡ is_number word.now }
+{
+    !has_leading_zero(word) && are_digits(word)
+}
+
+fn has_leading_zero(word: &[u8]) -> bool
+    ensures { result ≡ has_leading_zero word.now }
+{
+    word.len() > 1 && word[0] == b'0'
+}
+
+fn are_digits(word: &[u8]) -> bool
+    ensures { result ≡ list_all is_ascii_digit word.now }
+{
+    word.iter().all(|digit| digit.is_ascii_digit())
 }

@@ -1,25 +1,24 @@
 //! Files that are written in a folder of their own, and get their names together.
 
-ghost use Rattle.std.specs.Prelude.{◌≡◌, ◌++◌, [], None, length, map, true, false, codes, IfOk, IfSome, OnOk, string_bytes};
+ghost use Rattle.std.specs.Prelude.{◌≡◌, ◌++◌, ◌∷◌, [], map, true, false, codes, IfOk, IfSome, MatchOption, OnOk, is_ok, string_bytes};
 ghost use Rattle.std.specs.List.{list_all};
 ghost use Rattle.std.specs.Option.{option_map, option_map_or};
-ghost use Rattle.uimg_unpacking.specs.Deeds.{answer_of};
+ghost use Rattle.uimg_unpacking.specs.Deeds.{Answer, Deed, answer_of};
 ghost use Rattle.uimg_unpacking.specs.Clearing.{unanswered, cleared};
 ghost use Rattle.uimg_unpacking.specs.FileNames.{is_file_name};
 ghost use Rattle.uimg_unpacking.specs.Places.{is_temporary_folder, is_temporary_file, is_begun_in, stays_within};
+ghost use Rattle.uimg_unpacking.specs.Refusals.{last_of, last_name, DropsLast, RefusesLast, TellsUnwritten};
+
+mod naming_all;
 
 use crate::begun::{Begun, begun_in};
 use crate::folder::Folder;
-use crate::naming::{forget_old, name_files, put_back_all, remove_all_old};
 use crate::new_file::{ErrorCode, NewFile};
 use crate::trouble::{ShownPath, Trouble};
 use crate::world::World;
 use std::alloc::{AllocError, Global};
 use std::io;
 use std::io::{BufWriter, ErrorKind};
-
-/// The error of a file system that cannot wait for a folder (`EINVAL`).
-const INVALID: i32 = 22;
 
 /// New files for a folder. Until they get their names, they are in a temporary folder within it.
 #[derive(Drop)]
@@ -182,6 +181,7 @@ impl<'a, 'c, W: World> Staging<'a, 'c, W> {
     pub(crate) fn complete(&mut self, file: NewFile<'c, W::File>) -> Result<u64, Trouble>
         ensures size { IfOk result (λ size. size ≡ file.entry.size) }
         ensures folder { self.new.folder ≡ self.old.folder }
+        ensures files { self.new.files ≡ self.old.files }
         ensures naming { self.new.is_naming ≡ self.old.is_naming }
     {
         match file.close(self.folder.is_synced) {
@@ -200,12 +200,17 @@ impl<'a, 'c, W: World> Staging<'a, 'c, W> {
     /// with the names.
     pub(crate) fn refuse_last(&mut self, is_outdated: bool) -> Result<(), Trouble>
         ensures folder { self.new.folder ≡ self.old.folder }
+        ensures dropped { OnOk result (RefusesLast is_outdated
+            self.old.files.items self.new.files.items
+            self.old.outdated.items self.new.outdated.items
+            (W.trace self.old.world) (W.trace self.new.world)) }
         ensures naming { self.new.is_naming ≡ self.old.is_naming }
     {
         let refused = self.drop_last()?;
-        if is_outdated {
-            self.outdated.push(refused)?;
+        if !is_outdated {
+            return Ok(());
         }
+        self.outdated.push(refused)?;
         Ok(())
     }
 
@@ -213,6 +218,12 @@ impl<'a, 'c, W: World> Staging<'a, 'c, W> {
     fn drop_last(&mut self) -> Result<Begun, Trouble>
         ensures begun { IfOk result (λ last. is_begun_in self.old.folder.path.now last ≡ true) }
         ensures folder { self.new.folder ≡ self.old.folder }
+        ensures last { IfOk result (λ last. self.old.files.items ≡ self.new.files.items ++ last ∷ []
+            × W.trace self.new.world
+            ≡ Deed.Removes (string_bytes last.new) Answer.Done ∷ W.trace self.old.world) }
+        ensures dropped { DropsLast self.old.files.items self.new.files.items (is_ok result)
+            (W.trace self.old.world) (W.trace self.new.world) }
+        ensures outdated { self.new.outdated ≡ self.old.outdated }
         ensures naming { self.new.is_naming ≡ self.old.is_naming }
     {
         let Some(last) = self.pop() else {
@@ -228,6 +239,11 @@ impl<'a, 'c, W: World> Staging<'a, 'c, W> {
     fn pop(&mut self) -> Option<Begun>
         ensures begun { IfSome result (λ last. is_begun_in self.old.folder.path.now last ≡ true) }
         ensures folder { self.new.folder ≡ self.old.folder }
+        ensures last { MatchOption result
+            ((self.old.files.items ≡ []) × (self.new.files.items ≡ []))
+            (λ last. self.old.files.items ≡ self.new.files.items ++ last ∷ []) }
+        ensures world { self.new.world ≡ self.old.world }
+        ensures outdated { self.new.outdated ≡ self.old.outdated }
         ensures naming { self.new.is_naming ≡ self.old.is_naming }
     {
         self.is_writing = false;
@@ -238,21 +254,19 @@ impl<'a, 'c, W: World> Staging<'a, 'c, W> {
     fn remove(&mut self, begun: &Begun) -> io::Result<()>
         requires { is_begun_in self.old.folder.path.now begun.now ≡ true }
         ensures folder { self.new.folder ≡ self.old.folder }
+        ensures files { self.new.files ≡ self.old.files }
+        ensures outdated { self.new.outdated ≡ self.old.outdated }
+        ensures removed { W.trace self.new.world
+            ≡ Deed.Removes (string_bytes begun.now.new) (answer_of result) ∷ W.trace self.old.world }
         ensures naming { self.new.is_naming ≡ self.old.is_naming }
     {
         self.world.remove_file(begun.new.as_str())
     }
 
-    // Begins to give files their names.
-    fn begin_naming(&mut self)
-        ensures folder { self.new.folder ≡ self.old.folder }
-        ensures naming { self.new.is_naming ≡ true }
-    {
-        self.is_naming = true;
-    }
-
     /// Returns the name that the file that was begun last gets.
-    pub(crate) fn last_name(&self) -> &str {
+    pub(crate) fn last_name(&self) -> &str
+        ensures { result.now ≡ last_name self.now.files.items }
+    {
         match self.files.last() {
             Some(last) => last.name.as_str(),
             None => "",
@@ -260,7 +274,9 @@ impl<'a, 'c, W: World> Staging<'a, 'c, W> {
     }
 
     /// Returns the trouble that a file cannot be written, if one is not complete.
-    pub(crate) fn unwritten(&self) -> Option<Trouble> {
+    pub(crate) fn unwritten(&self) -> Option<Trouble>
+        ensures { TellsUnwritten self.now.is_writing (last_of self.now.files.items) result }
+    {
         let last = self.files.last()?;
         if !self.is_writing {
             return None;
@@ -276,60 +292,6 @@ impl<'a, 'c, W: World> Staging<'a, 'c, W> {
         match self.code.get() {
             Some(code) => io::Error::from_raw_os_error(code),
             None => io::Error::from(ErrorKind::WriteZero),
-        }
-    }
-
-    /// Gives all files their names. If one cannot get its name, or the names cannot be written to
-    /// the disk, none does, and what they were to replace is there again.
-    pub(crate) fn name_all(&mut self) -> Result<(), Trouble>
-        ensures folder { self.new.folder ≡ self.old.folder }
-        ensures naming { self.new.is_naming ≡ true }
-    {
-        self.begin_naming();
-        if self.is_writing {
-            self.drop_last()?;
-        }
-        if let (named, Some(trouble)) = self.name_each() {
-            return Err(self.taken_back(named, trouble));
-        }
-        if let Err(trouble) = self.sync() {
-            let all = self.files.len();
-            return Err(self.taken_back(all, trouble));
-        }
-        forget_old(&mut self.world, &self.folder, self.files.as_slice());
-        Ok(())
-    }
-
-    /// Removes what refused files were to replace.
-    pub(crate) fn remove_outdated(&mut self) -> Result<(), Trouble>
-        requires { self.old.is_naming ≡ true }
-        ensures folder { self.new.folder ≡ self.old.folder }
-        ensures naming { self.new.is_naming ≡ self.old.is_naming }
-    {
-        let outdated = self.outdated.as_slice();
-        remove_all_old(&mut self.world, self.alloc, &self.folder, outdated)?;
-        if self.outdated.is_empty() {
-            return Ok(());
-        }
-        self.sync()
-    }
-
-    // Waits until the names in the folder are on the disk, if that is requested and there are any.
-    // A file system that never waits for a folder is none to wait for.
-    fn sync(&mut self) -> Result<(), Trouble>
-        ensures files { self.new.files ≡ self.old.files }
-        ensures folder { self.new.folder ≡ self.old.folder }
-        ensures naming { self.new.is_naming ≡ self.old.is_naming }
-    {
-        if !self.folder.is_synced || self.files.is_empty() {
-            return Ok(());
-        }
-        match self.world.sync_dir(self.folder.path) {
-            Err(reason) if reason.raw_os_error() != Some(INVALID) => {
-                let path = String::from_str(self.alloc, self.folder.path)?;
-                Err(Trouble::CannotSync(ShownPath(path), reason))
-            }
-            _ => Ok(()),
         }
     }
 
@@ -362,40 +324,6 @@ impl<'a, 'c, W: World> Staging<'a, 'c, W> {
                 world
             }
             None => world,
-        }
-    }
-
-    // Gives files their names, up to one that cannot get it. Returns how many have it, and why the
-    // next one has not: none if all have it.
-    fn name_each(&mut self) -> (usize, Option<Trouble>)
-        requires { self.old.is_naming ≡ true }
-        ensures all { result.1 ≡ None → result.0 ≡ length self.new.files.items }
-        ensures folder { self.new.folder ≡ self.old.folder }
-        ensures naming { self.new.is_naming ≡ self.old.is_naming }
-    {
-        name_files(
-            &mut self.world,
-            self.alloc,
-            &self.folder,
-            self.files.as_slice(),
-        )
-    }
-
-    // Takes the names of the files before a number away, and puts back what they, and the file of
-    // this number, were to replace. Returns the trouble to tell: this one, or that old files are not
-    // in their place.
-    fn taken_back(&mut self, number: usize, trouble: Trouble) -> Trouble
-        requires { self.old.is_naming ≡ true }
-        ensures folder { self.new.folder ≡ self.old.folder }
-        ensures naming { self.new.is_naming ≡ self.old.is_naming }
-    {
-        let is_back = put_back_all(&mut self.world, &self.folder, self.files.as_slice(), number);
-        match &self.made {
-            Some(made) if !is_back => match String::from_str(self.alloc, made.as_str()) {
-                Ok(made) => Trouble::NotPutBack(ShownPath(made)),
-                Err(_) => trouble,
-            },
-            _ => trouble,
         }
     }
 }

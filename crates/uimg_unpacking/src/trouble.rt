@@ -1,5 +1,11 @@
 //! Why payloads are not written to a folder.
 
+ghost use Rattle.std.specs.Prelude.{◌≡◌, Some, false, string_bytes};
+ghost use Rattle.std.specs.IoError.{error_kind};
+ghost use Rattle.uimg_printing.specs.Printing.{printed};
+ghost use Rattle.uimg_unpacking.specs.Troubles.{done_in, noted, printing_trouble};
+ghost use Rattle.uimg_unpacking.specs.declared.trouble.Trouble.TheVariants.{OutOfMemory};
+
 use std::alloc::{AllocError, AllocFailed};
 use std::fmt::{Display, Formatter, Write};
 use std::io::ErrorKind;
@@ -13,6 +19,8 @@ use uimg_printing::Printed;
 pub struct ShownPath(pub(crate) String);
 
 impl Display for ShownPath {
+    ghost output = { λ path. Some (printed false (string_bytes path.0)) };
+
     fn fmt<W: Write>(&self, f: &mut Formatter<W>) -> fmt::Result {
         Printed(self.0.as_bytes()).fmt(f)
     }
@@ -90,7 +98,10 @@ pub enum Trouble {
 pub(crate) fn kept<X>(
     done: Result<X, Trouble>,
     trouble: &mut Option<Trouble>,
-) -> Result<X, PutFault> {
+) -> Result<X, PutFault>
+    ensures done { done_in result ≡ done_in done }
+    ensures noted { trouble.new ≡ noted done trouble.old }
+{
     match done {
         Ok(done) => Ok(done),
         Err(found) => {
@@ -101,12 +112,16 @@ pub(crate) fn kept<X>(
 }
 
 impl From<AllocError> for Trouble {
+    ghost from_gives = { λ _ trouble. trouble ≡ OutOfMemory };
+
     fn from(_error: AllocError) -> Trouble {
         Trouble::OutOfMemory
     }
 }
 
 impl From<io::Error> for Trouble {
+    ghost from_gives = { λ error trouble. trouble ≡ printing_trouble (error_kind error) error };
+
     fn from(error: io::Error) -> Trouble {
         match error.kind() {
             ErrorKind::OutOfMemory => Trouble::OutOfMemory,
@@ -117,6 +132,8 @@ impl From<io::Error> for Trouble {
 }
 
 impl<X: Drop> From<AllocFailed<X>> for Trouble {
+    ghost from_gives = { λ _ trouble. trouble ≡ OutOfMemory };
+
     fn from(failed: AllocFailed<X>) -> Trouble {
         drop(failed);
         Trouble::OutOfMemory

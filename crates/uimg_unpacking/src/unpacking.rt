@@ -1,6 +1,11 @@
 //! Unpacks a FIT image into a folder.
 
-ghost use Rattle.std.specs.Prelude.{◌≡◌, [], true};
+ghost use Rattle.std.specs.Prelude.{◌≡◌, ◌+◌, ◌≤◌, [], true};
+ghost use Rattle.std.specs.Option.{option_map};
+ghost use Rattle.uimg_base.specs.Device.{SameDevice};
+ghost use Rattle.uimg_base.specs.Honest.{IfHonest};
+ghost use Rattle.uimg_fit_checking.specs.Unpacking.{as_bytes, unpack_work};
+ghost use Rattle.uimg_unpacking.specs.Ends.{asked_name, end_of_taken, TellsOverlap};
 ghost use Rattle.uimg_unpacking.specs.Places.{stays_within};
 
 use crate::disk_world::DiskWorld;
@@ -77,7 +82,11 @@ pub fn unpack<R: Files + AllocGlobal, S: Source, W: Write + Drop>(
     asked: &Unpacking<'_>,
     source: &mut S,
     out: W,
-) -> Ended {
+) -> Ended
+    ensures same { SameDevice (S.device source.old) (S.device source.new) }
+    ensures asked { IfHonest S.device source (λ file. (S.device source.new).asked
+        ≤ (S.device source.old).asked + unpack_work file) }
+{
     let (_, ended) = unpack_in(DiskWorld::new(rt), rt.alloc(), asked, source, out);
     ended
 }
@@ -92,7 +101,10 @@ fn unpack_in<W: World, S: Source, O: Write + Drop>(
     out: O,
 ) -> (W, Ended)
     requires { W.trace world ≡ [] }
-    ensures { stays_within asked.now.folder.path.now true (W.trace result.0) ≡ true }
+    ensures within { stays_within asked.now.folder.path.now true (W.trace result.0) ≡ true }
+    ensures same { SameDevice (S.device source.old) (S.device source.new) }
+    ensures asked { IfHonest S.device source (λ file. (S.device source.new).asked
+        ≤ (S.device source.old).asked + unpack_work file) }
 {
     let Some(only) = only_of(asked.only) else {
         return (world, Ended::Stopped(Fault::Fit(FitFault::NoSuchImage)));
@@ -102,11 +114,11 @@ fn unpack_in<W: World, S: Source, O: Write + Drop>(
     let mut taker = FolderTaker::new(world, alloc, asked, out, &code);
     let unpacked = uimg_fit_checking::unpack(only, asked.need, source, &mut room, &mut taker);
     let is_whole = matches!(unpacked, Ok(Unpacked::Taken(true)));
-    let (world, out, count, trouble) = taker.end(is_whole);
+    let (world, mut out, count, trouble) = taker.end(is_whole);
     let ended = match (unpacked, trouble) {
         (Ok(Unpacked::Taken(_)), Some(trouble)) => Ended::Troubled(trouble),
         (Ok(Unpacked::Taken(all)), None) => taken(asked, all, count),
-        (Ok(Unpacked::Overlapping(name)), _) => overlapping(alloc, asked.json, out, &name),
+        (Ok(Unpacked::Overlapping(name)), _) => { overlapping(alloc, asked.json, &mut out, &name) }
         (Err(Fault::Put), trouble) => Ended::Troubled(trouble.unwrap_or(Trouble::Put)),
         (Err(fault), _) => Ended::Stopped(fault),
     };
@@ -114,7 +126,9 @@ fn unpack_in<W: World, S: Source, O: Write + Drop>(
 }
 
 // Returns the requested name, if there is one; `None` if it is too long for an image's name.
-fn only_of(only: Option<&str>) -> Option<Option<NodeName>> {
+fn only_of(only: Option<&str>) -> Option<Option<NodeName>>
+    ensures { option_map (option_map as_bytes) result ≡ asked_name only.entry }
+{
     match only {
         Some(name) => match NodeName::of(name.as_bytes()) {
             Some(name) => Some(Some(name)),
@@ -125,7 +139,9 @@ fn only_of(only: Option<&str>) -> Option<Option<NodeName>> {
 }
 
 // Returns how it ended after `count` payloads.
-fn taken(asked: &Unpacking<'_>, all: bool, count: usize) -> Ended {
+fn taken(asked: &Unpacking<'_>, all: bool, count: usize) -> Ended
+    ensures { result ≡ end_of_taken asked.now all count }
+{
     if count == 0 && asked.only.is_some() {
         return Ended::Stopped(Fault::Fit(FitFault::NoSuchImage));
     }
@@ -135,16 +151,23 @@ fn taken(asked: &Unpacking<'_>, all: bool, count: usize) -> Ended {
     if all { Ended::Kept } else { Ended::Refused }
 }
 
+// Prints the line of payloads that overlap, and returns how it ended.
 fn overlapping<W: Write + Drop>(
     alloc: Global,
     json: Option<&str>,
-    mut out: W,
+    out: &mut W,
     name: &NodeName,
-) -> Ended {
+) -> Ended
+    ensures { TellsOverlap json.entry (as_bytes name.now) result
+        (W.contents out.old) (W.contents out.new) }
+{
     let Ok(line) = told(alloc, json, &Line::Overlapping(name)) else {
         return Ended::Troubled(Trouble::OutOfMemory);
     };
-    match out.write_all(line.as_slice()).and_then(|()| out.flush()) {
+    if let Err(error) = out.write_all(line.as_slice()) {
+        return Ended::Troubled(Trouble::from(error));
+    }
+    match out.flush() {
         Ok(()) => Ended::Refused,
         Err(error) => Ended::Troubled(Trouble::from(error)),
     }

@@ -5,8 +5,8 @@ use Rattle.uimg_unpacking.proofs.Placing.{stays_naming}
 use Rattle.uimg_unpacking.proofs.part_unpacking.unpack_parts_in.Goals as goal
 
 -- the taker at the end is that of the requested folder
-pub returns : goal.returns
-returns g c =
+pub returns-clause-within : goal.returns-clause-within
+returns-clause-within g c =
     let taker = c.unpack-unpacked.new.taker in
     subst (λ (path : List ℕ). stays_within path true (g.W.World.trace c.end-world.result.0) ≡ true)
     (c.unpack-unpacked.ensures.stays ∙ ap (λ (f : Folder). f.path.now) c.new-taker.ensures)

@@ -1,0 +1,32 @@
+-- How the unpacking of a FIT image ends.
+use Rattle.std.specs.Prelude.{◌≡◌, ⊤, ℕ, ◌==◌, ◌&&◌, nat_le, length, List, ◌++◌, codes, Bool, true, false, if◌then◌else◌, is_some, Option, Some, None, Result, Err}
+use Rattle.std.specs.Borrow.{Bor}
+use Rattle.std.specs.Io.KnownBytes.{Appends}
+use Rattle.uimg_fit_base.specs.declared.fault.Fault.{Fault, TheVariants.{Fit}}
+use Rattle.uimg_fit_base.specs.declared.fault.FitFault.TheVariants.{NoSuchImage}
+use Rattle.uimg_printing.specs.Printing.{printed}
+use Rattle.uimg_unpacking.specs.Objects.{told_as, about_payload}
+use Rattle.uimg_unpacking.specs.declared.unpacking.Ended.{Ended}
+use Rattle.uimg_unpacking.specs.declared.unpacking.Ended.TheVariants.{Kept, Refused, NoImage, Stopped, Troubled}
+use Rattle.uimg_unpacking.specs.declared.unpacking.Unpacking.{Unpacking}
+
+-- the requested name, if there is one; no image has a name of more than 255 bytes
+abbrev pub asked_name : Option (Bor (List ℕ)) → Option (Option (List ℕ))
+asked_name None = Some None
+asked_name (Some name) = if nat_le (length name.now) 255 then Some (Some name.now) else None
+
+-- the end after all requested payloads were given: none may be there, or one may be refused
+abbrev pub end_of_taken : Unpacking → Bool → ℕ → Ended
+end_of_taken asked all count =
+    if count == 0 && is_some asked.only then Stopped (Fit NoSuchImage)
+    else if count == 0 && is_some asked.need then NoImage
+    else if all then Kept else Refused
+
+-- The line of payloads that overlap was printed, or it could not be.
+abbrev pub TellsOverlap : Option (Bor (List ℕ)) → List ℕ → Ended → Option (List ℕ) → Option (List ℕ) → Type 0
+TellsOverlap path name Refused old new =
+    Appends old new (told_as path (printed true name ++ codes ": overlapping") (about_payload 1 (codes "overlapping") name))
+TellsOverlap path name (Troubled trouble) old new = ⊤
+TellsOverlap path name Kept old new = ⊥
+TellsOverlap path name NoImage old new = ⊥
+TellsOverlap path name (Stopped fault) old new = ⊥

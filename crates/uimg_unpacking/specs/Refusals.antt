@@ -1,0 +1,42 @@
+-- What becomes of the file that was begun last.
+use Rattle.std.specs.Prelude.{◌≡◌, ⊤, Option, Some, None, true, ℕ, ◌-◌, length, List, [], ◌∷◌, ◌++◌, Bool, false, if◌then◌else◌, string_bytes}
+use Rattle.std.specs.List.{slice_get}
+use Rattle.std.specs.Option.{option_map_or}
+use Rattle.uimg_unpacking.specs.Deeds.{Answer, Done, Deed, Removes}
+use Rattle.uimg_unpacking.specs.Naming.{is_done}
+use Rattle.uimg_unpacking.specs.declared.begun.Begun.{Begun}
+use Rattle.uimg_unpacking.specs.declared.trouble.Trouble.{Trouble}
+use Rattle.uimg_unpacking.specs.declared.trouble.Trouble.TheVariants.{CannotWrite, OutOfMemory}
+
+-- the file, if any was begun
+abbrev pub last_of : List Begun → Option Begun
+last_of files = slice_get files (length files - 1)
+
+-- the name that it gets
+abbrev pub last_name : List Begun → List ℕ
+last_name files = option_map_or (λ its. string_bytes its.name) (last_of files) []
+
+-- the trouble of a file that cannot be written, with the path that it was to get, or of no memory
+abbrev pub IsUnwritten : Begun → Trouble → Type 0
+IsUnwritten its (CannotWrite path why) = string_bytes path.0 ≡ string_bytes its.whole
+IsUnwritten its OutOfMemory = ⊤
+IsUnwritten its _ = ⊥
+
+-- There is a trouble just if a file was begun that is not complete.
+abbrev pub TellsUnwritten : Bool → Option Begun → Option Trouble → Type 0
+TellsUnwritten true (Some its) (Some trouble) = IsUnwritten its trouble
+TellsUnwritten true (Some its) None = ⊥
+TellsUnwritten true None found = found ≡ None
+TellsUnwritten false last found = found ≡ None
+
+-- It is removed, and gets no name. If none was begun, nothing is done.
+pub data DropsLast (files left : List Begun) (is_dropped : Bool) (before after : List Deed) : Type 0 where
+  no_file : files ≡ [] → left ≡ [] → is_dropped ≡ false → after ≡ before → DropsLast files left is_dropped before after
+  dropped : (last : Begun) (answer : Answer) → files ≡ left ++ last ∷ [] → is_dropped ≡ is_done answer → after ≡ Removes (string_bytes last.new) answer ∷ before → DropsLast files left is_dropped before after
+
+-- It was removed, and gets no name. If it is outdated, what it was to replace is removed later.
+pub record RefusesLast (is_outdated : Bool) (files left outdated now_outdated : List Begun) (before after : List Deed) : Type 0 where
+  pub last : Begun
+  pub is_last : files ≡ left ++ last ∷ []
+  pub removed : after ≡ Removes (string_bytes last.new) Done ∷ before
+  pub noted : now_outdated ≡ (if is_outdated then outdated ++ last ∷ [] else outdated)

@@ -1,0 +1,137 @@
+//! Files get their names together, or none does.
+
+ghost use Rattle.std.specs.Prelude.{◌≡◌, None, length, is_ok, is_some, not, true};
+ghost use Rattle.uimg_unpacking.specs.NamingAll.{NamesFiles, PutsBackFiles, SyncsNames, NamesAll, NamesComplete, TakesBack};
+
+use crate::naming::{forget_old, name_files, put_back_all, remove_all_old};
+use crate::staging::Staging;
+use crate::trouble::{ShownPath, Trouble};
+use crate::world::World;
+
+/// The error of a file system that cannot wait for a folder (`EINVAL`).
+const INVALID: i32 = 22;
+
+impl<'a, 'c, W: World> Staging<'a, 'c, W> {
+    // Begins to give files their names.
+    fn begin_naming(&mut self)
+        ensures files { self.new.files ≡ self.old.files }
+        ensures writing { self.new.is_writing ≡ self.old.is_writing }
+        ensures world { self.new.world ≡ self.old.world }
+        ensures folder { self.new.folder ≡ self.old.folder }
+        ensures naming { self.new.is_naming ≡ true }
+    {
+        self.is_naming = true;
+    }
+
+    /// Gives all files their names. If one cannot get its name, or the names cannot be written to
+    /// the disk, none does, and what they were to replace is there again.
+    pub(crate) fn name_all(&mut self) -> Result<(), Trouble>
+        ensures told { NamesComplete self.old.folder self.old.files.items self.old.is_writing
+            (is_ok result) (W.trace self.old.world) (W.trace self.new.world) }
+        ensures folder { self.new.folder ≡ self.old.folder }
+        ensures naming { self.new.is_naming ≡ true }
+    {
+        self.begin_naming();
+        if !self.is_writing {
+            return self.name_complete();
+        }
+        self.drop_last()?;
+        self.name_complete()
+    }
+
+    // As `name_all`, for files that are complete.
+    fn name_complete(&mut self) -> Result<(), Trouble>
+        requires { self.old.is_naming ≡ true }
+        ensures told { NamesAll self.old.folder self.old.files.items (is_ok result)
+            (W.trace self.old.world) (W.trace self.new.world) }
+        ensures folder { self.new.folder ≡ self.old.folder }
+        ensures naming { self.new.is_naming ≡ self.old.is_naming }
+    {
+        if let (named, Some(trouble)) = self.name_each() {
+            return Err(self.taken_back(named, trouble));
+        }
+        if let Err(trouble) = self.sync() {
+            let all = self.files.len();
+            return Err(self.taken_back(all, trouble));
+        }
+        forget_old(&mut self.world, &self.folder, self.files.as_slice());
+        Ok(())
+    }
+
+    /// Removes what refused files were to replace.
+    pub(crate) fn remove_outdated(&mut self) -> Result<(), Trouble>
+        requires { self.old.is_naming ≡ true }
+        ensures folder { self.new.folder ≡ self.old.folder }
+        ensures naming { self.new.is_naming ≡ self.old.is_naming }
+    {
+        let outdated = self.outdated.as_slice();
+        remove_all_old(&mut self.world, self.alloc, &self.folder, outdated)?;
+        if self.outdated.is_empty() {
+            return Ok(());
+        }
+        self.sync()
+    }
+
+    // Waits until the names in the folder are on the disk, if that is requested and there are any.
+    // A file system that never waits for a folder is none to wait for.
+    fn sync(&mut self) -> Result<(), Trouble>
+        ensures told { SyncsNames self.old.folder self.old.files.items (is_ok result)
+            (W.trace self.old.world) (W.trace self.new.world) }
+        ensures files { self.new.files ≡ self.old.files }
+        ensures folder { self.new.folder ≡ self.old.folder }
+        ensures naming { self.new.is_naming ≡ self.old.is_naming }
+    {
+        if !self.folder.is_synced || self.files.is_empty() {
+            return Ok(());
+        }
+        match self.world.sync_dir(self.folder.path) {
+            Err(reason) if reason.raw_os_error() != Some(INVALID) => {
+                let path = String::from_str(self.alloc, self.folder.path)?;
+                Err(Trouble::CannotSync(ShownPath(path), reason))
+            }
+            _ => Ok(()),
+        }
+    }
+
+    // Gives files their names, up to one that cannot get it. Returns how many have it, and why the
+    // next one has not: none if all have it.
+    fn name_each(&mut self) -> (usize, Option<Trouble>)
+        requires { self.old.is_naming ≡ true }
+        ensures all { result.1 ≡ None → result.0 ≡ length self.new.files.items }
+        ensures told { NamesFiles self.old.folder self.old.files.items result.0
+            (not (is_some result.1)) (W.trace self.old.world) (W.trace self.new.world) }
+        ensures files { self.new.files ≡ self.old.files }
+        ensures folder { self.new.folder ≡ self.old.folder }
+        ensures naming { self.new.is_naming ≡ self.old.is_naming }
+    {
+        name_files(
+            &mut self.world,
+            self.alloc,
+            &self.folder,
+            self.files.as_slice(),
+        )
+    }
+
+    // Takes the names of the files before a number away, and puts back what they, and the file of
+    // this number, were to replace. Returns the trouble to tell: this one, or that old files are not
+    // in their place.
+    fn taken_back(&mut self, number: usize, trouble: Trouble) -> Trouble
+        requires { self.old.is_naming ≡ true }
+        ensures told { TakesBack self.old.files.items number trouble result
+            (W.trace self.old.world) (W.trace self.new.world) }
+        ensures folder { self.new.folder ≡ self.old.folder }
+        ensures naming { self.new.is_naming ≡ self.old.is_naming }
+    {
+        let is_back = put_back_all(&mut self.world, &self.folder, self.files.as_slice(), number);
+        if is_back {
+            return trouble;
+        }
+        match &self.made {
+            Some(made) => match String::from_str(self.alloc, made.as_str()) {
+                Ok(made) => Trouble::NotPutBack(ShownPath(made)),
+                Err(_) => trouble,
+            },
+            None => trouble,
+        }
+    }
+}
