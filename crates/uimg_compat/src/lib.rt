@@ -3,6 +3,7 @@
 #![tactic(auto)]
 
 mod auto_source;
+mod base_names;
 mod c_numbers;
 mod dtc_checks;
 mod dtc_words;
@@ -31,4 +32,4 @@ pub use mkimage::read_mkimage;
 pub use names::title_of;
 pub use quoted::{Escaped, Quoted};
 pub use request::{AutoRequest, FitRequest, OldRequest, Show, UpdateRequest};
-pub use warnings::warn;
+pub use warnings::{Told, warn};
