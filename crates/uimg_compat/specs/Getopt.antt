@@ -1,5 +1,5 @@
 -- What the words of a command line give, as getopt_long of the GNU C library reads them.
-use Rattle.std.specs.Prelude.{◌≡◌, ◌==◌, ◌+◌, ℕ, suc, Bool, true, false, List, [], ◌∷◌, length, map, filter, find, take, drop, Option, Some, None, option_map, ◌&&◌, Result, Ok, Err, codes, if◌then◌else◌, nat_lt}
+use Rattle.std.specs.Prelude.{◌≡◌, ◌==◌, ◌+◌, ◌-◌, ℕ, suc, get_or, Bool, true, false, List, [], ◌∷◌, length, map, filter, find, take, drop, Option, Some, None, option_map, ◌&&◌, Result, Ok, Err, codes, if◌then◌else◌, nat_lt}
 use Rattle.std.specs.{List.{sum_by, starts_with, position_or_len, prefix_len, before_first, after_first}, Str.bytes_eq, Borrow.Bor}
 use Rattle.uimg_compat.specs.declared.getopt.{Words.Words, Given.Given, Misuse.Misuse}
 use Rattle.uimg_compat.specs.declared.getopt.Given.TheVariants as code
@@ -171,6 +171,10 @@ reading rows words = read rows words false None
 
 abbrev pub words_left : Words → List Text
 words_left w = map (λ word. word.now) (drop w.next w.words.now)
+
+-- the word that was read last, if one was
+abbrev pub last_word : Words → Text
+last_word w = get_or (map (λ word. word.now) (take w.next w.words.now)) (w.next - 1) []
 
 -- The unread part of a command line: the letters of a word, and the words behind it.
 abbrev pub behind_word : List Row → Words → Behind

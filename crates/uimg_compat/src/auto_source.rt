@@ -1,23 +1,23 @@
 //! The image source that mkimage makes itself for -f auto.
 
-ghost use Rattle.std.specs.Prelude.{◌≡◌, ◌≤◌, ◌<◌, ◌∷◌, [], ◌-◌, ◌==◌, not, length, map, IfSome, MatchOption};
-ghost use Rattle.std.specs.Prelude.{Some, option_map, take};
-ghost use Rattle.std.specs.{Fmt.{WritesOnOk}, List.{suffix_len}};
+ghost use Rattle.std.specs.Prelude.{◌≡◌, ◌<◌, ◌∷◌, [], map, IfSome, MatchOption};
+ghost use Rattle.std.specs.Prelude.{Some, option_map};
+ghost use Rattle.std.specs.Fmt.{WritesOnOk};
 ghost use Rattle.uimg_texts.specs.CodeRows.{row_of};
 ghost use Rattle.uimg_names.specs.declared.field.Field.TheVariants.{Architecture, System, Compression};
 ghost use Rattle.uimg_compat.specs.Asked.{auto_of};
-ghost use Rattle.uimg_compat.specs.AutoSource.{auto_text, bare_configuration_text, bare_head, base_name};
+ghost use Rattle.uimg_compat.specs.AutoSource.{auto_text, bare_configuration_text, bare_head};
 ghost use Rattle.uimg_compat.specs.AutoSource.{configuration_end, configuration_head, configuration_text};
 ghost use Rattle.uimg_compat.specs.AutoSource.{configurations_by, configurations_head};
-ghost use Rattle.uimg_compat.specs.AutoSource.{configurations_text, each_from, ending, file_head, file_name};
-ghost use Rattle.uimg_compat.specs.AutoSource.{images_text};
-ghost use Rattle.uimg_compat.specs.AutoSource.{image_text, kind_name, paths_left, ramdisk_name};
-ghost use Rattle.uimg_compat.specs.AutoSource.{ramdisk_head, ramdisk_text, root_head, root_text, short_in, short_name};
-ghost use Rattle.uimg_compat.specs.AutoSource.{signature_items, tree_head, tree_of, tree_text, trees_of, trees_text};
-ghost use Rattle.uimg_compat.specs.AutoSource.{without_suffix};
+ghost use Rattle.uimg_compat.specs.AutoSource.{configurations_text, each_from, ending, file_head};
+ghost use Rattle.uimg_compat.specs.AutoSource.{image_text, images_text, kind_name, paths_left};
+ghost use Rattle.uimg_compat.specs.AutoSource.{ramdisk_head, ramdisk_name, ramdisk_text, root_head};
+ghost use Rattle.uimg_compat.specs.AutoSource.{root_text, short_in, short_name, signature_items};
+ghost use Rattle.uimg_compat.specs.AutoSource.{tree_head, tree_of, tree_text, trees_of, trees_text};
 ghost use Rattle.uimg_compat.specs.Getopt.{left, told_of};
 ghost use Rattle.uimg_compat.specs.ImageTree.{item_of, source_text};
 
+use crate::base_names::base_name;
 use crate::getopt::{Given, Words};
 use crate::image_tree::{Item, put_items};
 use crate::mkimage_options::take_option;
@@ -25,9 +25,6 @@ use std::fmt;
 use std::fmt::{Display, Formatter, Write};
 use uimg_legacy::Options;
 use uimg_names::{Field, Naming};
-
-/// The longest description of a device tree, in bytes.
-const LONGEST: usize = 99;
 
 /// The image source that mkimage 2023.01 makes for a file, device trees and a RAM disk. Displayed,
 /// it is the text of the source.
@@ -399,43 +396,4 @@ fn first_short(rows: &'static [(&'static str, u8, &'static str)], code: u8) -> &
         }
     }
     "unknown"
-}
-
-// Returns the name of the file at a path, without its last dot and what follows it.
-fn base_name(path: &[u8]) -> &[u8]
-    ensures { result.now ≡ base_name path.now }
-{
-    at_most(without_suffix(file_name(path)), LONGEST)
-}
-
-fn at_most(name: &[u8], length: usize) -> &[u8]
-    ensures { result.now ≡ take length name.now }
-{
-    name.get(..length).unwrap_or(name)
-}
-
-/// Returns what is after the last slash of a path.
-pub fn file_name(path: &[u8]) -> &[u8]
-    ensures { result.now ≡ file_name path.now }
-{
-    &path[end_of_last(path, b'/')..]
-}
-
-fn without_suffix(name: &[u8]) -> &[u8]
-    ensures { result.now ≡ without_suffix name.now }
-{
-    let end = end_of_last(name, b'.');
-    if end > 0 { &name[..end - 1] } else { name }
-}
-
-// Returns the number of bytes up to and with the last one that is this, or 0.
-fn end_of_last(text: &[u8], byte: u8) -> usize
-    ensures end { result ≡ length text.now - suffix_len (λ it. not (it == byte)) text.now }
-    ensures inside { result ≤ length text.now }
-{
-    let mut end = text.len();
-    while end > 0 && text[end - 1] != byte {
-        end -= 1;
-    }
-    end
 }

@@ -13,7 +13,7 @@ ghost use Rattle.uimg_compat.specs.Getopt.{Row, only, Takes, behind, behind_word
 ghost use Rattle.uimg_compat.specs.Getopt.{left, lettered, long, name_in, joined_in, met};
 ghost use Rattle.uimg_compat.specs.Getopt.{mistake_of, named, optioned, is_begun, called};
 ghost use Rattle.uimg_compat.specs.Getopt.{continues, reading, row_of, unread, with_letter};
-ghost use Rattle.uimg_compat.specs.Getopt.{words_left};
+ghost use Rattle.uimg_compat.specs.Getopt.{last_word, words_left};
 
 use thiserror::Error;
 use uimg_printing::Printed;
@@ -116,8 +116,13 @@ impl<'w, 'a> Words<'w, 'a> {
     }
 
     /// Returns the word that was read last.
-    pub(crate) fn last(&self) -> &'a str {
-        match self.words.get(self.next.wrapping_sub(1)) {
+    pub(crate) fn last(&self) -> &'a str
+        ensures { result.now ≡ last_word self.now }
+    {
+        let Some(last) = self.next.checked_sub(1) else {
+            return "";
+        };
+        match self.words.get(last) {
             Some(word) => *word,
             None => "",
         }

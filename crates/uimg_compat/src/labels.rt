@@ -1,5 +1,8 @@
 //! Whether a source has labels.
 
+ghost use Rattle.std.specs.Prelude.{◌≡◌};
+ghost use Rattle.uimg_compat.specs.Labels.{has_labels, place_after};
+
 /// Where a byte of a source is.
 #[derive(Clone, Copy, Debug, PartialEq, Eq)]
 enum Place {
@@ -27,7 +30,9 @@ enum Place {
 
 /// Returns whether a text has a `:` outside of strings and comments, as each label of a source has
 /// one.
-pub fn has_labels(text: &[u8]) -> bool {
+pub fn has_labels(text: &[u8]) -> bool
+    ensures { result ≡ has_labels text.now }
+{
     let mut place = Place::Words;
     for byte in text {
         if *byte == b':' && (place == Place::Words || place == Place::Slash) {
@@ -39,7 +44,9 @@ pub fn has_labels(text: &[u8]) -> bool {
 }
 
 // Returns where the byte after this one is.
-fn place_after(place: Place, byte: u8) -> Place {
+fn place_after(place: Place, byte: u8) -> Place
+    ensures { result ≡ place_after place byte }
+{
     match (place, byte) {
         (Place::Slash, b'/') => Place::Line,
         (Place::Slash, b'*') => Place::Comment,

@@ -3,6 +3,7 @@
 #![tactic(auto)]
 
 mod auto_source;
+mod base_names;
 mod c_numbers;
 mod dtc_checks;
 mod dtc_words;
@@ -20,7 +21,8 @@ mod quoted;
 mod request;
 mod warnings;
 
-pub use auto_source::{AutoSource, TreePaths, file_name};
+pub use auto_source::{AutoSource, TreePaths};
+pub use base_names::file_name;
 pub use c_numbers::{long_prefix, low_half, unsigned_long};
 pub use dtc_words::{DtcWords, Silenced};
 pub use dumpimage::read_dumpimage;
@@ -31,4 +33,4 @@ pub use mkimage::read_mkimage;
 pub use names::title_of;
 pub use quoted::{Escaped, Quoted};
 pub use request::{AutoRequest, FitRequest, OldRequest, Show, UpdateRequest};
-pub use warnings::warn;
+pub use warnings::{Told, warn};

@@ -2,6 +2,7 @@
 
 ghost use Rattle.std.specs.Prelude.{◌≡◌, Result, Err};
 ghost use Rattle.uimg_compat.specs.Names.{form_asked, is_made, letter_of, name_asked};
+ghost use Rattle.uimg_compat.specs.Warnings.{title_of};
 ghost use Rattle.uimg_compat.specs.Wrong.{IsWrong, Tells, Wrong, unknown_name, wrong_of};
 ghost use Rattle.uimg_compat.specs.declared.names.Named.{Named};
 
@@ -36,7 +37,9 @@ pub(crate) fn letter_of(field: Field) -> char
 }
 
 /// Returns the name of a field.
-pub fn title_of(field: Field) -> &'static str {
+pub fn title_of(field: Field) -> &'static str
+    ensures { result.now ≡ title_of field }
+{
     match field {
         Field::Architecture => "architecture",
         Field::System => "operating system",

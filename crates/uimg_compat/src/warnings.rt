@@ -4,6 +4,8 @@
 mod configurations;
 mod equal_names;
 mod images;
+mod known_names;
+mod lacks;
 mod node_paths;
 mod nodes;
 mod root;
@@ -11,3 +13,4 @@ mod teller;
 mod warning;
 
 pub use root::warn;
+pub use teller::Told;

@@ -1,10 +1,16 @@
 //! Look-ups in a node.
 
+ghost use Rattle.std.specs.Prelude.{◌≡◌, option_map};
+ghost use Rattle.uimg_blob_writing.specs.Properties.{content};
+ghost use Rattle.uimg_compat.specs.WarningsOfNodes.{bytes_of, found_node, has_property, node_named};
+
 use std::alloc::Global;
 use uimg_blob_writing::{Node, Value};
 
 /// Returns the first child node of a name.
-pub(crate) fn child_of<'a>(node: &'a Node<Global>, name: &[u8]) -> Option<&'a Node<Global>> {
+pub(crate) fn child_of<'a>(node: &'a Node<Global>, name: &[u8]) -> Option<&'a Node<Global>>
+    ensures { found_node result ≡ node_named name.now node.entry.now.children }
+{
     for child in node.children.items() {
         if child.name.items() == name {
             return Some(child);
@@ -14,7 +20,9 @@ pub(crate) fn child_of<'a>(node: &'a Node<Global>, name: &[u8]) -> Option<&'a No
 }
 
 /// Returns whether a node has a property of this name.
-pub(crate) fn has_property(node: &Node<Global>, name: &str) -> bool {
+pub(crate) fn has_property(node: &Node<Global>, name: &str) -> bool
+    ensures { result ≡ has_property name.now node.now.props }
+{
     for property in node.props.items() {
         if property.name.items() == name.as_bytes() {
             return true;
@@ -24,7 +32,9 @@ pub(crate) fn has_property(node: &Node<Global>, name: &str) -> bool {
 }
 
 /// Returns the bytes of a value, unless they are left in a file.
-pub(crate) fn bytes_of(value: &Value<Global>) -> Option<&[u8]> {
+pub(crate) fn bytes_of(value: &Value<Global>) -> Option<&[u8]>
+    ensures { option_map (λ bytes. bytes.now) result ≡ bytes_of (content value.now) }
+{
     match value {
         Value::Bytes(bytes) => Some(bytes.items()),
         Value::File { .. } => None,

@@ -1,5 +1,8 @@
 //! The texts of warnings.
 
+ghost use Rattle.std.specs.Prelude.{Some};
+ghost use Rattle.uimg_compat.specs.Warnings.{trouble_of, trouble_text};
+
 use crate::names::title_of;
 use crate::quoted::{Escaped, Quoted};
 use std::fmt;
@@ -29,6 +32,9 @@ pub(crate) enum Warning<'a> {
 }
 
 impl<'a> Display for Warning<'a> {
+    ghost output = { λ it. Some (trouble_text (trouble_of it)) };
+
+    #[tactic(auto, unfolding(crate::specs::Warnings::trouble_text))]
     fn fmt<W: Write>(&self, f: &mut Formatter<W>) -> fmt::Result {
         match self {
             Warning::Lacks(property) => write!(f, "it has no {property}"),

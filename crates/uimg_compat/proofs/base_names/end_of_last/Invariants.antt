@@ -1,6 +1,6 @@
 use Rattle.std.proofs.Common.{◌≡◌, ◌-◌, ◌+◌, ◌≤◌, ◌==◌, not, length, take}
 use Rattle.std.specs.List.{suffix_len}
-use Rattle.uimg_compat.proofs.auto_source.end_of_last.Given as goal
+use Rattle.uimg_compat.proofs.base_names.end_of_last.Given as goal
 
 -- no byte from the end on is this one
 abbrev pub invariant-loop-end : goal.invariant-loop-end
