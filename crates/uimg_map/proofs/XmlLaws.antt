@@ -1,5 +1,5 @@
 -- Characters of a text.
-use Rattle.std.proofs.Common.{◌≡◌, [], ℕ, zero, suc, List, take, refl}
+use Rattle.std.proofs.Common.{◌≡◌, [], ℕ, zero, suc, take, refl}
 
 pub none_taken : (n : ℕ) → take {A = ℕ} n [] ≡ []
 none_taken zero = refl

@@ -11,10 +11,11 @@ use Rattle.uimg_map.specs.declared.map.Standing.TheVariants.{Alone, Nested, Over
 use Rattle.uimg_map.specs.declared.{thing.Thing.Thing, row.Row.{Row, TheVariants.{Taken, Gap, Rest}}}
 
 -- Names were read, and at most `most` bytes for them.
-pub record ReadsNames {X E : Type 0} (most : ℕ) (result : Result X E) (old new : Device) : Type 0 where
+pub record ReadsNames {X E : Type 0} (most : ℕ) (result : Result X E)
+    (old new : Device) : Type 0 where
   pub same : SameDevice old new
   pub asked : new.asked ≤ old.asked + most
-  -- none is told if a read failed
+  -- no text is returned if a read failed
   pub failures : OnOk result (new.failures ≡ old.failures)
 
 -- the word for a thing without a name or a number of its own

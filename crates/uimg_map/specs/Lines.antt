@@ -1,15 +1,15 @@
 -- A map as lines of text.
-use Rattle.std.specs.Prelude.{◌≡◌, ℕ, ◌-◌, ◌^◌, List, [], ◌∷◌, ◌++◌, length, map, codes, decimal, false}
-use Rattle.std.specs.Prelude.{replicate, Bool, true}
+use Rattle.std.specs.Prelude.{◌≡◌, ℕ, ◌-◌, ◌^◌, List, [], ◌∷◌, ◌++◌, map, codes, decimal, false}
+use Rattle.std.specs.Prelude.{Bool, true}
 use Rattle.std.specs.{Prelude.Option, Fmt.{digits, format_spec, padded_integral}, Io.KnownBytes.Appends, List.range_with_len}
 use Rattle.uimg_map.specs.{Bars.is_filled, Cover.{place_of, row_end}, Labels.Tells}
 use Rattle.uimg_map.specs.declared.{map.Map.Map, row.Row.Row}
 
--- an offset, in eight hexadecimal digits or more
+-- an offset, as `{:08x}` prints it: in eight hexadecimal digits or more
 abbrev pub offset_text : ℕ → List ℕ
 offset_text n = padded_integral (format_spec 32 0 4 8 (2 ^ 64 - 1)) false [] (digits 16 false n)
 
--- a size in decimal digits, at the right of nine columns
+-- a size, as `{:>9}` prints it: in decimal digits, at the right of nine columns
 abbrev pub size_text : ℕ → List ℕ
 size_text n = padded_integral (format_spec 32 3 0 9 (2 ^ 64 - 1)) false [] (decimal n)
 
@@ -44,7 +44,8 @@ Lines file map (row ∷ rows) lines =
     × (lines ≡ line_text map.size row text ++ others)
 
 -- the lines were appended
-pub record PutsLines (file : List ℕ) (map : Map) (rows : List Row) (old new : Option (List ℕ)) : Type 0 where
+pub record PutsLines (file : List ℕ) (map : Map) (rows : List Row)
+    (old new : Option (List ℕ)) : Type 0 where
   pub text : List ℕ
   pub lines : Lines file map rows text
   pub appended : Appends old new text

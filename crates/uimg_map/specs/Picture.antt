@@ -7,7 +7,7 @@ use Rattle.uimg_map.specs.{Labels.{Tells, label_of, standing_of}, Lines.place_te
 use Rattle.uimg_map.specs.declared.{contents.Label.Label, map.{Map.Map, Standing.Standing}}
 use Rattle.uimg_map.specs.declared.contents.Label.TheVariants as of
 use Rattle.uimg_map.specs.declared.map.Standing.TheVariants as stands
-use Rattle.uimg_map.specs.declared.{picture.Kind.Kind, thing.Thing.Thing, row.Row.Row}
+use Rattle.uimg_map.specs.declared.{picture.Kind.Kind, row.Row.Row}
 use Rattle.uimg_map.specs.declared.picture.Kind.TheVariants as kind
 use Rattle.uimg_map.specs.declared.row.Row.TheVariants.{Taken, Gap, Rest}
 
@@ -95,7 +95,8 @@ Drawn file map top (row ∷ rows) drawing =
     × Drawn file map (top + 40) rows others × (drawing ≡ row_drawing top map row text ++ others)
 
 -- the rows were drawn
-pub record Draws (file : List ℕ) (map : Map) (rows : List Row) (old new : Option (List ℕ)) : Type 0 where
+pub record Draws (file : List ℕ) (map : Map) (rows : List Row)
+    (old new : Option (List ℕ)) : Type 0 where
   pub drawing : List ℕ
   pub drawn : Drawn file map 70 rows drawing
   pub appended : Appends old new drawing
@@ -154,7 +155,8 @@ head_text name size rows =
     ++ background_text (picture_height rows) ++ heading_text name size ++ legend_text
 
 -- The picture was drawn: what comes before the rows, the rows, and how many are not drawn.
-pub record DrawsPicture (file : List ℕ) (map : Map) (name : List ℕ) (old new : Option (List ℕ)) : Type 0 where
+pub record DrawsPicture (file : List ℕ) (map : Map) (name : List ℕ)
+    (old new : Option (List ℕ)) : Type 0 where
   pub drawing : List ℕ
   pub drawn : Drawn file map 70 (take 1000 map.rows.items) drawing
   pub appended : Appends old new (head_text name map.size (length map.rows.items) ++ drawing

@@ -4,7 +4,10 @@ ghost use Rattle.std.specs.Prelude.{◌≡◌, ◌<◌, ◌≤◌, ◌+◌, ◌*
 ghost use Rattle.std.specs.Io.KnownBytes.{Appends};
 ghost use Rattle.uimg_base.specs.Honest.{HonestSource};
 ghost use Rattle.uimg_map.specs.{Bars.{first_cell, last_cell}, Cover.{place_of, row_end}, Stops.is_stop};
-ghost use Rattle.uimg_map.specs.Picture.{colour_of, kind_of, bar_left, bar_right, rect_text, bar_rect, whole_text, shown_text, row_drawing, title_text, rest_text, Draws, DrawsPicture, head_text, opening_text, background_text, heading_text, picture_height, legend_text, legend_item};
+ghost use Rattle.uimg_map.specs.Picture.{colour_of, kind_of, bar_left, bar_right, rect_text, bar_rect};
+ghost use Rattle.uimg_map.specs.Picture.{whole_text, shown_text, row_drawing, Draws, rest_text};
+ghost use Rattle.uimg_map.specs.Picture.{picture_height, opening_text, title_text, background_text};
+ghost use Rattle.uimg_map.specs.Picture.{heading_text, legend_item, legend_text, head_text, DrawsPicture};
 
 use crate::bar::{Bar, bar_of};
 use crate::contents::Label;
@@ -115,7 +118,6 @@ fn top_of(index: usize) -> u32
 }
 
 // Writes what comes before the rows.
-#[tactic(auto, unfolding(crate::specs::Picture::head_text))]
 fn put_head<W: Write>(map: &Map, name: &str, out: &mut W) -> io::Result<()>
     ensures { OnOk result (Appends (W.contents out.old) (W.contents out.new)
         (head_text name.now map.now.size (length map.now.rows.items))) }
@@ -185,7 +187,6 @@ fn put_title<W: Write>(name: &str, size: u64, out: &mut W) -> io::Result<()>
 }
 
 // Writes the legend: what each colour means.
-#[tactic(auto, unfolding(crate::specs::Picture::legend_text))]
 fn put_legend<W: Write>(out: &mut W) -> io::Result<()>
     ensures { OnOk result (Appends (W.contents out.old) (W.contents out.new)
         (legend_text)) }
@@ -199,7 +200,6 @@ fn put_legend<W: Write>(out: &mut W) -> io::Result<()>
 }
 
 // Writes an item of the legend, so far from the left.
-#[tactic(auto, unfolding(crate::specs::Picture::legend_item))]
 fn put_item<W: Write>(kind: Kind, words: &str, left: u32, out: &mut W) -> io::Result<()>
     ensures { OnOk result (Appends (W.contents out.old) (W.contents out.new)
         (legend_item kind words.now left)) }
@@ -211,7 +211,6 @@ fn put_item<W: Write>(kind: Kind, words: &str, left: u32, out: &mut W) -> io::Re
 }
 
 // Writes a row: its whole text, the text that fits, and its bar.
-#[tactic(auto, unfolding(crate::specs::Picture::row_drawing))]
 fn put_row<W: Write>(top: u32, map: &Map, row: &Row, text: &str, out: &mut W) -> io::Result<()>
     ensures { OnOk result (Appends (W.contents out.old) (W.contents out.new)
         (row_drawing top map.now row.now text.now)) }

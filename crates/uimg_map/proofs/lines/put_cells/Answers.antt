@@ -1,4 +1,4 @@
-use Rattle.std.proofs.Common.{rules, ◌≡◌, ℕ, ◌∙◌, sym, ap, subst, map, arith}
+use Rattle.std.proofs.Common.{rules, ◌≡◌, ℕ, ◌∙◌, ap, subst, map, arith}
 use Rattle.std.proofs.Output.{has_written_append, has_written_of_eq}
 use Rattle.std.specs.{Fmt.HasWritten, List.range_with_len}
 use Rattle.uimg_map.specs.{Bars.is_filled, Cover.place_of, Lines.{cell_glyph, bar_text}}

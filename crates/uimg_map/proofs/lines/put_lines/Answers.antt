@@ -1,4 +1,4 @@
-use Rattle.std.proofs.Common.{rules, ◌≡◌, [], ◌∷◌, ◌++◌, ◌<◌, ◌+◌, None, length, get_or, drop, ◌∙◌, sym, subst, ℕ, List, IsTrue, append-nil, refl, arith}
+use Rattle.std.proofs.Common.{◌≡◌, [], ◌∷◌, ◌++◌, ◌<◌, ◌+◌, None, length, get_or, drop, ◌∙◌, sym, subst, ℕ, List, IsTrue, append-nil, refl, arith}
 use Rattle.std.proofs.KnownBytes.{Appends-trans}
 use Rattle.std.proofs.lemmas.List.{drop_more, at_drop_all}
 use Rattle.std.specs.String.{string_bytes}

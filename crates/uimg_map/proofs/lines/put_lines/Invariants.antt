@@ -1,4 +1,4 @@
-use Rattle.std.proofs.Common.{◌≡◌, ◌++◌, ℕ, List, IsTrue, drop}
+use Rattle.std.proofs.Common.{◌++◌, ℕ, List, IsTrue, drop}
 use Rattle.std.specs.Io.KnownBytes.{Appends}
 use Rattle.uimg_base.specs.Device.{SameDevice}
 use Rattle.uimg_map.specs.Lines.{Lines}

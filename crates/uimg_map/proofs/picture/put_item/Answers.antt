@@ -1,4 +1,4 @@
-use Rattle.std.proofs.Common.{ℕ, List, ap, subst}
+use Rattle.std.proofs.Common.{ℕ, List, subst}
 use Rattle.std.proofs.KnownBytes.{Appends-trans}
 use Rattle.std.specs.Io.KnownBytes.{Appends}
 use Rattle.uimg_map.specs.Picture.{legend_item, rect_text}

@@ -1,4 +1,4 @@
-use Rattle.std.proofs.Common.{rules, ◌∙◌, sym, subst, ℕ, List, Option, Some, IsTrue, ap, append_assoc, ◌++◌, codes}
+use Rattle.std.proofs.Common.{◌∙◌, sym, subst, ℕ, List, Option, Some, IsTrue, ap, append_assoc, ◌++◌, codes}
 use Rattle.std.specs.String.{string_bytes}
 use Rattle.uimg_map.specs.declared.{contents.Label.Label, map.Standing.Standing}
 use Rattle.uimg_map.specs.Labels.{Names, Stands, outside_text}
