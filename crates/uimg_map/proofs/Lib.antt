@@ -3,6 +3,9 @@ mod OrderLaws
 mod CoverLaws
 mod ArrangeLaws
 mod BarLaws
+mod LineLaws
+mod XmlLaws
+mod PictureLaws
 mod ReservationsLaws
 mod ContentsLaws
 mod TableLaws

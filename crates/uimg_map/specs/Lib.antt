@@ -14,3 +14,8 @@ pub mod LegacyContents
 pub mod Tables
 pub mod Maps
 pub mod Work
+pub mod Stops
+pub mod Labels
+pub mod Lines
+pub mod Xml
+pub mod Picture

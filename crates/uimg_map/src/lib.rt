@@ -13,11 +13,13 @@ mod legacy_contents;
 mod lines;
 mod map;
 mod picture;
+mod place;
 mod reservations;
 mod row;
 mod stop;
 mod texts;
 mod thing;
+mod xml;
 
 pub use arranging::arrange;
 pub use bar::{Bar, bar_of};

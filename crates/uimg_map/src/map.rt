@@ -3,6 +3,7 @@
 ghost use Rattle.std.specs.Prelude.{◌≡◌, length, IfOk, IfErr, IsTrue};
 ghost use Rattle.uimg_base.specs.{Honest.HonestSource, Using.UsesAtMost};
 ghost use Rattle.uimg_map.specs.{Contents.Gathers, Faults.{is_read, stops}, Work.map_work};
+ghost use Rattle.uimg_map.specs.Labels.{label_of, standing_of};
 ghost use Rattle.uimg_map.specs.Maps.{contents_of, IsMap, IsMapOf};
 
 use crate::arranging::arrange;
@@ -47,12 +48,16 @@ pub(crate) enum Standing {
 
 impl Map {
     /// Returns what a thing is, if it is one of this map.
-    pub(crate) fn label_of(&self, thing: Thing) -> Option<Label> {
+    pub(crate) fn label_of(&self, thing: Thing) -> Option<Label>
+        ensures { result ≡ label_of self.now thing }
+    {
         self.labels.get(thing.number).copied()
     }
 
     /// Returns whether a thing shares bytes with an earlier one, `over`.
-    pub(crate) fn standing_of(&self, thing: Thing, over: Option<Thing>) -> Standing {
+    pub(crate) fn standing_of(&self, thing: Thing, over: Option<Thing>) -> Standing
+        ensures { result ≡ standing_of self.now thing over }
+    {
         match (
             self.label_of(thing),
             over.and_then(|over| self.label_of(over)),

@@ -1,13 +1,22 @@
 //! A map as a picture.
 
-ghost use Rattle.std.specs.Prelude.{◌≤◌, ◌<◌};
+ghost use Rattle.std.specs.Prelude.{◌≡◌, ◌<◌, ◌≤◌, ◌+◌, ◌*◌, length, take, OnOk, IfErr, IsTrue};
+ghost use Rattle.std.specs.Io.KnownBytes.{Appends};
+ghost use Rattle.uimg_base.specs.Honest.{HonestSource};
+ghost use Rattle.uimg_map.specs.{Bars.{first_cell, last_cell}, Cover.{place_of, row_end}, Stops.is_stop};
+ghost use Rattle.uimg_map.specs.Picture.{colour_of, kind_of, bar_left, bar_right, rect_text, bar_rect};
+ghost use Rattle.uimg_map.specs.Picture.{whole_text, shown_text, row_drawing, Draws, rest_text};
+ghost use Rattle.uimg_map.specs.Picture.{picture_height, opening_text, title_text, background_text};
+ghost use Rattle.uimg_map.specs.Picture.{heading_text, legend_item, legend_text, head_text, DrawsPicture};
 
 use crate::bar::{Bar, bar_of};
 use crate::contents::Label;
 use crate::map::{Map, Standing};
+use crate::place::Place;
 use crate::row::Row;
 use crate::stop::MapStop;
 use crate::texts::text_of;
+use crate::xml::{Cut, Escaped, fits};
 use std::alloc::Global;
 use std::io;
 use std::io::Write;
@@ -18,9 +27,9 @@ const WIDTH: u32 = 1000;
 
 const MARGIN: u64 = 10;
 
-const HEAD: u64 = 70;
+const HEAD: u32 = 70;
 
-const ROW: u64 = 40;
+const ROW: u32 = 40;
 
 // The least width of a mark where a bar would have none.
 const MARK: u32 = 3;
@@ -43,17 +52,10 @@ enum Kind {
     Fault,
 }
 
-// The legend: each of them with its words, and the offset of these from the left.
-const LEGEND: [(Kind, &str, u64); 5] = [
-    (Kind::Item, "item", 10),
-    (Kind::Shared, "shares bytes with an earlier item", 90),
-    (Kind::Outside, "ends outside the file", 410),
-    (Kind::Unused, "unused", 630),
-    (Kind::Fault, "fault", 730),
-];
-
 impl Kind {
-    fn colour(self) -> &'static str {
+    fn colour(self) -> &'static str
+        ensures { result.now ≡ colour_of self }
+    {
         match self {
             Kind::Item => "#3465a4",
             Kind::Shared => "#f57900",
@@ -74,118 +76,218 @@ pub fn put_picture<S: Source, W: Write>(
     map: &Map,
     name: &str,
     out: &mut W,
-) -> Result<(), MapStop> {
+) -> Result<(), MapStop>
+    ensures drawn { HonestSource S.device source → OnOk result
+        (DrawsPicture (S.device source.old).bytes map.now name.now
+        (W.contents out.old) (W.contents out.new)) }
+    ensures stops { IfErr result (λ stop. IsTrue (is_stop stop)) }
+{
     put_head(map, name, out)?;
-    let mut top = HEAD;
-    for row in map.rows.iter().take(ROWS) {
-        let text = text_of(alloc, source, map, row)?;
-        put_row(top, map, row, text.as_str(), out)?;
-        top = top.saturating_add(ROW);
-    }
-    put_rest(top, map.rows.len(), out)?;
+    put_rows(alloc, source, map, out)?;
+    put_rest(map.rows.len(), out)?;
     writeln!(out, "</svg>")?;
     Ok(())
 }
 
-// Writes what comes before the rows.
-fn put_head<W: Write>(map: &Map, name: &str, out: &mut W) -> io::Result<()> {
-    let (width, height) = (WIDTH as u64 + 2 * MARGIN, height_of(map.rows.len()));
-    writeln!(out, "<?xml version=\"1.0\" encoding=\"UTF-8\"?>")?;
-    write!(out, "<svg xmlns=\"http://www.w3.org/2000/svg\" ")?;
-    write!(out, "viewBox=\"0 0 {width} {height}\" ")?;
-    writeln!(out, "font-family=\"monospace\" font-size=\"14\">")?;
-    put_title(name, map.size, out)?;
-    write!(out, "<rect width=\"{width}\" height=\"{height}\" ")?;
-    writeln!(out, "fill=\"#ffffff\"/>")?;
-    write!(out, "<text x=\"{MARGIN}\" y=\"28\" font-size=\"16\">")?;
-    put_cut(name, TITLE_LETTERS, out)?;
-    writeln!(out, ", {} bytes</text>", map.size)?;
-    put_legend(out)
-}
-
-// Returns the height of a picture.
-fn height_of(rows: usize) -> u64 {
-    let drawn = usize::min(rows, ROWS) as u64 + (rows > ROWS) as u64;
-    HEAD + drawn * ROW + MARGIN
-}
-
-// Writes what the picture is of.
-fn put_title<W: Write>(name: &str, size: u64, out: &mut W) -> io::Result<()> {
-    write!(out, "<title>")?;
-    put_escaped(name, out)?;
-    writeln!(out, ", {size} bytes</title>")
-}
-
-fn put_legend<W: Write>(out: &mut W) -> io::Result<()> {
-    for (kind, words, left) in &LEGEND {
-        let (colour, after) = (kind.colour(), *left + 18);
-        write!(
-            out,
-            "<rect x=\"{left}\" y=\"42\" width=\"12\" height=\"12\" "
-        )?;
-        writeln!(out, "fill=\"{colour}\"/>")?;
-        writeln!(out, "<text x=\"{after}\" y=\"53\">{words}</text>")?;
+// Writes the rows that are drawn.
+fn put_rows<S: Source, W: Write>(
+    alloc: Global,
+    source: &mut S,
+    map: &Map,
+    out: &mut W,
+) -> Result<(), MapStop>
+    ensures drawn { HonestSource S.device source → OnOk result
+        (Draws (S.device source.old).bytes map.now (take 1000 map.now.rows.items)
+        (W.contents out.old) (W.contents out.new)) }
+    ensures stops { IfErr result (λ stop. IsTrue (is_stop stop)) }
+{
+    for index in 0..usize::min(map.rows.len(), ROWS) {
+        let row = &map.rows[index];
+        let text = text_of(alloc, source, map, row)?;
+        put_row(top_of(index), map, row, text.as_str(), out)?;
     }
     Ok(())
 }
 
+// Returns the top of a row.
+fn top_of(index: usize) -> u32
+    requires { index < 1000 }
+    ensures { result ≡ 70 + 40 * index }
+{
+    HEAD + ROW * index as u32
+}
+
+// Writes what comes before the rows.
+fn put_head<W: Write>(map: &Map, name: &str, out: &mut W) -> io::Result<()>
+    ensures { OnOk result (Appends (W.contents out.old) (W.contents out.new)
+        (head_text name.now map.now.size (length map.now.rows.items))) }
+{
+    let height = height_of(map.rows.len());
+    put_opening(height, out)?;
+    put_title(name, map.size, out)?;
+    put_background(height, out)?;
+    put_heading(name, map.size, out)?;
+    put_legend(out)?;
+    Ok(())
+}
+
+// Writes the beginning of a picture.
+fn put_opening<W: Write>(height: u64, out: &mut W) -> io::Result<()>
+    ensures { OnOk result (Appends (W.contents out.old) (W.contents out.new)
+        (opening_text height)) }
+{
+    let width = WIDTH as u64 + 2 * MARGIN;
+    writeln!(
+        out,
+        "<?xml version=\"1.0\" encoding=\"UTF-8\"?>\n<svg xmlns=\"http://www.w3.org/2000/svg\" viewBox=\"0 0 {width} {height}\" font-family=\"monospace\" font-size=\"14\">"
+    )
+}
+
+// Writes the background of a picture.
+fn put_background<W: Write>(height: u64, out: &mut W) -> io::Result<()>
+    ensures { OnOk result (Appends (W.contents out.old) (W.contents out.new)
+        (background_text height)) }
+{
+    let width = WIDTH as u64 + 2 * MARGIN;
+    writeln!(
+        out,
+        "<rect width=\"{width}\" height=\"{height}\" fill=\"#ffffff\"/>"
+    )
+}
+
+// Writes the name and the size of the file.
+fn put_heading<W: Write>(name: &str, size: u64, out: &mut W) -> io::Result<()>
+    ensures { OnOk result (Appends (W.contents out.old) (W.contents out.new)
+        (heading_text name.now size)) }
+{
+    let shown = Cut {
+        text: name,
+        most: TITLE_LETTERS,
+    };
+    writeln!(
+        out,
+        "<text x=\"{MARGIN}\" y=\"28\" font-size=\"16\">{shown}, {size} bytes</text>"
+    )
+}
+
+// Returns the height of a picture.
+fn height_of(rows: usize) -> u64
+    ensures { result ≡ picture_height rows }
+{
+    let drawn = usize::min(rows, ROWS) as u64 + (rows > ROWS) as u64;
+    HEAD as u64 + drawn * ROW as u64 + MARGIN
+}
+
+// Writes what the picture is of.
+fn put_title<W: Write>(name: &str, size: u64, out: &mut W) -> io::Result<()>
+    ensures { OnOk result (Appends (W.contents out.old) (W.contents out.new)
+        (title_text name.now size)) }
+{
+    writeln!(out, "<title>{}, {size} bytes</title>", Escaped(name))
+}
+
+// Writes the legend: what each colour means.
+fn put_legend<W: Write>(out: &mut W) -> io::Result<()>
+    ensures { OnOk result (Appends (W.contents out.old) (W.contents out.new)
+        (legend_text)) }
+{
+    put_item(Kind::Item, "item", 10, out)?;
+    put_item(Kind::Shared, "shares bytes with an earlier item", 90, out)?;
+    put_item(Kind::Outside, "ends outside the file", 410, out)?;
+    put_item(Kind::Unused, "unused", 630, out)?;
+    put_item(Kind::Fault, "fault", 730, out)?;
+    Ok(())
+}
+
+// Writes an item of the legend, so far from the left.
+fn put_item<W: Write>(kind: Kind, words: &str, left: u32, out: &mut W) -> io::Result<()>
+    ensures { OnOk result (Appends (W.contents out.old) (W.contents out.new)
+        (legend_item kind words.now left)) }
+{
+    let after = left as u64 + 18;
+    put_rect(left as u64, 42, 12, kind.colour(), out)?;
+    writeln!(out, "<text x=\"{after}\" y=\"53\">{words}</text>")?;
+    Ok(())
+}
+
 // Writes a row: its whole text, the text that fits, and its bar.
-fn put_row<W: Write>(top: u64, map: &Map, row: &Row, text: &str, out: &mut W) -> io::Result<()> {
+fn put_row<W: Write>(top: u32, map: &Map, row: &Row, text: &str, out: &mut W) -> io::Result<()>
+    ensures { OnOk result (Appends (W.contents out.old) (W.contents out.new)
+        (row_drawing top map.now row.now text.now)) }
+{
     writeln!(out, "<g class=\"row\">")?;
     put_whole(row, text, out)?;
     put_text(top, row, text, out)?;
     put_bar(top, map, row, out)?;
-    writeln!(out, "</g>")
+    writeln!(out, "</g>")?;
+    Ok(())
 }
 
 // Writes a text that does not fit as a title.
-fn put_whole<W: Write>(row: &Row, text: &str, out: &mut W) -> io::Result<()> {
-    if text.chars().count() <= LETTERS {
+#[tactic(auto, unfolding(crate::specs::Picture::whole_text))]
+fn put_whole<W: Write>(row: &Row, text: &str, out: &mut W) -> io::Result<()>
+    ensures { OnOk result (Appends (W.contents out.old) (W.contents out.new)
+        (whole_text row.now text.now)) }
+{
+    if fits(text, LETTERS) {
         return Ok(());
     }
-    write!(out, "<title>")?;
-    put_place(row, out)?;
-    put_escaped(text, out)?;
-    writeln!(out, "</title>")
+    writeln!(out, "<title>{}{}</title>", Place(row), Escaped(text))
 }
 
 // Writes where a row is, and what it is.
-fn put_text<W: Write>(top: u64, row: &Row, text: &str, out: &mut W) -> io::Result<()> {
-    let base = top.saturating_add(14);
+fn put_text<W: Write>(top: u32, row: &Row, text: &str, out: &mut W) -> io::Result<()>
+    ensures { OnOk result (Appends (W.contents out.old) (W.contents out.new)
+        (shown_text top row.now text.now)) }
+{
+    let base = top as u64 + 14;
+    let shown = Cut {
+        text,
+        most: LETTERS,
+    };
     write!(
         out,
         "<text x=\"{MARGIN}\" y=\"{base}\" xml:space=\"preserve\">"
     )?;
-    put_place(row, out)?;
-    put_cut(text, LETTERS, out)?;
-    writeln!(out, "</text>")
-}
-
-// Writes the offset, the end and the size of a row.
-fn put_place<W: Write>(row: &Row, out: &mut W) -> io::Result<()> {
-    let (place, end) = (row.place(), row.end());
-    let size = end.saturating_sub(place);
-    write!(out, "{place:08x}-{end:08x} {size:>9} ")
+    writeln!(out, "{}{shown}</text>", Place(row))
 }
 
 // Writes the bar of a row, or a mark where it has no width.
-fn put_bar<W: Write>(top: u64, map: &Map, row: &Row, out: &mut W) -> io::Result<()> {
+#[tactic(auto, unfolding(crate::specs::Picture::bar_rect))]
+fn put_bar<W: Write>(top: u32, map: &Map, row: &Row, out: &mut W) -> io::Result<()>
+    ensures { OnOk result (Appends (W.contents out.old) (W.contents out.new)
+        (bar_rect top map.now row.now)) }
+{
     let kind = kind_of(map, row);
     let bar = bar_of(WIDTH, map.size, row.place(), row.end());
     let bar = marked(bar, kind, map, row);
-    let (left, width) = (MARGIN + bar.from as u64, bar.to - bar.from);
-    let (top, colour) = (top.saturating_add(20), kind.colour());
-    write!(
+    let left = MARGIN + bar.from as u64;
+    put_rect(left, top as u64 + 20, bar.to - bar.from, kind.colour(), out)
+}
+
+// Writes a rectangle.
+fn put_rect<W: Write>(x: u64, y: u64, width: u32, colour: &str, out: &mut W) -> io::Result<()>
+    ensures { OnOk result (Appends (W.contents out.old) (W.contents out.new)
+        (rect_text x y width colour.now)) }
+{
+    writeln!(
         out,
-        "<rect x=\"{left}\" y=\"{top}\" width=\"{width}\" height=\"12\" "
-    )?;
-    writeln!(out, "fill=\"{colour}\"/>")
+        "<rect x=\"{x}\" y=\"{y}\" width=\"{width}\" height=\"12\" fill=\"{colour}\"/>"
+    )
 }
 
 // Returns a bar that shows: a fault, and what begins outside the file, have a mark at their offset.
 fn marked(bar: Bar, kind: Kind, map: &Map, row: &Row) -> Bar
-    requires { bar.from ≤ bar.to }
-    ensures { result.from ≤ result.to }
+    requires ordered { bar.from ≤ bar.to }
+    requires cells { bar ≡ record {
+      from = first_cell 1000 map.now.size (place_of row.now) (row_end row.now);
+      to = last_cell 1000 map.now.size (place_of row.now) (row_end row.now);
+    } }
+    ensures ordered { result.from ≤ result.to }
+    ensures marked { result ≡ record {
+      from = bar_left map.now.size row.now kind;
+      to = bar_right map.now.size row.now kind;
+    } }
 {
     if bar.from < bar.to || (kind != Kind::Fault && kind != Kind::Outside) {
         return bar;
@@ -203,7 +305,9 @@ fn marked(bar: Bar, kind: Kind, map: &Map, row: &Row) -> Bar
 }
 
 // Returns what a row is.
-fn kind_of(map: &Map, row: &Row) -> Kind {
+fn kind_of(map: &Map, row: &Row) -> Kind
+    ensures { result ≡ kind_of map.now row.now }
+{
     match *row {
         Row::Taken(thing, over) => match (map.label_of(thing), map.standing_of(thing, over)) {
             (Some(Label::Fault(_)), _) => Kind::Fault,
@@ -216,44 +320,17 @@ fn kind_of(map: &Map, row: &Row) -> Kind {
 }
 
 // Writes how many rows are not drawn, if any are not.
-fn put_rest<W: Write>(top: u64, rows: usize, out: &mut W) -> io::Result<()> {
+#[tactic(auto, unfolding(crate::specs::Picture::rest_text))]
+fn put_rest<W: Write>(rows: usize, out: &mut W) -> io::Result<()>
+    ensures { OnOk result (Appends (W.contents out.old) (W.contents out.new)
+        (rest_text rows)) }
+{
     if rows <= ROWS {
         return Ok(());
     }
-    let (base, count) = (top.saturating_add(14), rows - ROWS);
+    let (base, count) = (HEAD as u64 + ROW as u64 * ROWS as u64 + 14, rows - ROWS);
     writeln!(
         out,
         "<text x=\"{MARGIN}\" y=\"{base}\">and {count} more rows</text>"
     )
-}
-
-// Writes a text, or the beginning of one that has more characters, with an ellipsis.
-fn put_cut<W: Write>(text: &str, most: usize, out: &mut W) -> io::Result<()>
-    requires { 0 < most }
-{
-    if text.chars().count() <= most {
-        return put_escaped(text, out);
-    }
-    for letter in text.chars().take(most - 1) {
-        put_letter(letter, out)?;
-    }
-    write!(out, "\u{2026}")
-}
-
-// Writes a text, escaped for XML (Extensible Markup Language 1.0, sections 2.2 and 2.4).
-fn put_escaped<W: Write>(text: &str, out: &mut W) -> io::Result<()> {
-    for letter in text.chars() {
-        put_letter(letter, out)?;
-    }
-    Ok(())
-}
-
-fn put_letter<W: Write>(letter: char, out: &mut W) -> io::Result<()> {
-    match letter {
-        '&' => out.write_all(b"&amp;"),
-        '<' => out.write_all(b"&lt;"),
-        '>' => out.write_all(b"&gt;"),
-        '\u{fffe}' | '\u{ffff}' => out.write_all(b"?"),
-        _ => write!(out, "{letter}"),
-    }
 }

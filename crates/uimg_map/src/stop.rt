@@ -19,18 +19,34 @@ pub enum MapStop {
 }
 
 impl From<MapFault> for MapStop {
+    ghost use Rattle.std.specs.Prelude.{◌≡◌};
+    ghost use Rattle.uimg_map.specs.declared.stop.MapStop.TheVariants.{Stopped};
+
+    ghost from_gives = { λ fault stop. stop ≡ Stopped fault };
+
     fn from(fault: MapFault) -> MapStop {
         MapStop::Stopped(fault)
     }
 }
 
 impl From<AllocError> for MapStop {
+    ghost use Rattle.std.specs.Prelude.{◌≡◌};
+    ghost use Rattle.uimg_map.specs.declared.fault.MapFault.TheVariants.{OutOfMemory};
+    ghost use Rattle.uimg_map.specs.declared.stop.MapStop.TheVariants.{Stopped};
+
+    ghost from_gives = { λ _ stop. stop ≡ Stopped OutOfMemory };
+
     fn from(_error: AllocError) -> MapStop {
         MapStop::Stopped(MapFault::OutOfMemory)
     }
 }
 
 impl From<io::Error> for MapStop {
+    ghost use Rattle.std.specs.{Prelude.{◌≡◌}, IoError.error_kind};
+    ghost use Rattle.uimg_map.specs.Stops.{stop_of};
+
+    ghost from_gives = { λ error stop. stop ≡ stop_of (error_kind error) };
+
     fn from(error: io::Error) -> MapStop {
         match error.kind() {
             ErrorKind::OutOfMemory => MapStop::Stopped(MapFault::OutOfMemory),

@@ -1,5 +1,10 @@
 //! The texts of rows.
 
+ghost use Rattle.std.specs.Prelude.{◌≡◌, IfOk, IfErr, IsTrue};
+ghost use Rattle.std.specs.String.{string_bytes};
+ghost use Rattle.uimg_base.specs.{Device.SameDevice, Honest.HonestSource};
+ghost use Rattle.uimg_map.specs.{Faults.stops, Labels.{ReadsNames, outside_text, word_of, payload_text, Names, TellsThing, Tells}};
+
 use crate::contents::Label;
 use crate::fault::MapFault;
 use crate::map::{Map, Standing};
@@ -20,7 +25,12 @@ pub(crate) fn text_of<S: Source>(
     source: &mut S,
     map: &Map,
     row: &Row,
-) -> Result<String, MapFault> {
+) -> Result<String, MapFault>
+    ensures uses { ReadsNames 510 result (S.device source.old) (S.device source.new) }
+    ensures tells { HonestSource S.device source →
+        IfOk result (λ text. Tells (S.device source.old).bytes map.now row.now (string_bytes text)) }
+    ensures stops { IfErr result (λ fault. IsTrue (stops fault)) }
+{
     match *row {
         Row::Taken(thing, over) => thing_text(alloc, source, map, thing, over),
         Row::Gap(_, _) => Ok(String::from_str(alloc, "gap")?),
@@ -35,22 +45,34 @@ fn thing_text<S: Source>(
     map: &Map,
     thing: Thing,
     over: Option<Thing>,
-) -> Result<String, MapFault> {
+) -> Result<String, MapFault>
+    ensures uses { ReadsNames 510 result (S.device source.old) (S.device source.new) }
+    ensures tells { HonestSource S.device source → IfOk result
+        (λ text. TellsThing (S.device source.old).bytes map.now thing over (string_bytes text)) }
+    ensures stops { IfErr result (λ fault. IsTrue (stops fault)) }
+{
     let name = label_text(alloc, source, map.label_of(thing))?;
-    let outside = if thing.end > map.size {
+    let outside = outside_text(map.size, thing);
+    match map.standing_of(thing, over) {
+        Standing::Alone => Ok(format!(in alloc; "{name}{outside}")?),
+        Standing::Nested => Ok(format!(in alloc; "  {name}{outside}")?),
+        Standing::Overlapping(other) => {
+            let other = label_text(alloc, source, Some(other))?;
+            Ok(format!(in alloc; "{name}, overlaps {other}{outside}")?)
+        }
+    }
+}
+
+// Returns what is said of a thing that ends after a file of `size` bytes.
+#[tactic(auto, unfolding(crate::specs::Labels::outside_text))]
+fn outside_text(size: u64, thing: Thing) -> &'static str
+    ensures { result.now ≡ outside_text size thing }
+{
+    if thing.end > size {
         ", outside the file"
     } else {
         ""
-    };
-    let text = match map.standing_of(thing, over) {
-        Standing::Alone => format!(in alloc; "{name}{outside}")?,
-        Standing::Nested => format!(in alloc; "  {name}{outside}")?,
-        Standing::Overlapping(other) => {
-            let other = label_text(alloc, source, Some(other))?;
-            format!(in alloc; "{name}, overlaps {other}{outside}")?
-        }
-    };
-    Ok(text)
+    }
 }
 
 // Returns the name of a thing by its label.
@@ -58,7 +80,12 @@ fn label_text<S: Source>(
     alloc: Global,
     source: &mut S,
     label: Option<Label>,
-) -> Result<String, MapFault> {
+) -> Result<String, MapFault>
+    ensures uses { ReadsNames 255 result (S.device source.old) (S.device source.new) }
+    ensures tells { HonestSource S.device source →
+        IfOk result (λ text. Names (S.device source.old).bytes label (string_bytes text)) }
+    ensures stops { IfErr result (λ fault. IsTrue (stops fault)) }
+{
     let text = match label {
         Some(Label::Payload(name) | Label::Embedded(name)) => { payload_text(alloc, source, name)? }
         Some(Label::Part(number)) => format!(in alloc; "part {number}")?,
@@ -70,7 +97,12 @@ fn label_text<S: Source>(
 }
 
 // Returns the name of a payload by the span of its image's name.
-fn payload_text<S: Source>(alloc: Global, source: &mut S, name: Span) -> Result<String, MapFault> {
+fn payload_text<S: Source>(alloc: Global, source: &mut S, name: Span) -> Result<String, MapFault>
+    ensures uses { ReadsNames 255 result (S.device source.old) (S.device source.new) }
+    ensures tells { HonestSource S.device source →
+        IfOk result (λ text. string_bytes text ≡ payload_text (S.device source.old).bytes name) }
+    ensures stops { IfErr result (λ fault. IsTrue (stops fault)) }
+{
     let mut bytes = [0; NAME_LEN];
     let length = u64::min(name.length, NAME_LEN as u64) as usize;
     let size = source.size()?;
@@ -82,7 +114,9 @@ fn payload_text<S: Source>(alloc: Global, source: &mut S, name: Span) -> Result<
 }
 
 // Returns the word for a thing without a name of its own.
-fn word_of(label: Label) -> &'static str {
+fn word_of(label: Label) -> &'static str
+    ensures { result.now ≡ word_of label }
+{
     match label {
         Label::Header => "header",
         Label::Reservations => "reservation block",
