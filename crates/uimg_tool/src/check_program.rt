@@ -1,7 +1,7 @@
 //! Checks many images, with a line for each.
 
 ghost use Rattle.std.specs.Prelude.{◌≡◌, ◌≢◌, ◌≤◌, ◌+◌, ◌||◌, [], max, true, Some, None, OnOk, if◌then◌else◌};
-ghost use Rattle.std.specs.Io.{Buffered.{writer_buffer, writer_contents}, KnownBytes.Appends};
+ghost use Rattle.std.specs.Io.{Buffered.{writer_buffer, writer_contents, writer_inner}, KnownBytes.Appends};
 ghost use Rattle.uimg_checks.specs.Answers.{answer_status};
 ghost use Rattle.uimg_tool.specs.{AnswerTexts.{answer_text, object_line, text_line}, Checking.AnswersRequest, Complaints.Ends, Statuses.{Grows, checked_status}};
 
@@ -36,15 +36,30 @@ pub(crate) fn check_images<R: Files + AllocGlobal, W: Write, V: Write>(
     out: &mut W,
     complaints: &mut Complaints<'_, V>,
 ) -> u8
-    ensures ends { Ends result complaints.old.count complaints.new.count }
-    ensures told { AnswersRequest request.now result (W.contents out.old) (W.contents out.new) }
+    ensures { Ends result complaints.old.count complaints.new.count }
 {
     let Ok(gathered) = BufWriter::new(rt.alloc(), out) else {
         return complaints.tell_no_memory();
     };
+    let (status, _out) = check_into(rt, request, gathered, complaints);
+    status
+}
+
+// Does the same with an empty buffer, and returns its writer, too.
+fn check_into<R: Files + AllocGlobal, W: Write + Drop, V: Write>(
+    rt: &R,
+    request: &CheckRequest<'_>,
+    out: BufWriter<W, Global>,
+    complaints: &mut Complaints<'_, V>,
+) -> (u8, W)
+    requires { writer_buffer out ≡ [] }
+    ensures ends { Ends result.0 complaints.old.count complaints.new.count }
+    ensures told { AnswersRequest request.now result.0 (W.contents (writer_inner out))
+        (W.contents result.1) }
+{
     let mut checks = Checks {
         room: Room::new(rt.alloc()),
-        out: gathered,
+        out,
         greatest: DONE,
         has_checked: false,
     };
@@ -56,9 +71,9 @@ pub(crate) fn check_images<R: Files + AllocGlobal, W: Write, V: Write>(
         has_checked,
     } = checks;
     // A failed write leaves text in the buffer, which its drop would try to write again.
-    let (_, _) = out.into_parts();
+    let (out, _) = out.into_parts();
     let found = found(greatest, has_checked, request.allows_none);
-    tell_ended(ended, found, complaints)
+    (tell_ended(ended, found, complaints), out)
 }
 
 // Returns the greatest status, unless no image was checked and that is not allowed.
