@@ -1,12 +1,11 @@
 -- Answers about some images, and then about others.
-use Rattle.std.proofs.Common.{◌≡◌, ◌≤◌, ℕ, List, [], ◌∷◌, ◌++◌, length, map, drop, Bool, true, false, ◌&&◌, ◌||◌, if◌then◌else◌, Option, Some, None, Result, Ok, Err, OnOk, inl, inr, refl, ap, ap₂, sym, subst, ◌∙◌}
+use Rattle.std.proofs.Common.{◌≡◌, ℕ, List, [], ◌∷◌, ◌++◌, map, drop, Bool, true, false, ◌&&◌, ◌||◌, if◌then◌else◌, Option, Some, None, Result, Ok, Err, OnOk, inl, inr, refl, ap, ap₂, sym, subst, ◌∙◌}
 use mathlib.Core.List.{append-nil}
-use Rattle.std.specs.{Borrow.Bor, Io.KnownBytes.append_known, List.list_all}
+use Rattle.std.specs.{Borrow.Bor, Io.KnownBytes.append_known}
 use Rattle.std.proofs.lemmas.List.Folds.{list_all-append}
-use Rattle.std.proofs.Math.ListN.{drop_of_length-le}
 use Rattle.uimg_cli.specs.declared.command_line.check.CheckRequest.{CheckRequest}
 use Rattle.uimg_tool.specs.Checking.{AnswersRequest, nothing_told}
-use Rattle.uimg_tool.specs.Checks.{Answers, AnswersAll, AnswersEach, AnswersNamed, AnswersUnlessEmpty, Told, from_file, is_name}
+use Rattle.uimg_tool.specs.Checks.{AnswersAll, AnswersEach, AnswersNamed, AnswersUnlessEmpty, Told, from_file, is_name}
 use Rattle.uimg_tool.specs.Statuses.{checked_status}
 use Rattle.uimg_tool.specs.declared.check_program.Stop.{Stop}
 

@@ -1,8 +1,8 @@
 -- Files that are written beside their names.
-use Rattle.std.specs.Prelude.{◌≡◌, ℕ, List, [], ◌∷◌, ◌++◌, codes, decimal, Bool, true, false}
+use Rattle.std.specs.Prelude.{◌≡◌, ℕ, List, ◌∷◌, ◌++◌, codes, Bool, true, false}
 use Rattle.std.specs.{List.list_all, Option.option_map_or}
 use Rattle.uimg_unpacking.specs.Deeds.{Answer, Done, Deed, Removes, Renames, changes_only}
-use Rattle.uimg_unpacking.specs.Naming.{GivesName, is_done}
+use Rattle.uimg_unpacking.specs.Naming.{is_done}
 use Rattle.uimg_unpacking.specs.Places.{behind, is_digit}
 
 -- PATH.uimg-newN, for any N

@@ -5,8 +5,10 @@ pub mod Checking
 pub mod Checks
 pub mod Complaints
 pub mod Finishing
+pub mod InfoEnds
 pub mod JsonLines
 pub mod KnownSources
+pub mod MapEnds
 pub mod OtherAlgos
 pub mod Programs
 pub mod RequestEnds

@@ -1,7 +1,6 @@
 -- How a request ends: which faults it can have, and that each names a path that the words gave.
-use Rattle.std.specs.Prelude.{◌≡◌, ⊤, ◌⊎◌, ℕ, List, [], map, slice_get, Option, Some, None, Result, Ok, Err, Bool, true, false}
+use Rattle.std.specs.Prelude.{◌≡◌, ⊤, ◌⊎◌, ℕ, List, [], map, slice_get, Some, None, Result, Ok, Err, Bool, true, false}
 use Rattle.std.specs.Borrow.{Bor}
-use Rattle.std.specs.declared.io.Error.{Error}
 use Rattle.uimg_base.specs.declared.status.Status.{Status, TheVariants.Done}
 use Rattle.uimg_cli.specs.declared.command_line.Request.{Request}
 use Rattle.uimg_cli.specs.declared.command_line.Request.TheVariants as asked
@@ -80,6 +79,15 @@ MakeEnds asked (Err (request.NotPut path reason)) = path ≡ asked.outfile
 MakeEnds asked (Err request.OutOfMemory) = ⊤
 MakeEnds asked (Err (request.Stopped fault)) = ⊤
 MakeEnds asked (Err fault) = ⊥
+
+-- the making of the image at a path, of a tree
+abbrev pub TreeEnds : Bor (List ℕ) → Result Status RequestFault → Type 0
+TreeEnds image (Ok status) = status ≡ Done
+TreeEnds image (Err (request.CannotRead path)) = path ≡ image
+TreeEnds image (Err (request.NotPut path reason)) = path ≡ image
+TreeEnds image (Err request.OutOfMemory) = ⊤
+TreeEnds image (Err (request.Stopped fault)) = ⊤
+TreeEnds image (Err fault) = ⊥
 
 -- the printing of a text
 abbrev pub ShowEnds : Result Status RequestFault → Type 0

@@ -84,9 +84,14 @@ impl From<Fault> for Stop {
 }
 
 impl From<SurveyFault> for Stop {
+    ghost use Rattle.std.specs.Prelude.{◌≡◌};
+    ghost use Rattle.uimg_tool.specs.InfoEnds.{stop_of_survey};
+
+    ghost from_gives = { λ fault stop. stop ≡ stop_of_survey fault };
+
     fn from(fault: SurveyFault) -> Stop {
         match fault {
-            SurveyFault::Stopped(fault) => Stop::from(Fault::from(fault)),
+            SurveyFault::Stopped(fault) => Stop::Refused(Fault::from(fault)),
             SurveyFault::OutOfMemory => Stop::NoMemory,
             SurveyFault::Changed => Stop::Changed,
         }
@@ -94,9 +99,14 @@ impl From<SurveyFault> for Stop {
 }
 
 impl From<PartsFault> for Stop {
+    ghost use Rattle.std.specs.Prelude.{◌≡◌};
+    ghost use Rattle.uimg_tool.specs.InfoEnds.{stop_of_parts};
+
+    ghost from_gives = { λ fault stop. stop ≡ stop_of_parts fault };
+
     fn from(fault: PartsFault) -> Stop {
         match fault {
-            PartsFault::Stopped(fault) => Stop::from(Fault::from(fault)),
+            PartsFault::Stopped(fault) => Stop::Refused(Fault::from(fault)),
             PartsFault::OutOfMemory => Stop::NoMemory,
         }
     }

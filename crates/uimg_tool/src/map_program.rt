@@ -1,6 +1,6 @@
 //! Prints the map of an image's file, as lines or as a picture.
 
-ghost use Rattle.uimg_tool.specs.Complaints.{Ends};
+ghost use Rattle.uimg_tool.specs.{Complaints.Ends, MapEnds.{DrawEnds, PrintEnds}};
 
 use crate::complaints::Complaints;
 use crate::reasons::{is_pipe, reason_of_code};
@@ -100,7 +100,9 @@ fn print<'a, R: Files + AllocGlobal, S: Source, W: Write>(
     source: &mut S,
     map: &Map,
     out: &mut W,
-) -> Result<(), Stop<'a>> {
+) -> Result<(), Stop<'a>>
+    ensures { PrintEnds result }
+{
     let Ok(mut gathered) = BufWriter::new(rt.alloc(), &mut *out) else {
         return Err(Stop::Stopped(MapStop::Stopped(MapFault::OutOfMemory)));
     };
@@ -128,7 +130,9 @@ fn draw<'a, R: Files + AllocGlobal, S: Source>(
     path: &'a str,
     source: &mut S,
     map: &Map,
-) -> Result<(), Stop<'a>> {
+) -> Result<(), Stop<'a>>
+    ensures { DrawEnds path.entry result }
+{
     match writing_of(rt, path) {
         Ok(Writing::Beside(file, safe)) => {
             let drawn = draw_into(rt, request, path, file, source, map);
@@ -151,7 +155,9 @@ fn name_picture<'a, R: Files + AllocGlobal>(
     safe: &SafePath,
     is_forced: bool,
     drawn: Result<(), Stop<'a>>,
-) -> Result<(), Stop<'a>> {
+) -> Result<(), Stop<'a>>
+    ensures { DrawEnds path.entry drawn.entry → DrawEnds path.entry result }
+{
     let (new, whole) = (safe.new.as_str(), safe.whole.as_str());
     let named = match drawn {
         Ok(()) => match give_name(rt, new, whole, is_forced) {
@@ -172,7 +178,9 @@ fn draw_into<'a, R: Files + AllocGlobal, S: Source>(
     file: R::File,
     source: &mut S,
     map: &Map,
-) -> Result<(), Stop<'a>> {
+) -> Result<(), Stop<'a>>
+    ensures { DrawEnds path.entry result }
+{
     let Ok(name) = format!(in rt.alloc(); "{}", Printed(request.image.as_bytes())) else {
         return Err(Stop::Stopped(MapStop::Stopped(MapFault::OutOfMemory)));
     };

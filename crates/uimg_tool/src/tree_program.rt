@@ -1,6 +1,6 @@
 //! Writes the image of a tree, as mkimage does.
 
-ghost use Rattle.uimg_tool.specs.Complaints.{Ends};
+ghost use Rattle.uimg_tool.specs.{Complaints.Ends, RequestEnds.TreeEnds};
 
 use crate::blob_room::set_blob_size;
 use crate::complaints::Complaints;
@@ -75,7 +75,9 @@ fn make_beside<'a, R: rt::Files + AllocGlobal, F: Files, W: Write>(
     files: &mut F,
     begun: Begun<'_, R>,
     out: &mut W,
-) -> Made<'a> {
+) -> Made<'a>
+    ensures { TreeEnds request.entry.image result.end }
+{
     let Begun { file, path } = begun;
     let Ok(mut gathered) = BufWriter::new(rt.alloc(), out) else {
         return Made::unprinted(RequestFault::OutOfMemory);
@@ -112,7 +114,9 @@ fn make_on<'a, R: rt::Files + AllocGlobal, F: Files, W: Write>(
     files: &mut F,
     shelf: NewShelf<'_, R>,
     out: &mut W,
-) -> Result<Status, RequestFault<'a>> {
+) -> Result<Status, RequestFault<'a>>
+    ensures { TreeEnds request.entry.image result }
+{
     let code = Cell::new(None);
     let manner = TreeManner {
         placement: request.placement.aligned_by(request.manner.align),

@@ -35,6 +35,11 @@ pub(crate) enum Ending {
 }
 
 impl From<Ended> for Ending {
+    ghost use Rattle.std.specs.Prelude.{◌≡◌};
+    ghost use Rattle.uimg_tool.specs.UnpackEnds.{end_of};
+
+    ghost from_gives = { λ ended ending. ending ≡ end_of ended };
+
     fn from(ended: Ended) -> Ending {
         match ended {
             Ended::Kept => Ending::Told(Status::Done),
@@ -47,6 +52,11 @@ impl From<Ended> for Ending {
 }
 
 impl From<PartsEnded> for Ending {
+    ghost use Rattle.std.specs.Prelude.{◌≡◌};
+    ghost use Rattle.uimg_tool.specs.UnpackEnds.{end_of_parts};
+
+    ghost from_gives = { λ ended ending. ending ≡ end_of_parts ended };
+
     fn from(ended: PartsEnded) -> Ending {
         match ended {
             PartsEnded::Kept => Ending::Told(Status::Done),

@@ -1,0 +1,16 @@
+-- How the writing of a map ends.
+use Rattle.std.specs.Prelude.{⊤, ◌≡◌, ℕ, List, Result, Ok, Err}
+use Rattle.std.specs.Borrow.{Bor}
+use Rattle.uimg_tool.specs.declared.map_program.Stop.{Stop}
+use Rattle.uimg_tool.specs.declared.map_program.Stop.TheVariants as stop
+
+-- Lines fail by standard output, not by a path.
+abbrev pub PrintEnds : Result ⊤ Stop → Type 0
+PrintEnds (Err (stop.CannotWrite path reason)) = ⊥
+PrintEnds ended = ⊤
+
+-- A picture fails by its own path, not by standard output.
+abbrev pub DrawEnds : Bor (List ℕ) → Result ⊤ Stop → Type 0
+DrawEnds path (Err (stop.CannotWrite told reason)) = told ≡ path
+DrawEnds path (Err (stop.CannotPrint reason)) = ⊥
+DrawEnds path ended = ⊤
