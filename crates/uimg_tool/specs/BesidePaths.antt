@@ -5,7 +5,7 @@ use Rattle.uimg_unpacking.specs.Deeds.{Answer, Done, Deed, Removes, Renames, cha
 use Rattle.uimg_unpacking.specs.Naming.{is_done}
 use Rattle.uimg_unpacking.specs.Places.{behind, is_digit}
 
--- PATH.uimg-newN, for any N
+-- PATH.uimg-new, and any digits
 unfoldable pub is_beside : List ℕ → List ℕ → Bool
 is_beside path new = option_map_or (list_all is_digit) (behind (path ++ codes ".uimg-new") new) false
 

@@ -103,8 +103,8 @@ IsLooseAs name why other = ⊥
 abbrev pub AnswersLoose : Loose → Answer → Type 0
 AnswersLoose found answer = IsLooseAs (option_map (λ name. name.items) found.node) found.why answer
 
--- A missing name is answered with its property, and the name of a configuration only if that gives
--- it, or else that the name of the configuration cannot be read.
+-- A missing name is answered with its property. If a configuration gives it, a name of that is
+-- answered, too, or that its name cannot be read.
 abbrev pub names_configuration : Option Span → Option (Bor (List ℕ)) → Type 0
 names_configuration None told = told ≡ None
 names_configuration (Some place) None = ⊥

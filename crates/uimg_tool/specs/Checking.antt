@@ -6,7 +6,7 @@ use Rattle.uimg_tool.specs.Checks.{AnswersAll, Told}
 abbrev pub nothing_told : Option (List ℕ) → Told
 nothing_told text = record { greatest = 0; has_checked = false; text = text }
 
--- Unless it failed, all images are answered. If there is none, the words are wrong unless none is
+-- Unless the status is 3, all images are answered. If there is none, the words are wrong unless none is
 -- allowed.
 abbrev pub AnswersRequest : CheckRequest → ℕ → Option (List ℕ) → Option (List ℕ) → Type 0
 AnswersRequest asked status before after = (status ≡ 3)

@@ -4,10 +4,12 @@ pub mod CheckEnds
 pub mod Checking
 pub mod Checks
 pub mod Complaints
+pub mod EndingStatuses
 pub mod Finishing
 pub mod InfoEnds
 pub mod JsonLines
 pub mod KnownSources
+pub mod MadeEnds
 pub mod MapEnds
 pub mod OtherAlgos
 pub mod Programs

@@ -8,6 +8,7 @@ use Rattle.uimg_unpacking.specs.declared.part_unpacking.PartsEnded.TheVariants a
 use Rattle.uimg_tool.specs.declared.unpack_answers.Ending.{Ending}
 use Rattle.uimg_tool.specs.declared.unpack_answers.Ending.TheVariants as ending
 
+-- the end of a FIT image's
 abbrev pub end_of : Ended → Ending
 end_of fit.Kept = ending.Told Done
 end_of fit.Refused = ending.Told NotRight
@@ -15,6 +16,7 @@ end_of fit.NoImage = ending.NoImage
 end_of (fit.Stopped fault) = ending.Stopped (of_fit fault)
 end_of (fit.Troubled trouble) = ending.Troubled trouble
 
+-- the end of a legacy image's
 abbrev pub end_of_parts : PartsEnded → Ending
 end_of_parts legacy.Kept = ending.Told Done
 end_of_parts legacy.Weak = ending.Weak

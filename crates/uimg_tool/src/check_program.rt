@@ -28,8 +28,8 @@ const STANDARD_INPUT: &str = "/dev/stdin";
 /// Checks the requested images, those of the command line first, with a line for each on `out`,
 /// even after one that is not right. Returns the greatest status, or that of a wrong command line if
 /// there is no image, unless none is allowed. A file of names that cannot be read, a line that cannot
-/// be written and refused memory end it with a line on `err`; a closed `out` ends it without one, as
-/// failed, because not all images were checked.
+/// be written and refused memory end it with a line on standard error; a closed `out` ends it
+/// without one, as failed, because not all images were checked.
 pub(crate) fn check_images<R: Files + AllocGlobal, W: Write, V: Write>(
     rt: &R,
     request: &CheckRequest<'_>,
@@ -156,7 +156,8 @@ impl<W: Write + Drop> Checks<W> {
         ensures grows { Grows self.old.greatest self.new.greatest }
         ensures told { OnOk result (AnswersAll request.now (told W.contents self.old)
             (told W.contents self.new)) }
-        ensures flushed { writer_buffer self.old.out ≡ [] → OnOk result (writer_buffer self.new.out ≡ []) }
+        ensures flushed { writer_buffer self.old.out ≡ [] →
+            OnOk result (writer_buffer self.new.out ≡ []) }
     {
         for path in &request.images {
             self.check(rt, request, path.as_bytes())?;
@@ -177,7 +178,8 @@ impl<W: Write + Drop> Checks<W> {
         ensures grows { Grows self.old.greatest self.new.greatest }
         ensures told { OnOk result (AnswersNamed request.now (told W.contents self.old)
             (told W.contents self.new)) }
-        ensures flushed { writer_buffer self.old.out ≡ [] → OnOk result (writer_buffer self.new.out ≡ []) }
+        ensures flushed { writer_buffer self.old.out ≡ [] →
+            OnOk result (writer_buffer self.new.out ≡ []) }
     {
         let from = if path == "-" { STANDARD_INPUT } else { path };
         let file = match fs::open(rt, from) {
@@ -207,7 +209,8 @@ impl<W: Write + Drop> Checks<W> {
         ensures grows { Grows self.old.greatest self.new.greatest }
         ensures told { OnOk result (AnswersUnlessEmpty request.now path.now
             (told W.contents self.old) (told W.contents self.new)) }
-        ensures flushed { writer_buffer self.old.out ≡ [] → OnOk result (writer_buffer self.new.out ≡ []) }
+        ensures flushed { writer_buffer self.old.out ≡ [] →
+            OnOk result (writer_buffer self.new.out ≡ []) }
     {
         if path.is_empty() {
             return Ok(());
@@ -225,7 +228,8 @@ impl<W: Write + Drop> Checks<W> {
         ensures grows { Grows self.old.greatest self.new.greatest }
         ensures told { OnOk result (Answers request.now path.now (told W.contents self.old)
             (told W.contents self.new)) }
-        ensures flushed { writer_buffer self.old.out ≡ [] → OnOk result (writer_buffer self.new.out ≡ []) }
+        ensures flushed { writer_buffer self.old.out ≡ [] →
+            OnOk result (writer_buffer self.new.out ≡ []) }
     {
         let mut names = Names::new(rt.alloc());
         let answer = match str::from_utf8(path) {

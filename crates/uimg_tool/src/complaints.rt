@@ -1,6 +1,6 @@
 //! Standard error, where a fault is told in one line.
 
-ghost use Rattle.std.specs.{Prelude.{◌≡◌, ◌+◌, ◌≤◌}, IoError.error_kind};
+ghost use Rattle.std.specs.{Prelude.{◌≡◌, ◌+◌, ◌-◌, ◌^◌, ◌≤◌, min}, IoError.error_kind};
 ghost use Rattle.uimg_tool.specs.Complaints.{is_closed_pipe};
 
 use crate::reasons::reason_unread;
@@ -38,7 +38,7 @@ impl<'a, V: Write> Complaints<'a, V> {
     /// Tells a fault in a line, and returns the status.
     pub(crate) fn tell<D: Display>(&mut self, fault: &D, status: u8) -> u8
         ensures status { result ≡ status }
-        ensures once { self.new.count ≤ self.old.count + 1 }
+        ensures counted { self.new.count ≡ min (self.old.count + 1) (2 ^ 64 - 1) }
     {
         self.count = self.count.saturating_add(1);
         let _ = writeln!(self.err, "{}: {fault}", self.name);

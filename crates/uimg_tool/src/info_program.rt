@@ -20,7 +20,8 @@ use uimg_info::{fit_text, legacy_text};
 use uimg_legacy::{PartsFault, locate_parts, read_header};
 
 /// Writes the facts of the requested image as a line on `out`, or why there are none. Returns the
-/// status. Refused memory and a line that cannot be written are reported by a line on `err`.
+/// status. Refused memory and a line that cannot be written are reported by a line on standard
+/// error.
 pub(crate) fn tell_facts<R: Files + AllocGlobal, W: Write, V: Write>(
     rt: &R,
     request: &InfoRequest<'_>,

@@ -1,6 +1,7 @@
 //! Prints the map of an image's file, as lines or as a picture.
 
-ghost use Rattle.uimg_tool.specs.{Complaints.Ends, MapEnds.{DrawEnds, PrintEnds}};
+ghost use Rattle.std.specs.Prelude.{◌≡◌};
+ghost use Rattle.uimg_tool.specs.{Complaints.Ends, MapEnds.{DrawEnds, PrintEnds, map_status}};
 
 use crate::complaints::Complaints;
 use crate::reasons::{is_pipe, reason_of_code};
@@ -17,8 +18,8 @@ use uimg_printing::Printed;
 use uimg_unpacking::give_name;
 
 /// Writes the map of the requested image: lines on `out`, or a picture as a file that gets its name
-/// when it is complete. Returns the status. A fault is reported by a line on `err`; a refused image
-/// has a map too.
+/// when it is complete. Returns the status. A fault is reported by a line on standard error; a
+/// refused image has a map too.
 pub(crate) fn map_image<R: Files + AllocGlobal, W: Write, V: Write>(
     rt: &R,
     request: &MapRequest<'_>,
@@ -78,15 +79,13 @@ fn tell_ended<V: Write>(
     fault: Option<MapFault>,
     complaints: &mut Complaints<'_, V>,
 ) -> u8
-    ensures { Ends result complaints.old.count complaints.new.count }
+    ensures ends { Ends result complaints.old.count complaints.new.count }
+    ensures status { result ≡ map_status ended.entry fault }
 {
     match (ended, fault) {
         (Ok(()), None) => DONE,
         (Ok(()), Some(fault)) => complaints.tell(&fault, REFUSED),
-        (Err(Stop::CannotWrite(path, reason)), _) => {
-            let path = Printed(path.as_bytes());
-            complaints.tell(&RequestFault::Unwritten(path, reason), FAILED)
-        }
+        (Err(Stop::CannotWrite(path, reason)), _) => complaints.tell_unwritten(path, &reason),
         (Err(Stop::CannotPrint(error)), _) => complaints.tell_unprinted(&error),
         (Err(Stop::Stopped(MapStop::Closed)), _) => FAILED,
         (Err(Stop::Stopped(MapStop::Put)), _) => complaints.tell(&Fault::Put, FAILED),

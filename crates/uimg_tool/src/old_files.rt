@@ -29,7 +29,7 @@ pub(crate) struct How<'a> {
 }
 
 impl<'a> How<'a> {
-    /// Returns that files are looked for in no other folder.
+    /// Returns how a command is carried out that looks in no other folder.
     pub(crate) fn new(is_quiet: bool) -> How<'a>
         ensures quiet { result.is_quiet ≡ is_quiet }
         ensures folders { result.folders.now ≡ [] }

@@ -12,7 +12,7 @@ pub(crate) enum Tool {
 }
 
 impl Tool {
-    ghost use Rattle.std.specs.Prelude.{◌≡◌, map, codes};
+    ghost use Rattle.std.specs.Prelude.{◌≡◌, map};
     ghost use Rattle.uimg_tool.specs.Programs.{tool_named, tool_of, name_of};
 
     /// Returns the tool of a command line, whose first word is the program's path.

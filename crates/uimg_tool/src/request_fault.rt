@@ -36,10 +36,6 @@ pub(crate) enum RequestFault<'a> {
     #[error("cannot write {0}")]
     CannotWrite(&'a str, io::Error),
 
-    // The same, by the new commands.
-    #[error("cannot write {0}: {1}")]
-    Unwritten(Printed<'a>, io::Error),
-
     // Bytes of the outfile, at this path.
     #[error("write failed")]
     NotPut(&'a str, io::Error),
@@ -47,10 +43,6 @@ pub(crate) enum RequestFault<'a> {
     // Text for standard output.
     #[error("write failed")]
     NotPrinted(io::Error),
-
-    // The same, by the new commands.
-    #[error("write failed: {0}")]
-    Unprinted(io::Error),
 
     #[error("{0} exists; use --force to replace it")]
     Exists(Printed<'a>),

@@ -46,6 +46,8 @@ pub(crate) struct Made<'a> {
 }
 
 impl<'a> Made<'a> {
+    ghost use Rattle.uimg_tool.specs.MadeEnds.{told_end};
+
     /// Returns that a request ended before anything was printed.
     pub(crate) fn unprinted(fault: RequestFault<'a>) -> Made<'a>
         ensures end { result.end ≡ Err fault.entry }
@@ -56,10 +58,21 @@ impl<'a> Made<'a> {
             printed: Ok(()),
         }
     }
+
+    // Returns the end, or that the text could not be printed, which comes before what ended the
+    // request.
+    fn told(self) -> Result<Status, RequestFault<'a>>
+        ensures { result ≡ told_end self.entry }
+    {
+        match self.printed {
+            Ok(()) => self.end,
+            Err(error) => Err(RequestFault::NotPrinted(error)),
+        }
+    }
 }
 
 /// Carries out a request, and buffers what it prints. If the flush at the end fails, returns
-/// `NotPrinted` in place of the end, because the text comes before what ended the request.
+/// `NotPrinted` in place of the end.
 pub(crate) fn carry_out<'a, R: Files + AllocGlobal, W: Write>(
     rt: &'a R,
     request: &'a Request<'a>,
@@ -68,11 +81,7 @@ pub(crate) fn carry_out<'a, R: Files + AllocGlobal, W: Write>(
 ) -> Result<Status, RequestFault<'a>>
     ensures { PrintedEnds request.now result }
 {
-    let Made { end, printed } = carry_out_apart(rt, request, way, out);
-    match printed {
-        Ok(()) => end,
-        Err(error) => Err(RequestFault::NotPrinted(error)),
-    }
+    carry_out_apart(rt, request, way, out).told()
 }
 
 /// Carries out a request, as `carry_out` does. Returns how it ended, and how the flush of the buffer

@@ -1,6 +1,6 @@
 //! Checks strictly what a check found to be right.
 
-ghost use Rattle.std.specs.Prelude.{◌≡◌, IfOk};
+ghost use Rattle.std.specs.Prelude.{IfOk};
 ghost use Rattle.uimg_base.specs.Honest.{IfHonest};
 ghost use Rattle.uimg_tool.specs.StrictEnds.{AnswersLegacy, AnswersStrictly, TellsFurther};
 

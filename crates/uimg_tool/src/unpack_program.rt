@@ -1,7 +1,7 @@
 //! Unpacks an image.
 
-ghost use Rattle.std.specs.Prelude.{◌≡◌};
-ghost use Rattle.uimg_tool.specs.{Complaints.Ends, Statuses.{is_of_command, trouble_status}};
+ghost use Rattle.std.specs.Prelude.{◌≡◌, ◌⊎◌, false};
+ghost use Rattle.uimg_tool.specs.{Complaints.Ends, EndingStatuses.HasEndingStatus, Statuses.{is_of_command, trouble_status}};
 
 use crate::check_answers::Names;
 use crate::complaints::Complaints;
@@ -20,8 +20,8 @@ use uimg_printing::Printed;
 use uimg_unpacking::{FileId, Folder, Limits, Trouble, Unpacking, unpack, unpack_parts};
 
 /// Cleans the folder and unpacks the image, as requested, with a line for each removed file, payload
-/// or part on `out`. Returns the status. A fault is reported by a line on `err`, or for JSON on
-/// `out`.
+/// or part on `out`. Returns the status. A fault is reported by a line on standard error, or
+/// for JSON on `out`.
 pub(crate) fn unpack_image<R: Files + AllocGlobal, W: Write, V: Write>(
     rt: &R,
     request: &UnpackRequest<'_>,
@@ -129,7 +129,8 @@ fn tell_ending<R: Files + AllocGlobal, W: Write, V: Write>(
     out: &mut W,
     complaints: &mut Complaints<'_, V>,
 ) -> u8
-    ensures { Ends result complaints.old.count complaints.new.count }
+    ensures ends { Ends result complaints.old.count complaints.new.count }
+    ensures status { as_json ≡ false → HasEndingStatus ending result }
 {
     match ending {
         Ending::Told(Status::Done) => DONE,
@@ -181,7 +182,8 @@ fn tell_object<R: Files + AllocGlobal, W: Write, V: Write>(
 
 // Reports that a legacy image has CRC-32 alone.
 fn tell_weak<W: Write, V: Write>(path: &str, out: &mut W, complaints: &mut Complaints<'_, V>) -> u8
-    ensures { Ends result complaints.old.count complaints.new.count }
+    ensures ends { Ends result complaints.old.count complaints.new.count }
+    ensures status { (result ≡ 1) ⊎ (result ≡ 3) }
 {
     let told = writeln!(out, "{}: weak crc32", Printed(path.as_bytes()));
     match told.and_then(|()| out.flush()) {
