@@ -31,7 +31,7 @@ pub(crate) fn make_auto<R: Files + AllocGlobal, W: Write, V: Write>(
         return complaints.tell(&OldFault::Signs('g'), WRONG_LINE);
     }
     if let Some(path) = unread_file(rt, &request.source) {
-        return complaints.tell_unread(rt, path);
+        return complaints.tell_unread(&mut DiskWorld::new(rt), path);
     }
     match new_beside(&mut DiskWorld::new(rt), rt.alloc(), request.outfile) {
         Ok(Ok(NewBeside { file, path })) => {

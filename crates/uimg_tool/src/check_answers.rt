@@ -3,18 +3,17 @@
 ghost use Rattle.std.specs.Prelude.{◌≡◌, ◌≤◌, None, false, IfSome};
 ghost use Rattle.uimg_tool.specs.CheckEnds.{AnswersEnd, AnswersFault, AnswersLine, AnswersLoose, AnswersMissing, format_of, nameless_fit, offset_of};
 
-use crate::reasons::reason_unread;
 use crate::request_fault::{REFUSED, status_of_fault};
 use std::alloc::Global;
 use std::fmt::Display;
 use std::io;
-use std::rt::Files;
 use thiserror::Error;
 use uimg_base::{Source, Span};
 use uimg_checks::{Answer, Checked, Format, Missing, Stop};
 use uimg_engine::Fault;
 use uimg_fit_checking::Finding;
 use uimg_strict::{Loose, Looseness};
+use uimg_unpacking::World;
 
 /// The longest name of a node, in bytes.
 const NAME_LEN: usize = 255;
@@ -67,10 +66,14 @@ impl Names {
 }
 
 /// Returns the result for a file that could not be opened.
-pub(crate) fn answer_of_unread<'a, R: Files>(rt: &R, path: &str, names: &'a mut Names) -> Answer<'a>
+pub(crate) fn answer_of_unread<'a, D: World>(
+    world: &mut D,
+    path: &str,
+    names: &'a mut Names,
+) -> Answer<'a>
     ensures { AnswersLine false result }
 {
-    match reason_unread(rt, path) {
+    match world.reason_unread(path) {
         Some(reason) => answer_of_line(&Unread(reason), false, names),
         None => answer_of_line(&"cannot read", false, names),
     }

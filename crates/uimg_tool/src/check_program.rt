@@ -9,18 +9,17 @@ use crate::check_answers::{NOT_UTF8, Names, answer_of, answer_of_unread};
 use crate::complaints::Complaints;
 use crate::json_lines::put_json;
 use crate::path_list::PathList;
-use crate::reasons::is_pipe;
 use crate::request_fault::{DONE, FAILED, RequestFault, WRONG_LINE};
 use crate::strict_answers::{answer_of_fit, answer_of_legacy};
 use std::alloc::{AllocError, Global};
+use std::io;
 use std::io::{BufRead, BufReader, BufWriter, ErrorKind, Write};
-use std::rt::Files;
-use std::{fs, io};
-use uimg_base::{FileSource, Room};
+use uimg_base::Room;
 use uimg_checks::{Answer, Checked, check, line_text, object_text};
 use uimg_cli::{CheckRequest, WordsFault};
 use uimg_fit_checking::Finding;
 use uimg_printing::Printed;
+use uimg_unpacking::World;
 
 /// The path of standard input as a file.
 const STANDARD_INPUT: &str = "/dev/stdin";
@@ -29,49 +28,31 @@ const STANDARD_INPUT: &str = "/dev/stdin";
 /// even after one that is not right. Returns the greatest status, or that of a wrong command line if
 /// there is no image, unless none is allowed. A file of names that cannot be read, a line that cannot
 /// be written and refused memory end it with a line on standard error; a closed `out` ends it
-/// without one, as failed, because not all images were checked.
-pub(crate) fn check_images<R: Files + AllocGlobal, W: Write, V: Write>(
-    rt: &R,
-    request: &CheckRequest<'_>,
-    out: &mut W,
-    complaints: &mut Complaints<'_, V>,
-) -> u8
-    ensures { Ends result complaints.old.count complaints.new.count }
-{
-    let Ok(gathered) = BufWriter::new(rt.alloc(), out) else {
-        return complaints.tell_no_memory();
-    };
-    let (status, _out) = check_into(rt, request, gathered, complaints);
-    status
-}
-
-// Does the same with an empty buffer, and returns its writer, too.
-fn check_into<R: Files + AllocGlobal, W: Write + Drop, V: Write>(
-    rt: &R,
+/// without one, as failed, because not all images were checked. Returns `out`, too.
+pub(crate) fn check_images<D: World, W: Write + Drop, V: Write>(
+    world: &mut D,
     request: &CheckRequest<'_>,
     out: BufWriter<W, Global>,
     complaints: &mut Complaints<'_, V>,
-) -> (u8, W)
+) -> (u8, BufWriter<W, Global>)
     requires { writer_buffer out ≡ [] }
     ensures ends { Ends result.0 complaints.old.count complaints.new.count }
-    ensures told { AnswersRequest request.now result.0 (W.contents (writer_inner out))
-        (W.contents result.1) }
+    ensures told { AnswersRequest request.now result.0 (writer_contents W.contents out)
+        (writer_contents W.contents result.1) }
 {
     let mut checks = Checks {
-        room: Room::new(rt.alloc()),
+        room: Room::new(world.alloc()),
         out,
         greatest: DONE,
         has_checked: false,
     };
-    let ended = checks.check_all(rt, request);
+    let ended = checks.check_all(world, request);
     let Checks {
         room: _room,
         out,
         greatest,
         has_checked,
     } = checks;
-    // A failed write leaves text in the buffer, which its drop would try to write again.
-    let (out, _) = out.into_parts();
     let found = found(greatest, has_checked, request.allows_none);
     (tell_ended(ended, found, complaints), out)
 }
@@ -148,9 +129,9 @@ impl<W: Write + Drop> Checks<W> {
     ghost use Rattle.uimg_tool.specs.Checks.{Answers, AnswersAll, AnswersNamed, AnswersUnlessEmpty, told};
 
     // Checks all requested images.
-    fn check_all<'b, R: Files + AllocGlobal>(
+    fn check_all<'b, D: World>(
         &mut self,
-        rt: &R,
+        world: &mut D,
         request: &CheckRequest<'b>,
     ) -> Result<(), Stop<'b>>
         ensures grows { Grows self.old.greatest self.new.greatest }
@@ -160,18 +141,18 @@ impl<W: Write + Drop> Checks<W> {
             OnOk result (writer_buffer self.new.out ≡ []) }
     {
         for path in &request.images {
-            self.check(rt, request, path.as_bytes())?;
+            self.check(world, request, path.as_bytes())?;
         }
         match request.files_from {
-            Some(path) => self.check_named(rt, request, path),
+            Some(path) => self.check_named(world, request, path),
             None => Ok(()),
         }
     }
 
     // Checks the images whose paths are in a file.
-    fn check_named<'b, R: Files + AllocGlobal>(
+    fn check_named<'b, D: World>(
         &mut self,
-        rt: &R,
+        world: &mut D,
         request: &CheckRequest<'b>,
         path: &'b str,
     ) -> Result<(), Stop<'b>>
@@ -182,17 +163,17 @@ impl<W: Write + Drop> Checks<W> {
             OnOk result (writer_buffer self.new.out ≡ []) }
     {
         let from = if path == "-" { STANDARD_INPUT } else { path };
-        let file = match fs::open(rt, from) {
+        let file = match world.read(from) {
             Ok(file) => file,
             Err(error) => return Err(Stop::NoNames(path, error)),
         };
         let end = if request.has_nuls { 0 } else { b'\n' };
-        let Ok(names) = BufReader::new(rt.alloc(), PathList::new(file, end)) else {
+        let Ok(names) = BufReader::new(world.alloc(), PathList::new(file, end)) else {
             return Err(Stop::NoMemory);
         };
-        for name in names.split(rt.alloc(), end) {
+        for name in names.split(world.alloc(), end) {
             match name {
-                Ok(name) => self.check_unless_empty(rt, request, name.as_slice())?,
+                Ok(name) => self.check_unless_empty(world, request, name.as_slice())?,
                 Err(error) => return Err(stop_of_names(error, path)),
             }
         }
@@ -200,9 +181,9 @@ impl<W: Write + Drop> Checks<W> {
     }
 
     // Checks the image at a path, unless the path is empty, as on an empty line.
-    fn check_unless_empty<'b, R: Files + AllocGlobal>(
+    fn check_unless_empty<'b, D: World>(
         &mut self,
-        rt: &R,
+        world: &mut D,
         request: &CheckRequest<'b>,
         path: &[u8],
     ) -> Result<(), Stop<'b>>
@@ -215,13 +196,13 @@ impl<W: Write + Drop> Checks<W> {
         if path.is_empty() {
             return Ok(());
         }
-        self.check(rt, request, path)
+        self.check(world, request, path)
     }
 
     // Checks the image at a path, and writes its line.
-    fn check<'b, R: Files + AllocGlobal>(
+    fn check<'b, D: World>(
         &mut self,
-        rt: &R,
+        world: &mut D,
         request: &CheckRequest<'b>,
         path: &[u8],
     ) -> Result<(), Stop<'b>>
@@ -231,16 +212,16 @@ impl<W: Write + Drop> Checks<W> {
         ensures flushed { writer_buffer self.old.out ≡ [] →
             OnOk result (writer_buffer self.new.out ≡ []) }
     {
-        let mut names = Names::new(rt.alloc());
+        let mut names = Names::new(world.alloc());
         let answer = match str::from_utf8(path) {
-            Ok(path) => self.answer(rt, request, path, &mut names),
+            Ok(path) => self.answer(world, request, path, &mut names),
             Err(_) => NOT_UTF8,
         };
         self.note(&answer);
         if request.is_quiet && answer.word() == "ok" {
             return Ok(());
         }
-        put_answer(rt.alloc(), request.as_json, path, &answer, &mut self.out)?;
+        put_answer(world.alloc(), request.as_json, path, &answer, &mut self.out)?;
         Ok(())
     }
 
@@ -255,9 +236,9 @@ impl<W: Write + Drop> Checks<W> {
     }
 
     // Checks the file at a path.
-    fn answer<'n, R: Files + AllocGlobal>(
+    fn answer<'n, D: World>(
         &mut self,
-        rt: &R,
+        world: &mut D,
         request: &CheckRequest<'_>,
         path: &str,
         names: &'n mut Names,
@@ -265,16 +246,13 @@ impl<W: Write + Drop> Checks<W> {
         ensures same { self.new.greatest ≡ self.old.greatest }
         ensures out { self.new.out ≡ self.old.out }
     {
-        if is_pipe(rt, path) {
-            return answer_of_unread(rt, path, names);
-        }
-        let Ok(mut source) = FileSource::open(rt, path) else {
-            return answer_of_unread(rt, path, names);
+        let Ok(mut source) = world.open(path) else {
+            return answer_of_unread(world, path, names);
         };
         let end = check(request.need, &mut source, &mut self.room);
         match end {
             Ok(Checked::Fit(Finding::Right { .. })) if request.is_strict => {
-                answer_of_fit(rt.alloc(), end, &mut source, &mut self.room, names)
+                answer_of_fit(world.alloc(), end, &mut source, &mut self.room, names)
             }
             Ok(Checked::Right) if request.is_strict => answer_of_legacy(&mut source, names),
             _ => answer_of(end, None, &mut source, names),

@@ -3,13 +3,12 @@
 ghost use Rattle.std.specs.{Prelude.{◌≡◌, ◌+◌, ◌-◌, ◌^◌, ◌≤◌, min}, IoError.error_kind};
 ghost use Rattle.uimg_tool.specs.Complaints.{is_closed_pipe};
 
-use crate::reasons::reason_unread;
 use crate::request_fault::{FAILED, RequestFault};
 use std::fmt::Display;
 use std::io;
 use std::io::{ErrorKind, Write};
-use std::rt::Files;
 use uimg_printing::Printed;
+use uimg_unpacking::World;
 
 /// Standard error of a program, whose name each line of a fault begins with. Failed writes are
 /// ignored.
@@ -54,11 +53,11 @@ impl<'a, V: Write> Complaints<'a, V> {
     }
 
     /// Tells that a file cannot be opened, with the reason if there is one. Returns the status.
-    pub(crate) fn tell_unread<R: Files>(&mut self, rt: &R, path: &str) -> u8
+    pub(crate) fn tell_unread<D: World>(&mut self, world: &mut D, path: &str) -> u8
         ensures status { result ≡ 3 }
         ensures once { self.new.count ≤ self.old.count + 1 }
     {
-        let reason = reason_unread(rt, path);
+        let reason = world.reason_unread(path);
         let path = Printed(path.as_bytes());
         match reason {
             Some(reason) => self.tell(&RequestFault::Unread(path, reason), FAILED),

@@ -21,6 +21,7 @@ use uimg_its::{FaultKind, ItsFault};
 use uimg_names::Naming;
 use uimg_printing::Printed;
 use uimg_requests::MakeRequest;
+use uimg_unpacking::DiskWorld;
 
 /// A source that the profile refuses: its request, its text, and the fault.
 #[derive(Drop)]
@@ -46,7 +47,7 @@ pub(crate) fn make_beyond<'x, R: rt::Files + AllocGlobal, W: Write, V: Write>(
     let compiled = compile_all(rt.alloc(), &beyond.text, &mut files);
     if compiled.is_err() && files.has_met_left_out() {
         let end = Err(RequestFault::WritesWhatIsRead(making.outfile));
-        return tell_end(rt, &end, making.outfile, complaints);
+        return tell_end(&mut DiskWorld::new(rt), &end, making.outfile, complaints);
     }
     if files.is_ambiguous() {
         let source = Printed(making.source.as_bytes());
@@ -96,14 +97,14 @@ pub(crate) fn make_compiled<R: rt::Files + AllocGlobal, F: Files, W: Write, V: W
         Err(fault) => {
             let end = Err(RequestFault::Stopped(Fault::Fit(fault)));
             let about = about_end(&end, making.source, making.image);
-            tell_end(rt, &end, about, complaints)
+            tell_end(&mut DiskWorld::new(rt), &end, about, complaints)
         }
     }
 }
 
 // Reports why a source is refused: by the fault of the profile if that is for the same line and not
 // for a construct of the whole language.
-fn tell_refused<R: rt::Files, V: Write>(
+fn tell_refused<R: rt::Files + AllocGlobal, V: Write>(
     rt: &R,
     beyond: &Beyond<'_>,
     fault: DtsFault,
@@ -120,7 +121,7 @@ fn tell_refused<R: rt::Files, V: Write>(
         FaultKind::BadToken | FaultKind::BadSyntax | FaultKind::BadNumber
             if status == REFUSED && beyond.fault.line == fault.line => {
             let end = Err(RequestFault::Stopped(Fault::Its(beyond.fault)));
-            tell_end(rt, &end, source, complaints)
+            tell_end(&mut DiskWorld::new(rt), &end, source, complaints)
         }
         _ => {
             let path = Printed(source.as_bytes());

@@ -7,7 +7,6 @@ use crate::dts_program::{Beyond, make_beyond, make_compiled};
 use crate::known_sources::{Known, files_of, known_source, source_has_labels};
 use crate::old_files::{How, make_image, tell_end};
 use crate::other_algos::has_other_algos;
-use crate::reasons::is_pipe;
 use crate::request_fault::{REFUSED, RequestFault, WRONG_LINE};
 use crate::safe_path::{NewBeside, new_beside};
 use crate::tree_program::TreeRequest;
@@ -19,7 +18,7 @@ use std::{fs, io};
 use uimg_base::FileSource;
 use uimg_compat::{FitRequest, OldFault, warn};
 use uimg_requests::MakeRequest;
-use uimg_unpacking::{DiskWorld, FileId};
+use uimg_unpacking::{DiskWorld, FileId, World};
 
 /// The name of standard input as a source, and its path.
 const INPUT_NAME: &str = "-";
@@ -49,7 +48,7 @@ pub(crate) fn make_fit<R: Files + AllocGlobal, W: Write, V: Write>(
     }
     match path_in_folders(rt, request) {
         Ok(Some(path)) => make_of_path(rt, request, path.as_str(), out, complaints),
-        Ok(None) => complaints.tell_unread(rt, request.source),
+        Ok(None) => complaints.tell_unread(&mut DiskWorld::new(rt), request.source),
         Err(_) => complaints.tell_no_memory(),
     }
 }
@@ -71,7 +70,7 @@ fn path_in_folders<R: Files + AllocGlobal>(
         let Ok(path) = Path::new(folder).join(rt.alloc(), request.source) else {
             return Err(AllocError);
         };
-        if !is_pipe(rt, path.as_str()) && FileSource::open(rt, path.as_str()).is_ok() {
+        if DiskWorld::new(rt).open(path.as_str()).is_ok() {
             return Ok(Some(path));
         }
     }
@@ -112,10 +111,10 @@ fn make_of_input<R: Files + AllocGlobal, W: Write, V: Write>(
     let outfile = FileId::of(rt, request.outfile);
     if outfile.is_some() && outfile == FileId::of(rt, INPUT) {
         let end = Err(RequestFault::WritesWhatIsRead(request.outfile));
-        return tell_end(rt, &end, request.outfile, complaints);
+        return tell_end(&mut DiskWorld::new(rt), &end, request.outfile, complaints);
     }
     let Ok(text) = read_input(rt) else {
-        return complaints.tell_unread(rt, INPUT);
+        return complaints.tell_unread(&mut DiskWorld::new(rt), INPUT);
     };
     if text.len() as u64 > MOST_INPUT {
         let reason = format_args!("{INPUT_NAME}: a source of more than 64 MiB");

@@ -6,40 +6,33 @@ ghost use Rattle.uimg_tool.specs.Complaints.{Ends};
 use crate::check_answers::{CHANGED, Names, answer_of_fault, answer_of_unread};
 use crate::complaints::Complaints;
 use crate::json_lines::put_json;
-use crate::reasons::is_pipe;
 use crate::request_fault::{DONE, FAILED, RequestFault};
 use std::alloc::{AllocError, Global};
-use std::io::{BufWriter, Write};
-use std::rt::Files;
-use uimg_base::{FileSource, Room, Source};
+use std::io::Write;
+use uimg_base::{Room, Source};
 use uimg_checks::object_text;
 use uimg_cli::InfoRequest;
 use uimg_engine::{Fault, Form, is_fit};
 use uimg_fit_checking::SurveyFault;
 use uimg_info::{fit_text, legacy_text};
 use uimg_legacy::{PartsFault, locate_parts, read_header};
+use uimg_unpacking::World;
 
 /// Writes the facts of the requested image as a line on `out`, or why there are none. Returns the
 /// status. Refused memory and a line that cannot be written are reported by a line on standard
 /// error.
-pub(crate) fn tell_facts<R: Files + AllocGlobal, W: Write, V: Write>(
-    rt: &R,
+pub(crate) fn tell_facts<D: World, W: Write, V: Write>(
+    world: &mut D,
     request: &InfoRequest<'_>,
     out: &mut W,
     complaints: &mut Complaints<'_, V>,
 ) -> u8
     ensures { Ends result complaints.old.count complaints.new.count }
 {
-    let Ok(mut gathered) = BufWriter::new(rt.alloc(), out) else {
-        return complaints.tell_no_memory();
-    };
-    let status = match object_of(rt, request.image) {
-        Ok((text, status)) => put_object(text.as_slice(), status, &mut gathered, complaints),
+    match object_of(world, request.image) {
+        Ok((text, status)) => put_object(text.as_slice(), status, out, complaints),
         Err(_) => complaints.tell_no_memory(),
-    };
-    // A failed write leaves text in the buffer, which its drop would try to write again.
-    let (_, _) = gathered.into_parts();
-    status
+    }
 }
 
 /// Writes an object as a line. Returns the status, or that of a failure.
@@ -114,33 +107,30 @@ impl From<PartsFault> for Stop {
 }
 
 // Returns the object of an image, and its status.
-fn object_of<R: Files + AllocGlobal>(rt: &R, path: &str) -> Result<(Vec<u8>, u8), AllocError>
+fn object_of<D: World>(world: &mut D, path: &str) -> Result<(Vec<u8>, u8), AllocError>
     ensures { IfOk result (λ found. found.1 ≤ 3) }
 {
-    let mut names = Names::new(rt.alloc());
-    let answer = match facts_of(rt, path) {
+    let mut names = Names::new(world.alloc());
+    let answer = match facts_of(world, path) {
         Ok(text) => return Ok((text, DONE)),
         Err(Stop::NoMemory) => return Err(AllocError),
-        Err(Stop::Unread) => answer_of_unread(rt, path, &mut names),
+        Err(Stop::Unread) => answer_of_unread(world, path, &mut names),
         Err(Stop::Changed) => CHANGED,
         Err(Stop::Refused(fault)) => answer_of_fault(fault, &mut names),
     };
-    let text = object_text(rt.alloc(), path.as_bytes(), &answer)?;
+    let text = object_text(world.alloc(), path.as_bytes(), &answer)?;
     Ok((text, answer.status()))
 }
 
 // Returns the object of the facts of the image at a path.
-fn facts_of<R: Files + AllocGlobal>(rt: &R, path: &str) -> Result<Vec<u8>, Stop> {
-    if is_pipe(rt, path) {
-        return Err(Stop::Unread);
-    }
-    let Ok(mut source) = FileSource::open(rt, path) else {
+fn facts_of<D: World>(world: &mut D, path: &str) -> Result<Vec<u8>, Stop> {
+    let Ok(mut source) = world.open(path) else {
         return Err(Stop::Unread);
     };
-    let mut room = Room::new(rt.alloc());
+    let mut room = Room::new(world.alloc());
     match is_fit(Form::Guess, &mut source) {
-        Ok(true) => Ok(fit_text(rt.alloc(), path, &mut source, &mut room)?),
-        Ok(false) => legacy_facts(rt.alloc(), path, &mut source, &mut room),
+        Ok(true) => Ok(fit_text(world.alloc(), path, &mut source, &mut room)?),
+        Ok(false) => legacy_facts(world.alloc(), path, &mut source, &mut room),
         Err(_) => Err(Stop::from(Fault::Read)),
     }
 }

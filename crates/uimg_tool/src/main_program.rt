@@ -13,13 +13,14 @@ use crate::map_program::map_image;
 use crate::old_program::{carry_out_old, read_old_words};
 use crate::old_tools::Tool;
 use crate::request_fault::{DONE, FAILED, REFUSED, RequestFault, WRONG_LINE, status_of};
-use crate::requests::{Way, carry_out};
+use crate::requests::{Way, make, run, show};
 use crate::unpack_program::unpack_image;
 use std::alloc::Global;
-use std::io::Write;
+use std::io::{BufWriter, Write};
 use std::rt::Files;
 use uimg_base::Status;
 use uimg_cli::{Asked, Request, WordsFault, read_words};
+use uimg_unpacking::{DiskWorld, World};
 
 /// Carries out the words of a command line, the program's name first, and returns the exit status.
 /// A program whose name, after its last slash, is `mkimage`, `dumpimage`, `uimg-mkimage` or
@@ -77,7 +78,14 @@ fn carry_out_words<R: Files + AllocGlobal, W: Write, V: Write>(
         (map (λ word. word.now) words.entry.now) → out.new ≡ out.old }
 {
     match asked_by(rt.alloc(), words, epoch, now) {
-        Ok(asked) => carry_out_asked(rt, &asked, out, complaints),
+        Ok(asked) => match BufWriter::new(rt.alloc(), out) {
+            Ok(gathered) => {
+                let world = &mut DiskWorld::new(rt);
+                let (status, _) = carry_out_asked(rt, world, &asked, gathered, complaints);
+                status
+            }
+            Err(_) => complaints.tell_no_memory(),
+        },
         Err(fault) => tell_words_fault(&fault, complaints),
     }
 }
@@ -98,33 +106,55 @@ fn asked_by<'a>(
 }
 
 // Carries out a request.
-fn carry_out_asked<R: Files + AllocGlobal, W: Write, V: Write>(
+fn carry_out_asked<R: Files + AllocGlobal, D: World, W: Write + Drop, V: Write>(
     rt: &R,
+    world: &mut D,
     asked: &Asked<'_>,
-    out: &mut W,
+    mut out: BufWriter<W, Global>,
     complaints: &mut Complaints<'_, V>,
-) -> u8
-    ensures { Ends result complaints.old.count complaints.new.count }
+) -> (u8, W)
+    ensures { Ends result.0 complaints.old.count complaints.new.count }
 {
-    match asked {
-        Asked::One(request) => carry_out_one(rt, request, out, complaints),
-        Asked::Check(request) => check_images(rt, request, out, complaints),
-        Asked::Unpack(request) => unpack_image(rt, request, out, complaints),
-        Asked::Map(request) => map_image(rt, request, out, complaints),
-        Asked::Info(request) => tell_facts(rt, request, out, complaints),
-    }
+    let (status, out) = match asked {
+        Asked::One(request) => {
+            let status = carry_out_one(rt, world, request, &mut out, complaints);
+            (status, out)
+        }
+        Asked::Check(request) => check_images(world, request, out, complaints),
+        Asked::Unpack(request) => {
+            let status = unpack_image(rt, request, &mut out, complaints);
+            (status, out)
+        }
+        Asked::Map(request) => {
+            let status = map_image(world, request, &mut out, complaints);
+            (status, out)
+        }
+        Asked::Info(request) => {
+            let status = tell_facts(world, request, &mut out, complaints);
+            (status, out)
+        }
+    };
+    // A failed write leaves text in the buffer, which its drop would try to write again.
+    let (out, _) = out.into_parts();
+    (status, out)
 }
 
 // Carries out a command on one image, the making of one, or prints a text.
-fn carry_out_one<'a, R: Files + AllocGlobal, W: Write, V: Write>(
+fn carry_out_one<'a, R: Files + AllocGlobal, D: World, W: Write, V: Write>(
     rt: &'a R,
+    world: &mut D,
     request: &'a Request<'a>,
     out: &mut W,
     complaints: &mut Complaints<'_, V>,
 ) -> u8
     ensures { Ends result complaints.old.count complaints.new.count }
 {
-    let end = carry_out(rt, request, Way::to(None), out);
+    let made = match request {
+        Request::Run(request) => run(world, request, None, out),
+        Request::Make(request) => make(rt, request, Way::within(&[]), out),
+        Request::Show(text) => show(text, out),
+    };
+    let end = made.told();
     if matches!(request, Request::Show(_)) && is_unread(&end) {
         return FAILED;
     }

@@ -4,60 +4,59 @@ ghost use Rattle.std.specs.Prelude.{◌≡◌};
 ghost use Rattle.uimg_tool.specs.{Complaints.Ends, MapEnds.{DrawEnds, PrintEnds, map_status}};
 
 use crate::complaints::Complaints;
-use crate::reasons::{is_pipe, reason_of_code};
+use crate::reasons::reason_of_code;
 use crate::request_fault::{DONE, FAILED, REFUSED, RequestFault, WRONG_LINE};
+use crate::requests::is_same_file;
 use crate::safe_path::{SafePath, Writing, writing_of};
+use std::alloc::Global;
+use std::io;
 use std::io::{BufWriter, Write};
-use std::rt::Files;
-use std::{fs, io};
-use uimg_base::{FileSource, Source};
+use uimg_base::Source;
 use uimg_cli::MapRequest;
-use uimg_engine::{Fault, is_same_file};
+use uimg_engine::Fault;
 use uimg_map::{Map, MapFault, MapStop, map_of, put_lines, put_picture};
 use uimg_printing::Printed;
-use uimg_unpacking::give_name;
+use uimg_unpacking::{Target, World, name_file};
 
 /// Writes the map of the requested image: lines on `out`, or a picture as a file that gets its name
 /// when it is complete. Returns the status. A fault is reported by a line on standard error; a
 /// refused image has a map too.
-pub(crate) fn map_image<R: Files + AllocGlobal, W: Write, V: Write>(
-    rt: &R,
+pub(crate) fn map_image<D: World, W: Write, V: Write>(
+    world: &mut D,
     request: &MapRequest<'_>,
     out: &mut W,
     complaints: &mut Complaints<'_, V>,
 ) -> u8
     ensures { Ends result complaints.old.count complaints.new.count }
 {
-    if is_pipe(rt, request.image) {
-        return complaints.tell_unread(rt, request.image);
-    }
-    let Ok(mut source) = FileSource::open(rt, request.image) else {
-        return complaints.tell_unread(rt, request.image);
+    let Ok(mut source) = world.open(request.image) else {
+        return complaints.tell_unread(world, request.image);
     };
-    let map = match map_of(rt.alloc(), &mut source) {
+    let map = match map_of(world.alloc(), &mut source) {
         Ok(map) => map,
         Err(fault) => return complaints.tell(&fault, FAILED),
     };
     let ended = match request.picture {
-        Some(path) if is_same_file(rt, path, request.image) => {
+        Some(path) if is_same_file(world, path, request.image) => {
             let path = Printed(path.as_bytes());
             return complaints.tell(&RequestFault::DrawsOverWhatIsRead(path), WRONG_LINE);
         }
-        Some(path) if !request.is_forced && is_taken(rt, path) => {
+        Some(path) if !request.is_forced && is_taken(world, path) => {
             return complaints.tell(&RequestFault::Exists(Printed(path.as_bytes())), FAILED);
         }
-        Some(path) => draw(rt, request, path, &mut source, &map),
-        None => print(rt, &mut source, &map, out),
+        Some(path) => draw(world, request, path, &mut source, &map),
+        None => print(world.alloc(), &mut source, &map, out),
     };
     tell_ended(ended, map.fault, complaints)
 }
 
 // Returns whether a picture at a path would replace a file or a symbolic link. Devices and pipes are
 // written to.
-fn is_taken<R: Files>(rt: &R, path: &str) -> bool {
-    match fs::metadata(rt, path) {
-        Ok(found) => found.is_file(),
-        Err(_) => fs::symlink_metadata(rt, path).is_ok(),
+fn is_taken<D: World>(world: &mut D, path: &str) -> bool {
+    match world.target_of(path) {
+        Target::File => true,
+        Target::Pipe | Target::Other => false,
+        Target::Nothing => world.kind_at(path).is_something(),
     }
 }
 
@@ -94,22 +93,17 @@ fn tell_ended<V: Write>(
 }
 
 // Prints a map as lines.
-fn print<'a, R: Files + AllocGlobal, S: Source, W: Write>(
-    rt: &R,
+fn print<'a, S: Source, W: Write>(
+    alloc: Global,
     source: &mut S,
     map: &Map,
     out: &mut W,
 ) -> Result<(), Stop<'a>>
     ensures { PrintEnds result }
 {
-    let Ok(mut gathered) = BufWriter::new(rt.alloc(), &mut *out) else {
-        return Err(Stop::Stopped(MapStop::Stopped(MapFault::OutOfMemory)));
-    };
-    let put = put_lines(rt.alloc(), source, map, &mut gathered);
+    let put = put_lines(alloc, source, map, out);
     // A failed write left text in the buffer, and fails again.
-    let flushed = gathered.flush();
-    // Its drop would try to write it once more.
-    let (_, _) = gathered.into_parts();
+    let flushed = out.flush();
     match put {
         Ok(()) => {}
         Err(MapStop::Stopped(fault)) => return Err(Stop::Stopped(MapStop::Stopped(fault))),
@@ -123,8 +117,8 @@ fn print<'a, R: Files + AllocGlobal, S: Source, W: Write>(
 }
 
 // Writes a map as the picture at a path, first to a new file beside it, if that is possible.
-fn draw<'a, R: Files + AllocGlobal, S: Source>(
-    rt: &R,
+fn draw<'a, D: World, S: Source>(
+    world: &mut D,
     request: &MapRequest<'_>,
     path: &'a str,
     source: &mut S,
@@ -132,13 +126,13 @@ fn draw<'a, R: Files + AllocGlobal, S: Source>(
 ) -> Result<(), Stop<'a>>
     ensures { DrawEnds path.entry result }
 {
-    match writing_of(rt, path) {
+    match writing_of(world, world.alloc(), path) {
         Ok(Writing::Beside(file, safe)) => {
-            let drawn = draw_into(rt, request, path, file, source, map);
-            name_picture(rt, path, &safe, request.is_forced, drawn)
+            let drawn = draw_into(world.alloc(), request, path, file, source, map);
+            name_picture(world, path, &safe, request.is_forced, drawn)
         }
-        Ok(Writing::InPlace | Writing::Pipe) => match fs::create(rt, path) {
-            Ok(file) => draw_into(rt, request, path, file, source, map),
+        Ok(Writing::InPlace | Writing::Pipe) => match world.create(path) {
+            Ok(file) => draw_into(world.alloc(), request, path, file, source, map),
             Err(reason) => Err(Stop::CannotWrite(path, reason)),
         },
         Ok(Writing::Nowhere(reason)) => Err(Stop::CannotWrite(path, reason)),
@@ -148,8 +142,8 @@ fn draw<'a, R: Files + AllocGlobal, S: Source>(
 
 // Moves a picture that was written beside its path to it. Removes one that is incomplete, or whose
 // path is taken meanwhile.
-fn name_picture<'a, R: Files + AllocGlobal>(
-    rt: &R,
+fn name_picture<'a, D: World>(
+    world: &mut D,
     path: &'a str,
     safe: &SafePath,
     is_forced: bool,
@@ -159,34 +153,34 @@ fn name_picture<'a, R: Files + AllocGlobal>(
 {
     let (new, whole) = (safe.new.as_str(), safe.whole.as_str());
     let named = match drawn {
-        Ok(()) => match give_name(rt, new, whole, is_forced) {
+        Ok(()) => match name_file(world, new, whole, is_forced) {
             Ok(()) => return Ok(()),
             Err(reason) => Err(Stop::CannotWrite(path, reason)),
         },
         Err(stop) => Err(stop),
     };
-    let _ = fs::remove_file(rt, new);
+    let _ = world.remove_file(new);
     named
 }
 
 // Writes a picture to a file.
-fn draw_into<'a, R: Files + AllocGlobal, S: Source>(
-    rt: &R,
+fn draw_into<'a, F: Write + Drop, S: Source>(
+    alloc: Global,
     request: &MapRequest<'_>,
     path: &'a str,
-    file: R::File,
+    file: F,
     source: &mut S,
     map: &Map,
 ) -> Result<(), Stop<'a>>
     ensures { DrawEnds path.entry result }
 {
-    let Ok(name) = format!(in rt.alloc(); "{}", Printed(request.image.as_bytes())) else {
+    let Ok(name) = format!(in alloc; "{}", Printed(request.image.as_bytes())) else {
         return Err(Stop::Stopped(MapStop::Stopped(MapFault::OutOfMemory)));
     };
-    let Ok(mut gathered) = BufWriter::new(rt.alloc(), file) else {
+    let Ok(mut gathered) = BufWriter::new(alloc, file) else {
         return Err(Stop::Stopped(MapStop::Stopped(MapFault::OutOfMemory)));
     };
-    let put = put_picture(rt.alloc(), source, map, name.as_str(), &mut gathered);
+    let put = put_picture(alloc, source, map, name.as_str(), &mut gathered);
     let flushed = gathered.flush();
     let (_, _) = gathered.into_parts();
     match put {

@@ -1,18 +1,17 @@
 //! The files of mkimage and dumpimage: what they write is beside its name until it is complete.
 
 ghost use Rattle.std.specs.Prelude.{◌≡◌, [], is_ok, if◌then◌else◌};
-ghost use Rattle.uimg_tool.specs.{Complaints.Ends, Finishing.FinishesBy, RequestEnds.{PrintedEnds, is_about_source}};
+ghost use Rattle.uimg_tool.specs.{Complaints.Ends, Finishing.FinishesBy, RequestEnds.{MakeEnds, is_about_source}};
 ghost use Rattle.uimg_tool.specs.Statuses.{end_status};
 
 use crate::complaints::Complaints;
 use crate::request_fault::{DONE, FAILED, REFUSED, RequestFault, status_of, status_of_fault};
-use crate::requests::{Made, Way, carry_out, carry_out_apart};
+use crate::requests::{Made, Way, make, run};
 use crate::safe_path::{SafePath, Writing, writing_of};
 use std::io;
 use std::io::Write;
 use std::rt::Files;
 use uimg_base::Status;
-use uimg_cli::Request;
 use uimg_compat::OldFault;
 use uimg_engine::Fault;
 use uimg_fit_base::FitFault;
@@ -43,8 +42,8 @@ impl<'a> How<'a> {
 
 /// Runs a command on an image. An extracted part is written beside its name, which it gets when it
 /// is complete.
-pub(crate) fn run_command<R: Files + AllocGlobal, W: Write, V: Write>(
-    rt: &R,
+pub(crate) fn run_command<D: World, W: Write, V: Write>(
+    world: &mut D,
     how: How<'_>,
     request: RunRequest<'_>,
     out: &mut W,
@@ -53,53 +52,56 @@ pub(crate) fn run_command<R: Files + AllocGlobal, W: Write, V: Write>(
     ensures { Ends result complaints.old.count complaints.new.count }
 {
     let Some(outfile) = request.outfile else {
-        return run_in_place(rt, how, request, out, complaints);
+        return run_in_place(world, how, &request, out, complaints);
     };
-    match writing_of(rt, outfile) {
-        Ok(Writing::InPlace | Writing::Pipe) => run_in_place(rt, how, request, out, complaints),
+    match writing_of(world, world.alloc(), outfile) {
+        Ok(Writing::InPlace | Writing::Pipe) => {
+            run_in_place(world, how, &request, out, complaints)
+        }
         Ok(Writing::Beside(file, path)) => {
-            run_beside(rt, request, Begun { file, path: &path }, out, complaints)
+            let begun = Begun { file, path: &path };
+            run_beside(world, &request, begun, out, complaints)
         }
         Ok(Writing::Nowhere(reason)) => complaints.tell_unwritten(outfile, &reason),
         Err(_) => complaints.tell_no_memory(),
     }
 }
 
-fn run_in_place<R: Files + AllocGlobal, W: Write, V: Write>(
-    rt: &R,
+fn run_in_place<D: World, W: Write, V: Write>(
+    world: &mut D,
     how: How<'_>,
-    request: RunRequest<'_>,
+    request: &RunRequest<'_>,
     out: &mut W,
     complaints: &mut Complaints<'_, V>,
 ) -> u8
     ensures { Ends result complaints.old.count complaints.new.count }
 {
-    let image = request.image;
-    let request = Request::Run(request);
-    let end = carry_out_by(rt, &request, how, out);
-    tell_end(rt, &end, image, complaints)
+    let made = if how.is_quiet {
+        run(world, request, None, &mut io::sink())
+    } else {
+        run(world, request, None, out)
+    };
+    tell_end(world, &made.told(), request.image, complaints)
 }
 
 /// A file that is written beside its name, and its paths.
-pub(crate) struct Begun<'a, R: Files> {
-    pub(crate) file: R::File,
+pub(crate) struct Begun<'a, F: Drop> {
+    pub(crate) file: F,
     pub(crate) path: &'a SafePath,
 }
 
-fn run_beside<'a, R: Files + AllocGlobal, W: Write, V: Write>(
-    rt: &'a R,
-    request: RunRequest<'a>,
-    begun: Begun<'a, R>,
+fn run_beside<D: World, W: Write, V: Write>(
+    world: &mut D,
+    request: &RunRequest<'_>,
+    begun: Begun<'_, D::File>,
     out: &mut W,
     complaints: &mut Complaints<'_, V>,
 ) -> u8
     ensures { Ends result complaints.old.count complaints.new.count }
 {
-    let image = request.image;
-    let request = Request::Run(request);
     let Begun { file, path } = begun;
-    let end = carry_out(rt, &request, Way::to(Some(file)), out);
-    tell_written(rt, &mut DiskWorld::new(rt), path, &end, image, complaints)
+    let end = run(world, request, Some(file), out).told();
+    tell_written(world, path, &end, request.image, complaints)
 }
 
 /// Makes an image beside its name, which it gets when it is complete.
@@ -112,22 +114,16 @@ pub(crate) fn make_image<R: Files + AllocGlobal, W: Write, V: Write>(
 ) -> u8
     ensures { Ends result complaints.old.count complaints.new.count }
 {
-    match writing_of(rt, request.outfile) {
+    let world = &mut DiskWorld::new(rt);
+    match writing_of(world, rt.alloc(), request.outfile) {
         Ok(Writing::InPlace) => {
-            let (source, outfile) = (request.source, request.outfile);
-            let request = Request::Make(request);
-            let end = carry_out_by(rt, &request, how, out);
-            tell_end(rt, &end, about_end(&end, source, outfile), complaints)
+            let end = make_by(rt, &request, Way::within(how.folders), how, out).told();
+            let about = about_end(&end, request.source, request.outfile);
+            tell_end(world, &end, about, complaints)
         }
         Ok(Writing::Beside(file, path)) => {
-            make_beside(
-                rt,
-                how,
-                request,
-                Begun { file, path: &path },
-                out,
-                complaints,
-            )
+            let begun = Begun { file, path: &path };
+            make_beside(rt, how, request, begun, out, complaints)
         }
         Ok(Writing::Pipe) => {
             let path = Printed(request.outfile.as_bytes());
@@ -143,33 +139,43 @@ fn make_beside<'a, R: Files + AllocGlobal, W: Write, V: Write>(
     rt: &'a R,
     how: How<'a>,
     mut request: MakeRequest<'a>,
-    begun: Begun<'a, R>,
+    begun: Begun<'a, R::File>,
     out: &mut W,
     complaints: &mut Complaints<'_, V>,
 ) -> u8
     ensures { Ends result complaints.old.count complaints.new.count }
 {
-    let (source, outfile) = (request.source, request.outfile);
     let Begun { file, path } = begun;
     request.written = path.new.as_str();
-    let request = Request::Make(request);
     let way = Way {
         file: Some(file),
         folders: how.folders,
     };
-    let made = if how.is_quiet {
-        carry_out_apart(rt, &request, way, &mut io::sink())
+    let made = make_by(rt, &request, way, how, out);
+    let about = about_end(&made.end, request.source, request.outfile);
+    tell_made(&mut DiskWorld::new(rt), path, &made, about, complaints)
+}
+
+// Makes an image; if it is to be quiet, nothing is printed.
+fn make_by<'a, R: Files + AllocGlobal, W: Write>(
+    rt: &'a R,
+    request: &'a MakeRequest<'a>,
+    way: Way<'a, R::File>,
+    how: How<'_>,
+    out: &mut W,
+) -> Made<'a>
+    ensures { MakeEnds request.now result.end }
+{
+    if how.is_quiet {
+        make(rt, request, way, &mut io::sink())
     } else {
-        carry_out_apart(rt, &request, way, out)
-    };
-    let about = about_end(&made.end, source, outfile);
-    tell_made(rt, &mut DiskWorld::new(rt), path, &made, about, complaints)
+        make(rt, request, way, out)
+    }
 }
 
 /// Gives an image that was made its name, even if its listing could not be printed, or removes its
 /// file. Reports the end, the path that it is about, and a listing that was not printed.
-pub(crate) fn tell_made<R: Files, D: World, V: Write>(
-    rt: &R,
+pub(crate) fn tell_made<D: World, V: Write>(
     world: &mut D,
     path: &SafePath,
     made: &Made<'_>,
@@ -184,7 +190,7 @@ pub(crate) fn tell_made<R: Files, D: World, V: Write>(
         let _ = path.finish(world, false);
         return complaints.tell_unprinted(error);
     }
-    let status = tell_written(rt, world, path, &made.end, about, complaints);
+    let status = tell_written(world, path, &made.end, about, complaints);
     match &made.printed {
         Err(error) if status == DONE => complaints.tell_unprinted(error),
         _ => status,
@@ -210,8 +216,7 @@ pub(crate) fn about_end<'a>(
 }
 
 // Gives the written file its name or removes it; reports the end and the path that it is about.
-fn tell_written<R: Files, D: World, V: Write>(
-    rt: &R,
+fn tell_written<D: World, V: Write>(
     world: &mut D,
     path: &SafePath,
     end: &Result<Status, RequestFault<'_>>,
@@ -224,33 +229,13 @@ fn tell_written<R: Files, D: World, V: Write>(
     let finished = path.finish(world, end.is_ok());
     match (end, finished) {
         (Ok(_), Err(reason)) => complaints.tell_unwritten(path.whole.as_str(), &reason),
-        _ => tell_end(rt, end, about, complaints),
-    }
-}
-
-// Carries out a request; a quiet one prints nothing.
-fn carry_out_by<'a, R: Files + AllocGlobal, W: Write>(
-    rt: &'a R,
-    request: &'a Request<'a>,
-    how: How<'a>,
-    out: &mut W,
-) -> Result<Status, RequestFault<'a>>
-    ensures { PrintedEnds request.now result }
-{
-    let way = Way {
-        file: None,
-        folders: how.folders,
-    };
-    if how.is_quiet {
-        carry_out(rt, request, way, &mut io::sink())
-    } else {
-        carry_out(rt, request, way, out)
+        _ => tell_end(world, end, about, complaints),
     }
 }
 
 /// Returns the status of an end, and reports its fault with the path that it is about.
-pub(crate) fn tell_end<R: Files, V: Write>(
-    rt: &R,
+pub(crate) fn tell_end<D: World, V: Write>(
+    world: &mut D,
     end: &Result<Status, RequestFault<'_>>,
     path: &str,
     complaints: &mut Complaints<'_, V>,
@@ -266,7 +251,7 @@ pub(crate) fn tell_end<R: Files, V: Write>(
             let status = status_of_fault(*fault);
             complaints.tell(&format_args!("{path}: {fault}"), status)
         }
-        Err(RequestFault::CannotRead(path)) => complaints.tell_unread(rt, path),
+        Err(RequestFault::CannotRead(path)) => complaints.tell_unread(world, path),
         Err(RequestFault::CannotWrite(path, reason) | RequestFault::NotPut(path, reason)) => {
             complaints.tell_unwritten(path, reason)
         }

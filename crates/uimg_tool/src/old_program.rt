@@ -13,11 +13,12 @@ use crate::request_fault::{DONE, WRONG_LINE};
 use crate::update_program::update_image;
 use std::alloc::Global;
 use std::io;
-use std::io::Write;
+use std::io::{BufWriter, Write};
 use std::rt::Files;
 use uimg_compat::{OldFault, OldRequest, Show, read_dumpimage, read_mkimage, title_of};
 use uimg_names::Field;
 use uimg_requests::VERSION;
+use uimg_unpacking::DiskWorld;
 
 /// Takes the words of a command line, the program's name first, as this tool of U-Boot 2023.01
 /// does.
@@ -54,18 +55,41 @@ pub(crate) fn carry_out_old<R: Files + AllocGlobal, W: Write, V: Write>(
     ensures unprinted { IfErr asked.entry (λ fault. out.new ≡ out.old) }
 {
     match asked {
-        Ok(OldRequest::Run { request, is_quiet }) => {
-            run_command(rt, How::new(is_quiet), request, out, complaints)
-        }
-        Ok(OldRequest::Make { request, is_quiet }) => {
-            make_image(rt, How::new(is_quiet), request, out, complaints)
-        }
-        Ok(OldRequest::MakeFit(request)) => make_fit(rt, &request, out, complaints),
-        Ok(OldRequest::MakeAuto(request)) => make_auto(rt, &request, out, complaints),
-        Ok(OldRequest::Update(request)) => update_image(rt, &request, out, complaints),
-        Ok(OldRequest::Show(show)) => show_text(tool, show, out, complaints),
+        Ok(request) => match BufWriter::new(rt.alloc(), out) {
+            Ok(mut gathered) => {
+                let status = carry_out_request(rt, tool, request, &mut gathered, complaints);
+                // A failed write leaves text in the buffer, which its drop would try to write again.
+                let (_, _) = gathered.into_parts();
+                status
+            }
+            Err(_) => complaints.tell_no_memory(),
+        },
         Err(OldFault::OutOfMemory) => complaints.tell_no_memory(),
         Err(fault) => complaints.tell(&fault, WRONG_LINE),
+    }
+}
+
+fn carry_out_request<R: Files + AllocGlobal, W: Write, V: Write>(
+    rt: &R,
+    tool: Tool,
+    request: OldRequest<'_>,
+    out: &mut W,
+    complaints: &mut Complaints<'_, V>,
+) -> u8
+    ensures { Ends result complaints.old.count complaints.new.count }
+{
+    match request {
+        OldRequest::Run { request, is_quiet } => {
+            let world = &mut DiskWorld::new(rt);
+            run_command(world, How::new(is_quiet), request, out, complaints)
+        }
+        OldRequest::Make { request, is_quiet } => {
+            make_image(rt, How::new(is_quiet), request, out, complaints)
+        }
+        OldRequest::MakeFit(request) => make_fit(rt, &request, out, complaints),
+        OldRequest::MakeAuto(request) => make_auto(rt, &request, out, complaints),
+        OldRequest::Update(request) => update_image(rt, &request, out, complaints),
+        OldRequest::Show(show) => show_text(tool, show, out, complaints),
     }
 }
 
@@ -83,7 +107,7 @@ fn show_text<W: Write, V: Write>(
         Show::Version => put_version(tool, out, complaints.err),
         Show::Names(field) => put_names(field, complaints.err),
     };
-    match (written, show) {
+    match (written.and_then(|()| out.flush()), show) {
         (Err(error), _) => complaints.tell_unprinted(&error),
         (Ok(()), Show::Names(field)) if field != Field::Kind => WRONG_LINE,
         (Ok(()), _) => DONE,

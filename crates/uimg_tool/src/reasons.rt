@@ -1,33 +1,11 @@
-//! The operating system's reasons for what could not be read or written.
+//! The operating system's reasons for what could not be written.
 
 ghost use Rattle.std.specs.Prelude.{false};
 
 use std::cell::Cell;
+use std::io;
 use std::io::{ErrorKind, Write};
-use std::os::unix::fs::FileTypeExt;
-use std::rt::Files;
-use std::{fs, io};
 use uimg_base::{Shelf, SourceFault};
-
-/// The error of a path that leads to a folder (`EISDIR`).
-const IS_A_FOLDER: i32 = 21;
-
-/// Returns whether a path leads to a pipe; to open one would wait for a writer.
-pub(crate) fn is_pipe<R: Files>(rt: &R, path: &str) -> bool {
-    fs::metadata(rt, path).is_ok_and(|found| found.file_type().is_fifo())
-}
-
-/// Returns why the file at a path could not be opened to be read, if another look at it shows that.
-/// Only a regular file is opened for that.
-pub(crate) fn reason_unread<R: Files>(rt: &R, path: &str) -> Option<io::Error> {
-    match fs::metadata(rt, path) {
-        Ok(found) if found.is_file() => fs::open(rt, path).err(),
-        Ok(found) if found.is_dir() => Some(io::Error::from_raw_os_error(IS_A_FOLDER)),
-        Ok(found) if found.file_type().is_fifo() => Some(io::Error::other("it is a pipe")),
-        Ok(_) => None,
-        Err(reason) => Some(reason),
-    }
-}
 
 /// Returns why a write failed, by the code of the system's error, if it had one.
 pub(crate) fn reason_of_code(code: Option<i32>) -> io::Error {

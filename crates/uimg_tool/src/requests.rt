@@ -1,40 +1,44 @@
 //! Carries out a request: a command on one image, the making of one, or the printing of a text.
 
-ghost use Rattle.std.specs.Prelude.{◌≡◌, [], OnOk, IfErr, IfSome};
+ghost use Rattle.std.specs.Prelude.{◌≡◌, OnOk, IfErr, IfSome, None};
 ghost use Rattle.std.specs.Io.KnownBytes.{Appends};
-ghost use Rattle.uimg_tool.specs.RequestEnds.{IsUnwritten, MakeEnds, OverEnds, PrintedEnds, RequestEnds, RunEnds, ShowEnds};
+ghost use Rattle.uimg_tool.specs.RequestEnds.{IsUnwritten, MakeEnds, OverEnds, RunEnds, ShowEnds};
 
 use crate::making::make_image;
 use crate::new_shelf::NewShelf;
-use crate::reasons::{Watched, is_pipe, reason_of_code};
+use crate::reasons::{Watched, reason_of_code};
 use crate::request_fault::RequestFault;
+use std::alloc::Global;
 use std::cell::Cell;
 use std::fmt::Display;
-use std::io::{BufWriter, Write};
+use std::io;
+use std::io::Write;
 use std::rt::Files;
-use std::{fs, io};
-use uimg_base::{FileShelf, FileSource, Out, Room, Source, Status};
-use uimg_cli::Request;
-use uimg_engine::{Fault, is_same_file, run_by};
+use uimg_base::{FileShelf, Out, Room, Source, Status};
+use uimg_engine::{Fault, run_by};
 use uimg_requests::{MakeRequest, RunRequest};
+use uimg_unpacking::World;
 
-/// Where a request's files are.
+/// Where the files of a making are.
 #[derive(Drop)]
-pub(crate) struct Way<'a, R: Files> {
+pub(crate) struct Way<'a, F: Drop> {
     /// What is written goes to this file if there is one, and not to one at a path.
-    pub(crate) file: Option<R::File>,
+    pub(crate) file: Option<F>,
 
     /// Files of a source that are not in its folder are looked for in these.
     pub(crate) folders: &'a [&'a str],
 }
 
-impl<'a, R: Files> Way<'a, R> {
-    /// Returns the way to a file, with no other folders.
-    pub(crate) fn to(file: Option<R::File>) -> Way<'a, R>
-        ensures file { result.file ≡ file }
-        ensures folders { result.folders.now ≡ [] }
+impl<'a, F: Drop> Way<'a, F> {
+    /// Returns the way to a file at its path, with these other folders.
+    pub(crate) fn within(folders: &'a [&'a str]) -> Way<'a, F>
+        ensures file { result.file ≡ None }
+        ensures folders { result.folders ≡ folders.entry }
     {
-        Way { file, folders: &[] }
+        Way {
+            file: None,
+            folders,
+        }
     }
 }
 
@@ -48,20 +52,9 @@ pub(crate) struct Made<'a> {
 impl<'a> Made<'a> {
     ghost use Rattle.uimg_tool.specs.MadeEnds.{told_end};
 
-    /// Returns that a request ended before anything was printed.
-    pub(crate) fn unprinted(fault: RequestFault<'a>) -> Made<'a>
-        ensures end { result.end ≡ Err fault.entry }
-        ensures printed { result.printed ≡ Ok tt }
-    {
-        Made {
-            end: Err(fault),
-            printed: Ok(()),
-        }
-    }
-
-    // Returns the end, or that the text could not be printed, which comes before what ended the
-    // request.
-    fn told(self) -> Result<Status, RequestFault<'a>>
+    /// Returns the end, or that the text could not be printed, which comes before what ended the
+    /// request.
+    pub(crate) fn told(self) -> Result<Status, RequestFault<'a>>
         ensures { result ≡ told_end self.entry }
     {
         match self.printed {
@@ -71,46 +64,51 @@ impl<'a> Made<'a> {
     }
 }
 
-/// Carries out a request, and buffers what it prints. If the flush at the end fails, returns
-/// `NotPrinted` in place of the end.
-pub(crate) fn carry_out<'a, R: Files + AllocGlobal, W: Write>(
-    rt: &'a R,
-    request: &'a Request<'a>,
-    way: Way<'a, R>,
-    out: &mut W,
-) -> Result<Status, RequestFault<'a>>
-    ensures { PrintedEnds request.now result }
-{
-    carry_out_apart(rt, request, way, out).told()
-}
-
-/// Carries out a request, as `carry_out` does. Returns how it ended, and how the flush of the buffer
-/// with what it printed did.
-pub(crate) fn carry_out_apart<'a, R: Files + AllocGlobal, W: Write>(
-    rt: &'a R,
-    request: &'a Request<'a>,
-    way: Way<'a, R>,
+/// Runs the requested command on its image, and flushes what it printed.
+pub(crate) fn run<'a, D: World, W: Write>(
+    world: &mut D,
+    request: &RunRequest<'a>,
+    file: Option<D::File>,
     out: &mut W,
 ) -> Made<'a>
-    ensures { RequestEnds request.now result.end }
+    ensures { RunEnds request.now result.end }
 {
-    let Way { file, folders } = way;
-    let Ok(mut gathered) = BufWriter::new(rt.alloc(), &mut *out) else {
-        return Made::unprinted(RequestFault::OutOfMemory);
-    };
-    let end = match request {
-        Request::Run(request) => run_command(rt, request, file, &mut gathered),
-        Request::Make(request) => make_command(rt, request, file, folders, &mut gathered),
-        Request::Show(text) => show(text, &mut gathered),
-    };
-    let printed = gathered.flush();
-    // A failed write leaves text in the buffer, which its drop would try to write again.
-    let (_, _) = gathered.into_parts();
-    Made { end, printed }
+    let end = run_command(world, request, file, out);
+    Made {
+        end,
+        printed: out.flush(),
+    }
 }
 
-// Prints help or the version.
-fn show<'a, W: Write, D: Display>(text: &D, out: &mut W) -> Result<Status, RequestFault<'a>>
+/// Makes the requested image, and flushes what that printed.
+pub(crate) fn make<'a, R: Files + AllocGlobal, W: Write>(
+    rt: &'a R,
+    request: &'a MakeRequest<'a>,
+    way: Way<'a, R::File>,
+    out: &mut W,
+) -> Made<'a>
+    ensures { MakeEnds request.now result.end }
+{
+    let end = make_command(rt, request, way, out);
+    Made {
+        end,
+        printed: out.flush(),
+    }
+}
+
+/// Prints help or the version, and flushes it.
+pub(crate) fn show<'a, D: Display, W: Write>(text: &D, out: &mut W) -> Made<'a>
+    ensures { ShowEnds result.end }
+{
+    let end = print(text, out);
+    Made {
+        end,
+        printed: out.flush(),
+    }
+}
+
+// Prints a text.
+fn print<'a, D: Display, W: Write>(text: &D, out: &mut W) -> Result<Status, RequestFault<'a>>
     ensures ends { ShowEnds result }
     ensures text { OnOk result (IfSome (D.output text.now) (Appends (W.contents out.old)
         (W.contents out.new))) }
@@ -122,29 +120,26 @@ fn show<'a, W: Write, D: Display>(text: &D, out: &mut W) -> Result<Status, Reque
 }
 
 // Runs the requested command on its image.
-fn run_command<'a, R: Files + AllocGlobal, W: Write>(
-    rt: &R,
+fn run_command<'a, D: World, W: Write>(
+    world: &mut D,
     request: &RunRequest<'a>,
-    file: Option<R::File>,
+    file: Option<D::File>,
     out: &mut W,
 ) -> Result<Status, RequestFault<'a>>
     ensures { RunEnds request.now result }
 {
-    if is_pipe(rt, request.image) {
-        return Err(RequestFault::CannotRead(request.image));
-    }
-    let Ok(mut source) = FileSource::open(rt, request.image) else {
+    let Ok(mut source) = world.open(request.image) else {
         return Err(RequestFault::CannotRead(request.image));
     };
     let Some(path) = request.outfile else {
-        return run_over(rt, request, &mut source, out);
+        return run_over(world.alloc(), request, &mut source, out);
     };
-    if is_same_file(rt, path, request.image) {
+    if is_same_file(world, path, request.image) {
         return Err(RequestFault::WritesWhatIsRead(path));
     }
     let code = Cell::new(None);
-    let outfile = Watched::new(outfile_at(rt, path, file)?, &code);
-    match run_over(rt, request, &mut source, outfile) {
+    let outfile = Watched::new(outfile_at(world, path, file)?, &code);
+    match run_over(world.alloc(), request, &mut source, outfile) {
         Err(RequestFault::Stopped(Fault::Put)) => {
             Err(RequestFault::NotPut(path, reason_of_code(code.get())))
         }
@@ -153,15 +148,15 @@ fn run_command<'a, R: Files + AllocGlobal, W: Write>(
 }
 
 // Runs the requested command on an open image.
-fn run_over<'a, R: Files + AllocGlobal, S: Source, W: Write + Drop>(
-    rt: &R,
+fn run_over<'a, S: Source, W: Write + Drop>(
+    alloc: Global,
     request: &RunRequest<'a>,
     source: &mut S,
     out: W,
 ) -> Result<Status, RequestFault<'a>>
     ensures { OverEnds result }
 {
-    let mut room = Room::new(rt.alloc());
+    let mut room = Room::new(alloc);
     let ended = run_by(
         request.naming,
         &request.command,
@@ -177,19 +172,27 @@ fn run_over<'a, R: Files + AllocGlobal, S: Source, W: Write + Drop>(
 
 // Returns the file for an extraction: the one that is given, or else the one at a path, which is
 // created or emptied.
-fn outfile_at<'a, R: Files>(
-    rt: &R,
+fn outfile_at<'a, D: World>(
+    world: &mut D,
     path: &'a str,
-    file: Option<R::File>,
-) -> Result<R::File, RequestFault<'a>>
+    file: Option<D::File>,
+) -> Result<D::File, RequestFault<'a>>
     ensures { IfErr result (IsUnwritten path.entry) }
 {
     match file {
         Some(file) => Ok(file),
-        None => match fs::create(rt, path) {
+        None => match world.create(path) {
             Ok(file) => Ok(file),
             Err(reason) => Err(RequestFault::CannotWrite(path, reason)),
         },
+    }
+}
+
+/// Returns whether two paths lead to the same file, also by links.
+pub(crate) fn is_same_file<D: World>(world: &mut D, path: &str, other: &str) -> bool {
+    match (world.file_at(path), world.file_at(other)) {
+        (Some(one), Some(two)) => one == two,
+        _ => false,
     }
 }
 
@@ -197,12 +200,12 @@ fn outfile_at<'a, R: Files>(
 fn make_command<'a, R: Files + AllocGlobal, W: Write>(
     rt: &'a R,
     request: &'a MakeRequest<'a>,
-    file: Option<R::File>,
-    folders: &'a [&'a str],
+    way: Way<'a, R::File>,
     out: &mut W,
 ) -> Result<Status, RequestFault<'a>>
     ensures { MakeEnds request.now result }
 {
+    let Way { file, folders } = way;
     let path = request.written;
     let code = Cell::new(None);
     let made = match file {

@@ -5,18 +5,16 @@ ghost use Rattle.uimg_tool.specs.BesidePaths.{Finishes, is_beside, stays_beside}
 ghost use Rattle.uimg_unpacking.specs.Deeds.{answer_of};
 
 use std::alloc::{AllocError, Global};
+use std::io;
 use std::io::ErrorKind;
-use std::os::unix::fs::FileTypeExt;
-use std::rt::Files;
-use std::{fs, io};
-use uimg_unpacking::{DiskWorld, World};
+use uimg_unpacking::{Kind, Target, World};
 
 /// How many names are tried beside a path. Commands that were stopped left those that exist.
 const TRIED: u32 = 10_000;
 
 /// Where the file for a path is written.
 #[derive(Drop)]
-pub(crate) enum Writing<R: Files> {
+pub(crate) enum Writing<F: Drop> {
     /// At the path, where something exists that is not a regular file, as a device, or a symbolic
     /// link without a target.
     InPlace,
@@ -25,7 +23,7 @@ pub(crate) enum Writing<R: Files> {
     Pipe,
 
     /// To a new file beside the one that the path leads to, through symbolic links too.
-    Beside(R::File, SafePath),
+    Beside(F, SafePath),
 
     /// Nowhere: a file cannot be created beside it, for this reason.
     Nowhere(io::Error),
@@ -72,30 +70,26 @@ pub(crate) struct NewBeside<F: Drop> {
 
 /// Returns where the file for a path is written, which is created if it is a new one. Fails if
 /// memory for the paths is refused.
-pub(crate) fn writing_of<R: Files + AllocGlobal>(
-    rt: &R,
+pub(crate) fn writing_of<D: World>(
+    world: &mut D,
+    alloc: Global,
     path: &str,
-) -> Result<Writing<R>, AllocError> {
-    let whole = match fs::metadata(rt, path) {
-        Ok(found) if found.file_type().is_fifo() => return Ok(Writing::Pipe),
-        Ok(found) if !found.is_file() => return Ok(Writing::InPlace),
-        Ok(_) => match fs::canonicalize(rt, path) {
-            Ok(canonical) => String::from_str(rt.alloc(), canonical.as_str())?,
-            Err(_) if is_link(rt, path) => return Ok(Writing::InPlace),
-            Err(_) => String::from_str(rt.alloc(), path)?,
+) -> Result<Writing<D::File>, AllocError> {
+    let whole = match world.target_of(path) {
+        Target::Pipe => return Ok(Writing::Pipe),
+        Target::Other => return Ok(Writing::InPlace),
+        Target::File => match world.canonicalize(path) {
+            Ok(canonical) => String::from_str(alloc, canonical.as_str())?,
+            Err(_) if matches!(world.kind_at(path), Kind::Link) => return Ok(Writing::InPlace),
+            Err(_) => String::from_str(alloc, path)?,
         },
-        Err(_) if fs::symlink_metadata(rt, path).is_ok() => return Ok(Writing::InPlace),
-        Err(_) => String::from_str(rt.alloc(), path)?,
+        Target::Nothing if world.kind_at(path).is_something() => return Ok(Writing::InPlace),
+        Target::Nothing => String::from_str(alloc, path)?,
     };
-    match new_beside(&mut DiskWorld::new(rt), rt.alloc(), whole.as_str())? {
+    match new_beside(world, alloc, whole.as_str())? {
         Ok(NewBeside { file, path: new }) => Ok(Writing::Beside(file, SafePath { new, whole })),
         Err(error) => Ok(Writing::Nowhere(error)),
     }
-}
-
-// Returns whether a symbolic link is at a path.
-fn is_link<R: Files>(rt: &R, path: &str) -> bool {
-    fs::symlink_metadata(rt, path).is_ok_and(|found| found.file_type().is_symlink())
 }
 
 /// Creates a file beside a path, under the first free name. Returns why it cannot be created; fails

@@ -13,7 +13,7 @@ use crate::safe_path::{Writing, writing_of};
 use std::alloc::Global;
 use std::cell::Cell;
 use std::fs::OpenFile;
-use std::io::{BufWriter, Write};
+use std::io::Write;
 use std::{fs, io, rt};
 use uimg_base::{Files, Out, Room, Status};
 use uimg_blob_writing::{Reservation, Tree};
@@ -46,7 +46,8 @@ pub(crate) fn write_image<R: rt::Files + AllocGlobal, F: Files, W: Write, V: Wri
 ) -> u8
     ensures { Ends result complaints.old.count complaints.new.count }
 {
-    match writing_of(rt, request.image) {
+    let world = &mut DiskWorld::new(rt);
+    match writing_of(world, rt.alloc(), request.image) {
         Ok(Writing::Beside(file, path)) => {
             let begun = Begun { file, path: &path };
             let made = if request.is_quiet {
@@ -55,7 +56,7 @@ pub(crate) fn write_image<R: rt::Files + AllocGlobal, F: Files, W: Write, V: Wri
                 make_beside(rt, request, tree, files, begun, out)
             };
             let about = about_end(&made.end, request.source, request.image);
-            tell_made(rt, &mut DiskWorld::new(rt), &path, &made, about, complaints)
+            tell_made(world, &path, &made, about, complaints)
         }
         Ok(Writing::Nowhere(reason)) => complaints.tell_unwritten(request.image, &reason),
         Ok(Writing::InPlace | Writing::Pipe) => {
@@ -66,31 +67,33 @@ pub(crate) fn write_image<R: rt::Files + AllocGlobal, F: Files, W: Write, V: Wri
     }
 }
 
-// Makes the image of a tree in a new file. Returns how that ended, and how the flush of the buffered
+// Makes the image of a tree in a new file. Returns how that ended, and how the flush of the
 // listing did.
 fn make_beside<'a, R: rt::Files + AllocGlobal, F: Files, W: Write>(
     rt: &R,
     request: TreeRequest<'a>,
     tree: &Tree<Global>,
     files: &mut F,
-    begun: Begun<'_, R>,
+    begun: Begun<'_, R::File>,
     out: &mut W,
 ) -> Made<'a>
     ensures { TreeEnds request.entry.image result.end }
 {
     let Begun { file, path } = begun;
-    let Ok(mut gathered) = BufWriter::new(rt.alloc(), out) else {
-        return Made::unprinted(RequestFault::OutOfMemory);
-    };
     let again = match request.roomy_size {
         Some(size) => match file.try_clone() {
             Ok(again) => Some((again, size)),
-            Err(reason) => return Made::unprinted(RequestFault::NotPut(request.image, reason)),
+            Err(reason) => {
+                return Made {
+                    end: Err(RequestFault::NotPut(request.image, reason)),
+                    printed: Ok(()),
+                };
+            }
         },
         None => None,
     };
     let end = match NewShelf::new(rt, path.new.as_str(), file) {
-        Ok(shelf) => make_on(rt, request, tree, files, shelf, &mut gathered),
+        Ok(shelf) => make_on(rt, request, tree, files, shelf, out),
         Err(_) => Err(RequestFault::OutOfMemory),
     };
     let end = match (end, again) {
@@ -100,10 +103,10 @@ fn make_beside<'a, R: rt::Files + AllocGlobal, F: Files, W: Write>(
         },
         (end, _) => end,
     };
-    let printed = gathered.flush();
-    // A failed write leaves text in the buffer, which its drop would try to write again.
-    let (_, _) = gathered.into_parts();
-    Made { end, printed }
+    Made {
+        end,
+        printed: out.flush(),
+    }
 }
 
 // Makes the image of a tree on a shelf.

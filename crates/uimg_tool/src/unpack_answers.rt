@@ -5,12 +5,11 @@ ghost use Rattle.uimg_tool.specs.{Statuses.trouble_status, CheckEnds.AnswersEndi
 
 use crate::check_answers::{Names, answer_of_fault, answer_of_line, answer_of_unread};
 use crate::request_fault::{FAILED, REFUSED, WRONG_LINE};
-use std::rt::Files;
 use uimg_base::Status;
 use uimg_checks::{Answer, Checked};
 use uimg_engine::Fault;
 use uimg_fit_checking::Finding;
-use uimg_unpacking::{Ended, PartsEnded, Trouble};
+use uimg_unpacking::{Ended, PartsEnded, Trouble, World};
 
 /// How the unpacking of an image ended.
 #[derive(Drop)]
@@ -68,8 +67,8 @@ impl From<PartsEnded> for Ending {
 }
 
 /// Returns the result for an end that no line tells.
-pub(crate) fn answer_of_ending<'a, R: Files + AllocGlobal>(
-    rt: &R,
+pub(crate) fn answer_of_ending<'a, D: World>(
+    world: &mut D,
     path: &str,
     ending: Ending,
     names: &'a mut Names,
@@ -77,8 +76,8 @@ pub(crate) fn answer_of_ending<'a, R: Files + AllocGlobal>(
     ensures { AnswersEnding ending result }
 {
     match ending {
-        Ending::Told(_) => answer_of_unread(rt, path, names),
-        Ending::Unread => answer_of_unread(rt, path, names),
+        Ending::Told(_) => answer_of_unread(world, path, names),
+        Ending::Unread => answer_of_unread(world, path, names),
         Ending::Weak => Answer::Found(Checked::Weak, None),
         Ending::NoImage => Answer::Found(Checked::Fit(Finding::NoImage), None),
         Ending::Stopped(fault) => answer_of_fault(fault, names),

@@ -7,22 +7,21 @@ use crate::check_answers::Names;
 use crate::complaints::Complaints;
 use crate::info_program::put_object;
 use crate::json_lines::JsonOut;
-use crate::reasons::is_pipe;
 use crate::request_fault::{DONE, FAILED, REFUSED, RequestFault, status_of};
 use crate::unpack_answers::{Ending, answer_of_ending, status_of_trouble};
-use std::io::{BufWriter, Write};
+use std::io::Write;
 use std::rt::Files;
-use uimg_base::{FileSource, Source, Status};
+use uimg_base::{Source, Status};
 use uimg_checks::object_text;
 use uimg_cli::UnpackRequest;
 use uimg_engine::{Fault, Form, is_fit};
 use uimg_printing::Printed;
-use uimg_unpacking::{FileId, Folder, Limits, Trouble, Unpacking, unpack, unpack_parts};
+use uimg_unpacking::{DiskWorld, FileId, Folder, Limits, Trouble, Unpacking, World, unpack, unpack_parts};
 
 /// Cleans the folder and unpacks the image, as requested, with a line for each removed file, payload
 /// or part on `out`. Returns the status. A fault is reported by a line on standard error, or
 /// for JSON on `out`.
-pub(crate) fn unpack_image<R: Files + AllocGlobal, W: Write, V: Write>(
+pub(crate) fn unpack_image<R: Files + AllocGlobal, W: Write + Drop, V: Write>(
     rt: &R,
     request: &UnpackRequest<'_>,
     out: &mut W,
@@ -30,32 +29,20 @@ pub(crate) fn unpack_image<R: Files + AllocGlobal, W: Write, V: Write>(
 ) -> u8
     ensures { Ends result complaints.old.count complaints.new.count }
 {
-    let Ok(mut gathered) = BufWriter::new(rt.alloc(), out) else {
-        return complaints.tell_no_memory();
-    };
     let cleaned = if request.cleans {
-        folder_of(request, None).clean(rt, request.image, &mut gathered)
+        folder_of(request, None).clean(rt, request.image, out)
     } else {
         Ok(())
     };
-    let status = match (cleaned, request.image) {
+    match (cleaned, request.image) {
         (Err(trouble), _) => tell_trouble(trouble, complaints),
         (Ok(()), Some(image)) => {
-            let ending = unpack_at(rt, image, request, &mut gathered);
-            tell_ending(
-                rt,
-                image,
-                request.as_json,
-                ending,
-                &mut gathered,
-                complaints,
-            )
+            let ending = unpack_at(rt, image, request, out);
+            let world = &mut DiskWorld::new(rt);
+            tell_ending(world, image, request.as_json, ending, out, complaints)
         }
         (Ok(()), None) => DONE,
-    };
-    // A failed write leaves text in the buffer, which its drop would try to write again.
-    let (_, _) = gathered.into_parts();
-    status
+    }
 }
 
 // Returns the folder of a request, for an image that is this file.
@@ -82,10 +69,7 @@ fn unpack_at<'a, R: Files + AllocGlobal, W: Write + Drop>(
     request: &UnpackRequest<'a>,
     out: &mut W,
 ) -> Ending {
-    if is_pipe(rt, path) {
-        return Ending::Unread;
-    }
-    let Ok(mut source) = FileSource::open(rt, path) else {
+    let Ok(mut source) = DiskWorld::new(rt).open(path) else {
         return Ending::Unread;
     };
     let asked = Unpacking {
@@ -121,8 +105,8 @@ fn unpack_source<R: Files + AllocGlobal, S: Source, W: Write + Drop>(
 }
 
 // Reports how the unpacking of the image at a path ended, and returns the status.
-fn tell_ending<R: Files + AllocGlobal, W: Write, V: Write>(
-    rt: &R,
+fn tell_ending<D: World, W: Write, V: Write>(
+    world: &mut D,
     path: &str,
     as_json: bool,
     ending: Ending,
@@ -138,8 +122,8 @@ fn tell_ending<R: Files + AllocGlobal, W: Write, V: Write>(
         Ending::Troubled(trouble) if !as_json || is_of_command(&trouble) => {
             tell_trouble(trouble, complaints)
         }
-        ending if as_json => tell_object(rt, path, ending, out, complaints),
-        Ending::Unread => complaints.tell_unread(rt, path),
+        ending if as_json => tell_object(world, path, ending, out, complaints),
+        Ending::Unread => complaints.tell_unread(world, path),
         Ending::Weak => tell_weak(path, out, complaints),
         Ending::NoImage => complaints.tell(&"no image has a hash, as there is none", REFUSED),
         Ending::Stopped(fault) => {
@@ -163,8 +147,8 @@ fn is_of_command(trouble: &Trouble) -> bool
 }
 
 // Reports an end as a JSON object.
-fn tell_object<R: Files + AllocGlobal, W: Write, V: Write>(
-    rt: &R,
+fn tell_object<D: World, W: Write, V: Write>(
+    world: &mut D,
     path: &str,
     ending: Ending,
     out: &mut W,
@@ -172,9 +156,9 @@ fn tell_object<R: Files + AllocGlobal, W: Write, V: Write>(
 ) -> u8
     ensures { Ends result complaints.old.count complaints.new.count }
 {
-    let mut names = Names::new(rt.alloc());
-    let answer = answer_of_ending(rt, path, ending, &mut names);
-    match object_text(rt.alloc(), path.as_bytes(), &answer) {
+    let mut names = Names::new(world.alloc());
+    let answer = answer_of_ending(world, path, ending, &mut names);
+    match object_text(world.alloc(), path.as_bytes(), &answer) {
         Ok(text) => put_object(text.as_slice(), answer.status(), out, complaints),
         Err(_) => complaints.tell_no_memory(),
     }

@@ -5,17 +5,17 @@ ghost use Rattle.uimg_tool.specs.{Complaints.Ends, TreeSizes.roomy_size_of};
 
 use crate::complaints::Complaints;
 use crate::old_files::tell_end;
-use crate::reasons::is_pipe;
 use crate::request_fault::{FAILED, REFUSED, RequestFault};
 use crate::tree_program::{TreeRequest, write_image};
 use std::io::Write;
 use std::rt::Files;
-use uimg_base::{FileSource, MemFiles, Room};
+use uimg_base::{MemFiles, Room};
 use uimg_compat::UpdateRequest;
 use uimg_engine::Fault;
 use uimg_fit_base::Placement;
 use uimg_fit_updating::{UpdateFault, Updated, update};
 use uimg_printing::Printed;
+use uimg_unpacking::{DiskWorld, World};
 
 /// Updates an image: makes the new one beside its name, which it gets when it is complete.
 pub(crate) fn update_image<R: Files + AllocGlobal, W: Write, V: Write>(
@@ -26,11 +26,9 @@ pub(crate) fn update_image<R: Files + AllocGlobal, W: Write, V: Write>(
 ) -> u8
     ensures { Ends result complaints.old.count complaints.new.count }
 {
-    if is_pipe(rt, request.image) {
-        return complaints.tell_unread(rt, request.image);
-    }
-    let Ok(mut source) = FileSource::open(rt, request.image) else {
-        return complaints.tell_unread(rt, request.image);
+    let world = &mut DiskWorld::new(rt);
+    let Ok(mut source) = world.open(request.image) else {
+        return complaints.tell_unread(world, request.image);
     };
     let time = request.sets_time.then_some(request.manner.time);
     match update(rt.alloc(), &mut source, &mut Room::new(rt.alloc()), time) {
@@ -53,7 +51,7 @@ pub(crate) fn update_image<R: Files + AllocGlobal, W: Write, V: Write>(
                 complaints,
             )
         }
-        Err(fault) => tell_fault(rt, request.image, fault, complaints),
+        Err(fault) => tell_fault(world, request.image, fault, complaints),
     }
 }
 
@@ -69,8 +67,8 @@ fn roomy_size(placement: Placement, updated: &Updated) -> Option<u32>
 }
 
 // Reports why an image is not updated.
-fn tell_fault<R: Files, V: Write>(
-    rt: &R,
+fn tell_fault<D: World, V: Write>(
+    world: &mut D,
     image: &str,
     fault: UpdateFault,
     complaints: &mut Complaints<'_, V>,
@@ -80,7 +78,7 @@ fn tell_fault<R: Files, V: Write>(
     match fault {
         UpdateFault::Fit(fault) => {
             let end = Err(RequestFault::Stopped(Fault::from(fault)));
-            tell_end(rt, &end, image, complaints)
+            tell_end(world, &end, image, complaints)
         }
         UpdateFault::OutOfMemory => complaints.tell_no_memory(),
         fault => {

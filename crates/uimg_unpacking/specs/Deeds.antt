@@ -8,6 +8,8 @@ use Rattle.std.specs.declared.io.ErrorKind.TheVariants.{AlreadyExists}
 use Rattle.std.specs.IoError.{error_kind}
 use Rattle.uimg_unpacking.specs.declared.kind.Kind.{Kind}
 use Rattle.uimg_unpacking.specs.declared.kind.Kind.TheVariants.{Nothing, File, Folder, Link}
+use Rattle.uimg_unpacking.specs.declared.kind.Target.{Target}
+use Rattle.uimg_unpacking.specs.declared.kind.Target.TheVariants as target
 use Rattle.uimg_unpacking.specs.declared.file_id.FileId.{FileId}
 
 -- what a call answers: it is done, something exists where something was to be made, or it failed for another reason
@@ -45,13 +47,26 @@ pub data Deed : Type 0 where
   Resolves : List ℕ → Answer → Deed
   Looks : List ℕ → Kind → Deed
   Identifies : List ℕ → Option FileId → Deed
+  Opens : List ℕ → Bool → Deed
+  Explains : List ℕ → Deed
+  Reads : List ℕ → Answer → Deed
+  Finds : List ℕ → Target → Deed
+  Overwrites : List ℕ → Answer → Deed
 
--- the answer and the kind of a number, as a record of deeds has them
+-- the answer, the kind and others of a number, as a record of deeds has them
 abbrev pub answer_at : ℕ → Answer
 answer_at code = if code == 0 then Done else if code == 1 then Exists else Failed
 
 abbrev pub kind_at : ℕ → Kind
 kind_at code = if code == 0 then Nothing else if code == 1 then File else if code == 2 then Folder else Link
+
+abbrev pub is_opened_at : ℕ → Bool
+is_opened_at code = code == 0
+
+abbrev pub target_at : ℕ → Target
+target_at code =
+    if code == 0 then target.Nothing else if code == 1 then target.File
+    else if code == 2 then target.Pipe else target.Other
 
 abbrev pub file_at : List ℕ → Option FileId
 file_at [] = None
@@ -69,7 +84,12 @@ deed_at call rest from to =
     else if call == 7 then Syncs from (answer_at (slice_index rest 0))
     else if call == 8 then Resolves from (answer_at (slice_index rest 0))
     else if call == 9 then Looks from (kind_at (slice_index rest 0))
-    else Identifies from (file_at rest)
+    else if call == 10 then Identifies from (file_at rest)
+    else if call == 11 then Opens from (is_opened_at (slice_index rest 0))
+    else if call == 12 then Explains from
+    else if call == 13 then Reads from (answer_at (slice_index rest 0))
+    else if call == 14 then Finds from (target_at (slice_index rest 0))
+    else Overwrites from (answer_at (slice_index rest 0))
 
 abbrev pub deed_of : List ℕ → List ℕ → List ℕ → Deed
 deed_of [] from to = deed_at 0 [] from to
@@ -88,3 +108,8 @@ changes_only ok (Syncs _ _) = true
 changes_only ok (Resolves _ _) = true
 changes_only ok (Looks _ _) = true
 changes_only ok (Identifies _ _) = true
+changes_only ok (Opens _ _) = true
+changes_only ok (Explains _) = true
+changes_only ok (Reads _ _) = true
+changes_only ok (Finds _ _) = true
+changes_only ok (Overwrites path _) = ok path

@@ -1,46 +1,27 @@
 //! The files of the operating system: each method makes one call of the standard library, notes it,
 //! and returns what it answers.
 
-ghost use Rattle.std.specs.Prelude.{◌≡◌, []};
-ghost use Rattle.uimg_unpacking.specs.Deeds.{IsKindOf, answer_of, answer_at, kind_at};
+ghost use Rattle.std.specs.Prelude.{◌≡◌, [], None, false};
 
+use crate::call_codes::*;
+use crate::disk_looks::{kind_of, open_source, reason_at, sync_folder, target_at};
 use crate::file_id::FileId;
-use crate::kind::Kind;
+use crate::kind::{Kind, Target};
 use crate::record::Record;
 use crate::world::World;
-use std::io::ErrorKind;
+use std::alloc::Global;
 use std::path::PathBuf;
 use std::rt::Files;
 use std::{fs, io};
+use uimg_base::{FileSource, SourceFault};
 
-// The number of each call.
-const CREATES: u64 = 0;
-
-const LINKS: u64 = 1;
-
-const RENAMES: u64 = 2;
-
-const REMOVES: u64 = 3;
-
-const MAKES_FOLDER: u64 = 4;
-
-const REMOVES_FOLDER: u64 = 5;
-
-const REMOVES_ALL: u64 = 6;
-
-const SYNCS: u64 = 7;
-
-const RESOLVES: u64 = 8;
-
-const LOOKS: u64 = 9;
-
-const IDENTIFIES: u64 = 10;
-
-/// The files of the operating system.
+/// The files of the operating system. No contract says what they have, so it is not claimed to be
+/// honest.
 #[derive(Drop)]
 pub struct DiskWorld<'a, R: Files + AllocGlobal> {
     rt: &'a R,
     record: Record,
+    refusals: u64,
 }
 
 impl<'a, R: Files + AllocGlobal> DiskWorld<'a, R> {
@@ -51,56 +32,64 @@ impl<'a, R: Files + AllocGlobal> DiskWorld<'a, R> {
         DiskWorld {
             rt,
             record: Record::new(),
+            refusals: 0,
         }
     }
-}
-
-// Returns the number of an answer.
-fn code_of<X>(answer: &io::Result<X>) -> u64
-    ensures { answer_at result ≡ answer_of answer.now }
-{
-    match answer {
-        Ok(_) => 0,
-        Err(error) => match error.kind() {
-            ErrorKind::AlreadyExists => 1,
-            _ => 2,
-        },
-    }
-}
-
-// Returns what a path's properties say that exists there.
-fn kind_of(found: &io::Result<fs::Metadata>) -> Kind
-    ensures { IsKindOf found.now result }
-{
-    match found {
-        Ok(found) if found.is_dir() => Kind::Folder,
-        Ok(found) if found.file_type().is_symlink() => Kind::Link,
-        Ok(_) => Kind::File,
-        Err(_) => Kind::Nothing,
-    }
-}
-
-// Returns the number of a kind.
-fn code_of_kind(kind: Kind) -> u64
-    ensures { kind_at result ≡ kind }
-{
-    match kind {
-        Kind::Nothing => 0,
-        Kind::File => 1,
-        Kind::Folder => 2,
-        Kind::Link => 3,
-    }
-}
-
-fn sync_folder<R: Files>(rt: &R, path: &str) -> io::Result<()> {
-    let folder = fs::open(rt, path)?;
-    fs::OpenFile::sync_all(&folder)
 }
 
 impl<'a, R: Files + AllocGlobal> World for DiskWorld<'a, R> {
     type File = R::File;
 
+    type Opened = FileSource<R::File>;
+
     ghost trace = { λ world. world.record.deeds };
+
+    ghost map = { λ world. record {
+      bytes = λ _. None;
+      honest = false;
+      complete = false;
+      refusals = world.refusals;
+    } };
+
+    fn alloc(&self) -> Global {
+        self.rt.alloc()
+    }
+
+    fn open(&mut self, path: &str) -> Result<FileSource<R::File>, SourceFault> {
+        let opened = open_source(self.rt, path);
+        let call = [OPENS, code_of_opening(&opened)];
+        self.record.note(&call, path.as_bytes(), b"");
+        if opened.is_err() {
+            self.refusals = self.refusals.saturating_add(1);
+        }
+        opened
+    }
+
+    fn reason_unread(&mut self, path: &str) -> Option<io::Error> {
+        self.record.note(&[EXPLAINS], path.as_bytes(), b"");
+        reason_at(self.rt, path)
+    }
+
+    fn read(&mut self, path: &str) -> io::Result<R::File> {
+        let opened = fs::open(self.rt, path);
+        let call = [READS, code_of(&opened)];
+        self.record.note(&call, path.as_bytes(), b"");
+        opened
+    }
+
+    fn target_of(&mut self, path: &str) -> Target {
+        let target = target_at(self.rt, path);
+        let call = [FINDS, code_of_target(target)];
+        self.record.note(&call, path.as_bytes(), b"");
+        target
+    }
+
+    fn create(&mut self, path: &str) -> io::Result<R::File> {
+        let created = fs::create(self.rt, path);
+        let call = [OVERWRITES, code_of(&created)];
+        self.record.note(&call, path.as_bytes(), b"");
+        created
+    }
 
     fn create_new(&mut self, path: &str) -> io::Result<R::File> {
         let created = fs::File::create_new(self.rt, path);

@@ -1,4 +1,4 @@
-//! What is at a path.
+//! What is at a path, and what it leads to.
 
 /// What is at a path; links are not followed.
 #[derive(Clone, Copy, Debug)]
@@ -16,12 +16,28 @@ pub enum Kind {
     Link,
 }
 
+/// What a path leads to; links are followed.
+#[derive(Clone, Copy, Debug)]
+pub enum Target {
+    /// Nothing, or nothing that can be looked at.
+    Nothing,
+
+    /// A regular file.
+    File,
+
+    /// A pipe; to open one waits for a writer.
+    Pipe,
+
+    /// Anything else, as a folder or a device.
+    Other,
+}
+
 impl Kind {
     ghost use Rattle.std.specs.Prelude.{◌≡◌};
     ghost use Rattle.uimg_unpacking.specs.Kinds.{is_something};
 
     /// Returns whether anything exists, even a symbolic link without a target.
-    pub(crate) fn is_something(self) -> bool
+    pub fn is_something(self) -> bool
         ensures { result ≡ is_something self }
     {
         match self {

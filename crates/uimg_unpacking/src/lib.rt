@@ -3,6 +3,8 @@
 #![tactic(auto)]
 
 mod begun;
+mod call_codes;
+mod disk_looks;
 mod disk_world;
 mod file_id;
 mod file_names;
@@ -28,9 +30,9 @@ pub use disk_world::DiskWorld;
 pub use file_id::FileId;
 pub use file_names::is_file_name;
 pub use folder::Folder;
-pub use kind::Kind;
+pub use kind::{Kind, Target};
 pub use limits::Limits;
-pub use naming::give_name;
+pub use naming::name_file;
 pub use part_unpacking::{PartsEnded, unpack_parts};
 pub use trouble::Trouble;
 pub use unpacking::{Ended, Unpacking, unpack};

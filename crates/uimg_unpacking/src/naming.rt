@@ -9,7 +9,6 @@ ghost use Rattle.uimg_unpacking.specs.NamingAll.{NamesFiles, PutsBackFiles, Unle
 ghost use Rattle.uimg_unpacking.specs.Places.{is_begun_in, stays_within};
 
 use crate::begun::Begun;
-use crate::disk_world::DiskWorld;
 use crate::folder::Folder;
 use crate::kind::Kind;
 use crate::trouble::{ShownPath, Trouble};
@@ -17,21 +16,10 @@ use crate::world::World;
 use std::alloc::Global;
 use std::io;
 use std::io::ErrorKind;
-use std::rt::Files;
 
 /// Moves a file to another path. Unless it replaces an existing file, it makes a hard link first,
 /// which fails if something exists there; on a file system without links it checks that itself.
-pub fn give_name<R: Files + AllocGlobal>(
-    rt: &R,
-    path: &str,
-    whole: &str,
-    replaces: bool,
-) -> io::Result<()> {
-    name_file(&mut DiskWorld::new(rt), path, whole, replaces)
-}
-
-/// As `give_name`, in a world.
-pub(crate) fn name_file<W: World>(
+pub fn name_file<W: World>(
     world: &mut W,
     path: &str,
     whole: &str,

@@ -1,25 +1,73 @@
-//! What an unpacking asks of the operating system.
+//! What a program asks of the operating system's files.
 
 use crate::file_id::FileId;
-use crate::kind::Kind;
+use crate::kind::{Kind, Target};
+use std::alloc::Global;
 use std::fs::OpenFile;
 use std::io;
-use std::io::Write;
+use std::io::{Read, Write};
 use std::path::PathBuf;
+use uimg_base::{Source, SourceFault};
 
-/// The files of a system by their paths. Each method makes one call.
+/// The files of a system by their paths.
 ///
 /// Contracts see the calls that were made, the newest first: which call, on which path or paths, and
-/// what it answered.
+/// what it answered. They see the files as a `FileMap`, as those of `Files`: an honest world opens
+/// honest sources of the bytes that it has at a path. What a call that changes files makes of them is
+/// not claimed.
 pub trait World: Drop {
-    ghost use Rattle.std.specs.Prelude.{◌≡◌, List, ◌∷◌};
+    ghost use Rattle.std.specs.Prelude.{◌≡◌, List, ◌∷◌, None, IfOk, IsTrue, OnErr, is_err, is_ok};
+    ghost use Rattle.uimg_base.specs.{Device.RisesIf, Named.{FileMap, SameFiles, Opens}};
     ghost use Rattle.uimg_unpacking.specs.Deeds.{Deed, answer_of};
 
-    /// A file to write to.
-    type File: Write + OpenFile + Drop;
+    /// A file to read or to write to.
+    type File: Read + Write + OpenFile + Drop;
+
+    /// What an image is opened as.
+    type Opened: Source;
 
     /// The calls that were made.
     ghost trace: { Self → List Deed };
+
+    /// The bytes at each path.
+    ghost map: { Self → FileMap };
+
+    /// Returns the allocator of the program's memory.
+    fn alloc(&self) -> Global;
+
+    /// Opens the file at a path as a source, of which nothing was requested yet.
+    ///
+    /// Returns `SourceFault` if the file cannot be opened, is a folder, or has no known length, as a
+    /// pipe.
+    fn open(&mut self, path: &str) -> Result<Self::Opened, SourceFault>
+        ensures noted { trace self.new ≡ Deed.Opens path.now (is_ok result) ∷ trace self.old }
+        ensures same { SameFiles (map self.old) (map self.new) }
+        ensures missing { IsTrue (map self.old).complete →
+            OnErr result ((map self.old).bytes path.now ≡ None) }
+        ensures refusals { RisesIf (is_err result) (map self.old).refusals (map self.new).refusals }
+        ensures opened { IfOk result (λ opened.
+            Opens (map self.old) path.now (Self.Opened.device opened)) };
+
+    /// Returns why the file at a path could not be opened, if another look at it shows that.
+    fn reason_unread(&mut self, path: &str) -> Option<io::Error>
+        ensures noted { trace self.new ≡ Deed.Explains path.now ∷ trace self.old }
+        ensures same { SameFiles (map self.old) (map self.new) };
+
+    /// Opens the file at a path to be read from its beginning to its end.
+    fn read(&mut self, path: &str) -> io::Result<Self::File>
+        ensures noted { trace self.new ≡ Deed.Reads path.now (answer_of result) ∷ trace self.old }
+        ensures same { SameFiles (map self.old) (map self.new) }
+        ensures text { IsTrue (map self.old).honest → IfOk result (λ file.
+            Self.File.remaining file ≡ (map self.old).bytes path.now) };
+
+    /// Returns what a path leads to; links are followed.
+    fn target_of(&mut self, path: &str) -> Target
+        ensures noted { trace self.new ≡ Deed.Finds path.now result ∷ trace self.old }
+        ensures same { SameFiles (map self.old) (map self.new) };
+
+    /// Opens the file at a path to be written to, without its bytes, or creates it.
+    fn create(&mut self, path: &str) -> io::Result<Self::File>
+        ensures { trace self.new ≡ Deed.Overwrites path.now (answer_of result) ∷ trace self.old };
 
     /// Creates a file where nothing exists.
     fn create_new(&mut self, path: &str) -> io::Result<Self::File>
@@ -63,5 +111,6 @@ pub trait World: Drop {
 
     /// Returns the file at a path, if there is one; links are followed.
     fn file_at(&mut self, path: &str) -> Option<FileId>
-        ensures { trace self.new ≡ Deed.Identifies path.now result ∷ trace self.old };
+        ensures noted { trace self.new ≡ Deed.Identifies path.now result ∷ trace self.old }
+        ensures same { SameFiles (map self.old) (map self.new) };
 }

@@ -1,0 +1,68 @@
+//! What the operating system tells of a path, and how it is opened.
+
+ghost use Rattle.std.specs.Prelude.{IfOk};
+ghost use Rattle.uimg_base.specs.Device.{IsFresh};
+ghost use Rattle.uimg_unpacking.specs.Deeds.{IsKindOf};
+
+use crate::kind::{Kind, Target};
+use std::os::unix::fs::FileTypeExt;
+use std::rt::Files;
+use std::{fs, io};
+use uimg_base::{FileSource, Source, SourceFault};
+
+/// The error of a path that leads to a folder (`EISDIR`).
+const IS_A_FOLDER: i32 = 21;
+
+/// Opens the file at a path as a source. One that is a pipe is not opened, which would wait for a
+/// writer.
+pub(crate) fn open_source<R: Files + AllocGlobal>(
+    rt: &R,
+    path: &str,
+) -> Result<FileSource<R::File>, SourceFault>
+    ensures { IfOk result (λ source. IsFresh (⟦<FileSource<R::File> as Source>⟧.device source)) }
+{
+    match target_at(rt, path) {
+        Target::Pipe => Err(SourceFault),
+        _ => FileSource::open(rt, path),
+    }
+}
+
+/// Returns why the file at a path could not be opened to be read, if another look at it shows that.
+/// Only a regular file is opened for that.
+pub(crate) fn reason_at<R: Files>(rt: &R, path: &str) -> Option<io::Error> {
+    match fs::metadata(rt, path) {
+        Ok(found) if found.is_file() => fs::open(rt, path).err(),
+        Ok(found) if found.is_dir() => Some(io::Error::from_raw_os_error(IS_A_FOLDER)),
+        Ok(found) if found.file_type().is_fifo() => Some(io::Error::other("it is a pipe")),
+        Ok(_) => None,
+        Err(reason) => Some(reason),
+    }
+}
+
+/// Returns what a path leads to.
+pub(crate) fn target_at<R: Files>(rt: &R, path: &str) -> Target {
+    match fs::metadata(rt, path) {
+        Ok(found) if found.is_file() => Target::File,
+        Ok(found) if found.file_type().is_fifo() => Target::Pipe,
+        Ok(_) => Target::Other,
+        Err(_) => Target::Nothing,
+    }
+}
+
+/// Returns what a path's properties say that exists there.
+pub(crate) fn kind_of(found: &io::Result<fs::Metadata>) -> Kind
+    ensures { IsKindOf found.now result }
+{
+    match found {
+        Ok(found) if found.is_dir() => Kind::Folder,
+        Ok(found) if found.file_type().is_symlink() => Kind::Link,
+        Ok(_) => Kind::File,
+        Err(_) => Kind::Nothing,
+    }
+}
+
+/// Waits until the names in a folder are on the disk.
+pub(crate) fn sync_folder<R: Files>(rt: &R, path: &str) -> io::Result<()> {
+    let folder = fs::open(rt, path)?;
+    fs::OpenFile::sync_all(&folder)
+}
