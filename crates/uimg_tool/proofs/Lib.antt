@@ -1,3 +1,4 @@
 pub mod BesideLaws
 pub mod CheckLaws
 pub mod OldWordLaws
+pub mod RunLaws

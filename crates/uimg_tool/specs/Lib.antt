@@ -3,6 +3,7 @@ pub mod BesidePaths
 pub mod CheckEnds
 pub mod Checking
 pub mod Checks
+pub mod Commands
 pub mod Complaints
 pub mod EndingStatuses
 pub mod Finishing
@@ -13,8 +14,11 @@ pub mod MadeEnds
 pub mod MapEnds
 pub mod OtherAlgos
 pub mod Programs
+pub mod Reading
 pub mod RequestEnds
+pub mod Running
 pub mod Statuses
 pub mod StrictEnds
 pub mod TreeSizes
 pub mod UnpackEnds
+pub mod WordAnswers

@@ -2,8 +2,6 @@
 use Rattle.std.specs.Prelude.{◌≡◌, ⊤, ◌⊎◌, ℕ, List, [], map, slice_get, Some, None, Result, Ok, Err, Bool, true, false}
 use Rattle.std.specs.Borrow.{Bor}
 use Rattle.uimg_base.specs.declared.status.Status.{Status, TheVariants.Done}
-use Rattle.uimg_cli.specs.declared.command_line.Request.{Request}
-use Rattle.uimg_cli.specs.declared.command_line.Request.TheVariants as asked
 use Rattle.uimg_engine.specs.Faults.{is_of_making}
 use Rattle.uimg_engine.specs.declared.fault.Fault.{Fault}
 use Rattle.uimg_engine.specs.declared.fault.Fault.TheVariants as engine
@@ -94,21 +92,6 @@ abbrev pub ShowEnds : Result Status RequestFault → Type 0
 ShowEnds (Ok status) = status ≡ Done
 ShowEnds (Err (request.NotPrinted reason)) = ⊤
 ShowEnds (Err fault) = ⊥
-
-abbrev pub EndsOf : Request → Result Status RequestFault → Type 0
-EndsOf (asked.Run it) end = RunEnds it end
-EndsOf (asked.Make it) end = MakeEnds it end
-EndsOf (asked.Show text) end = ShowEnds end
-
--- a request, without the flush of what it printed
-abbrev pub RequestEnds : Request → Result Status RequestFault → Type 0
-RequestEnds it (Err request.OutOfMemory) = ⊤
-RequestEnds it end = EndsOf it end
-
--- a request
-abbrev pub PrintedEnds : Request → Result Status RequestFault → Type 0
-PrintedEnds it (Err (request.NotPrinted reason)) = ⊤
-PrintedEnds it end = RequestEnds it end
 
 -- The end is about the source, whose text or tree is refused, and not about the image.
 abbrev pub is_about_source : Result Status RequestFault → Bool

@@ -1,25 +1,20 @@
-//! The function `program`, the whole program: opens the files that a command line names, carries
-//! out its request, and turns the end into a line and an exit status.
+//! The function `program`, the whole program: reads the words of a command line, and carries out
+//! their request.
 
-ghost use Rattle.std.specs.Prelude.{◌≡◌, ◌≤◌, map, option_map};
+ghost use Rattle.std.specs.Prelude.{◌≡◌, ◌≤◌, IfSome, IsTrue, Some, map, option_map};
 ghost use Rattle.uimg_cli.specs.Reading.{AsksNothing, ReadsWords};
-ghost use Rattle.uimg_tool.specs.{Complaints.Ends, Programs.AskNothing};
-ghost use Rattle.uimg_tool.specs.Statuses.{end_status, words_status};
+ghost use Rattle.uimg_tool.specs.{Complaints.Ends, Programs.AskNothing, Statuses.words_status};
+ghost use Rattle.uimg_tool.specs.WordAnswers.{AnswersWords, epoch_of, words_of};
 
-use crate::check_program::check_images;
-use crate::complaints::{Complaints, is_closed};
-use crate::info_program::tell_facts;
-use crate::map_program::map_image;
+use crate::commands::carry_out_asked;
+use crate::complaints::Complaints;
 use crate::old_program::{carry_out_old, read_old_words};
 use crate::old_tools::Tool;
-use crate::request_fault::{DONE, FAILED, REFUSED, RequestFault, WRONG_LINE, status_of};
-use crate::requests::{Way, make, run, show};
-use crate::unpack_program::unpack_image;
+use crate::request_fault::{FAILED, WRONG_LINE};
 use std::alloc::Global;
 use std::io::{BufWriter, Write};
 use std::rt::Files;
-use uimg_base::Status;
-use uimg_cli::{Asked, Request, WordsFault, read_words};
+use uimg_cli::{Asked, WordsFault, read_words};
 use uimg_unpacking::{DiskWorld, World};
 
 /// Carries out the words of a command line, the program's name first, and returns the exit status.
@@ -50,123 +45,73 @@ pub fn program<R: Files + AllocGlobal, W: Write, V: Write>(
             let asked = read_old_words(rt.alloc(), tool, words, epoch, now);
             carry_out_old(rt, tool, asked, out, &mut Complaints::new(tool.name(), err))
         }
-        None => carry_out_words(
-            rt,
-            words,
-            epoch,
-            now,
-            out,
-            &mut Complaints::new("uimg", err),
-        ),
+        None => {
+            let line = CommandLine {
+                words,
+                epoch,
+                time: now,
+            };
+            let world = &mut DiskWorld::new(rt);
+            let complaints = &mut Complaints::new("uimg", err);
+            let (status, _) = carry_out_words(rt, world, line, out, complaints);
+            status
+        }
     }
 }
 
-// Carries out the words of `uimg`, the program's name first.
+/// A command line.
+#[derive(Clone, Copy)]
+pub(crate) struct CommandLine<'a> {
+    /// Its words, the program's name first.
+    pub(crate) words: &'a [&'a str],
+
+    /// The text of SOURCE_DATE_EPOCH, if it is set.
+    pub(crate) epoch: Option<&'a str>,
+
+    /// The current time in seconds since 1970.
+    pub(crate) time: u32,
+}
+
+/// Carries out the words of `uimg` over a world of files; what is made or unpacked is read and
+/// written by `rt`. Returns the status, and `out` unless memory for its buffer was refused.
+///
+/// Over an honest world, unless the status is 3, exactly what the definition tells of the bytes at
+/// the paths of the words is written to `out`, and the status is the definition's.
 #[tactic(auto, using(uimg_cli::proofs::ReadingLaws::nothing_read))]
-fn carry_out_words<R: Files + AllocGlobal, W: Write, V: Write>(
+pub(crate) fn carry_out_words<R: Files + AllocGlobal, D: World, W: Write + Drop, V: Write>(
     rt: &R,
-    words: &[&str],
-    epoch: Option<&str>,
-    now: u32,
-    out: &mut W,
+    world: &mut D,
+    line: CommandLine<'_>,
+    out: W,
     complaints: &mut Complaints<'_, V>,
-) -> u8
-    ensures ends { Ends result complaints.old.count complaints.new.count }
-    ensures nothing { AsksNothing (option_map (λ text. text.now) epoch.entry) now
-        (map (λ word. word.now) words.entry.now) → 2 ≤ result }
-    ensures unprinted { AsksNothing (option_map (λ text. text.now) epoch.entry) now
-        (map (λ word. word.now) words.entry.now) → out.new ≡ out.old }
+) -> (u8, Option<W>)
+    ensures ends { Ends result.0 complaints.old.count complaints.new.count }
+    ensures nothing { AsksNothing (epoch_of line.entry) line.entry.time (words_of line.entry)
+        → 2 ≤ result.0 }
+    ensures unprinted { AsksNothing (epoch_of line.entry) line.entry.time (words_of line.entry)
+        → result.1 ≡ Some out }
+    ensures told { IsTrue (D.map world.old).honest → IfSome result.1 (λ written. AnswersWords
+        line.entry (D.map world.old) result.0 (W.contents out) (W.contents written)) }
 {
-    match asked_by(rt.alloc(), words, epoch, now) {
+    match asked_by(rt.alloc(), line) {
         Ok(asked) => match BufWriter::new(rt.alloc(), out) {
             Ok(gathered) => {
-                let world = &mut DiskWorld::new(rt);
-                let (status, _) = carry_out_asked(rt, world, &asked, gathered, complaints);
-                status
+                let (status, out) = carry_out_asked(rt, world, &asked, gathered, complaints);
+                (status, Some(out))
             }
-            Err(_) => complaints.tell_no_memory(),
+            Err(_) => (complaints.tell_no_memory(), None),
         },
-        Err(fault) => tell_words_fault(&fault, complaints),
+        Err(fault) => (tell_words_fault(&fault, complaints), Some(out)),
     }
 }
 
 // Reads the words. Not inlined, so that what this takes of the stack is free when the request is
 // carried out.
 #[inline(never)]
-fn asked_by<'a>(
-    alloc: Global,
-    words: &'a [&'a str],
-    epoch: Option<&str>,
-    now: u32,
-) -> Result<Asked<'a>, WordsFault>
-    ensures { ReadsWords (option_map (λ text. text.now) epoch.entry) now
-        (map (λ word. word.now) words.entry.now) result }
+fn asked_by<'a>(alloc: Global, line: CommandLine<'a>) -> Result<Asked<'a>, WordsFault>
+    ensures { ReadsWords (epoch_of line.entry) line.entry.time (words_of line.entry) result }
 {
-    read_words(alloc, words, epoch, now)
-}
-
-// Carries out a request.
-fn carry_out_asked<R: Files + AllocGlobal, D: World, W: Write + Drop, V: Write>(
-    rt: &R,
-    world: &mut D,
-    asked: &Asked<'_>,
-    mut out: BufWriter<W, Global>,
-    complaints: &mut Complaints<'_, V>,
-) -> (u8, W)
-    ensures { Ends result.0 complaints.old.count complaints.new.count }
-{
-    let (status, out) = match asked {
-        Asked::One(request) => {
-            let status = carry_out_one(rt, world, request, &mut out, complaints);
-            (status, out)
-        }
-        Asked::Check(request) => check_images(world, request, out, complaints),
-        Asked::Unpack(request) => {
-            let status = unpack_image(rt, request, &mut out, complaints);
-            (status, out)
-        }
-        Asked::Map(request) => {
-            let status = map_image(world, request, &mut out, complaints);
-            (status, out)
-        }
-        Asked::Info(request) => {
-            let status = tell_facts(world, request, &mut out, complaints);
-            (status, out)
-        }
-    };
-    // A failed write leaves text in the buffer, which its drop would try to write again.
-    let (out, _) = out.into_parts();
-    (status, out)
-}
-
-// Carries out a command on one image, the making of one, or prints a text.
-fn carry_out_one<'a, R: Files + AllocGlobal, D: World, W: Write, V: Write>(
-    rt: &'a R,
-    world: &mut D,
-    request: &'a Request<'a>,
-    out: &mut W,
-    complaints: &mut Complaints<'_, V>,
-) -> u8
-    ensures { Ends result complaints.old.count complaints.new.count }
-{
-    let made = match request {
-        Request::Run(request) => run(world, request, None, out),
-        Request::Make(request) => make(rt, request, Way::within(&[]), out),
-        Request::Show(text) => show(text, out),
-    };
-    let end = made.told();
-    if matches!(request, Request::Show(_)) && is_unread(&end) {
-        return FAILED;
-    }
-    tell_end(&end, complaints)
-}
-
-// Returns whether a request ended because nobody reads what it prints.
-fn is_unread(end: &Result<Status, RequestFault<'_>>) -> bool {
-    match end {
-        Err(RequestFault::NotPrinted(error)) => is_closed(error),
-        _ => false,
-    }
+    read_words(alloc, line.words, line.epoch, line.time)
 }
 
 fn tell_words_fault<V: Write>(fault: &WordsFault, complaints: &mut Complaints<'_, V>) -> u8
@@ -180,19 +125,5 @@ fn tell_words_fault<V: Write>(fault: &WordsFault, complaints: &mut Complaints<'_
         }
         WordsFault::OutOfMemory => complaints.tell(fault, FAILED),
         _ => complaints.tell(fault, WRONG_LINE),
-    }
-}
-
-fn tell_end<V: Write>(
-    end: &Result<Status, RequestFault<'_>>,
-    complaints: &mut Complaints<'_, V>,
-) -> u8
-    ensures status { result ≡ end_status end.now }
-    ensures ends { Ends result complaints.old.count complaints.new.count }
-{
-    match end {
-        Ok(Status::Done) => DONE,
-        Ok(Status::NotRight) => REFUSED,
-        Err(fault) => complaints.tell(fault, status_of(fault)),
     }
 }

@@ -117,6 +117,7 @@ fn show_text<W: Write, V: Write>(
 // Prints the version, whose last word others take, and that of uimg to standard error.
 fn put_version<W: Write, V: Write>(tool: Tool, out: &mut W, err: &mut V) -> io::Result<()> {
     writeln!(out, "{} version 2023.01", tool.name())?;
+    out.flush()?;
     let _ = writeln!(err, "uimg {VERSION}");
     Ok(())
 }

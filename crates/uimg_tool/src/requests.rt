@@ -1,8 +1,12 @@
 //! Carries out a request: a command on one image, the making of one, or the printing of a text.
 
-ghost use Rattle.std.specs.Prelude.{◌≡◌, OnOk, IfErr, IfSome, None};
+ghost use Rattle.std.specs.Prelude.{◌≡◌, ◌∷◌, OnOk, IfErr, IfSome, IsTrue, None, Some};
 ghost use Rattle.std.specs.Io.KnownBytes.{Appends};
+ghost use Rattle.uimg_base.specs.{Honest.IfHonest, Outcome.Tells};
+ghost use Rattle.uimg_tool.specs.Reading.{changes};
 ghost use Rattle.uimg_tool.specs.RequestEnds.{IsUnwritten, MakeEnds, OverEnds, RunEnds, ShowEnds};
+ghost use Rattle.uimg_tool.specs.Running.{ComparesFiles, IntoEnds, OnlyOverwrites, TellsAt, is_opened, meant_end, outcome_on};
+ghost use Rattle.uimg_unpacking.specs.Deeds.{Deed};
 
 use crate::making::make_image;
 use crate::new_shelf::NewShelf;
@@ -73,7 +77,7 @@ pub(crate) fn run<'a, D: World, W: Write>(
 ) -> Made<'a>
     ensures { RunEnds request.now result.end }
 {
-    let end = run_command(world, request, file, out);
+    let end = run_command(world, request, file, &mut Out::new(&mut *out));
     Made {
         end,
         printed: out.flush(),
@@ -96,19 +100,11 @@ pub(crate) fn make<'a, R: Files + AllocGlobal, W: Write>(
     }
 }
 
-/// Prints help or the version, and flushes it.
-pub(crate) fn show<'a, D: Display, W: Write>(text: &D, out: &mut W) -> Made<'a>
-    ensures { ShowEnds result.end }
-{
-    let end = print(text, out);
-    Made {
-        end,
-        printed: out.flush(),
-    }
-}
-
-// Prints a text.
-fn print<'a, D: Display, W: Write>(text: &D, out: &mut W) -> Result<Status, RequestFault<'a>>
+/// Prints help or the version.
+pub(crate) fn show<'a, D: Display, W: Write>(
+    text: &D,
+    out: &mut W,
+) -> Result<Status, RequestFault<'a>>
     ensures ends { ShowEnds result }
     ensures text { OnOk result (IfSome (D.output text.now) (Appends (W.contents out.old)
         (W.contents out.new))) }
@@ -119,27 +115,48 @@ fn print<'a, D: Display, W: Write>(text: &D, out: &mut W) -> Result<Status, Requ
     }
 }
 
-// Runs the requested command on its image.
-fn run_command<'a, D: World, W: Write>(
+/// Runs the requested command on its image. An extraction goes to the file that is given, or else to
+/// the one at the request's path.
+pub(crate) fn run_command<'a, D: World, W: Write>(
     world: &mut D,
     request: &RunRequest<'a>,
     file: Option<D::File>,
-    out: &mut W,
+    out: &mut Out<W>,
 ) -> Result<Status, RequestFault<'a>>
-    ensures { RunEnds request.now result }
+    ensures ends { RunEnds request.now result }
+    ensures told { IsTrue (D.map world.old).honest → request.now.outfile ≡ None →
+        TellsAt request.now (D.map world.old) result out.old out.new }
+    ensures opened { request.now.outfile ≡ None →
+        D.trace world.new ≡ Deed.Opens request.now.image.now (is_opened result) ∷ D.trace world.old }
+    ensures written { OnlyOverwrites request.now.outfile (D.trace world.old) (D.trace world.new) }
 {
     let Ok(mut source) = world.open(request.image) else {
         return Err(RequestFault::CannotRead(request.image));
     };
-    let Some(path) = request.outfile else {
-        return run_over(world.alloc(), request, &mut source, out);
-    };
+    match request.outfile {
+        Some(path) => extract_to(world, request, path, file, &mut source),
+        None => run_over(world.alloc(), request, &mut source, out),
+    }
+}
+
+// Runs the requested command on an open image, and writes to a file: the one that is given, or else
+// the one at a path, which is created or emptied.
+fn extract_to<'a, D: World, S: Source>(
+    world: &mut D,
+    request: &RunRequest<'a>,
+    path: &'a str,
+    file: Option<D::File>,
+    source: &mut S,
+) -> Result<Status, RequestFault<'a>>
+    ensures ends { IntoEnds path.entry result }
+    ensures written { OnlyOverwrites (Some path.entry) (D.trace world.old) (D.trace world.new) }
+{
     if is_same_file(world, path, request.image) {
         return Err(RequestFault::WritesWhatIsRead(path));
     }
     let code = Cell::new(None);
     let outfile = Watched::new(outfile_at(world, path, file)?, &code);
-    match run_over(world.alloc(), request, &mut source, outfile) {
+    match run_over(world.alloc(), request, source, &mut Out::new(outfile)) {
         Err(RequestFault::Stopped(Fault::Put)) => {
             Err(RequestFault::NotPut(path, reason_of_code(code.get())))
         }
@@ -148,23 +165,18 @@ fn run_command<'a, D: World, W: Write>(
 }
 
 // Runs the requested command on an open image.
-fn run_over<'a, S: Source, W: Write + Drop>(
+fn run_over<'a, S: Source, W: Write>(
     alloc: Global,
     request: &RunRequest<'a>,
     source: &mut S,
-    out: W,
+    out: &mut Out<W>,
 ) -> Result<Status, RequestFault<'a>>
-    ensures { OverEnds result }
+    ensures ends { OverEnds result }
+    ensures told { IfHonest S.device source (λ file.
+        Tells (meant_end result) (outcome_on request.now file) out.old out.new) }
 {
     let mut room = Room::new(alloc);
-    let ended = run_by(
-        request.naming,
-        &request.command,
-        source,
-        &mut room,
-        &mut Out::new(out),
-    );
-    match ended {
+    match run_by(request.naming, &request.command, source, &mut room, out) {
         Ok(status) => Ok(status),
         Err(fault) => Err(RequestFault::Stopped(fault)),
     }
@@ -177,7 +189,8 @@ fn outfile_at<'a, D: World>(
     path: &'a str,
     file: Option<D::File>,
 ) -> Result<D::File, RequestFault<'a>>
-    ensures { IfErr result (IsUnwritten path.entry) }
+    ensures ends { IfErr result (IsUnwritten path.entry) }
+    ensures written { OnlyOverwrites (Some path.entry) (D.trace world.old) (D.trace world.new) }
 {
     match file {
         Some(file) => Ok(file),
@@ -189,7 +202,9 @@ fn outfile_at<'a, D: World>(
 }
 
 /// Returns whether two paths lead to the same file, also by links.
-pub(crate) fn is_same_file<D: World>(world: &mut D, path: &str, other: &str) -> bool {
+pub(crate) fn is_same_file<D: World>(world: &mut D, path: &str, other: &str) -> bool
+    ensures { ComparesFiles path.now other.now result (D.trace world.old) (D.trace world.new) }
+{
     match (world.file_at(path), world.file_at(other)) {
         (Some(one), Some(two)) => one == two,
         _ => false,

@@ -1,0 +1,151 @@
+//! Carries out a request of `uimg` over a world of files, and turns its end into a line and an exit
+//! status.
+
+ghost use Rattle.std.specs.Prelude.{◌≡◌, ◌≢◌, [], IsTrue, None};
+ghost use Rattle.std.specs.Io.Buffered.{writer_buffer, writer_contents, writer_inner};
+ghost use Rattle.uimg_tool.specs.{Commands.{AnswersAsked, AnswersOne}, Complaints.Ends, Statuses.end_status};
+ghost use Rattle.uimg_tool.specs.Running.{AnswersRun, AnswersShow, OnlyOverwrites};
+
+use crate::check_program::check_images;
+use crate::complaints::{Complaints, is_closed};
+use crate::info_program::tell_facts;
+use crate::map_program::map_image;
+use crate::request_fault::{DONE, FAILED, REFUSED, RequestFault, status_of};
+use crate::requests::{Made, Way, make, run_command, show};
+use crate::unpack_program::unpack_image;
+use std::alloc::Global;
+use std::fmt::Display;
+use std::io::{BufWriter, Write};
+use std::rt::Files;
+use uimg_base::{Out, Status};
+use uimg_cli::{Asked, Request};
+use uimg_requests::RunRequest;
+use uimg_unpacking::World;
+
+/// Carries out a request. What is made or unpacked is read and written by `rt`, all else is done in
+/// the world. Returns the status and what `out` buffers for.
+pub(crate) fn carry_out_asked<R: Files + AllocGlobal, D: World, W: Write + Drop, V: Write>(
+    rt: &R,
+    world: &mut D,
+    asked: &Asked<'_>,
+    mut out: BufWriter<W, Global>,
+    complaints: &mut Complaints<'_, V>,
+) -> (u8, W)
+    requires { writer_buffer out ≡ [] }
+    ensures ends { Ends result.0 complaints.old.count complaints.new.count }
+    ensures told { IsTrue (D.map world.old).honest → AnswersAsked asked.now (D.map world.old) result.0
+        (W.contents (writer_inner out)) (W.contents result.1) }
+{
+    let (status, out) = match asked {
+        Asked::One(request) => carry_out_one(rt, world, request, out, complaints),
+        Asked::Check(request) => check_images(world, request, out, complaints),
+        Asked::Unpack(request) => {
+            let status = unpack_image(rt, request, &mut out, complaints);
+            (status, out)
+        }
+        Asked::Map(request) => {
+            let status = map_image(world, request, &mut out, complaints);
+            (status, out)
+        }
+        Asked::Info(request) => {
+            let status = tell_facts(world, request, &mut out, complaints);
+            (status, out)
+        }
+    };
+    // A failed write leaves text in the buffer, which its drop would try to write again.
+    let (out, _) = out.into_parts();
+    (status, out)
+}
+
+// Carries out a command on one image, the making of one, or prints a text. Returns `out`, too.
+fn carry_out_one<'a, R: Files + AllocGlobal, D: World, W: Write + Drop, V: Write>(
+    rt: &'a R,
+    world: &mut D,
+    request: &'a Request<'a>,
+    mut out: BufWriter<W, Global>,
+    complaints: &mut Complaints<'_, V>,
+) -> (u8, BufWriter<W, Global>)
+    ensures ends { Ends result.0 complaints.old.count complaints.new.count }
+    ensures told { IsTrue (D.map world.old).honest → AnswersOne request.now (D.map world.old) result.0
+        (writer_contents W.contents out) (writer_contents W.contents result.1) }
+    ensures flushed { result.0 ≢ 3 → writer_buffer result.1 ≡ [] }
+{
+    match request {
+        Request::Run(request) => run_image(world, request, out, complaints),
+        Request::Make(request) => {
+            let made = make(rt, request, Way::within(&[]), &mut out);
+            (tell_end(&made.told(), complaints), out)
+        }
+        Request::Show(text) => show_text(text, out, complaints),
+    }
+}
+
+// Runs a command on an image.
+fn run_image<D: World, W: Write + Drop, V: Write>(
+    world: &mut D,
+    request: &RunRequest<'_>,
+    out: BufWriter<W, Global>,
+    complaints: &mut Complaints<'_, V>,
+) -> (u8, BufWriter<W, Global>)
+    ensures ends { Ends result.0 complaints.old.count complaints.new.count }
+    ensures told { IsTrue (D.map world.old).honest → request.now.outfile ≡ None →
+        AnswersRun request.now (D.map world.old) result.0 (writer_contents W.contents out)
+        (writer_contents W.contents result.1) }
+    ensures flushed { result.0 ≢ 3 → writer_buffer result.1 ≡ [] }
+    ensures written { OnlyOverwrites request.now.outfile (D.trace world.old) (D.trace world.new) }
+{
+    let mut out = Out::new(out);
+    let end = run_command(world, request, None, &mut out);
+    let mut out = out.into_inner();
+    let made = Made {
+        end,
+        printed: out.flush(),
+    };
+    (tell_end(&made.told(), complaints), out)
+}
+
+// Prints help or the version. Nothing is told if nobody reads it.
+fn show_text<D: Display, W: Write + Drop, V: Write>(
+    text: &D,
+    mut out: BufWriter<W, Global>,
+    complaints: &mut Complaints<'_, V>,
+) -> (u8, BufWriter<W, Global>)
+    ensures ends { Ends result.0 complaints.old.count complaints.new.count }
+    ensures told { AnswersShow (D.output text.now) result.0 (writer_contents W.contents out)
+        (writer_contents W.contents result.1) }
+    ensures flushed { result.0 ≢ 3 → writer_buffer result.1 ≡ [] }
+{
+    let made = Made {
+        end: show(text, &mut out),
+        printed: out.flush(),
+    };
+    let end = made.told();
+    let status = if is_unread(&end) {
+        FAILED
+    } else {
+        tell_end(&end, complaints)
+    };
+    (status, out)
+}
+
+// Returns whether a request ended because nobody reads what it prints.
+fn is_unread(end: &Result<Status, RequestFault<'_>>) -> bool {
+    match end {
+        Err(RequestFault::NotPrinted(error)) => is_closed(error),
+        _ => false,
+    }
+}
+
+fn tell_end<V: Write>(
+    end: &Result<Status, RequestFault<'_>>,
+    complaints: &mut Complaints<'_, V>,
+) -> u8
+    ensures status { result ≡ end_status end.now }
+    ensures ends { Ends result complaints.old.count complaints.new.count }
+{
+    match end {
+        Ok(Status::Done) => DONE,
+        Ok(Status::NotRight) => REFUSED,
+        Err(fault) => complaints.tell(fault, status_of(fault)),
+    }
+}
