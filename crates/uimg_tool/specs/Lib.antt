@@ -13,6 +13,7 @@ pub mod MadeEnds
 pub mod MapEnds
 pub mod OtherAlgos
 pub mod Programs
+pub mod Reading
 pub mod RequestEnds
 pub mod Statuses
 pub mod StrictEnds
