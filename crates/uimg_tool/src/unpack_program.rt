@@ -16,7 +16,9 @@ use uimg_checks::object_text;
 use uimg_cli::UnpackRequest;
 use uimg_engine::{Fault, Form, is_fit};
 use uimg_printing::Printed;
-use uimg_unpacking::{DiskWorld, FileId, Folder, Limits, Trouble, Unpacking, World, unpack, unpack_parts};
+use uimg_unpacking::{
+    DiskWorld, FileId, Folder, Limits, Trouble, Unpacking, World, unpack, unpack_parts,
+};
 
 /// Cleans the folder and unpacks the image, as requested, with a line for each removed file, payload
 /// or part on `out`. Returns the status. A fault is reported by a line on standard error, or
