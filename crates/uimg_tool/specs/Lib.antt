@@ -1,4 +1,5 @@
 pub mod AnswerTexts
+pub mod Answering
 pub mod BesidePaths
 pub mod CheckEnds
 pub mod Checking
