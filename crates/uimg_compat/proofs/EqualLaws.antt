@@ -1,5 +1,5 @@
 -- Names that came again, one after another.
-use Rattle.std.proofs.Common.{◌≡◌, ◌∙◌, ◌++◌, List, [], ◌∷◌, Bool, true, false, Option, refl, ap, sym}
+use Rattle.std.proofs.Common.{◌≡◌, ◌∙◌, ◌++◌, List, [], ◌∷◌, Bool, true, false, Option, refl, ap}
 use Rattle.std.proofs.lemmas.List.{map-append}
 use Rattle.std.specs.{Borrow.Bor, BTreeSet.BTreeSet, List.list_any, Prelude.{if◌then◌else◌}, Str.bytes_eq}
 use Rattle.uimg_compat.specs.Getopt.{Text}

@@ -1,12 +1,11 @@
 -- Whether a node has a property, and a property of some names.
-use Rattle.std.proofs.Common.{◌≡◌, ◌∙◌, [], ◌∷◌, ℕ, List, Option, Some, None, true, false, ap, sym, refl, is_some}
-use Rattle.std.specs.Str.{bytes_eq}
-use Rattle.std.specs.Prelude.{codes, if◌then◌else◌}
+use Rattle.std.proofs.Common.{◌≡◌, [], ◌∷◌, ℕ, List, Option, Some, None, true, false, ap, sym, refl, is_some}
+use Rattle.std.specs.Prelude.{if◌then◌else◌}
 use Rattle.std.proofs.Math.Nat.{suc-ne-zero}
 use Rattle.uimg_names.specs.declared.field.Field.{Field}
 use Rattle.uimg_compat.specs.{Getopt.Text, Warnings.{Warned, lacks, unknown_name}, WarningsOfImages.unknown_unless}
 use Rattle.uimg_compat.specs.WarningsOfNodes.{Property, bytes_of, has_property, lacking}
-use Rattle.uimg_compat.specs.WarningsOfConfigurations.{is_reference, missing_of, missing, no_default, of_default}
+use Rattle.uimg_compat.specs.WarningsOfConfigurations.{is_reference, missing_of, missing}
 
 pub has_it : (path : List Text) (name : Text) (own : List Property) → has_property name own ≡ true → lacking path name own ≡ []
 has_it path name own is = rw is refl
@@ -14,17 +13,8 @@ has_it path name own is = rw is refl
 pub lacks_it : (path : List Text) (name : Text) (own : List Property) → has_property name own ≡ false → lacking path name own ≡ record { path = path; trouble = lacks name } ∷ []
 lacks_it path name own is = rw is refl
 
-pub default_is : (path known : List Text) (property : Property) → bytes_eq property.name (codes "default") ≡ true → of_default path known property ≡ no_default path known (bytes_of property.value)
-default_is path known property is = rw is refl
-
-pub no_default_is : (path known : List Text) (property : Property) → bytes_eq property.name (codes "default") ≡ false → of_default path known property ≡ []
-no_default_is path known property is = rw is refl
-
 pub missing_is : (path known : List Text) (property : Property) → is_reference property.name ≡ true → missing_of path known property ≡ missing path known property.name (bytes_of property.value)
 missing_is path known property is = rw is refl
-
-pub no_missing_is : (path known : List Text) (property : Property) → is_reference property.name ≡ false → missing_of path known property ≡ []
-no_missing_is path known property is = rw is refl
 
 pub named_is : (path : List Text) (field : Field) (name : Text) (code : Option ℕ) → is_some code ≡ true → unknown_unless code path field name ≡ []
 named_is path field name (Some code) is = refl

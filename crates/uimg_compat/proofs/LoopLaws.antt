@@ -1,8 +1,7 @@
 -- What is left of a list in a loop.
-use Rattle.std.proofs.Common.{◌≡◌, ◌∙◌, ◌+◌, ◌<◌, ◌≤◌, ℕ, zero, suc, List, [], ◌∷◌, refl, ap, sym, arith, append-nil, get_or, length, drop}
+use Rattle.std.proofs.Common.{◌≡◌, ◌∙◌, ◌+◌, ◌<◌, ◌≤◌, ℕ, zero, suc, List, [], ◌∷◌, refl, ap, sym, arith, get_or, length, drop}
 use Rattle.std.proofs.Math.Nat.{suc-ne-zero}
-use Rattle.std.proofs.lemmas.List.{Concat.flat_map-cons, at_drop_more}
-use Rattle.std.specs.List.{flat_map}
+use Rattle.std.proofs.lemmas.List.{at_drop_more}
 
 -- one element, and what is behind it
 pub left_at : {X Y : Type 0} (f : List X → Y) (xs : List X) (i : ℕ) (x : X) → i < length xs → x ≡ get_or xs i x → f (drop i xs) ≡ f (x ∷ drop (i + 1) xs)
@@ -11,9 +10,6 @@ left_at f xs i x h is = at_drop_more f xs i x h ∙ ap (λ v. f (v ∷ drop (i +
 -- the same of the element at the index
 pub at_one : {X Y : Type 0} (f : List X → Y) (xs : List X) (i : ℕ) (d : X) → i < length xs → f (drop i xs) ≡ f (get_or xs i d ∷ drop (i + 1) xs)
 at_one f xs i d h = at_drop_more f xs i d h
-
-pub flat_map_one : {X Y : Type 0} (f : X → List Y) (x : X) → flat_map f (x ∷ []) ≡ f x
-flat_map_one f x = flat_map-cons f x [] ∙ append-nil (f x)
 
 drop_none : {X : Type 0} (xs : List X) (i : ℕ) → length xs ≤ i → drop i xs ≡ []
 drop_none [] zero h = refl

@@ -6,7 +6,7 @@ use Rattle.std.proofs.KnownBytes.{Appends-nil, Appends-trans}
 use Rattle.std.proofs.lemmas.List.Elements.{filter-append}
 use Rattle.std.specs.Result.{IsErr}
 use Rattle.uimg_compat.specs.Getopt.{Text}
-use Rattle.uimg_compat.specs.Telling.{HasBegun, HasTold, IsBeginning, Tells, count_after}
+use Rattle.uimg_compat.specs.Telling.{HasBegun, HasTold, Tells, count_after}
 use Rattle.uimg_compat.specs.Warnings.{Warned, counted, heard, is_silenced, line, lines}
 use Rattle.uimg_compat.specs.declared.dtc_words.Silenced.{Silenced}
 use Rattle.uimg_compat.specs.declared.warnings.teller.Teller.{Teller}

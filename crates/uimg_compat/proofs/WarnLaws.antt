@@ -1,9 +1,9 @@
 -- What was told from the first warning to the end.
-use Rattle.std.proofs.Common.{◌≡◌, ◌∙◌, ◌++◌, ◌+◌, ◌-◌, ◌<◌, ℕ, zero, suc, Bool, true, false, refl, ap, sym, subst, arith, List, [], Option, Result, Ok, Err, IsTrue, length, is_ok, codes}
+use Rattle.std.proofs.Common.{◌≡◌, ◌∙◌, ◌++◌, ◌+◌, ◌-◌, ℕ, zero, suc, Bool, refl, ap, sym, subst, arith, List, Option, Result, Ok, Err, IsTrue, length, is_ok, codes}
 use Rattle.std.specs.{Fmt.decimal, Io.KnownBytes.Appends}
-use Rattle.std.proofs.KnownBytes.{Appends-nil, Appends-trans}
+use Rattle.std.proofs.KnownBytes.{Appends-trans}
 use Rattle.uimg_compat.specs.Getopt.{Text}
-use Rattle.uimg_compat.specs.Telling.{HasTold, IsBeginning, IsFar, Tells, Warns, count_after}
+use Rattle.uimg_compat.specs.Telling.{HasTold, Tells, Warns, count_after}
 use Rattle.uimg_compat.specs.Warnings.{Warned, counted, heard, lines, more, warnings_text}
 use Rattle.uimg_compat.specs.declared.dtc_words.Silenced.{Silenced}
 use Rattle.uimg_compat.specs.declared.warnings.teller.{Teller.Teller, Told.Told}

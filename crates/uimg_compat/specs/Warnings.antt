@@ -1,5 +1,5 @@
 -- Warnings about the source of a FIT image, and their text.
-use Rattle.std.specs.Prelude.{ℕ, zero, suc, not, ◌-◌, ◌^◌, ◌++◌, Bool, true, false, List, [], ◌∷◌, filter, length, map, min, take, codes}
+use Rattle.std.specs.Prelude.{ℕ, zero, suc, not, ◌-◌, ◌^◌, ◌++◌, Bool, false, List, [], ◌∷◌, filter, length, map, min, take, codes}
 use Rattle.std.specs.{Fmt.decimal, List.flat_map}
 use Rattle.uimg_names.specs.declared.field.Field.{Field}
 use Rattle.uimg_names.specs.declared.field.Field.TheVariants.{Architecture, System, Kind, Compression}

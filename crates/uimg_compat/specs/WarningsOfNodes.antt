@@ -1,5 +1,5 @@
 -- Nodes in a source, and the warnings that any node may have.
-use Rattle.std.specs.Prelude.{◌≡◌, ℕ, Bool, List, [], ◌∷◌, ◌++◌, map, Option, Some, None, if◌then◌else◌}
+use Rattle.std.specs.Prelude.{◌≡◌, Bool, List, [], ◌∷◌, ◌++◌, map, Option, Some, None, if◌then◌else◌}
 use Rattle.std.specs.{Borrow.Bor, BTreeSet.BTreeSet, List.list_any, Str.bytes_eq}
 use Rattle.std.specs.Global.{Global}
 use Rattle.uimg_blob_reading.specs.Plain.{NamedOf, no_node, a_node}

@@ -1,4 +1,4 @@
-//! The descriptions of device trees, by their paths.
+//! The last names of paths, and those names without a suffix.
 
 ghost use Rattle.std.specs.Prelude.{◌≡◌, ◌≤◌, ◌-◌, ◌==◌, not, length, take};
 ghost use Rattle.std.specs.List.{suffix_len};

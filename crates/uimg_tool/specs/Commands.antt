@@ -1,17 +1,21 @@
--- What a command of `uimg` answers, over the files of a world.
-use Rattle.std.specs.Prelude.{◌≡◌, ⊤, ◌⊎◌, ℕ, List, Option, None}
+-- What a command of `uimg` answers, over the files of a world, and which of them it may change.
+use Rattle.std.specs.Prelude.{◌≡◌, ◌≢◌, ⊤, ◌⊎◌, ℕ, List, [], Option, None, false}
 use Rattle.uimg_base.specs.Named.{FileMap}
 use Rattle.uimg_cli.specs.declared.command_line.Asked.{Asked}
 use Rattle.uimg_cli.specs.declared.command_line.Asked.TheVariants.{One, Check, Unpack, Map, Info}
 use Rattle.uimg_cli.specs.declared.command_line.Request.{Request}
 use Rattle.uimg_cli.specs.declared.command_line.Request.TheVariants as asked
+use Rattle.uimg_compat.specs.declared.request.OldRequest.{OldRequest}
+use Rattle.uimg_compat.specs.declared.request.OldRequest.TheVariants as old
 use Rattle.uimg_tool.specs.Checking.{AnswersRequest}
-use Rattle.uimg_tool.specs.Running.{AnswersRun}
+use Rattle.uimg_tool.specs.Reading.{changes}
+use Rattle.uimg_tool.specs.Running.{AnswersRun, OnlyOverwrites}
+use Rattle.uimg_unpacking.specs.Deeds.{Deed}
 
 -- A command on one image that prints, or a text. Of an extraction to a file and of a making nothing is
 -- claimed.
 abbrev pub AnswersOne : Request → FileMap → ℕ → (old new : Option (List ℕ)) → Type 0
-AnswersOne (asked.Run it) files status old new = it.outfile ≡ None → AnswersRun it files status old new
+AnswersOne (asked.Run it) files status old new = it.outfile ≡ None → AnswersRun false it files status old new
 AnswersOne (asked.Make it) files status old new = ⊤
 AnswersOne (asked.Show text) files status old new = (status ≡ 3) ⊎ (status ≡ 0)
 
@@ -22,3 +26,28 @@ AnswersAsked (Check it) files status old new = AnswersRequest it status old new
 AnswersAsked (Unpack it) files status old new = ⊤
 AnswersAsked (Map it) files status old new = ⊤
 AnswersAsked (Info it) files status old new = ⊤
+
+-- A command on one image changes only the file of an extraction, a check and facts no file, a map none
+-- but its picture. What a making and an unpacking change is not said here.
+abbrev pub ChangesOne : Request → List Deed → List Deed → Type 0
+ChangesOne (asked.Run it) old new = OnlyOverwrites it.outfile old new
+ChangesOne (asked.Make it) old new = ⊤
+ChangesOne (asked.Show text) old new = new ≡ old
+
+abbrev pub Changes : Asked → List Deed → List Deed → Type 0
+Changes (One it) old new = ChangesOne it old new
+Changes (Check it) old new = changes new ≡ changes old
+Changes (Unpack it) old new = ⊤
+Changes (Map it) old new = it.picture ≡ None → changes new ≡ changes old
+Changes (Info it) old new = changes new ≡ changes old
+
+-- a request of mkimage or dumpimage: the listing of an image, or the extraction of a part
+abbrev pub AnswersOld : OldRequest → FileMap → ℕ → (old new : Option (List ℕ)) → Type 0
+AnswersOld (old.Run it is_quiet) files status before after =
+    it.outfile ≡ None → AnswersRun is_quiet it files status before after
+AnswersOld it files status before after = ⊤
+
+-- what such a request leaves in a buffer that was empty
+abbrev pub FlushesOld : OldRequest → ℕ → List ℕ → Type 0
+FlushesOld (old.Run it is_quiet) status left = it.outfile ≡ None → status ≢ 3 → left ≡ []
+FlushesOld it status left = ⊤

@@ -1,5 +1,5 @@
 -- What a command on an image tells and answers, over the files of a world.
-use Rattle.std.specs.Prelude.{◌≡◌, ⊤, ◌⊎◌, ℕ, IfSome, List, ◌∷◌, Option, Some, None, Result, Ok, Err, Bool, true, false}
+use Rattle.std.specs.Prelude.{◌≡◌, ⊤, ◌⊎◌, ℕ, IfSome, List, [], ◌∷◌, Option, Some, None, Result, Ok, Err, Bool, true, false}
 use Rattle.std.specs.{Borrow.Bor, Io.KnownBytes.Appends}
 use Rattle.uimg_base.specs.{Named.FileMap, Outcome.{End, Outcome, done, not_right, refused, Tells}, Sink.Sink}
 use Rattle.uimg_base.specs.declared.status.Status.{Status}
@@ -7,7 +7,7 @@ use Rattle.uimg_engine.specs.{Faults.{end_of, is_of_making}, Headline.outcome_of
 use Rattle.uimg_engine.specs.declared.fault.Fault.{Fault}
 use Rattle.uimg_engine.specs.declared.fault.Fault.TheVariants as engine
 use Rattle.uimg_requests.specs.declared.requests.RunRequest.{RunRequest}
-use Rattle.uimg_tool.specs.{Reading.changes, Statuses.fault_status}
+use Rattle.uimg_tool.specs.{Answering.AnswersAs, Reading.changes, Statuses.fault_status}
 use Rattle.uimg_tool.specs.declared.request_fault.RequestFault.{RequestFault}
 use Rattle.uimg_tool.specs.declared.request_fault.RequestFault.TheVariants as request
 use Rattle.uimg_unpacking.specs.Allowing.{is_image}
@@ -63,13 +63,17 @@ outcome_status done = 0
 outcome_status not_right = 1
 outcome_status (refused fault) = fault_status fault
 
--- The status is 3, or there is a file at the image's path, its outcome gives the status, and exactly
--- the outcome's text was printed.
-abbrev pub AnswersRun : RunRequest → FileMap → ℕ → (old new : Option (List ℕ)) → Type 0
-AnswersRun asked files status old new = (status ≡ 3) ⊎ ((file : List ℕ)
-    × (files.bytes asked.image.now ≡ Some file)
-    × (status ≡ outcome_status (outcome_on asked file).end)
-    × Appends old new (outcome_on asked file).text)
+-- what is printed of a text
+abbrev pub printed : Bool → List ℕ → List ℕ
+printed true text = []
+printed false text = text
+
+-- The outcome of the file at the image's path gives the status, and exactly its text was printed, or
+-- nothing if the command is to be quiet.
+abbrev pub AnswersRun : Bool → RunRequest → FileMap → ℕ → (old new : Option (List ℕ)) → Type 0
+AnswersRun is_quiet asked files = AnswersAs files asked.image.now
+    (λ file. outcome_status (outcome_on asked file).end)
+    (λ file. printed is_quiet (outcome_on asked file).text)
 
 -- The status is 3, or 0 and exactly the text was printed.
 abbrev pub AnswersShow : Option (List ℕ) → ℕ → (old new : Option (List ℕ)) → Type 0

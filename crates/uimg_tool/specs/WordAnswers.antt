@@ -1,11 +1,12 @@
 -- What the words of `uimg` answer, over the files of a world.
-use Rattle.std.specs.Prelude.{◌≡◌, ℕ, List, map, Option, Result, Ok, Err}
+use Rattle.std.specs.Prelude.{◌≡◌, ℕ, List, map, IsTrue, Option, Result, Ok, Err}
 use Rattle.std.specs.Option.{option_map}
 use Rattle.uimg_base.specs.Named.{FileMap}
 use Rattle.uimg_cli.specs.Reading.{ReadsWords}
 use Rattle.uimg_cli.specs.declared.command_line.{Asked.Asked, words_fault.WordsFault.WordsFault}
-use Rattle.uimg_tool.specs.{Commands.AnswersAsked, Statuses.words_status}
+use Rattle.uimg_tool.specs.{Commands.{AnswersAsked, Changes}, Statuses.words_status}
 use Rattle.uimg_tool.specs.declared.main_program.CommandLine.{CommandLine}
+use Rattle.uimg_unpacking.specs.Deeds.{Deed}
 
 abbrev pub words_of : CommandLine → List (List ℕ)
 words_of line = map (λ word. word.now) line.words.now
@@ -13,12 +14,21 @@ words_of line = map (λ word. word.now) line.words.now
 abbrev pub epoch_of : CommandLine → Option (List ℕ)
 epoch_of line = option_map (λ text. text.now) line.epoch
 
--- What was read of the words is answered. Wrong words print nothing.
+-- What the words ask for is answered, over an honest world. Wrong words print nothing.
 abbrev pub AnswersRead : Result Asked WordsFault → FileMap → ℕ → (old new : Option (List ℕ)) → Type 0
-AnswersRead (Ok asked) files status old new = AnswersAsked asked files status old new
+AnswersRead (Ok asked) files status old new = IsTrue files.honest → AnswersAsked asked files status old new
 AnswersRead (Err fault) files status old new = (status ≡ words_status fault) × (new ≡ old)
 
--- The words ask for something, or are wrong, by the definition of command lines; that is answered.
-abbrev pub AnswersWords : CommandLine → FileMap → ℕ → (old new : Option (List ℕ)) → Type 0
-AnswersWords line files status old new = (read : Result Asked WordsFault)
-    × ReadsWords (epoch_of line) line.time (words_of line) read × AnswersRead read files status old new
+-- Only what the words ask for is changed, and nothing by wrong words.
+abbrev pub ChangesRead : Result Asked WordsFault → (old new : List Deed) → Type 0
+ChangesRead (Ok asked) old new = Changes asked old new
+ChangesRead (Err fault) old new = new ≡ old
+
+-- What the words of a command line ask for, or what is wrong with them, by the definition of command
+-- lines, is answered.
+pub record AnswersWords (line : CommandLine) (files : FileMap) (status : ℕ) (old new : Option (List ℕ))
+    (before after : List Deed) : Type 0 where
+  pub read : Result Asked WordsFault
+  pub reads : ReadsWords (epoch_of line) line.time (words_of line) read
+  pub answers : AnswersRead read files status old new
+  pub changes : ChangesRead read before after

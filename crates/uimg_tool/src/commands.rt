@@ -1,9 +1,9 @@
 //! Carries out a request of `uimg` over a world of files, and turns its end into a line and an exit
 //! status.
 
-ghost use Rattle.std.specs.Prelude.{◌≡◌, ◌≢◌, [], IsTrue, None};
+ghost use Rattle.std.specs.Prelude.{◌≡◌, ◌≢◌, [], IsTrue, None, false};
 ghost use Rattle.std.specs.Io.Buffered.{writer_buffer, writer_contents, writer_inner};
-ghost use Rattle.uimg_tool.specs.{Commands.{AnswersAsked, AnswersOne}, Complaints.Ends, Statuses.end_status};
+ghost use Rattle.uimg_tool.specs.{Commands.{AnswersAsked, AnswersOne, Changes, ChangesOne}, Complaints.Ends, Statuses.end_status};
 ghost use Rattle.uimg_tool.specs.Running.{AnswersRun, AnswersShow, OnlyOverwrites};
 
 use crate::check_program::check_images;
@@ -35,6 +35,7 @@ pub(crate) fn carry_out_asked<R: Files + AllocGlobal, D: World, W: Write + Drop,
     ensures ends { Ends result.0 complaints.old.count complaints.new.count }
     ensures told { IsTrue (D.map world.old).honest → AnswersAsked asked.now (D.map world.old) result.0
         (W.contents (writer_inner out)) (W.contents result.1) }
+    ensures changed { Changes asked.now (D.trace world.old) (D.trace world.new) }
 {
     let (status, out) = match asked {
         Asked::One(request) => carry_out_one(rt, world, request, out, complaints),
@@ -69,6 +70,7 @@ fn carry_out_one<'a, R: Files + AllocGlobal, D: World, W: Write + Drop, V: Write
     ensures told { IsTrue (D.map world.old).honest → AnswersOne request.now (D.map world.old) result.0
         (writer_contents W.contents out) (writer_contents W.contents result.1) }
     ensures flushed { result.0 ≢ 3 → writer_buffer result.1 ≡ [] }
+    ensures changed { ChangesOne request.now (D.trace world.old) (D.trace world.new) }
 {
     match request {
         Request::Run(request) => run_image(world, request, out, complaints),
@@ -89,7 +91,7 @@ fn run_image<D: World, W: Write + Drop, V: Write>(
 ) -> (u8, BufWriter<W, Global>)
     ensures ends { Ends result.0 complaints.old.count complaints.new.count }
     ensures told { IsTrue (D.map world.old).honest → request.now.outfile ≡ None →
-        AnswersRun request.now (D.map world.old) result.0 (writer_contents W.contents out)
+        AnswersRun false request.now (D.map world.old) result.0 (writer_contents W.contents out)
         (writer_contents W.contents result.1) }
     ensures flushed { result.0 ≢ 3 → writer_buffer result.1 ≡ [] }
     ensures written { OnlyOverwrites request.now.outfile (D.trace world.old) (D.trace world.new) }

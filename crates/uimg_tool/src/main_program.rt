@@ -1,7 +1,7 @@
 //! The function `program`, the whole program: reads the words of a command line, and carries out
 //! their request.
 
-ghost use Rattle.std.specs.Prelude.{◌≡◌, ◌≤◌, IfSome, IsTrue, Some, map, option_map};
+ghost use Rattle.std.specs.Prelude.{◌≡◌, ◌≤◌, IfSome, Some, map, option_map};
 ghost use Rattle.uimg_cli.specs.Reading.{AsksNothing, ReadsWords};
 ghost use Rattle.uimg_tool.specs.{Complaints.Ends, Programs.AskNothing, Statuses.words_status};
 ghost use Rattle.uimg_tool.specs.WordAnswers.{AnswersWords, epoch_of, words_of};
@@ -40,10 +40,12 @@ pub fn program<R: Files + AllocGlobal, W: Write, V: Write>(
     ensures unprinted { AskNothing (option_map (λ text. text.now) epoch.entry) now
         (map (λ word. word.now) words.entry.now) → out.new ≡ out.old }
 {
-    match Tool::of_words(words) {
+    let world = &mut DiskWorld::new(rt);
+    let (status, _) = match Tool::of_words(words) {
         Some(tool) => {
             let asked = read_old_words(rt.alloc(), tool, words, epoch, now);
-            carry_out_old(rt, tool, asked, out, &mut Complaints::new(tool.name(), err))
+            let complaints = &mut Complaints::new(tool.name(), err);
+            carry_out_old(rt, world, tool, asked, out, complaints)
         }
         None => {
             let line = CommandLine {
@@ -51,12 +53,11 @@ pub fn program<R: Files + AllocGlobal, W: Write, V: Write>(
                 epoch,
                 time: now,
             };
-            let world = &mut DiskWorld::new(rt);
             let complaints = &mut Complaints::new("uimg", err);
-            let (status, _) = carry_out_words(rt, world, line, out, complaints);
-            status
+            carry_out_words(rt, world, line, out, complaints)
         }
-    }
+    };
+    status
 }
 
 /// A command line.
@@ -90,8 +91,8 @@ pub(crate) fn carry_out_words<R: Files + AllocGlobal, D: World, W: Write + Drop,
         → 2 ≤ result.0 }
     ensures unprinted { AsksNothing (epoch_of line.entry) line.entry.time (words_of line.entry)
         → result.1 ≡ Some out }
-    ensures told { IsTrue (D.map world.old).honest → IfSome result.1 (λ written. AnswersWords
-        line.entry (D.map world.old) result.0 (W.contents out) (W.contents written)) }
+    ensures told { IfSome result.1 (λ written. AnswersWords line.entry (D.map world.old) result.0
+        (W.contents out) (W.contents written) (D.trace world.old) (D.trace world.new)) }
 {
     match asked_by(rt.alloc(), line) {
         Ok(asked) => match BufWriter::new(rt.alloc(), out) {

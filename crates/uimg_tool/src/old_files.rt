@@ -1,17 +1,19 @@
 //! The files of mkimage and dumpimage: what they write is beside its name until it is complete.
 
-ghost use Rattle.std.specs.Prelude.{◌≡◌, [], is_ok, if◌then◌else◌};
+ghost use Rattle.std.specs.Prelude.{◌≡◌, ◌≢◌, [], IsTrue, None, is_ok, if◌then◌else◌};
+ghost use Rattle.std.specs.Io.Buffered.{writer_buffer, writer_contents};
 ghost use Rattle.uimg_tool.specs.{Complaints.Ends, Finishing.FinishesBy, RequestEnds.{MakeEnds, is_about_source}};
-ghost use Rattle.uimg_tool.specs.Statuses.{end_status};
+ghost use Rattle.uimg_tool.specs.{Running.AnswersRun, Statuses.end_status};
 
 use crate::complaints::Complaints;
 use crate::request_fault::{DONE, FAILED, REFUSED, RequestFault, status_of, status_of_fault};
-use crate::requests::{Made, Way, make, run};
+use crate::requests::{Made, Way, make, run_command};
 use crate::safe_path::{SafePath, Writing, writing_of};
+use std::alloc::Global;
 use std::io;
-use std::io::Write;
+use std::io::{BufWriter, Write};
 use std::rt::Files;
-use uimg_base::Status;
+use uimg_base::{Out, Status};
 use uimg_compat::OldFault;
 use uimg_engine::Fault;
 use uimg_fit_base::FitFault;
@@ -40,48 +42,67 @@ impl<'a> How<'a> {
     }
 }
 
-/// Runs a command on an image. An extracted part is written beside its name, which it gets when it
-/// is complete.
-pub(crate) fn run_command<D: World, W: Write, V: Write>(
+/// Runs a command on an image; if it is to be quiet, nothing is printed. An extracted part is written
+/// beside its name, which it gets when it is complete. Returns `out`, too.
+pub(crate) fn run_old<D: World, W: Write + Drop, V: Write>(
     world: &mut D,
-    how: How<'_>,
-    request: RunRequest<'_>,
-    out: &mut W,
+    is_quiet: bool,
+    request: &RunRequest<'_>,
+    out: BufWriter<W, Global>,
     complaints: &mut Complaints<'_, V>,
-) -> u8
-    ensures { Ends result complaints.old.count complaints.new.count }
+) -> (u8, BufWriter<W, Global>)
+    ensures ends { Ends result.0 complaints.old.count complaints.new.count }
+    ensures told { IsTrue (D.map world.old).honest → request.now.outfile ≡ None →
+        AnswersRun is_quiet request.now (D.map world.old) result.0
+        (writer_contents W.contents out) (writer_contents W.contents result.1) }
+    ensures flushed { request.now.outfile ≡ None → result.0 ≢ 3 → writer_buffer out ≡ [] →
+        writer_buffer result.1 ≡ [] }
 {
     let Some(outfile) = request.outfile else {
-        return run_in_place(world, how, &request, out, complaints);
+        return run_in_place(world, is_quiet, request, out, complaints);
     };
-    match writing_of(world, world.alloc(), outfile) {
+    let status = match writing_of(world, world.alloc(), outfile) {
         Ok(Writing::InPlace | Writing::Pipe) => {
-            run_in_place(world, how, &request, out, complaints)
+            return run_in_place(world, is_quiet, request, out, complaints);
         }
         Ok(Writing::Beside(file, path)) => {
             let begun = Begun { file, path: &path };
-            run_beside(world, &request, begun, out, complaints)
+            run_beside(world, request, begun, complaints)
         }
         Ok(Writing::Nowhere(reason)) => complaints.tell_unwritten(outfile, &reason),
         Err(_) => complaints.tell_no_memory(),
-    }
+    };
+    (status, out)
 }
 
-fn run_in_place<D: World, W: Write, V: Write>(
+fn run_in_place<D: World, W: Write + Drop, V: Write>(
     world: &mut D,
-    how: How<'_>,
+    is_quiet: bool,
     request: &RunRequest<'_>,
-    out: &mut W,
+    out: BufWriter<W, Global>,
     complaints: &mut Complaints<'_, V>,
-) -> u8
-    ensures { Ends result complaints.old.count complaints.new.count }
+) -> (u8, BufWriter<W, Global>)
+    ensures ends { Ends result.0 complaints.old.count complaints.new.count }
+    ensures told { IsTrue (D.map world.old).honest → request.now.outfile ≡ None →
+        AnswersRun is_quiet request.now (D.map world.old) result.0
+        (writer_contents W.contents out) (writer_contents W.contents result.1) }
+    ensures flushed { result.0 ≢ 3 → writer_buffer out ≡ [] → writer_buffer result.1 ≡ [] }
 {
-    let made = if how.is_quiet {
-        run(world, request, None, &mut io::sink())
-    } else {
-        run(world, request, None, out)
+    if is_quiet {
+        let end = run_command(world, request, None, &mut Out::new(io::sink()));
+        return (tell_end(world, &end, request.image, complaints), out);
+    }
+    let mut out = Out::new(out);
+    let end = run_command(world, request, None, &mut out);
+    let mut out = out.into_inner();
+    let made = Made {
+        end,
+        printed: out.flush(),
     };
-    tell_end(world, &made.told(), request.image, complaints)
+    (
+        tell_end(world, &made.told(), request.image, complaints),
+        out,
+    )
 }
 
 /// A file that is written beside its name, and its paths.
@@ -90,17 +111,16 @@ pub(crate) struct Begun<'a, F: Drop> {
     pub(crate) path: &'a SafePath,
 }
 
-fn run_beside<D: World, W: Write, V: Write>(
+fn run_beside<D: World, V: Write>(
     world: &mut D,
     request: &RunRequest<'_>,
     begun: Begun<'_, D::File>,
-    out: &mut W,
     complaints: &mut Complaints<'_, V>,
 ) -> u8
     ensures { Ends result complaints.old.count complaints.new.count }
 {
     let Begun { file, path } = begun;
-    let end = run(world, request, Some(file), out).told();
+    let end = run_command(world, request, Some(file), &mut Out::new(io::sink()));
     tell_written(world, path, &end, request.image, complaints)
 }
 

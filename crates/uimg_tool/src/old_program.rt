@@ -1,13 +1,15 @@
 //! The program with the names of mkimage and dumpimage.
 
-ghost use Rattle.std.specs.Prelude.{◌≡◌, IfErr, map, option_map};
+ghost use Rattle.std.specs.Prelude.{◌≡◌, [], IfErr, IfOk, IfSome, IsTrue, Some, map, option_map};
+ghost use Rattle.std.specs.Io.Buffered.{writer_buffer, writer_contents};
 ghost use Rattle.uimg_tool.specs.Complaints.{Ends};
+ghost use Rattle.uimg_tool.specs.Commands.{AnswersOld, FlushesOld};
 ghost use Rattle.uimg_tool.specs.{Programs.{ReadsOld}, Statuses.old_words_status};
 
 use crate::auto_program::make_auto;
 use crate::complaints::Complaints;
 use crate::fit_program::make_fit;
-use crate::old_files::{How, make_image, run_command};
+use crate::old_files::{How, make_image, run_old};
 use crate::old_tools::Tool;
 use crate::request_fault::{DONE, WRONG_LINE};
 use crate::update_program::update_image;
@@ -18,7 +20,7 @@ use std::rt::Files;
 use uimg_compat::{OldFault, OldRequest, Show, read_dumpimage, read_mkimage, title_of};
 use uimg_names::Field;
 use uimg_requests::VERSION;
-use uimg_unpacking::DiskWorld;
+use uimg_unpacking::World;
 
 /// Takes the words of a command line, the program's name first, as this tool of U-Boot 2023.01
 /// does.
@@ -40,57 +42,67 @@ pub(crate) fn read_old_words<'a>(
     }
 }
 
-/// Carries out what a tool's command line requests, and returns the exit status. An image is written
-/// to a new file and gets its name when it is complete, unless something exists there that is not a
-/// regular file.
-pub(crate) fn carry_out_old<R: Files + AllocGlobal, W: Write, V: Write>(
+/// Carries out what a tool's command line requests. An image is written to a new file and gets its
+/// name when it is complete, unless something exists there that is not a regular file. Returns the
+/// status, and `out` unless memory for its buffer was refused.
+pub(crate) fn carry_out_old<R: Files + AllocGlobal, D: World, W: Write + Drop, V: Write>(
     rt: &R,
+    world: &mut D,
     tool: Tool,
     asked: Result<OldRequest<'_>, OldFault<'_>>,
-    out: &mut W,
+    out: W,
     complaints: &mut Complaints<'_, V>,
-) -> u8
-    ensures ends { Ends result complaints.old.count complaints.new.count }
-    ensures refused { IfErr asked.entry (λ fault. result ≡ old_words_status fault) }
-    ensures unprinted { IfErr asked.entry (λ fault. out.new ≡ out.old) }
+) -> (u8, Option<W>)
+    ensures ends { Ends result.0 complaints.old.count complaints.new.count }
+    ensures refused { IfErr asked.entry (λ fault. result.0 ≡ old_words_status fault) }
+    ensures unprinted { IfErr asked.entry (λ fault. result.1 ≡ Some out) }
+    ensures told { IsTrue (D.map world.old).honest → IfOk asked.entry (λ it. IfSome result.1 (λ written.
+        AnswersOld it (D.map world.old) result.0 (W.contents out) (W.contents written))) }
 {
     match asked {
         Ok(request) => match BufWriter::new(rt.alloc(), out) {
-            Ok(mut gathered) => {
-                let status = carry_out_request(rt, tool, request, &mut gathered, complaints);
+            Ok(gathered) => {
+                let (status, gathered) = carry_out_request(
+                    rt, world, tool, request, gathered, complaints,
+                );
                 // A failed write leaves text in the buffer, which its drop would try to write again.
-                let (_, _) = gathered.into_parts();
-                status
+                let (out, _) = gathered.into_parts();
+                (status, Some(out))
             }
-            Err(_) => complaints.tell_no_memory(),
+            Err(_) => (complaints.tell_no_memory(), None),
         },
-        Err(OldFault::OutOfMemory) => complaints.tell_no_memory(),
-        Err(fault) => complaints.tell(&fault, WRONG_LINE),
+        Err(OldFault::OutOfMemory) => (complaints.tell_no_memory(), Some(out)),
+        Err(fault) => (complaints.tell(&fault, WRONG_LINE), Some(out)),
     }
 }
 
-fn carry_out_request<R: Files + AllocGlobal, W: Write, V: Write>(
+// Carries out a request. Returns `out`, too.
+fn carry_out_request<R: Files + AllocGlobal, D: World, W: Write + Drop, V: Write>(
     rt: &R,
+    world: &mut D,
     tool: Tool,
     request: OldRequest<'_>,
-    out: &mut W,
+    mut out: BufWriter<W, Global>,
     complaints: &mut Complaints<'_, V>,
-) -> u8
-    ensures { Ends result complaints.old.count complaints.new.count }
+) -> (u8, BufWriter<W, Global>)
+    ensures ends { Ends result.0 complaints.old.count complaints.new.count }
+    ensures told { IsTrue (D.map world.old).honest → AnswersOld request.entry (D.map world.old) result.0
+        (writer_contents W.contents out) (writer_contents W.contents result.1) }
+    ensures flushed { writer_buffer out ≡ [] → FlushesOld request.entry result.0 (writer_buffer result.1) }
 {
-    match request {
+    let status = match request {
         OldRequest::Run { request, is_quiet } => {
-            let world = &mut DiskWorld::new(rt);
-            run_command(world, How::new(is_quiet), request, out, complaints)
+            return run_old(world, is_quiet, &request, out, complaints);
         }
         OldRequest::Make { request, is_quiet } => {
-            make_image(rt, How::new(is_quiet), request, out, complaints)
+            make_image(rt, How::new(is_quiet), request, &mut out, complaints)
         }
-        OldRequest::MakeFit(request) => make_fit(rt, &request, out, complaints),
-        OldRequest::MakeAuto(request) => make_auto(rt, &request, out, complaints),
-        OldRequest::Update(request) => update_image(rt, &request, out, complaints),
-        OldRequest::Show(show) => show_text(tool, show, out, complaints),
-    }
+        OldRequest::MakeFit(request) => make_fit(rt, &request, &mut out, complaints),
+        OldRequest::MakeAuto(request) => make_auto(rt, &request, &mut out, complaints),
+        OldRequest::Update(request) => update_image(rt, &request, &mut out, complaints),
+        OldRequest::Show(show) => show_text(tool, show, &mut out, complaints),
+    };
+    (status, out)
 }
 
 // Prints a text. The names of a field go to standard error, as with the originals.

@@ -68,22 +68,6 @@ impl<'a> Made<'a> {
     }
 }
 
-/// Runs the requested command on its image, and flushes what it printed.
-pub(crate) fn run<'a, D: World, W: Write>(
-    world: &mut D,
-    request: &RunRequest<'a>,
-    file: Option<D::File>,
-    out: &mut W,
-) -> Made<'a>
-    ensures { RunEnds request.now result.end }
-{
-    let end = run_command(world, request, file, &mut Out::new(&mut *out));
-    Made {
-        end,
-        printed: out.flush(),
-    }
-}
-
 /// Makes the requested image, and flushes what that printed.
 pub(crate) fn make<'a, R: Files + AllocGlobal, W: Write>(
     rt: &'a R,

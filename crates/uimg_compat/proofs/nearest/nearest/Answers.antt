@@ -1,4 +1,4 @@
-use Rattle.std.proofs.Common.{◌≡◌, ◌∙◌, ◌+◌, ◌∷◌, ℕ, List, Option, Some, ap, sym, map, drop, get_or, option_map, lt-ltb}
+use Rattle.std.proofs.Common.{◌∙◌, ◌+◌, ap, sym, map, drop, option_map, lt-ltb}
 use Rattle.std.specs.Option.{option_or}
 use Rattle.uimg_texts.specs.CodeRows.{row_of}
 use Rattle.uimg_compat.specs.{Getopt.Text, Nearest.{edits, nearest_below}}

@@ -1,6 +1,5 @@
-use Rattle.std.proofs.Common.{◌∙◌, sym}
+use Rattle.std.proofs.Common.{sym}
 use Rattle.uimg_compat.specs.Warnings.{about}
-use Rattle.uimg_compat.specs.WarningsOfNodes.{if_among}
 use Rattle.uimg_compat.proofs.SetLaws.{among, inserted, is_new, is_old, not_among}
 use Rattle.uimg_compat.proofs.TellingLaws.{told_as, told_none}
 use Rattle.uimg_compat.proofs.warnings.equal_names.tell_again.Goals as goal

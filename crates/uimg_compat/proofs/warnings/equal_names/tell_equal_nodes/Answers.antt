@@ -1,4 +1,4 @@
-use Rattle.std.proofs.Common.{◌∙◌, ◌+◌, ◌∷◌, [], ap, drop, sym, subst}
+use Rattle.std.proofs.Common.{◌∙◌, ◌+◌, ◌∷◌, [], ap, drop, sym}
 use Rattle.uimg_blob_writing.specs.Trees.{siblings}
 use Rattle.uimg_compat.specs.{Warnings.{equal_nodes, path_of}, WarningsOfNodes.{HasNames, each, node_names, repeated}}
 use Rattle.uimg_compat.proofs.EqualLaws.{all_told, none_yet, one_more, refused}

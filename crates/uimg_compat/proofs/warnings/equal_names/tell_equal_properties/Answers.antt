@@ -1,4 +1,4 @@
-use Rattle.std.proofs.Common.{◌∙◌, ◌+◌, ◌∷◌, [], ap, drop, sym, subst, map}
+use Rattle.std.proofs.Common.{◌∙◌, ◌+◌, ◌∷◌, [], ap, drop, sym, map}
 use Rattle.uimg_blob_writing.specs.Properties.{property}
 use Rattle.uimg_compat.specs.{Warnings.{equal_properties, path_of}, WarningsOfNodes.{HasNames, each, property_names, repeated}}
 use Rattle.uimg_compat.proofs.EqualLaws.{all_told, none_yet, one_more, refused}

@@ -1,4 +1,4 @@
-use Rattle.std.proofs.Common.{◌∙◌, ◌+◌, ◌∷◌, ◌++◌, [], ap, drop, sym}
+use Rattle.std.proofs.Common.{◌∙◌, ◌+◌, ◌++◌, ap, drop, sym}
 use Rattle.uimg_blob_writing.specs.Trees.{siblings}
 use Rattle.uimg_compat.specs.WarningsOfImages.{of_each_image, of_image}
 use Rattle.uimg_compat.proofs.LoopLaws.{left_at, nothing_left}

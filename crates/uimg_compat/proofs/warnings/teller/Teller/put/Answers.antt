@@ -1,4 +1,4 @@
-use Rattle.std.proofs.Common.{◌∙◌, sym, rules}
+use Rattle.std.proofs.Common.{◌∙◌, sym}
 use Rattle.uimg_compat.specs.Warnings.{line}
 use Rattle.uimg_compat.proofs.TellingLaws.{when_ok}
 use Rattle.uimg_compat.proofs.warnings.teller.Teller.put.Goals as goal

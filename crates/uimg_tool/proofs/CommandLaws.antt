@@ -1,0 +1,40 @@
+-- What was written to a buffer that is empty was written to what it buffers for.
+use Rattle.std.proofs.Common.{◌≡◌, ◌≢◌, ◌==◌, ℕ, List, [], Bool, true, false, Option, ◌⊎◌, inl, inr, refl, subst, eqb-true, eqb_apart}
+use Rattle.uimg_base.specs.Named.{FileMap}
+use Rattle.uimg_cli.specs.declared.command_line.Asked.{Asked}
+use Rattle.uimg_cli.specs.declared.command_line.Asked.TheVariants.{One, Check, Unpack, Map, Info}
+use Rattle.uimg_cli.specs.declared.command_line.Request.{Request}
+use Rattle.uimg_cli.specs.declared.command_line.Request.TheVariants as asked
+use Rattle.uimg_compat.specs.declared.request.OldRequest.{OldRequest}
+use Rattle.uimg_compat.specs.declared.request.OldRequest.TheVariants as old
+use Rattle.uimg_tool.specs.Commands.{AnswersAsked, AnswersOld, AnswersOne, FlushesOld}
+
+-- unless the status is 3
+decided : (status : ℕ) (Q : Option (List ℕ) → Type 0) (x y : Option (List ℕ)) (failed : Bool) → (status == 3) ≡ failed → (status ≢ 3 → x ≡ y) → Q x → (status ≡ 3) ⊎ Q y
+decided status Q x y true is same answer = inl (eqb-true status 3 is)
+decided status Q x y false is same answer = inr (subst Q (same (eqb_apart status 3 is)) answer)
+
+unless : (status : ℕ) (Q : Option (List ℕ) → Type 0) (x y : Option (List ℕ)) → (status ≢ 3 → x ≡ y) → (status ≡ 3) ⊎ Q x → (status ≡ 3) ⊎ Q y
+unless status Q x y same (inl failed) = inl failed
+unless status Q x y same (inr answer) = decided status Q x y (status == 3) refl same answer
+
+one : (it : Request) (files : FileMap) (status : ℕ) (old x y : Option (List ℕ)) → (status ≢ 3 → x ≡ y) → AnswersOne it files status old x → AnswersOne it files status old y
+one (asked.Run it) files status old x y same answers = λ none. unless status _ x y same (answers none)
+one (asked.Make it) files status old x y same answers = tt
+one (asked.Show text) files status old x y same answers = answers
+
+pub emptied : (it : Asked) (files : FileMap) (status : ℕ) (old x y : Option (List ℕ)) → (status ≢ 3 → x ≡ y) → AnswersAsked it files status old x → AnswersAsked it files status old y
+emptied (One it) files status old x y same answers = one it files status old x y same answers
+emptied (Check it) files status old x y same answers = unless status _ x y same answers
+emptied (Unpack it) files status old x y same answers = tt
+emptied (Map it) files status old x y same answers = tt
+emptied (Info it) files status old x y same answers = tt
+
+pub old_emptied : (it : OldRequest) (files : FileMap) (status : ℕ) (before x y : Option (List ℕ)) (left : List ℕ) → (left ≡ [] → x ≡ y) → FlushesOld it status left
+    → AnswersOld it files status before x → AnswersOld it files status before y
+old_emptied (old.Run it is_quiet) files status before x y left same flushed answers = λ none. unless status _ x y (λ fine. same (flushed none fine)) (answers none)
+old_emptied (old.Make it is_quiet) files status before x y left same flushed answers = tt
+old_emptied (old.MakeFit it) files status before x y left same flushed answers = tt
+old_emptied (old.MakeAuto it) files status before x y left same flushed answers = tt
+old_emptied (old.Update it) files status before x y left same flushed answers = tt
+old_emptied (old.Show it) files status before x y left same flushed answers = tt
