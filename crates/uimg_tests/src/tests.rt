@@ -15,3 +15,4 @@ mod runs;
 mod samples;
 mod streams;
 mod times;
+mod worlds;

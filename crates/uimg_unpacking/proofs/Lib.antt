@@ -1,5 +1,7 @@
 pub mod Answered
+pub mod BelowLaws
 pub mod Cleaned
+pub mod NameLaws
 pub mod NamingLaws
 pub mod Placing
 pub mod Printed

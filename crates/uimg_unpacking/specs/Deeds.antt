@@ -6,6 +6,8 @@ use Rattle.std.specs.declared.io.Error.{Error}
 use Rattle.std.specs.declared.io.ErrorKind.{ErrorKind}
 use Rattle.std.specs.declared.io.ErrorKind.TheVariants.{AlreadyExists}
 use Rattle.std.specs.IoError.{error_kind}
+use Rattle.std.specs.Path.{path_buf_bytes}
+use Rattle.std.specs.declared.path.buf.PathBuf.{PathBuf}
 use Rattle.uimg_unpacking.specs.declared.kind.Kind.{Kind}
 use Rattle.uimg_unpacking.specs.declared.kind.Kind.TheVariants.{Nothing, File, Folder, Link}
 use Rattle.uimg_unpacking.specs.declared.kind.Target.{Target}
@@ -34,6 +36,11 @@ IsKindOf (Ok found) File = (IsDir (file_type found) → ⊥) × (IsSymlink (file
 IsKindOf (Ok found) Nothing = ⊥
 IsKindOf (Err error) kind = kind ≡ Nothing
 
+-- the path that a call answers, if it does
+abbrev pub resolved : {Z E : Type 0} → Result (PathBuf Z) E → Option (List ℕ)
+resolved (Ok path) = Some (path_buf_bytes path)
+resolved (Err error) = None
+
 -- a call, on which paths, and its answer
 pub data Deed : Type 0 where
   Creates : List ℕ → Answer → Deed
@@ -44,7 +51,7 @@ pub data Deed : Type 0 where
   RemovesFolder : List ℕ → Answer → Deed
   RemovesAll : List ℕ → Answer → Deed
   Syncs : List ℕ → Answer → Deed
-  Resolves : List ℕ → Answer → Deed
+  Resolves : List ℕ → Option (List ℕ) → Deed
   Looks : List ℕ → Kind → Deed
   Identifies : List ℕ → Option FileId → Deed
   Opens : List ℕ → Bool → Deed
@@ -72,6 +79,9 @@ abbrev pub file_at : List ℕ → Option FileId
 file_at [] = None
 file_at (device ∷ rest) = Some (record { device = device; inode = slice_index rest 0 })
 
+abbrev pub resolved_at : ℕ → List ℕ → Option (List ℕ)
+resolved_at code path = if code == 0 then Some path else None
+
 abbrev pub deed_at : ℕ → List ℕ → List ℕ → List ℕ → Deed
 deed_at call rest from to =
     if call == 0 then Creates from (answer_at (slice_index rest 0))
@@ -82,7 +92,7 @@ deed_at call rest from to =
     else if call == 5 then RemovesFolder from (answer_at (slice_index rest 0))
     else if call == 6 then RemovesAll from (answer_at (slice_index rest 0))
     else if call == 7 then Syncs from (answer_at (slice_index rest 0))
-    else if call == 8 then Resolves from (answer_at (slice_index rest 0))
+    else if call == 8 then Resolves from (resolved_at (slice_index rest 0) to)
     else if call == 9 then Looks from (kind_at (slice_index rest 0))
     else if call == 10 then Identifies from (file_at rest)
     else if call == 11 then Opens from (is_opened_at (slice_index rest 0))
@@ -104,12 +114,5 @@ changes_only ok (Removes path _) = ok path
 changes_only ok (MakesFolder path _) = ok path
 changes_only ok (RemovesFolder path _) = ok path
 changes_only ok (RemovesAll path _) = ok path
-changes_only ok (Syncs _ _) = true
-changes_only ok (Resolves _ _) = true
-changes_only ok (Looks _ _) = true
-changes_only ok (Identifies _ _) = true
-changes_only ok (Opens _ _) = true
-changes_only ok (Explains _) = true
-changes_only ok (Reads _ _) = true
-changes_only ok (Finds _ _) = true
 changes_only ok (Overwrites path _) = ok path
+changes_only ok _ = true

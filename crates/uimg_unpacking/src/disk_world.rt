@@ -149,8 +149,13 @@ impl<'a, R: Files + AllocGlobal> World for DiskWorld<'a, R> {
 
     fn canonicalize(&mut self, path: &str) -> io::Result<PathBuf> {
         let resolved = fs::canonicalize(self.rt, path);
-        let call = [RESOLVES, code_of(&resolved)];
-        self.record.note(&call, path.as_bytes(), b"");
+        match &resolved {
+            Ok(found) => {
+                let found = found.as_str().as_bytes();
+                self.record.note(&[RESOLVES, 0], path.as_bytes(), found);
+            }
+            Err(_) => self.record.note(&[RESOLVES, 1], path.as_bytes(), b""),
+        }
         resolved
     }
 

@@ -2,11 +2,12 @@
 
 ghost use Rattle.std.specs.Prelude.{◌≡◌, ◌++◌, codes, IfOk, string_bytes, decimal, false, true, is_ok, ℕ, List, Bool};
 ghost use Rattle.uimg_unpacking.specs.Allowing.{Allows};
-ghost use Rattle.uimg_unpacking.specs.Cleaning.{SeeksImage, CleansAt, removal};
+ghost use Rattle.uimg_unpacking.specs.Cleaning.{MayBeIn, SeeksImage, CleansAt, removal, is_at_or_below, ends_name};
 ghost use Rattle.uimg_unpacking.specs.Deeds.{answer_of};
 ghost use Rattle.uimg_unpacking.specs.Kinds.{is_no_link};
 ghost use Rattle.uimg_unpacking.specs.Places.{is_temporary_folder, stays_within};
 ghost use Rattle.uimg_unpacking.specs.Refusing.{refused_of};
+ghost use Rattle.uimg_unpacking.specs.Troubles.{done_in};
 
 use crate::disk_world::DiskWorld;
 use crate::file_id::FileId;
@@ -136,15 +137,18 @@ impl<'a> Folder<'a> {
 // Removes what exists at a path, with all in it. Returns whether anything did. Stops before it
 // removes the image, or a folder that has it.
 fn clean_at<W: World>(world: &mut W, path: String, image: Option<&str>) -> Result<bool, Trouble>
-    ensures { CleansAt (string_bytes path) image.entry (is_ok result)
+    ensures { CleansAt (string_bytes path) image.entry (done_in result)
         (W.trace world.old) (W.trace world.new) }
 {
     if is_or_has(world, path.as_str(), image) {
         return Err(Trouble::RemovesImage(ShownPath(path)));
     }
     let kind = world.kind_at(path.as_str());
+    if !kind.is_something() {
+        return Ok(false);
+    }
     match remove_at(world, path.as_str(), kind) {
-        Ok(()) => Ok(kind.is_something()),
+        Ok(()) => Ok(true),
         Err(reason) => Err(Trouble::CannotRemove(ShownPath(path), reason)),
     }
 }
@@ -169,13 +173,41 @@ fn is_or_has<W: World>(world: &mut W, path: &str, image: Option<&str>) -> bool
     let Some(image) = image else {
         return false;
     };
-    let found = world.canonicalize(path);
-    let (Ok(path), Ok(image)) = (found, world.canonicalize(image)) else {
-        return is_no_link(world.kind_at(path)) && world.kind_at(image).is_something();
-    };
-    match image.as_str().strip_prefix(path.as_str()) {
-        Some(rest) => rest.is_empty() || rest.starts_with('/'),
+    let folder = world.canonicalize(path);
+    let file = world.canonicalize(image);
+    match (folder, file) {
+        (Ok(folder), Ok(file)) => {
+            is_at_or_below(file.as_str().as_bytes(), folder.as_str().as_bytes())
+        }
+        (Err(_), _) => may_be_in(world, path, image),
+        (Ok(_), Err(_)) => may_be_in(world, path, image),
+    }
+}
+
+// Returns whether the file of an image may be at a path, or in a folder there.
+fn may_be_in<W: World>(world: &mut W, path: &str, image: &str) -> bool
+    ensures { MayBeIn path.now image.now result (W.trace world.old) (W.trace world.new) }
+{
+    is_no_link(world.kind_at(path)) && world.kind_at(image).is_something()
+}
+
+// Returns whether a path is that of a folder, or that of something in it.
+fn is_at_or_below(path: &[u8], folder: &[u8]) -> bool
+    ensures { result ≡ is_at_or_below folder.now path.now }
+{
+    match path.strip_prefix(folder) {
+        Some(rest) => ends_name(rest),
         None => false,
+    }
+}
+
+// Returns whether a name ends before what follows it: nothing, or a slash and more.
+fn ends_name(rest: &[u8]) -> bool
+    ensures { result ≡ ends_name rest.now }
+{
+    match rest.first() {
+        Some(byte) => *byte == b'/',
+        None => true,
     }
 }
 

@@ -1,9 +1,9 @@
 //! The names of files, each used once.
 
-ghost use Rattle.std.specs.Prelude.{◌≡◌, ◌++◌, [], codes, decimal, not, IfOk, IfSome, string_bytes, true};
+ghost use Rattle.std.specs.Prelude.{◌≡◌, ◌++◌, [], codes, decimal, not, IfOk, IfSome, OnOk, string_bytes, true, false};
 ghost use Rattle.std.specs.Bool.{OnFalse};
 ghost use Rattle.uimg_unpacking.specs.FileNames.{is_file_name};
-ghost use Rattle.uimg_unpacking.specs.Names.{is_used};
+ghost use Rattle.uimg_unpacking.specs.Names.{is_used, StayUsed};
 
 use crate::file_names::is_file_name;
 use std::alloc::{AllocError, Global};
@@ -39,8 +39,13 @@ impl Names {
     /// used. Returns none if a hundred of these were used. Fails if memory is refused.
     #[tactic(auto, using(crate::proofs::Placing::image_name))]
     pub(crate) fn next(&mut self, name: &NodeName) -> Result<Option<String>, AllocError>
-        ensures { IfOk result (λ it. IfSome it (λ text.
+        ensures is_name { IfOk result (λ it. IfSome it (λ text.
             is_file_name (string_bytes text) ≡ true)) }
+        ensures is_new { IfOk result (λ it. IfSome it (λ text.
+            is_used self.old.given (string_bytes text) ≡ false)) }
+        ensures used { IfOk result (λ it. IfSome it (λ text.
+            is_used self.new.given (string_bytes text) ≡ true)) }
+        ensures stays { StayUsed self.old.given self.new.given }
     {
         let number = self.count;
         self.count = self.count.saturating_add(1);
@@ -70,6 +75,8 @@ impl Names {
     fn give(&mut self, name: &str) -> Result<bool, AllocError>
         ensures is_new { IfOk result (λ is_new. is_new ≡ not (is_used self.old.given name.now)) }
         ensures same { IfOk result (λ is_new. OnFalse is_new (self.new.given.keys ≡ self.old.given.keys)) }
+        ensures used { OnOk result (is_used self.new.given name.now ≡ true) }
+        ensures stays { StayUsed self.old.given self.new.given }
         ensures count { self.new.count ≡ self.old.count }
     {
         let mut small = Vec::from_slice(self.alloc, name.as_bytes())?;

@@ -19,12 +19,7 @@ use std::io::ErrorKind;
 
 /// Moves a file to another path. Unless it replaces an existing file, it makes a hard link first,
 /// which fails if something exists there; on a file system without links it checks that itself.
-pub fn name_file<W: World>(
-    world: &mut W,
-    path: &str,
-    whole: &str,
-    replaces: bool,
-) -> io::Result<()>
+pub fn name_file<W: World>(world: &mut W, path: &str, whole: &str, replaces: bool) -> io::Result<()>
     ensures { GivesName path.now whole.now replaces (answer_of result)
         (W.trace world.old) (W.trace world.new) }
 {

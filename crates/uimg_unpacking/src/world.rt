@@ -18,7 +18,7 @@ use uimg_base::{Source, SourceFault};
 pub trait World: Drop {
     ghost use Rattle.std.specs.Prelude.{◌≡◌, List, ◌∷◌, None, IfOk, IsTrue, OnErr, is_err, is_ok};
     ghost use Rattle.uimg_base.specs.{Device.RisesIf, Named.{FileMap, SameFiles, Opens}};
-    ghost use Rattle.uimg_unpacking.specs.Deeds.{Deed, answer_of};
+    ghost use Rattle.uimg_unpacking.specs.Deeds.{Deed, answer_of, resolved};
 
     /// A file to read or to write to.
     type File: Read + Write + OpenFile + Drop;
@@ -103,7 +103,7 @@ pub trait World: Drop {
 
     /// Returns a path without links and dots, to what exists at a path.
     fn canonicalize(&mut self, path: &str) -> io::Result<PathBuf>
-        ensures { trace self.new ≡ Deed.Resolves path.now (answer_of result) ∷ trace self.old };
+        ensures { trace self.new ≡ Deed.Resolves path.now (resolved result) ∷ trace self.old };
 
     /// Returns what exists at a path; links are not followed.
     fn kind_at(&mut self, path: &str) -> Kind

@@ -1,0 +1,189 @@
+//! Files in memory, which can be opened and read.
+
+ghost use Rattle.std.specs.Prelude.{◌≡◌, ◌∷◌, [], true};
+ghost use Rattle.std.specs.Option.{option_map};
+ghost use Rattle.uimg_base.specs.Named.{bytes_named};
+ghost use Rattle.uimg_unpacking.specs.Deeds.{Answer, answer_of, deed_of};
+
+use crate::call_codes::*;
+use crate::file_id::FileId;
+use crate::kind::{Kind, Target};
+use crate::memory_file::{MemoryFile, read_only};
+use crate::record::Record;
+use crate::world::World;
+use std::alloc::Global;
+use std::io;
+use std::path::PathBuf;
+use uimg_base::{MemSource, SourceFault};
+
+/// The number of the answer that a call failed.
+const FAILED: u64 = 2;
+
+/// Files in memory: pairs of a path and its bytes. Of equal paths, the first counts.
+///
+/// They are honest and complete. Each call that would change them fails.
+#[derive(Drop)]
+pub struct MemoryWorld<'a> {
+    alloc: Global,
+    files: &'a [(&'a [u8], &'a [u8])],
+    record: Record,
+    refusals: u64,
+}
+
+impl<'a> MemoryWorld<'a> {
+    /// Returns a world of these files, which was not asked for anything yet.
+    pub fn new(alloc: Global, files: &'a [(&'a [u8], &'a [u8])]) -> MemoryWorld<'a>
+        ensures map { ⟦<MemoryWorld<'a> as World>⟧.map result ≡ record {
+          bytes = λ path. bytes_named path files.now;
+          honest = true;
+          complete = true;
+          refusals = 0;
+        } }
+        ensures trace { ⟦<MemoryWorld<'a> as World>⟧.trace result ≡ [] }
+    {
+        MemoryWorld {
+            alloc,
+            files,
+            record: Record::new(),
+            refusals: 0,
+        }
+    }
+
+    // Returns the bytes of the first file at a path.
+    fn bytes_at(&self, path: &str) -> Option<&'a [u8]>
+        ensures { option_map (λ bytes. bytes.now) result ≡ bytes_named path.now self.now.files.now }
+    {
+        for (known, bytes) in self.files {
+            if *known == path.as_bytes() {
+                return Some(*bytes);
+            }
+        }
+        None
+    }
+
+    // Notes a call, and returns that it failed.
+    fn refuse<X>(&mut self, call: u64, path: &str, other: &str) -> io::Result<X>
+        ensures failed { answer_of result ≡ Answer.Failed }
+        ensures noted { self.new.record.deeds
+            ≡ deed_of (call ∷ 2 ∷ []) path.now other.now ∷ self.old.record.deeds }
+        ensures files { self.new.files ≡ self.old.files }
+    {
+        let call = [call, FAILED];
+        self.record.note(&call, path.as_bytes(), other.as_bytes());
+        Err(read_only())
+    }
+}
+
+impl<'a> World for MemoryWorld<'a> {
+    type File = MemoryFile<'a>;
+
+    type Opened = MemSource<'a>;
+
+    ghost trace = { λ world. world.record.deeds };
+
+    ghost map = { λ world. record {
+      bytes = λ path. bytes_named path world.files.now;
+      honest = true;
+      complete = true;
+      refusals = world.refusals;
+    } };
+
+    fn alloc(&self) -> Global {
+        self.alloc
+    }
+
+    fn open(&mut self, path: &str) -> Result<MemSource<'a>, SourceFault> {
+        match self.bytes_at(path) {
+            Some(bytes) => {
+                self.record.note(&[OPENS, 0], path.as_bytes(), b"");
+                Ok(MemSource::new(bytes))
+            }
+            None => {
+                self.record.note(&[OPENS, 1], path.as_bytes(), b"");
+                self.refusals = self.refusals.saturating_add(1);
+                Err(SourceFault)
+            }
+        }
+    }
+
+    fn reason_unread(&mut self, path: &str) -> Option<io::Error> {
+        self.record.note(&[EXPLAINS], path.as_bytes(), b"");
+        None
+    }
+
+    fn read(&mut self, path: &str) -> io::Result<MemoryFile<'a>> {
+        match self.bytes_at(path) {
+            Some(bytes) => {
+                self.record.note(&[READS, 0], path.as_bytes(), b"");
+                Ok(MemoryFile::new(bytes))
+            }
+            None => self.refuse(READS, path, ""),
+        }
+    }
+
+    fn target_of(&mut self, path: &str) -> Target {
+        let target = match self.bytes_at(path) {
+            Some(_) => Target::File,
+            None => Target::Nothing,
+        };
+        let call = [FINDS, code_of_target(target)];
+        self.record.note(&call, path.as_bytes(), b"");
+        target
+    }
+
+    fn create(&mut self, path: &str) -> io::Result<MemoryFile<'a>> {
+        self.refuse(OVERWRITES, path, "")
+    }
+
+    fn create_new(&mut self, path: &str) -> io::Result<MemoryFile<'a>> {
+        self.refuse(CREATES, path, "")
+    }
+
+    fn hard_link(&mut self, from: &str, to: &str) -> io::Result<()> {
+        self.refuse(LINKS, from, to)
+    }
+
+    fn rename(&mut self, from: &str, to: &str) -> io::Result<()> {
+        self.refuse(RENAMES, from, to)
+    }
+
+    fn remove_file(&mut self, path: &str) -> io::Result<()> {
+        self.refuse(REMOVES, path, "")
+    }
+
+    fn create_dir(&mut self, path: &str) -> io::Result<()> {
+        self.refuse(MAKES_FOLDER, path, "")
+    }
+
+    fn remove_dir(&mut self, path: &str) -> io::Result<()> {
+        self.refuse(REMOVES_FOLDER, path, "")
+    }
+
+    fn remove_dir_all(&mut self, path: &str) -> io::Result<()> {
+        self.refuse(REMOVES_ALL, path, "")
+    }
+
+    fn sync_dir(&mut self, path: &str) -> io::Result<()> {
+        self.refuse(SYNCS, path, "")
+    }
+
+    fn canonicalize(&mut self, path: &str) -> io::Result<PathBuf> {
+        self.record.note(&[RESOLVES, FAILED], path.as_bytes(), b"");
+        Err(read_only())
+    }
+
+    fn kind_at(&mut self, path: &str) -> Kind {
+        let kind = match self.bytes_at(path) {
+            Some(_) => Kind::File,
+            None => Kind::Nothing,
+        };
+        let call = [LOOKS, code_of_kind(kind)];
+        self.record.note(&call, path.as_bytes(), b"");
+        kind
+    }
+
+    fn file_at(&mut self, path: &str) -> Option<FileId> {
+        self.record.note(&[IDENTIFIES], path.as_bytes(), b"");
+        None
+    }
+}
