@@ -7,7 +7,7 @@ use Rattle.uimg_cli.specs.declared.command_line.Request.{Request}
 use Rattle.uimg_cli.specs.declared.command_line.Request.TheVariants as asked
 use Rattle.uimg_compat.specs.declared.request.OldRequest.{OldRequest}
 use Rattle.uimg_compat.specs.declared.request.OldRequest.TheVariants as old
-use Rattle.uimg_tool.specs.Commands.{AnswersAsked, AnswersOld, AnswersOne, FlushesOld}
+use Rattle.uimg_tool.specs.Commands.{AnswersAsked, AnswersOld, AnswersOne, Flushes, FlushesOld}
 
 -- unless the status is 3
 decided : (status : ℕ) (Q : Option (List ℕ) → Type 0) (x y : Option (List ℕ)) (failed : Bool) → (status == 3) ≡ failed → (status ≢ 3 → x ≡ y) → Q x → (status ≡ 3) ⊎ Q y
@@ -23,12 +23,18 @@ one (asked.Run it) files status old x y same answers = λ none. unless status _ 
 one (asked.Make it) files status old x y same answers = tt
 one (asked.Show text) files status old x y same answers = answers
 
-pub emptied : (it : Asked) (files : FileMap) (status : ℕ) (old x y : Option (List ℕ)) → (status ≢ 3 → x ≡ y) → AnswersAsked it files status old x → AnswersAsked it files status old y
-emptied (One it) files status old x y same answers = one it files status old x y same answers
-emptied (Check it) files status old x y same answers = unless status _ x y same answers
-emptied (Unpack it) files status old x y same answers = tt
-emptied (Map it) files status old x y same answers = tt
-emptied (Info it) files status old x y same answers = tt
+asked_emptied : (it : Asked) (files : FileMap) (status : ℕ) (before x y : Option (List ℕ)) (left : List ℕ) → Flushes it status left → (left ≡ [] → x ≡ y)
+    → AnswersAsked it files status before x → AnswersAsked it files status before y
+asked_emptied (One it) files status before x y left flushed same answers = one it files status before x y (λ fine. same (flushed fine)) answers
+asked_emptied (Check it) files status before x y left flushed same answers = unless status _ x y (λ fine. same (flushed fine)) answers
+asked_emptied (Unpack it) files status before x y left flushed same answers = tt
+asked_emptied (Map it) files status before x y left flushed same answers = tt
+asked_emptied (Info it) files status before x y left flushed same answers = tt
+
+pub emptied : (it : Asked) (files : FileMap) (status : ℕ) (before old x y new : Option (List ℕ)) (left : List ℕ) → Flushes it status left → (left ≡ [] → x ≡ y) → before ≡ old → y ≡ new
+    → AnswersAsked it files status before x → AnswersAsked it files status old new
+emptied it files status before old x y new left flushed same is gives answers =
+    subst (λ (z : Option (List ℕ)). AnswersAsked it files status z new) is (subst (λ (z : Option (List ℕ)). AnswersAsked it files status before z) gives (asked_emptied it files status before x y left flushed same answers))
 
 pub old_emptied : (it : OldRequest) (files : FileMap) (status : ℕ) (before x y : Option (List ℕ)) (left : List ℕ) → (left ≡ [] → x ≡ y) → FlushesOld it status left
     → AnswersOld it files status before x → AnswersOld it files status before y

@@ -27,6 +27,13 @@ AnswersAsked (Unpack it) files status old new = ⊤
 AnswersAsked (Map it) files status old new = ⊤
 AnswersAsked (Info it) files status old new = ⊤
 
+-- What a request leaves in a buffer that was empty: nothing, unless it failed. Of an unpacking, and of a
+-- map that is drawn to a file, nothing is claimed.
+abbrev pub Flushes : Asked → ℕ → List ℕ → Type 0
+Flushes (Unpack it) status left = ⊤
+Flushes (Map it) status left = it.picture ≡ None → status ≢ 3 → left ≡ []
+Flushes it status left = status ≢ 3 → left ≡ []
+
 -- A command on one image changes only the file of an extraction, a check and facts no file, a map none
 -- but its picture. What a making and an unpacking change is not said here.
 abbrev pub ChangesOne : Request → List Deed → List Deed → Type 0

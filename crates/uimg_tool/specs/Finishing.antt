@@ -1,10 +1,12 @@
 -- How a file that was written beside its name ends, by its paths.
-use Rattle.std.specs.Prelude.{List, Bool, string_bytes}
+use Rattle.std.specs.Prelude.{◌≡◌, List, Bool, string_bytes}
 use Rattle.uimg_unpacking.specs.Deeds.{Answer, Deed}
-use Rattle.uimg_tool.specs.BesidePaths.{Finishes}
+use Rattle.uimg_tool.specs.{BesidePaths.Finishes, Reading.changes}
 use Rattle.uimg_tool.specs.declared.safe_path.SafePath.{SafePath}
 
--- It gets its name if it is complete, and else is removed, whatever the calls answer.
+-- It gets its name if it is complete, and else is removed, whatever the calls answer. Nothing is changed
+-- after that.
 abbrev pub FinishesBy : SafePath → Bool → List Deed → List Deed → Type 0
-FinishesBy path is_complete before after = (answer : Answer)
-    × Finishes (string_bytes path.new) (string_bytes path.whole) is_complete answer before after
+FinishesBy path is_complete before after = (answer : Answer) × (ended : List Deed)
+    × Finishes (string_bytes path.new) (string_bytes path.whole) is_complete answer before ended
+    × (changes after ≡ changes ended)

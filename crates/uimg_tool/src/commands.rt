@@ -3,7 +3,7 @@
 
 ghost use Rattle.std.specs.Prelude.{◌≡◌, ◌≢◌, [], IsTrue, None, false};
 ghost use Rattle.std.specs.Io.Buffered.{writer_buffer, writer_contents, writer_inner};
-ghost use Rattle.uimg_tool.specs.{Commands.{AnswersAsked, AnswersOne, Changes, ChangesOne}, Complaints.Ends, Statuses.end_status};
+ghost use Rattle.uimg_tool.specs.{Commands.{AnswersAsked, AnswersOne, Changes, ChangesOne, Flushes}, Complaints.Ends, Statuses.end_status};
 ghost use Rattle.uimg_tool.specs.Running.{AnswersRun, AnswersShow, OnlyOverwrites};
 
 use crate::check_program::check_images;
@@ -11,7 +11,7 @@ use crate::complaints::{Complaints, is_closed};
 use crate::info_program::tell_facts;
 use crate::map_program::map_image;
 use crate::request_fault::{DONE, FAILED, REFUSED, RequestFault, status_of};
-use crate::requests::{Made, Way, make, run_command, show};
+use crate::requests::{Made, Way, make_command, run_command, show};
 use crate::unpack_program::unpack_image;
 use std::alloc::Global;
 use std::fmt::Display;
@@ -28,7 +28,7 @@ pub(crate) fn carry_out_asked<R: Files + AllocGlobal, D: World, W: Write + Drop,
     rt: &R,
     world: &mut D,
     asked: &Asked<'_>,
-    mut out: BufWriter<W, Global>,
+    out: BufWriter<W, Global>,
     complaints: &mut Complaints<'_, V>,
 ) -> (u8, W)
     requires { writer_buffer out ≡ [] }
@@ -37,7 +37,28 @@ pub(crate) fn carry_out_asked<R: Files + AllocGlobal, D: World, W: Write + Drop,
         (W.contents (writer_inner out)) (W.contents result.1) }
     ensures changed { Changes asked.now (D.trace world.old) (D.trace world.new) }
 {
-    let (status, out) = match asked {
+    let (status, out) = carry_out_buffered(rt, world, asked, out, complaints);
+    // A failed write leaves text in the buffer, which its drop would try to write again.
+    let (out, _) = out.into_parts();
+    (status, out)
+}
+
+// Does the same, and returns the buffer.
+fn carry_out_buffered<R: Files + AllocGlobal, D: World, W: Write + Drop, V: Write>(
+    rt: &R,
+    world: &mut D,
+    asked: &Asked<'_>,
+    mut out: BufWriter<W, Global>,
+    complaints: &mut Complaints<'_, V>,
+) -> (u8, BufWriter<W, Global>)
+    requires { writer_buffer out ≡ [] }
+    ensures ends { Ends result.0 complaints.old.count complaints.new.count }
+    ensures told { IsTrue (D.map world.old).honest → AnswersAsked asked.now (D.map world.old) result.0
+        (writer_contents W.contents out) (writer_contents W.contents result.1) }
+    ensures flushed { Flushes asked.now result.0 (writer_buffer result.1) }
+    ensures changed { Changes asked.now (D.trace world.old) (D.trace world.new) }
+{
+    match asked {
         Asked::One(request) => carry_out_one(rt, world, request, out, complaints),
         Asked::Check(request) => check_images(world, request, out, complaints),
         Asked::Unpack(request) => {
@@ -52,10 +73,7 @@ pub(crate) fn carry_out_asked<R: Files + AllocGlobal, D: World, W: Write + Drop,
             let status = tell_facts(world, request, &mut out, complaints);
             (status, out)
         }
-    };
-    // A failed write leaves text in the buffer, which its drop would try to write again.
-    let (out, _) = out.into_parts();
-    (status, out)
+    }
 }
 
 // Carries out a command on one image, the making of one, or prints a text. Returns `out`, too.
@@ -75,7 +93,10 @@ fn carry_out_one<'a, R: Files + AllocGlobal, D: World, W: Write + Drop, V: Write
     match request {
         Request::Run(request) => run_image(world, request, out, complaints),
         Request::Make(request) => {
-            let made = make(rt, request, Way::within(&[]), &mut out);
+            let made = Made {
+                end: make_command(rt, request, Way::within(&[]), &mut out),
+                printed: out.flush(),
+            };
             (tell_end(&made.told(), complaints), out)
         }
         Request::Show(text) => show_text(text, out, complaints),

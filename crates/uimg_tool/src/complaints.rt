@@ -1,7 +1,8 @@
 //! Standard error, where a fault is told in one line.
 
-ghost use Rattle.std.specs.{Prelude.{◌≡◌, ◌+◌, ◌-◌, ◌^◌, ◌≤◌, min}, IoError.error_kind};
+ghost use Rattle.std.specs.{Prelude.{◌≡◌, ◌∷◌, ◌+◌, ◌-◌, ◌^◌, ◌≤◌, min}, IoError.error_kind};
 ghost use Rattle.uimg_tool.specs.Complaints.{is_closed_pipe};
+ghost use Rattle.uimg_unpacking.specs.Deeds.{Deed};
 
 use crate::request_fault::{FAILED, RequestFault};
 use std::fmt::Display;
@@ -56,6 +57,7 @@ impl<'a, V: Write> Complaints<'a, V> {
     pub(crate) fn tell_unread<D: World>(&mut self, world: &mut D, path: &str) -> u8
         ensures status { result ≡ 3 }
         ensures once { self.new.count ≤ self.old.count + 1 }
+        ensures asked { D.trace world.new ≡ Deed.Explains path.now ∷ D.trace world.old }
     {
         let reason = world.reason_unread(path);
         let path = Printed(path.as_bytes());

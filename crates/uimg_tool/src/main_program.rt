@@ -8,7 +8,7 @@ ghost use Rattle.uimg_tool.specs.WordAnswers.{AnswersWords, epoch_of, words_of};
 
 use crate::commands::carry_out_asked;
 use crate::complaints::Complaints;
-use crate::old_program::{carry_out_old, read_old_words};
+use crate::old_program::{carry_out_old, complaints_of, read_old_words};
 use crate::old_tools::Tool;
 use crate::request_fault::{FAILED, WRONG_LINE};
 use std::alloc::Global;
@@ -44,7 +44,7 @@ pub fn program<R: Files + AllocGlobal, W: Write, V: Write>(
     let (status, _) = match Tool::of_words(words) {
         Some(tool) => {
             let asked = read_old_words(rt.alloc(), tool, words, epoch, now);
-            let complaints = &mut Complaints::new(tool.name(), err);
+            let complaints = &mut complaints_of(tool, err);
             carry_out_old(rt, world, tool, asked, out, complaints)
         }
         None => {

@@ -3,11 +3,11 @@
 ghost use Rattle.std.specs.Prelude.{◌≡◌, ◌≢◌, [], IsTrue, None, is_ok, if◌then◌else◌};
 ghost use Rattle.std.specs.Io.Buffered.{writer_buffer, writer_contents};
 ghost use Rattle.uimg_tool.specs.{Complaints.Ends, Finishing.FinishesBy, RequestEnds.{MakeEnds, is_about_source}};
-ghost use Rattle.uimg_tool.specs.{Running.AnswersRun, Statuses.end_status};
+ghost use Rattle.uimg_tool.specs.{Reading.changes, Running.AnswersRun, Statuses.end_status};
 
 use crate::complaints::Complaints;
 use crate::request_fault::{DONE, FAILED, REFUSED, RequestFault, status_of, status_of_fault};
-use crate::requests::{Made, Way, make, run_command};
+use crate::requests::{Made, Way, make_command, run_command};
 use crate::safe_path::{SafePath, Writing, writing_of};
 use std::alloc::Global;
 use std::io;
@@ -187,9 +187,14 @@ fn make_by<'a, R: Files + AllocGlobal, W: Write>(
     ensures { MakeEnds request.now result.end }
 {
     if how.is_quiet {
-        make(rt, request, way, &mut io::sink())
-    } else {
-        make(rt, request, way, out)
+        return Made {
+            end: make_command(rt, request, way, &mut io::sink()),
+            printed: Ok(()),
+        };
+    }
+    Made {
+        end: make_command(rt, request, way, out),
+        printed: out.flush(),
     }
 }
 
@@ -262,6 +267,7 @@ pub(crate) fn tell_end<D: World, V: Write>(
 ) -> u8
     ensures status { result ≡ end_status end.now }
     ensures ends { Ends result complaints.old.count complaints.new.count }
+    ensures kept { changes (D.trace world.new) ≡ changes (D.trace world.old) }
 {
     match end {
         Ok(Status::Done) => DONE,

@@ -68,22 +68,6 @@ impl<'a> Made<'a> {
     }
 }
 
-/// Makes the requested image, and flushes what that printed.
-pub(crate) fn make<'a, R: Files + AllocGlobal, W: Write>(
-    rt: &'a R,
-    request: &'a MakeRequest<'a>,
-    way: Way<'a, R::File>,
-    out: &mut W,
-) -> Made<'a>
-    ensures { MakeEnds request.now result.end }
-{
-    let end = make_command(rt, request, way, out);
-    Made {
-        end,
-        printed: out.flush(),
-    }
-}
-
 /// Prints help or the version.
 pub(crate) fn show<'a, D: Display, W: Write>(
     text: &D,
@@ -195,8 +179,8 @@ pub(crate) fn is_same_file<D: World>(world: &mut D, path: &str, other: &str) -> 
     }
 }
 
-// Makes the requested image in the file that is given, or else in the one at its path.
-fn make_command<'a, R: Files + AllocGlobal, W: Write>(
+/// Makes the requested image in the file that is given, or else in the one at its path.
+pub(crate) fn make_command<'a, R: Files + AllocGlobal, W: Write>(
     rt: &'a R,
     request: &'a MakeRequest<'a>,
     way: Way<'a, R::File>,
