@@ -1,5 +1,5 @@
 -- What was written to a buffer that is empty was written to what it buffers for.
-use Rattle.std.proofs.Common.{◌≡◌, ◌≢◌, ◌==◌, ℕ, List, [], Bool, true, false, Option, ◌⊎◌, inl, inr, refl, subst, eqb-true, eqb_apart}
+use Rattle.std.proofs.Common.{◌≡◌, ◌≢◌, ◌==◌, ℕ, List, [], Bool, true, false, Option, ◌⊎◌, inl, inr, refl, subst, sym, eqb-true, false-eqb}
 use Rattle.uimg_base.specs.Named.{FileMap}
 use Rattle.uimg_cli.specs.declared.command_line.Asked.{Asked}
 use Rattle.uimg_cli.specs.declared.command_line.Asked.TheVariants.{One, Check, Unpack, Map, Info}
@@ -12,7 +12,7 @@ use Rattle.uimg_tool.specs.Commands.{AnswersAsked, AnswersOld, AnswersOne, Flush
 -- unless the status is 3
 decided : (status : ℕ) (Q : Option (List ℕ) → Type 0) (x y : Option (List ℕ)) (failed : Bool) → (status == 3) ≡ failed → (status ≢ 3 → x ≡ y) → Q x → (status ≡ 3) ⊎ Q y
 decided status Q x y true is same answer = inl (eqb-true status 3 is)
-decided status Q x y false is same answer = inr (subst Q (same (eqb_apart status 3 is)) answer)
+decided status Q x y false is same answer = inr (subst Q (same (false-eqb status 3 (sym is))) answer)
 
 unless : (status : ℕ) (Q : Option (List ℕ) → Type 0) (x y : Option (List ℕ)) → (status ≢ 3 → x ≡ y) → (status ≡ 3) ⊎ Q x → (status ≡ 3) ⊎ Q y
 unless status Q x y same (inl failed) = inl failed
@@ -36,11 +36,16 @@ pub emptied : (it : Asked) (files : FileMap) (status : ℕ) (before old x y new 
 emptied it files status before old x y new left flushed same is gives answers =
     subst (λ (z : Option (List ℕ)). AnswersAsked it files status z new) is (subst (λ (z : Option (List ℕ)). AnswersAsked it files status before z) gives (asked_emptied it files status before x y left flushed same answers))
 
-pub old_emptied : (it : OldRequest) (files : FileMap) (status : ℕ) (before x y : Option (List ℕ)) (left : List ℕ) → (left ≡ [] → x ≡ y) → FlushesOld it status left
+still_old : (it : OldRequest) (files : FileMap) (status : ℕ) (before x y : Option (List ℕ)) (left : List ℕ) → (left ≡ [] → x ≡ y) → FlushesOld it status left
     → AnswersOld it files status before x → AnswersOld it files status before y
-old_emptied (old.Run it is_quiet) files status before x y left same flushed answers = λ none. unless status _ x y (λ fine. same (flushed none fine)) (answers none)
-old_emptied (old.Make it is_quiet) files status before x y left same flushed answers = tt
-old_emptied (old.MakeFit it) files status before x y left same flushed answers = tt
-old_emptied (old.MakeAuto it) files status before x y left same flushed answers = tt
-old_emptied (old.Update it) files status before x y left same flushed answers = tt
-old_emptied (old.Show it) files status before x y left same flushed answers = tt
+still_old (old.Run it is_quiet) files status before x y left same flushed answers = λ none. unless status _ x y (λ fine. same (flushed none fine)) (answers none)
+still_old (old.Make it is_quiet) files status before x y left same flushed answers = tt
+still_old (old.MakeFit it) files status before x y left same flushed answers = tt
+still_old (old.MakeAuto it) files status before x y left same flushed answers = tt
+still_old (old.Update it) files status before x y left same flushed answers = tt
+still_old (old.Show it) files status before x y left same flushed answers = tt
+
+pub old_emptied : (it : OldRequest) (files : FileMap) (status : ℕ) (before old x y new : Option (List ℕ)) (left : List ℕ) → FlushesOld it status left → (left ≡ [] → x ≡ y) → before ≡ old → y ≡ new
+    → AnswersOld it files status before x → AnswersOld it files status old new
+old_emptied it files status before old x y new left flushed same is gives answers =
+    subst (λ (z : Option (List ℕ)). AnswersOld it files status z new) is (subst (λ (z : Option (List ℕ)). AnswersOld it files status before z) gives (still_old it files status before x y left same flushed answers))

@@ -1,5 +1,5 @@
 -- The status and the text of a command on an image are those of its outcome, unless the status is 3.
-use Rattle.std.proofs.Common.{◌≡◌, if◌then◌else◌, ℕ, List, Bool, true, false, Option, Some, None, Result, Ok, Err, ◌⊎◌, inl, inr, refl, ap, sym, subst, absurd, OnOk, ◌≢◌, ◌∙◌, true≢false}
+use Rattle.std.proofs.Common.{◌≡◌, if◌then◌else◌, ℕ, List, Bool, true, false, Option, Some, None, Result, Ok, Err, ◌⊎◌, inl, inr, refl, ap, sym, subst, OnOk, ◌≢◌, ◌∙◌, true≢false}
 use Rattle.std.specs.{Io.KnownBytes.{Appends, Keeps}, declared.io.Error.Error}
 use Rattle.std.proofs.KnownBytes.{Appends-nil, Appends-kept}
 use Rattle.uimg_base.specs.{Named.FileMap, Outcome.{End, done, not_right, refused, Tells}, Sink.{Sink, AppendsAll}}
@@ -15,7 +15,7 @@ use Rattle.uimg_tool.specs.declared.request_fault.RequestFault.{RequestFault}
 use Rattle.uimg_tool.specs.declared.request_fault.RequestFault.TheVariants as request
 
 -- a fault is the end of an outcome, or its status is 3
-blob_means : (fault : Fault) (no_memory : Bool) → (unless_memory no_memory (refused fault) ≡ Some (refused fault)) ⊎ ((if no_memory then 3 else 1) ≡ 3)
+blob_means : (fault : Fault) (no_memory : Bool) → (unless_memory no_memory (refused fault) ≡ Some (refused fault)) ⊎ (◌≡◌ {A = ℕ} (if no_memory then 3 else 1) 3)
 blob_means fault true = inr refl
 blob_means fault false = inl refl
 
@@ -85,11 +85,11 @@ pub answers : (asked : RunRequest) (files : FileMap) (end : Result Status Reques
     → RunEnds asked end → asked.outfile ≡ None → TellsAt asked files end s t → status ≡ end_status (end_printed end printed)
     → s.contents ≡ old → Keeps t.contents new → AnswersRun false asked files status old new
 answers asked files end (Err error) status s t old new ends none tells is before after = inl is
-answers asked files end (Ok done) status s t old new ends none tells is before after =
+answers asked files end (Ok flushes) status s t old new ends none tells is before after =
     subst (λ (n : ℕ). AnswersRun false asked files n old new) (sym is)
     (ended false asked files end s t old new (λ text wrote. kept s.contents t.contents old new text before after wrote.appended) ends none tells)
 
 -- a status that is not 3 was flushed
 pub flushed : (end : Result Status RequestFault) (printed : Result Unit Error) (status : ℕ) (P : Type 0) → status ≡ end_status (end_printed end printed) → OnOk printed P → status ≢ 3 → P
-flushed end (Ok done) status P is ok not = ok
+flushed end (Ok flushes) status P is ok not = ok
 flushed end (Err error) status P is ok not = absurd (not is)
