@@ -1,5 +1,7 @@
 pub mod BesideLaws
 pub mod CheckLaws
 pub mod CommandLaws
+pub mod InfoLaws
+pub mod MapLaws
 pub mod OldWordLaws
 pub mod RunLaws
