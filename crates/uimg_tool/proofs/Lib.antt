@@ -1,4 +1,5 @@
 pub mod BesideLaws
+pub mod BufferLaws
 pub mod CheckLaws
 pub mod CommandLaws
 pub mod InfoLaws

@@ -8,7 +8,7 @@ use Rattle.uimg_map.specs.declared.{fault.MapFault.MapFault, map.Map.Map, row.Ro
 use Rattle.uimg_map.specs.{Lines.PutsLines, Maps.{IsMapOf, contents_of}, Picture.DrawsPicture}
 use Rattle.uimg_tool.specs.{Answering.AnswersBy, MapAnswers.{IsMapAnswer, PrintsMap}}
 use Rattle.uimg_tool.specs.{MapEnds.{map_status, mapped_status}, declared.map_program.Stop.Stop}
-use Rattle.uimg_tool.proofs.CheckLaws.{unbuffered}
+use Rattle.uimg_tool.proofs.BufferLaws.{unbuffered}
 
 appends_kept : (a b c : Option (List ℕ)) (text : List ℕ) → Appends a b text → Keeps b c → Appends a c text
 appends_kept None b c text put kept = tt
