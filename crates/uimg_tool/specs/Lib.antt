@@ -7,11 +7,13 @@ pub mod Checks
 pub mod Commands
 pub mod Complaints
 pub mod EndingStatuses
+pub mod Facts
 pub mod Finishing
 pub mod InfoEnds
 pub mod JsonLines
 pub mod KnownSources
 pub mod MadeEnds
+pub mod MapAnswers
 pub mod MapEnds
 pub mod OtherAlgos
 pub mod Programs

@@ -1,16 +1,23 @@
 //! Prints the facts of an image, as a line of JSON.
 
-ghost use Rattle.std.specs.Prelude.{◌≤◌, IfOk};
-ghost use Rattle.uimg_tool.specs.Complaints.{Ends};
+ghost use Rattle.std.specs.Prelude.{◌≡◌, ◌≢◌, ◌≤◌, ◌⊎◌, ◌∷◌, [], true, IfOk, IsTrue, OnOk};
+ghost use Rattle.std.specs.Io.{Buffered.{writer_buffer, writer_contents}, KnownBytes.Appends};
+ghost use Rattle.uimg_base.specs.Honest.{IfHonest};
+ghost use Rattle.uimg_checks.specs.{Answers.answer_status, Objects.check_json};
+ghost use Rattle.uimg_engine.specs.declared.fault.Fault.TheVariants.{Legacy};
+ghost use Rattle.uimg_tool.specs.{Answering.AnswersBy, Complaints.Ends, JsonLines.shown_line, Reading.changes};
+ghost use Rattle.uimg_tool.specs.Facts.{GivesFacts, IsFactsAnswer, IsObjectOf, IsTextOf, TellsFacts, facts_of, fault_as, legacy_facts};
+ghost use Rattle.uimg_unpacking.specs.Deeds.{Deed};
 
 use crate::check_answers::{CHANGED, Names, answer_of_fault, answer_of_unread};
 use crate::complaints::Complaints;
 use crate::json_lines::put_json;
 use crate::request_fault::{DONE, FAILED, RequestFault};
 use std::alloc::{AllocError, Global};
-use std::io::Write;
+use std::io;
+use std::io::{BufWriter, Write};
 use uimg_base::{Room, Source};
-use uimg_checks::object_text;
+use uimg_checks::{Answer, object_text};
 use uimg_cli::InfoRequest;
 use uimg_engine::{Fault, Form, is_fit};
 use uimg_fit_checking::SurveyFault;
@@ -21,13 +28,21 @@ use uimg_unpacking::World;
 /// Writes the facts of the requested image as a line on `out`, or why there are none. Returns the
 /// status. Refused memory and a line that cannot be written are reported by a line on standard
 /// error.
-pub(crate) fn tell_facts<D: World, W: Write, V: Write>(
+#[tactic(auto, using(crate::proofs::InfoLaws::line_told, crate::proofs::InfoLaws::status_given))]
+pub(crate) fn tell_facts<D: World, W: Write + Drop, V: Write>(
     world: &mut D,
     request: &InfoRequest<'_>,
-    out: &mut W,
+    out: &mut BufWriter<W, Global>,
     complaints: &mut Complaints<'_, V>,
 ) -> u8
-    ensures { Ends result complaints.old.count complaints.new.count }
+    ensures ends { Ends result complaints.old.count complaints.new.count }
+    ensures told { IsTrue (D.map world.old).honest → AnswersBy (D.map world.old)
+        request.now.image.now (IsFactsAnswer request.now.image.now) result
+        (writer_contents W.contents out.old) (writer_contents W.contents out.new) }
+    ensures flushed { result ≢ 3 → writer_buffer out.new ≡ [] }
+    ensures opened { result ≢ 3 →
+        D.trace world.new ≡ Deed.Opens request.now.image.now true ∷ D.trace world.old }
+    ensures reads { changes (D.trace world.new) ≡ changes (D.trace world.old) }
 {
     match object_of(world, request.image) {
         Ok((text, status)) => put_object(text.as_slice(), status, out, complaints),
@@ -36,25 +51,36 @@ pub(crate) fn tell_facts<D: World, W: Write, V: Write>(
 }
 
 /// Writes an object as a line. Returns the status, or that of a failure.
-pub(crate) fn put_object<W: Write, V: Write>(
+pub(crate) fn put_object<W: Write + Drop, V: Write>(
     text: &[u8],
     status: u8,
-    out: &mut W,
+    out: &mut BufWriter<W, Global>,
     complaints: &mut Complaints<'_, V>,
 ) -> u8
-    ensures { status ≤ 3 → Ends result complaints.old.count complaints.new.count }
+    ensures ends { status ≤ 3 → Ends result complaints.old.count complaints.new.count }
+    ensures put { (result ≡ 3) ⊎ ((result ≡ status) × Appends (writer_contents W.contents out.old)
+        (writer_contents W.contents out.new) (shown_line text.now)) }
+    ensures flushed { result ≢ 3 → writer_buffer out.new ≡ [] }
 {
-    match put_json(text, out).and_then(|()| out.flush()) {
+    match put_flushed(text, out) {
         Ok(()) => status,
         Err(error) => complaints.tell_unprinted(&error),
     }
 }
 
+// Writes a text as a line of JSON, and flushes it.
+fn put_flushed<W: Write + Drop>(text: &[u8], out: &mut BufWriter<W, Global>) -> io::Result<()>
+    ensures put { OnOk result (Appends (writer_contents W.contents out.old)
+        (writer_contents W.contents out.new) (shown_line text.now)) }
+    ensures flushed { OnOk result (writer_buffer out.new ≡ []) }
+{
+    put_json(text, out)?;
+    out.flush()?;
+    Ok(())
+}
+
 // Why an image has no facts.
 enum Stop {
-    // The file could not be opened.
-    Unread,
-
     // The image is refused, or a read failed.
     Refused(Fault),
 
@@ -63,18 +89,6 @@ enum Stop {
 
     // Memory ran out.
     NoMemory,
-}
-
-impl From<AllocError> for Stop {
-    fn from(_error: AllocError) -> Stop {
-        Stop::NoMemory
-    }
-}
-
-impl From<Fault> for Stop {
-    fn from(fault: Fault) -> Stop {
-        Stop::Refused(fault)
-    }
 }
 
 impl From<SurveyFault> for Stop {
@@ -106,46 +120,95 @@ impl From<PartsFault> for Stop {
     }
 }
 
-// Returns the object of an image, and its status.
+// Returns the object of the image at a path, and its status.
+#[tactic(auto, using(crate::proofs::InfoLaws::object_told, crate::proofs::InfoLaws::unread_told, crate::proofs::InfoLaws::unread_fails))]
 fn object_of<D: World>(world: &mut D, path: &str) -> Result<(Vec<u8>, u8), AllocError>
-    ensures { IfOk result (λ found. found.1 ≤ 3) }
+    ensures most { IfOk result (λ found. found.1 ≤ 3) }
+    ensures told { IsTrue (D.map world.old).honest → IfOk result (λ found.
+        IsObjectOf (D.map world.old) path.now found.1 found.0.items) }
+    ensures opened { IfOk result (λ found. found.1 ≢ 3 →
+        D.trace world.new ≡ Deed.Opens path.now true ∷ D.trace world.old) }
+    ensures reads { changes (D.trace world.new) ≡ changes (D.trace world.old) }
 {
-    let mut names = Names::new(world.alloc());
-    let answer = match facts_of(world, path) {
-        Ok(text) => return Ok((text, DONE)),
-        Err(Stop::NoMemory) => return Err(AllocError),
-        Err(Stop::Unread) => answer_of_unread(world, path, &mut names),
-        Err(Stop::Changed) => CHANGED,
-        Err(Stop::Refused(fault)) => answer_of_fault(fault, &mut names),
+    let Ok(mut source) = world.open(path) else {
+        let mut names = Names::new(world.alloc());
+        let answer = answer_of_unread(world, path, &mut names);
+        return object_with(world.alloc(), path, &answer);
     };
-    let text = object_text(world.alloc(), path.as_bytes(), &answer)?;
+    object_in(world.alloc(), path, &mut source)
+}
+
+// Returns the object of an image, and its status.
+#[tactic(auto, using(crate::proofs::InfoLaws::facts_told, crate::proofs::InfoLaws::refused_told))]
+fn object_in<S: Source>(
+    alloc: Global,
+    path: &str,
+    source: &mut S,
+) -> Result<(Vec<u8>, u8), AllocError>
+    ensures most { IfOk result (λ found. found.1 ≤ 3) }
+    ensures told { IfHonest S.device source (λ file. IfOk result (λ found.
+        (found.1 ≡ 3) ⊎ TellsFacts path.now (facts_of path.now file) found.1 found.0.items)) }
+{
+    let mut names = Names::new(alloc);
+    match facts_of(alloc, path, source) {
+        Ok(text) => Ok((text, DONE)),
+        Err(Stop::NoMemory) => Err(AllocError),
+        Err(Stop::Changed) => object_with(alloc, path, &CHANGED),
+        Err(Stop::Refused(fault)) => object_with(alloc, path, &answer_of_fault(fault, &mut names)),
+    }
+}
+
+// Returns the object of a result, and its status.
+fn object_with(alloc: Global, path: &str, answer: &Answer<'_>) -> Result<(Vec<u8>, u8), AllocError>
+    ensures most { IfOk result (λ found. found.1 ≤ 3) }
+    ensures status { IfOk result (λ found. found.1 ≡ answer_status answer.now) }
+    ensures text { IfOk result (λ found.
+        IsTextOf (check_json path.now answer.now) found.0.items) }
+{
+    let text = object_text(alloc, path.as_bytes(), answer)?;
     Ok((text, answer.status()))
 }
 
-// Returns the object of the facts of the image at a path.
-fn facts_of<D: World>(world: &mut D, path: &str) -> Result<Vec<u8>, Stop> {
-    let Ok(mut source) = world.open(path) else {
-        return Err(Stop::Unread);
-    };
-    let mut room = Room::new(world.alloc());
-    match is_fit(Form::Guess, &mut source) {
-        Ok(true) => Ok(fit_text(world.alloc(), path, &mut source, &mut room)?),
-        Ok(false) => legacy_facts(world.alloc(), path, &mut source, &mut room),
-        Err(_) => Err(Stop::from(Fault::Read)),
+// Returns the object of the facts of an image.
+#[tactic(auto, using(crate::proofs::InfoLaws::fit_given, crate::proofs::InfoLaws::fit_refused, crate::proofs::InfoLaws::as_legacy))]
+fn facts_of<S: Source>(alloc: Global, path: &str, source: &mut S) -> Result<Vec<u8>, Stop>
+    ensures { IfHonest S.device source (λ file. GivesFacts (facts_of path.now file) result) }
+{
+    let mut room = Room::new(alloc);
+    match is_fit(Form::Guess, source) {
+        Ok(true) => match fit_text(alloc, path, source, &mut room) {
+            Ok(text) => Ok(text),
+            Err(fault) => Err(Stop::from(fault)),
+        },
+        Ok(false) => legacy_facts(alloc, path, source, &mut room),
+        Err(_) => Err(Stop::Refused(Fault::Read)),
     }
 }
 
 // Returns the object of the facts of a legacy image.
+#[tactic(auto, using(crate::proofs::InfoLaws::header_refused, crate::proofs::InfoLaws::parts_refused))]
 fn legacy_facts<S: Source>(
     alloc: Global,
     path: &str,
     source: &mut S,
     room: &mut Room<Global>,
-) -> Result<Vec<u8>, Stop> {
-    let header = read_header(source).map_err(Fault::from)?;
-    let parts = locate_parts(alloc, source, room, &header)?;
-    let Ok(size) = source.size() else {
-        return Err(Stop::from(Fault::Read));
+) -> Result<Vec<u8>, Stop>
+    ensures { IfHonest S.device source (λ file.
+        GivesFacts (fault_as Legacy (legacy_facts path.now file)) result) }
+{
+    let header = match read_header(source) {
+        Ok(header) => header,
+        Err(fault) => return Err(Stop::Refused(Fault::from(fault))),
     };
-    Ok(legacy_text(alloc, path, size, &header, parts.as_slice())?)
+    let parts = match locate_parts(alloc, source, room, &header) {
+        Ok(parts) => parts,
+        Err(fault) => return Err(Stop::from(fault)),
+    };
+    let Ok(size) = source.size() else {
+        return Err(Stop::Refused(Fault::Read));
+    };
+    match legacy_text(alloc, path, size, &header, parts.as_slice()) {
+        Ok(text) => Ok(text),
+        Err(_) => Err(Stop::NoMemory),
+    }
 }

@@ -1,7 +1,14 @@
 //! Prints the map of an image's file, as lines or as a picture.
 
-ghost use Rattle.std.specs.Prelude.{◌≡◌};
-ghost use Rattle.uimg_tool.specs.{Complaints.Ends, MapEnds.{DrawEnds, PrintEnds, map_status}};
+ghost use Rattle.std.specs.Prelude.{◌≡◌, ◌≢◌, ℕ, List, ◌∷◌, [], false, true, None, IfOk, IsTrue, OnOk, is_some};
+ghost use Rattle.std.specs.{Borrow.Bor, Io.Buffered.{writer_buffer, writer_contents}};
+ghost use Rattle.uimg_base.specs.Honest.{IfHonest};
+ghost use Rattle.uimg_map.specs.{Lines.PutsLines, Maps.contents_of, Picture.DrawsPicture};
+ghost use Rattle.uimg_printing.specs.Printing.{printed};
+ghost use Rattle.uimg_tool.specs.{Answering.AnswersBy, Complaints.Ends, Reading.changes};
+ghost use Rattle.uimg_tool.specs.MapAnswers.{IsMapAnswer, PrintsMap};
+ghost use Rattle.uimg_tool.specs.MapEnds.{DrawEnds, PrintEnds, map_status};
+ghost use Rattle.uimg_unpacking.specs.Deeds.{Deed};
 
 use crate::complaints::Complaints;
 use crate::reasons::reason_of_code;
@@ -21,10 +28,80 @@ use uimg_unpacking::{Target, World, name_file};
 /// Writes the map of the requested image: lines on `out`, or a picture as a file that gets its name
 /// when it is complete. Returns the status. A fault is reported by a line on standard error; a
 /// refused image has a map too.
-pub(crate) fn map_image<D: World, W: Write, V: Write>(
+pub(crate) fn map_image<D: World, W: Write + Drop, V: Write>(
     world: &mut D,
     request: &MapRequest<'_>,
-    out: &mut W,
+    out: &mut BufWriter<W, Global>,
+    complaints: &mut Complaints<'_, V>,
+) -> u8
+    ensures ends { Ends result complaints.old.count complaints.new.count }
+    ensures told { IsTrue (D.map world.old).honest → request.now.picture ≡ None →
+        AnswersBy (D.map world.old) request.now.image.now IsMapAnswer result
+        (writer_contents W.contents out.old) (writer_contents W.contents out.new) }
+    ensures flushed { writer_buffer out.old ≡ [] → result ≢ 3 → writer_buffer out.new ≡ [] }
+    ensures silent { is_some request.now.picture ≡ true → out.new ≡ out.old }
+    ensures opened { request.now.picture ≡ None → result ≢ 3 →
+        D.trace world.new ≡ Deed.Opens request.now.image.now true ∷ D.trace world.old }
+    ensures reads { request.now.picture ≡ None →
+        changes (D.trace world.new) ≡ changes (D.trace world.old) }
+{
+    match request.picture {
+        Some(path) => draw_image(world, request, path, complaints),
+        None => print_image(world, request.image, out, complaints),
+    }
+}
+
+// Writes the map of the image at a path as lines. Returns the status.
+#[tactic(auto, using(crate::proofs::MapLaws::map_told, crate::proofs::MapLaws::unless_failed))]
+fn print_image<D: World, W: Write + Drop, V: Write>(
+    world: &mut D,
+    path: &str,
+    out: &mut BufWriter<W, Global>,
+    complaints: &mut Complaints<'_, V>,
+) -> u8
+    ensures ends { Ends result complaints.old.count complaints.new.count }
+    ensures told { IsTrue (D.map world.old).honest →
+        AnswersBy (D.map world.old) path.now IsMapAnswer result
+        (writer_contents W.contents out.old) (writer_contents W.contents out.new) }
+    ensures flushed { result ≢ 3 → writer_buffer out.new ≡ [] }
+    ensures opened { result ≢ 3 →
+        D.trace world.new ≡ Deed.Opens path.now true ∷ D.trace world.old }
+    ensures reads { changes (D.trace world.new) ≡ changes (D.trace world.old) }
+{
+    let Ok(mut source) = world.open(path) else {
+        return complaints.tell_unread(world, path);
+    };
+    let printed = print_source(world.alloc(), &mut source, out);
+    tell_ended(printed, complaints)
+}
+
+// Writes the map of an image as lines. Returns its fault.
+fn print_source<'a, S: Source, W: Write + Drop>(
+    alloc: Global,
+    source: &mut S,
+    out: &mut BufWriter<W, Global>,
+) -> Result<Option<MapFault>, Stop<'a>>
+    ensures ends { PrintEnds result }
+    ensures told { IfHonest S.device source (λ file. IfOk result (λ fault.
+        (fault ≡ (contents_of file).fault) × PrintsMap file
+        (writer_contents W.contents out.old) (writer_contents W.contents out.new))) }
+    ensures flushed { OnOk result (writer_buffer out.new ≡ []) }
+{
+    let map = match map_of(alloc, source) {
+        Ok(map) => map,
+        Err(fault) => return Err(Stop::Stopped(MapStop::Stopped(fault))),
+    };
+    match print(alloc, source, &map, out) {
+        Ok(()) => Ok(map.fault),
+        Err(stop) => Err(stop),
+    }
+}
+
+// Writes the map of the requested image as the picture at a path. Returns the status.
+fn draw_image<D: World, V: Write>(
+    world: &mut D,
+    request: &MapRequest<'_>,
+    path: &str,
     complaints: &mut Complaints<'_, V>,
 ) -> u8
     ensures { Ends result complaints.old.count complaints.new.count }
@@ -36,18 +113,17 @@ pub(crate) fn map_image<D: World, W: Write, V: Write>(
         Ok(map) => map,
         Err(fault) => return complaints.tell(&fault, FAILED),
     };
-    let ended = match request.picture {
-        Some(path) if is_same_file(world, path, request.image) => {
-            let path = Printed(path.as_bytes());
-            return complaints.tell(&RequestFault::DrawsOverWhatIsRead(path), WRONG_LINE);
-        }
-        Some(path) if !request.is_forced && is_taken(world, path) => {
-            return complaints.tell(&RequestFault::Exists(Printed(path.as_bytes())), FAILED);
-        }
-        Some(path) => draw(world, request, path, &mut source, &map),
-        None => print(world.alloc(), &mut source, &map, out),
-    };
-    tell_ended(ended, map.fault, complaints)
+    if is_same_file(world, path, request.image) {
+        let path = Printed(path.as_bytes());
+        return complaints.tell(&RequestFault::DrawsOverWhatIsRead(path), WRONG_LINE);
+    }
+    if !request.is_forced && is_taken(world, path) {
+        return complaints.tell(&RequestFault::Exists(Printed(path.as_bytes())), FAILED);
+    }
+    match draw(world, request, path, &mut source, &map) {
+        Ok(()) => tell_ended(Ok(map.fault), complaints),
+        Err(stop) => tell_ended(Err(stop), complaints),
+    }
 }
 
 // Returns whether a picture at a path would replace a file or a symbolic link. Devices and pipes are
@@ -74,32 +150,36 @@ enum Stop<'a> {
 }
 
 fn tell_ended<V: Write>(
-    ended: Result<(), Stop<'_>>,
-    fault: Option<MapFault>,
+    ended: Result<Option<MapFault>, Stop<'_>>,
     complaints: &mut Complaints<'_, V>,
 ) -> u8
     ensures ends { Ends result complaints.old.count complaints.new.count }
-    ensures status { result ≡ map_status ended.entry fault }
+    ensures status { result ≡ map_status ended.entry }
 {
-    match (ended, fault) {
-        (Ok(()), None) => DONE,
-        (Ok(()), Some(fault)) => complaints.tell(&fault, REFUSED),
-        (Err(Stop::CannotWrite(path, reason)), _) => complaints.tell_unwritten(path, &reason),
-        (Err(Stop::CannotPrint(error)), _) => complaints.tell_unprinted(&error),
-        (Err(Stop::Stopped(MapStop::Closed)), _) => FAILED,
-        (Err(Stop::Stopped(MapStop::Put)), _) => complaints.tell(&Fault::Put, FAILED),
-        (Err(Stop::Stopped(MapStop::Stopped(fault))), _) => complaints.tell(&fault, FAILED),
+    match ended {
+        Ok(None) => DONE,
+        Ok(Some(fault)) => complaints.tell(&fault, REFUSED),
+        Err(Stop::CannotWrite(path, reason)) => complaints.tell_unwritten(path, &reason),
+        Err(Stop::CannotPrint(error)) => complaints.tell_unprinted(&error),
+        Err(Stop::Stopped(MapStop::Closed)) => FAILED,
+        Err(Stop::Stopped(MapStop::Put)) => complaints.tell(&Fault::Put, FAILED),
+        Err(Stop::Stopped(MapStop::Stopped(fault))) => complaints.tell(&fault, FAILED),
     }
 }
 
 // Prints a map as lines.
-fn print<'a, S: Source, W: Write>(
+#[tactic(auto, using(crate::proofs::MapLaws::lines_kept))]
+fn print<'a, S: Source, W: Write + Drop>(
     alloc: Global,
     source: &mut S,
     map: &Map,
-    out: &mut W,
+    out: &mut BufWriter<W, Global>,
 ) -> Result<(), Stop<'a>>
-    ensures { PrintEnds result }
+    ensures ends { PrintEnds result }
+    ensures lines { IfHonest S.device source (λ file. OnOk result (PutsLines file map.now
+        map.now.rows.items (writer_contents W.contents out.old)
+        (writer_contents W.contents out.new))) }
+    ensures flushed { OnOk result (writer_buffer out.new ≡ []) }
 {
     let put = put_lines(alloc, source, map, out);
     // A failed write left text in the buffer, and fails again.
@@ -128,11 +208,11 @@ fn draw<'a, D: World, S: Source>(
 {
     match writing_of(world, world.alloc(), path) {
         Ok(Writing::Beside(file, safe)) => {
-            let drawn = draw_into(world.alloc(), request, path, file, source, map);
+            let drawn = close(draw_into(world.alloc(), request, path, file, source, map));
             name_picture(world, path, &safe, request.is_forced, drawn)
         }
         Ok(Writing::InPlace | Writing::Pipe) => match world.create(path) {
-            Ok(file) => draw_into(world.alloc(), request, path, file, source, map),
+            Ok(file) => close(draw_into(world.alloc(), request, path, file, source, map)),
             Err(reason) => Err(Stop::CannotWrite(path, reason)),
         },
         Ok(Writing::Nowhere(reason)) => Err(Stop::CannotWrite(path, reason)),
@@ -163,7 +243,8 @@ fn name_picture<'a, D: World>(
     named
 }
 
-// Writes a picture to a file.
+// Writes a picture to a file, which is returned.
+#[tactic(auto, using(crate::proofs::MapLaws::picture_written))]
 fn draw_into<'a, F: Write + Drop, S: Source>(
     alloc: Global,
     request: &MapRequest<'_>,
@@ -171,8 +252,10 @@ fn draw_into<'a, F: Write + Drop, S: Source>(
     file: F,
     source: &mut S,
     map: &Map,
-) -> Result<(), Stop<'a>>
-    ensures { DrawEnds path.entry result }
+) -> Result<F, Stop<'a>>
+    ensures ends { DrawEnds path.entry result }
+    ensures drawn { IfHonest S.device source (λ bytes. IfOk result (λ written. DrawsPicture bytes
+        map.now (printed false request.now.image.now) (F.contents file) (F.contents written))) }
 {
     let Ok(name) = format!(in alloc; "{}", Printed(request.image.as_bytes())) else {
         return Err(Stop::Stopped(MapStop::Stopped(MapFault::OutOfMemory)));
@@ -182,7 +265,7 @@ fn draw_into<'a, F: Write + Drop, S: Source>(
     };
     let put = put_picture(alloc, source, map, name.as_str(), &mut gathered);
     let flushed = gathered.flush();
-    let (_, _) = gathered.into_parts();
+    let (file, _) = gathered.into_parts();
     match put {
         Ok(()) => {}
         Err(MapStop::Stopped(fault)) => return Err(Stop::Stopped(MapStop::Stopped(fault))),
@@ -190,7 +273,17 @@ fn draw_into<'a, F: Write + Drop, S: Source>(
         Err(_) => {}
     }
     match flushed {
-        Ok(()) => Ok(()),
+        Ok(()) => Ok(file),
         Err(reason) => Err(Stop::CannotWrite(path, reason)),
+    }
+}
+
+// Closes the file of a picture.
+fn close<'a, F: Drop>(drawn: Result<F, Stop<'a>>) -> Result<(), Stop<'a>>
+    ensures { (path : Bor (List ℕ)) → DrawEnds path drawn.entry → DrawEnds path result }
+{
+    match drawn {
+        Ok(_file) => Ok(()),
+        Err(stop) => Err(stop),
     }
 }

@@ -9,7 +9,8 @@ use crate::info_program::put_object;
 use crate::json_lines::JsonOut;
 use crate::request_fault::{DONE, FAILED, REFUSED, RequestFault, status_of};
 use crate::unpack_answers::{Ending, answer_of_ending, status_of_trouble};
-use std::io::Write;
+use std::alloc::Global;
+use std::io::{BufWriter, Write};
 use std::rt::Files;
 use uimg_base::{Source, Status};
 use uimg_checks::object_text;
@@ -26,7 +27,7 @@ use uimg_unpacking::{
 pub(crate) fn unpack_image<R: Files + AllocGlobal, W: Write + Drop, V: Write>(
     rt: &R,
     request: &UnpackRequest<'_>,
-    out: &mut W,
+    out: &mut BufWriter<W, Global>,
     complaints: &mut Complaints<'_, V>,
 ) -> u8
     ensures { Ends result complaints.old.count complaints.new.count }
@@ -107,12 +108,12 @@ fn unpack_source<R: Files + AllocGlobal, S: Source, W: Write + Drop>(
 }
 
 // Reports how the unpacking of the image at a path ended, and returns the status.
-fn tell_ending<D: World, W: Write, V: Write>(
+fn tell_ending<D: World, W: Write + Drop, V: Write>(
     world: &mut D,
     path: &str,
     as_json: bool,
     ending: Ending,
-    out: &mut W,
+    out: &mut BufWriter<W, Global>,
     complaints: &mut Complaints<'_, V>,
 ) -> u8
     ensures ends { Ends result complaints.old.count complaints.new.count }
@@ -149,11 +150,11 @@ fn is_of_command(trouble: &Trouble) -> bool
 }
 
 // Reports an end as a JSON object.
-fn tell_object<D: World, W: Write, V: Write>(
+fn tell_object<D: World, W: Write + Drop, V: Write>(
     world: &mut D,
     path: &str,
     ending: Ending,
-    out: &mut W,
+    out: &mut BufWriter<W, Global>,
     complaints: &mut Complaints<'_, V>,
 ) -> u8
     ensures { Ends result complaints.old.count complaints.new.count }
