@@ -5,7 +5,9 @@ use Rattle.std.specs.{Borrow.Bor, Io.KnownBytes.append_known}
 use Rattle.std.proofs.lemmas.List.Folds.{list_all-append}
 use Rattle.uimg_cli.specs.declared.command_line.check.CheckRequest.{CheckRequest}
 use Rattle.uimg_tool.specs.Checking.{AnswersRequest, nothing_told}
-use Rattle.uimg_tool.specs.Checks.{AnswersAll, AnswersEach, AnswersNamed, AnswersUnlessEmpty, Told, from_file, is_name}
+use Rattle.uimg_base.specs.Named.{FileMap, SameFiles}
+use Rattle.uimg_tool.specs.Checks.{Answers, AnswersAll, AnswersEach, AnswersNamed, AnswersUnlessEmpty, Told, from_file, is_name}
+use Rattle.uimg_tool.proofs.VerdictLaws.{file_same}
 use Rattle.uimg_tool.specs.Statuses.{checked_status}
 use Rattle.uimg_tool.specs.declared.check_program.Stop.{Stop}
 
@@ -13,37 +15,68 @@ pub on_ok : {X F P Q : Type 0} (r : Result X F) → (P → Q) → OnOk r P → O
 on_ok (Ok x) f h = f h
 on_ok (Err e) f h = tt
 
-pub each_then : (asked : CheckRequest) (paths others : List (List ℕ)) (old mid new : Told) → AnswersEach asked paths old mid → AnswersEach asked others mid new
-    → AnswersEach asked (paths ++ others) old new
-each_then asked [] others old mid new first more = subst (λ (it : Told). AnswersEach asked others it new) first more
-each_then asked (path ∷ paths) others old mid new first more =
-    (first.0, first.1, each_then asked paths others first.0 mid new first.2 more)
+pub each_then : (files : FileMap) (asked : CheckRequest) (paths others : List (List ℕ)) (old mid new : Told) → AnswersEach files asked paths old mid
+    → AnswersEach files asked others mid new → AnswersEach files asked (paths ++ others) old new
+each_then files asked [] others old mid new first more = subst (λ (it : Told). AnswersEach files asked others it new) first more
+each_then files asked (path ∷ paths) others old mid new first more =
+    (first.0, first.1, each_then files asked paths others first.0 mid new first.2 more)
 
--- all images, when none is left
-pub each_left : (asked : CheckRequest) (items : List (Bor (List ℕ))) (i : ℕ) (old cur : Told) → items ≡ asked.images.items → drop i items ≡ []
-    → ((last : Told) → AnswersEach asked (map (λ path. path.now) (drop i items)) cur last → AnswersEach asked (map (λ path. path.now) items) old last)
-    → AnswersEach asked (map (λ path. path.now) asked.images.items) old cur
-each_left asked items i old cur are none so =
-    subst (λ (l : List (Bor (List ℕ))). AnswersEach asked (map (λ path. path.now) l) old cur) are
-    (so cur (subst (λ (l : List (Bor (List ℕ))). AnswersEach asked (map (λ path. path.now) l) cur cur) (sym none) refl))
-
--- one more, unless its name is empty
-pub named_then : (asked : CheckRequest) (path : List ℕ) (old mid new : Told) → AnswersNamed asked old mid → AnswersUnlessEmpty asked path mid new → AnswersNamed asked old new
-named_then asked [] old mid new names same = subst (λ (it : Told). AnswersNamed asked old it) (sym same) names
-named_then asked (byte ∷ rest) old mid new names answer = (
-  names.0 ++ (byte ∷ rest) ∷ [],
-  list_all-append is_name names.0 ((byte ∷ rest) ∷ []) ∙ ap₂ (λ (a b : Bool). a && b) names.1 refl,
-  each_then asked names.0 ((byte ∷ rest) ∷ []) old mid new names.2 (new, answer, refl),
+-- the same answers about files that are the same
+pub answers_same : (old_files new_files : FileMap) (asked : CheckRequest) (path : List ℕ) (old new : Told) → SameFiles old_files new_files → Answers new_files asked path old new
+    → Answers old_files asked path old new
+answers_same old_files new_files asked path old new same answers = (
+  answers.0,
+  record {
+    file = file_same old_files new_files asked path answers.0 same answers.1.file;
+    status = answers.1.status;
+    counted = answers.1.counted;
+    written = answers.1.written;
+  },
 )
 
-pub all_given : (asked : CheckRequest) (old new : Told) → asked.files_from ≡ None → AnswersEach asked (map (λ path. path.now) asked.images.items) old new → AnswersAll asked old new
-all_given asked old new none each =
-    ([], subst (λ (it : Option (Bor (List ℕ))). from_file it []) (sym none) refl, each_then asked _ [] old new new each refl)
+pub each_same : (old_files new_files : FileMap) (asked : CheckRequest) (paths : List (List ℕ)) (old new : Told) → SameFiles old_files new_files → AnswersEach new_files asked paths old new
+    → AnswersEach old_files asked paths old new
+each_same old_files new_files asked [] old new same each = each
+each_same old_files new_files asked (path ∷ paths) old new same each =
+    (each.0, answers_same old_files new_files asked path old each.0 same each.1, each_same old_files new_files asked paths each.0 new same each.2)
 
-pub all_named : (asked : CheckRequest) (file : Bor (List ℕ)) (old mid new : Told) → asked.files_from ≡ Some file → AnswersEach asked (map (λ path. path.now) asked.images.items) old mid
-    → AnswersNamed asked mid new → AnswersAll asked old new
-all_named asked file old mid new is each names =
-    (names.0, subst (λ (it : Option (Bor (List ℕ))). from_file it names.0) (sym is) names.1, each_then asked _ names.0 old mid new each names.2)
+pub files_then : (a b c : FileMap) → SameFiles a b → SameFiles b c → SameFiles a c
+files_then a b c first more = record {
+  bytes = more.bytes ∙ first.bytes;
+  honest = more.honest ∙ first.honest;
+  complete = more.complete ∙ first.complete;
+}
+
+-- all images, when none is left
+pub each_left : (files : FileMap) (asked : CheckRequest) (items : List (Bor (List ℕ))) (i : ℕ) (old cur : Told) → items ≡ asked.images.items → drop i items ≡ []
+    → ((last : Told) → AnswersEach files asked (map (λ path. path.now) (drop i items)) cur last → AnswersEach files asked (map (λ path. path.now) items) old last)
+    → AnswersEach files asked (map (λ path. path.now) asked.images.items) old cur
+each_left files asked items i old cur are none so =
+    subst (λ (l : List (Bor (List ℕ))). AnswersEach files asked (map (λ path. path.now) l) old cur) are
+    (so cur (subst (λ (l : List (Bor (List ℕ))). AnswersEach files asked (map (λ path. path.now) l) cur cur) (sym none) refl))
+
+-- one more, unless its name is empty
+pub named_then : (files then_files : FileMap) (asked : CheckRequest) (path : List ℕ) (old mid new : Told) → SameFiles files then_files → AnswersNamed files asked old mid
+    → AnswersUnlessEmpty then_files asked path mid new → AnswersNamed files asked old new
+named_then files then_files asked [] old mid new stay names same = subst (λ (it : Told). AnswersNamed files asked old it) (sym same) names
+named_then files then_files asked (byte ∷ rest) old mid new stay names answer = (
+  names.0 ++ (byte ∷ rest) ∷ [],
+  list_all-append is_name names.0 ((byte ∷ rest) ∷ []) ∙ ap₂ (λ (a b : Bool). a && b) names.1 refl,
+  each_then files asked names.0 ((byte ∷ rest) ∷ []) old mid new names.2 (new, answers_same files then_files asked (byte ∷ rest) mid new stay answer, refl),
+)
+
+pub all_given : (files : FileMap) (asked : CheckRequest) (old new : Told) → asked.files_from ≡ None → AnswersEach files asked (map (λ path. path.now) asked.images.items) old new
+    → AnswersAll files asked old new
+all_given files asked old new none each =
+    ([], subst (λ (it : Option (Bor (List ℕ))). from_file it []) (sym none) refl, each_then files asked _ [] old new new each refl)
+
+pub all_named : (files then_files : FileMap) (asked : CheckRequest) (file : Bor (List ℕ)) (old mid new : Told) → SameFiles files then_files → asked.files_from ≡ Some file
+    → AnswersEach files asked (map (λ path. path.now) asked.images.items) old mid → AnswersNamed then_files asked mid new → AnswersAll files asked old new
+all_named files then_files asked file old mid new stay is each names = (
+  names.0,
+  subst (λ (it : Option (Bor (List ℕ))). from_file it names.0) (sym is) names.1,
+  each_then files asked _ names.0 old mid new each (each_same files then_files asked names.0 mid new stay names.2),
+)
 
 -- nothing waits in a buffer
 pub unbuffered : (known : Option (List ℕ)) (buffer : List ℕ) → buffer ≡ [] → append_known known buffer ≡ known
@@ -55,9 +88,9 @@ chosen true greatest done = refl
 chosen false greatest done = refl
 
 -- the end of all checks
-pub request_told : (asked : CheckRequest) (ended : Result Unit Stop) (found : Option ℕ) (status : ℕ) (before after : Option (List ℕ)) (old new : Told)
+pub request_told : (files : FileMap) (asked : CheckRequest) (ended : Result Unit Stop) (found : Option ℕ) (status : ℕ) (before after : Option (List ℕ)) (old new : Told)
     → status ≡ checked_status ended found → found ≡ (if new.has_checked || asked.allows_none then Some new.greatest else None) → old ≡ nothing_told before
-    → OnOk ended (AnswersAll asked old new) → OnOk ended (new.text ≡ after) → AnswersRequest asked status before after
-request_told asked (Err stop) found status before after old new is greatest begins all text = inl is
-request_told asked (Ok done) found status before after old new is greatest begins all text =
-    inr (new, subst (λ (it : Told). AnswersAll asked it new) begins all, text, is ∙ ap (checked_status (Ok done)) greatest ∙ chosen (new.has_checked || asked.allows_none) new.greatest done)
+    → OnOk ended (AnswersAll files asked old new) → OnOk ended (new.text ≡ after) → AnswersRequest files asked status before after
+request_told files asked (Err stop) found status before after old new is greatest begins all text = inl is
+request_told files asked (Ok done) found status before after old new is greatest begins all text =
+    inr (new, subst (λ (it : Told). AnswersAll files asked it new) begins all, text, is ∙ ap (checked_status (Ok done)) greatest ∙ chosen (new.has_checked || asked.allows_none) new.greatest done)

@@ -14,6 +14,7 @@ pub mod KnownSources
 pub mod MadeEnds
 pub mod MapEnds
 pub mod OtherAlgos
+pub mod Paths
 pub mod Programs
 pub mod Reading
 pub mod RequestEnds
@@ -22,4 +23,8 @@ pub mod Statuses
 pub mod StrictEnds
 pub mod TreeSizes
 pub mod UnpackEnds
+<<<<<<< HEAD
 pub mod WordAnswers
+=======
+pub mod Verdicts
+>>>>>>> e1e8fa3c (uimg_tool: the answer of a check shows the verdict of the file at its path (in the making))
