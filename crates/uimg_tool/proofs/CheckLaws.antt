@@ -1,13 +1,14 @@
 -- Answers about some images, and then about others.
-use Rattle.std.proofs.Common.{◌≡◌, ℕ, List, [], ◌∷◌, ◌++◌, map, drop, Bool, true, false, ◌&&◌, ◌||◌, if◌then◌else◌, Option, Some, None, Result, Ok, Err, OnOk, inl, inr, refl, ap, ap₂, sym, subst, ◌∙◌}
+use Rattle.std.proofs.Common.{◌≡◌, ℕ, List, [], ◌∷◌, ◌++◌, map, drop, Bool, true, false, ◌&&◌, ◌||◌, if◌then◌else◌, Option, Some, None, Result, Ok, Err, OnOk, IfSome, IsTrue, filter, inl, inr, refl, ap, ap₂, sym, subst, subst₂, ◌∙◌}
 use mathlib.Core.List.{append-nil}
-use Rattle.std.specs.{Borrow.Bor, Io.KnownBytes.append_known}
+use Rattle.std.specs.{Borrow.Bor, Io.KnownBytes.{IsAtEnd, append_known}, List.list_all}
 use Rattle.std.proofs.lemmas.List.Folds.{list_all-append}
 use Rattle.uimg_cli.specs.declared.command_line.check.CheckRequest.{CheckRequest}
 use Rattle.uimg_tool.specs.Checking.{AnswersRequest, nothing_told}
 use Rattle.uimg_base.specs.Named.{FileMap, SameFiles}
-use Rattle.uimg_tool.specs.Checks.{Answers, AnswersAll, AnswersEach, AnswersNamed, AnswersUnlessEmpty, Told, from_file, is_name}
-use Rattle.uimg_tool.proofs.VerdictLaws.{file_same}
+use Rattle.uimg_tool.specs.Checks.{Answers, AnswersAll, AnswersEach, AnswersNamed, AnswersUnlessEmpty, AreNames, Told, from_file, names_end, names_path}
+use Rattle.uimg_tool.specs.Paths.{is_name, paths_in}
+use Rattle.uimg_tool.proofs.{PathLaws.{Left, left_ends}, VerdictLaws.file_same}
 use Rattle.uimg_tool.specs.Statuses.{checked_status}
 use Rattle.uimg_tool.specs.declared.check_program.Stop.{Stop}
 
@@ -56,25 +57,47 @@ each_left files asked items i old cur are none so =
     (so cur (subst (λ (l : List (Bor (List ℕ))). AnswersEach files asked (map (λ path. path.now) l) cur cur) (sym none) refl))
 
 -- one more, unless its name is empty
-pub named_then : (files then_files : FileMap) (asked : CheckRequest) (path : List ℕ) (old mid new : Told) → SameFiles files then_files → AnswersNamed files asked old mid
-    → AnswersUnlessEmpty then_files asked path mid new → AnswersNamed files asked old new
-named_then files then_files asked [] old mid new stay names same = subst (λ (it : Told). AnswersNamed files asked old it) (sym same) names
-named_then files then_files asked (byte ∷ rest) old mid new stay names answer = (
-  names.0 ++ (byte ∷ rest) ∷ [],
-  list_all-append is_name names.0 ((byte ∷ rest) ∷ []) ∙ ap₂ (λ (a b : Bool). a && b) names.1 refl,
-  each_then files asked names.0 ((byte ∷ rest) ∷ []) old mid new names.2 (new, answers_same files then_files asked (byte ∷ rest) mid new stay answer, refl),
-)
+each_more : (files then_files : FileMap) (asked : CheckRequest) (path : List ℕ) (names : List (List ℕ)) (old mid new : Told) → SameFiles files then_files → AnswersEach files asked names old mid
+    → AnswersUnlessEmpty then_files asked path mid new → AnswersEach files asked (names ++ filter is_name (path ∷ [])) old new
+each_more files then_files asked [] names old mid new stay each same =
+    subst (λ (l : List (List ℕ)). AnswersEach files asked l old new) (sym (append-nil names)) (subst (λ (it : Told). AnswersEach files asked names old it) (sym same) each)
+each_more files then_files asked (byte ∷ rest) names old mid new stay each answer =
+    each_then files asked names ((byte ∷ rest) ∷ []) old mid new each (new, answers_same files then_files asked (byte ∷ rest) mid new stay answer, refl)
+
+pub each_item : (files then_files : FileMap) (asked : CheckRequest) (path item : List ℕ) (names : List (List ℕ)) (old mid new : Told) → path ≡ item → SameFiles files then_files
+    → AnswersEach files asked names old mid → AnswersUnlessEmpty then_files asked path mid new → AnswersEach files asked (names ++ filter is_name (item ∷ [])) old new
+each_item files then_files asked path item names old mid new is stay each answers =
+    each_more files then_files asked item names old mid new stay each (subst (λ (p : List ℕ). AnswersUnlessEmpty then_files asked p mid new) is answers)
+
+pub all_names : (path : List ℕ) (names : List (List ℕ)) → list_all is_name names ≡ true → list_all is_name (names ++ filter is_name (path ∷ [])) ≡ true
+all_names [] names all = ap (list_all is_name) (append-nil names) ∙ all
+all_names (byte ∷ rest) names all = list_all-append is_name names ((byte ∷ rest) ∷ []) ∙ ap₂ (λ (a b : Bool). a && b) all refl
+
+-- the names are those in the file, when all of it was read
+pub are_names : (files : FileMap) (asked : CheckRequest) (path : List ℕ) (end : ℕ) (whole known : Option (List ℕ)) (names : List (List ℕ)) → end ≡ names_end asked
+    → (IsTrue files.honest → whole ≡ files.bytes (names_path path)) → list_all is_name names ≡ true → Left end whole known names → IsAtEnd known → AreNames files asked path names
+are_names files asked path end whole known names is from all left ends = record {
+  some = all;
+  file = λ honest. subst₂ (λ (n : ℕ) (bytes : Option (List ℕ)). IfSome bytes (λ file. names ≡ paths_in n file)) is (from honest) (left_ends end whole known names left ends);
+}
+
+names_same : (files then_files : FileMap) (asked : CheckRequest) (path : List ℕ) (names : List (List ℕ)) → SameFiles files then_files → AreNames then_files asked path names → AreNames files asked path names
+names_same files then_files asked path names same are = record {
+  some = are.some;
+  file = λ honest. subst (λ (bytes : List ℕ → Option (List ℕ)). IfSome (bytes (names_path path)) (λ file. names ≡ paths_in (names_end asked) file)) same.bytes
+      (are.file (subst (λ (b : Bool). IsTrue b) (sym same.honest) honest));
+}
 
 pub all_given : (files : FileMap) (asked : CheckRequest) (old new : Told) → asked.files_from ≡ None → AnswersEach files asked (map (λ path. path.now) asked.images.items) old new
     → AnswersAll files asked old new
 all_given files asked old new none each =
-    ([], subst (λ (it : Option (Bor (List ℕ))). from_file it []) (sym none) refl, each_then files asked _ [] old new new each refl)
+    ([], subst (λ (it : Option (Bor (List ℕ))). from_file files asked it []) (sym none) refl, each_then files asked _ [] old new new each refl)
 
 pub all_named : (files then_files : FileMap) (asked : CheckRequest) (file : Bor (List ℕ)) (old mid new : Told) → SameFiles files then_files → asked.files_from ≡ Some file
-    → AnswersEach files asked (map (λ path. path.now) asked.images.items) old mid → AnswersNamed then_files asked mid new → AnswersAll files asked old new
+    → AnswersEach files asked (map (λ path. path.now) asked.images.items) old mid → AnswersNamed then_files asked file.now mid new → AnswersAll files asked old new
 all_named files then_files asked file old mid new stay is each names = (
   names.0,
-  subst (λ (it : Option (Bor (List ℕ))). from_file it names.0) (sym is) names.1,
+  subst (λ (it : Option (Bor (List ℕ))). from_file files asked it names.0) (sym is) (names_same files then_files asked file.now names.0 stay names.1),
   each_then files asked _ names.0 old mid new each (each_same files then_files asked names.0 mid new stay names.2),
 )
 

@@ -23,8 +23,5 @@ pub mod Statuses
 pub mod StrictEnds
 pub mod TreeSizes
 pub mod UnpackEnds
-<<<<<<< HEAD
-pub mod WordAnswers
-=======
 pub mod Verdicts
->>>>>>> e1e8fa3c (uimg_tool: the answer of a check shows the verdict of the file at its path (in the making))
+pub mod WordAnswers

@@ -4,7 +4,7 @@ ghost use Rattle.std.specs.Prelude.{◌≡◌, ◌≢◌, ◌≤◌, ◌+◌, �
 ghost use Rattle.std.specs.Io.{Buffered.{writer_buffer, writer_contents}, KnownBytes.Appends};
 ghost use Rattle.uimg_base.specs.Named.{SameFiles};
 ghost use Rattle.uimg_checks.specs.Answers.{answer_status};
-ghost use Rattle.uimg_tool.specs.{AnswerTexts.{answer_text, object_line, text_line}, Checking.AnswersRequest, Complaints.Ends, Reading.changes, Statuses.{Grows, checked_status}};
+ghost use Rattle.uimg_tool.specs.{AnswerTexts.{answer_text, object_line, text_line}, Checking.AnswersRequest, Checks.{names_end, names_path}, Complaints.Ends, Reading.changes, Statuses.{Grows, checked_status}};
 
 use crate::check_answers::{NOT_UTF8, Names, answer_of_unread};
 use crate::complaints::Complaints;
@@ -161,20 +161,18 @@ impl<W: Write + Drop> Checks<W> {
         path: &'b str,
     ) -> Result<(), Stop<'b>>
         ensures grows { Grows self.old.greatest self.new.greatest }
-        ensures told { OnOk result (AnswersNamed (D.map world.old) request.now
+        ensures told { OnOk result (AnswersNamed (D.map world.old) request.now path.entry.now
             (told W.contents self.old) (told W.contents self.new)) }
         ensures same { SameFiles (D.map world.old) (D.map world.new) }
         ensures changes { changes (D.trace world.new) ≡ changes (D.trace world.old) }
         ensures flushed { writer_buffer self.old.out ≡ [] →
             OnOk result (writer_buffer self.new.out ≡ []) }
     {
-        let from = if path == "-" { STANDARD_INPUT } else { path };
-        let file = match world.read(from) {
+        let file = match world.read(names_path(path)) {
             Ok(file) => file,
             Err(error) => return Err(Stop::NoNames(path, error)),
         };
-        let end = if request.has_nuls { 0 } else { b'\n' };
-        let Ok(names) = paths_in(world.alloc(), file, end) else {
+        let Ok(names) = paths_in(world.alloc(), file, names_end(request)) else {
             return Err(Stop::NoMemory);
         };
         for name in names {
@@ -223,10 +221,7 @@ impl<W: Write + Drop> Checks<W> {
             OnOk result (writer_buffer self.new.out ≡ []) }
     {
         let mut names = Names::new(world.alloc());
-        let answer = match str::from_utf8(path) {
-            Ok(path) => self.answer(world, request, path, &mut names),
-            Err(_) => NOT_UTF8,
-        };
+        let answer = self.answer(world, request, path, &mut names);
         self.note(&answer);
         if request.is_quiet && answer.word() == "ok" {
             return Ok(());
@@ -245,8 +240,30 @@ impl<W: Write + Drop> Checks<W> {
         self.has_checked = true;
     }
 
-    // Checks the file at a path.
+    // Checks the file at a path, which may have any bytes.
+    #[tactic(auto, using(crate::proofs::VerdictLaws::failed_file))]
     fn answer<'n, D: World>(
+        &mut self,
+        world: &mut D,
+        request: &CheckRequest<'_>,
+        path: &[u8],
+        names: &'n mut Names,
+    ) -> Answer<'n>
+        ensures greatest { self.new.greatest ≡ self.old.greatest }
+        ensures out { self.new.out ≡ self.old.out }
+        ensures file { AnswersFile (D.map world.old) request.now path.now result }
+        ensures same { SameFiles (D.map world.old) (D.map world.new) }
+        ensures changes { changes (D.trace world.new) ≡ changes (D.trace world.old) }
+    {
+        match str::from_utf8(path) {
+            Ok(path) => self.answer_text(world, request, path, names),
+            Err(_) => NOT_UTF8,
+        }
+    }
+
+    // Checks the file at a path that is text.
+    #[tactic(auto, using(crate::proofs::VerdictLaws::file_answered, crate::proofs::VerdictLaws::failed_file))]
+    fn answer_text<'n, D: World>(
         &mut self,
         world: &mut D,
         request: &CheckRequest<'_>,
@@ -266,6 +283,20 @@ impl<W: Write + Drop> Checks<W> {
             Err(_) => answer_of_unread(world, path, names),
         }
     }
+}
+
+// Returns the path of the file of names; `-` is standard input.
+fn names_path(path: &str) -> &str
+    ensures { result.now ≡ names_path path.entry.now }
+{
+    if path == "-" { STANDARD_INPUT } else { path }
+}
+
+// Returns the byte after each name.
+fn names_end(request: &CheckRequest<'_>) -> u8
+    ensures { result ≡ names_end request.now }
+{
+    if request.has_nuls { 0 } else { b'\n' }
 }
 
 // Writes what is told of a result, and flushes it.
