@@ -89,9 +89,9 @@ pub unbuffered_left : {T A : Type 0} (remaining : T → Option (List ℕ)) (read
 unbuffered_left remaining reader inner capacity buffer is =
     ap₂ (λ (n : ℕ) (bytes : List ℕ). if n == 0 then None else prepend_known bytes (remaining reader.inner)) capacity buffer
     ∙ none_before (remaining reader.inner) ∙ ap remaining is where
-  none_before : (known : Option (List ℕ)) → prepend_known [] known ≡ known
-  none_before None = refl
-  none_before (Some bytes) = refl
+      none_before : (known : Option (List ℕ)) → prepend_known [] known ≡ known
+      none_before None = refl
+      none_before (Some bytes) = refl
 
 -- These are the paths of a file as far as it was read.
 abbrev pub Left : ℕ → Option (List ℕ) → Option (List ℕ) → List (List ℕ) → Type 0
@@ -119,7 +119,7 @@ pub left_next : {E : Type 0} (end byte : ℕ) (whole known new : Option (List �
     → YieldsKnownPiece vec_items (first_piece byte) byte known (Some item) new → Left end whole known names → Left end whole new (names ++ filter is_name (path.items ∷ []))
 left_next {E = E} end byte whole known new names item path byte_is is yields left =
     let gives = subst (λ (it : Result (Vec ℕ Global) E). YieldsKnownPiece vec_items (first_piece end) end known (Some it) new) is
-        (subst (λ (b : ℕ). YieldsKnownPiece vec_items (first_piece b) b known (Some item) new) byte_is yields) in
+    (subst (λ (b : ℕ). YieldsKnownPiece vec_items (first_piece b) b known (Some item) new) byte_is yields) in
     left_more end whole known new names path.items left gives.0 gives.1
 
 at_end : (known : Option (List ℕ)) (rest : List ℕ) → known ≡ Some rest → IsAtEnd known → rest ≡ []

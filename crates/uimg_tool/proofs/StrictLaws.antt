@@ -80,7 +80,7 @@ surveyed : (d e f : Device) (survey : Survey) (missing : Option Missing) → Sam
 surveyed d e f survey missing first more tight told lost honest found =
     let said = over d e (λ file. Surveys file (Ok survey)) first told honest in
     let lacks = over d e (λ file. TellsMissing file (missing_in (read_survey file survey)) (Ok missing)) first
-        (over e f (λ file. TellsMissing file (missing_in (read_survey file survey)) (Ok missing)) more lost) honest in
+    (over e f (λ file. TellsMissing file (missing_in (read_survey file survey)) (Ok missing)) more lost) honest in
     by_facts d.bytes found (Ok (read_survey d.bytes survey)) (tight honest) said
     ∙ ap (λ (it : Option _). lacks_or it (Finds found (Some (node_count (read_survey d.bytes survey).configurations)))) (sym lacks)
 

@@ -10,9 +10,21 @@ loop-name-init g c = (tt, tt, (search rules), (search rules), (search rules), (s
 pub loop-name-preserved : goal.loop-name-preserved
 loop-name-preserved g c =
     let before = c.loop-name.invariant in
-    let steps = c.in-Some.ensures.steps in
-    (tt, tt, (search rules), (search rules), (search rules), (search rules), steps.1 ∙ before.6, (_, all_names _ before.7.0 before.7.1, left_next _ _ _ _ _ before.7.0 _ c.in-Ok-name.name before.6 c.in-Ok-name.is steps.2 before.7.2,
-    each_item _ _ c.args.request.now c.as_slice.result.now c.in-Ok-name.name.items before.7.0 _ _ _ c.as_slice.ensures.value before.4 before.7.3 c.in_ok-check_unless_empty-in-Ok-name.ensures.told))
+    let steps = c.in-Some.ensures.steps in (
+      tt,
+      tt,
+      (search rules),
+      (search rules),
+      (search rules),
+      (search rules),
+      steps.1 ∙ before.6,
+      (
+        _,
+        all_names _ before.7.0 before.7.1,
+        left_next _ _ _ _ _ before.7.0 _ c.in-Ok-name.name before.6 c.in-Ok-name.is steps.2 before.7.2,
+        each_item _ _ c.args.request.now c.as_slice.result.now c.in-Ok-name.name.items before.7.0 _ _ _ c.as_slice.ensures.value before.4 before.7.3 c.in_ok-check_unless_empty-in-Ok-name.ensures.told,
+      ),
+    )
 
 pub returns-clause-told : goal.returns-clause-told
 returns-clause-told g c =
