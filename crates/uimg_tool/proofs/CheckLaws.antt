@@ -1,5 +1,5 @@
 -- Answers about some images, and then about others.
-use Rattle.std.proofs.Common.{◌≡◌, ℕ, List, [], ◌∷◌, ◌++◌, map, drop, Bool, true, false, ◌&&◌, ◌||◌, if◌then◌else◌, Option, Some, None, Result, Ok, Err, OnOk, IfSome, IsTrue, filter, inl, inr, refl, ap, ap₂, sym, subst, subst₂, ◌∙◌}
+use Rattle.std.proofs.Common.{◌≡◌, ◌≢◌, ℕ, List, [], ◌∷◌, ◌++◌, map, drop, Bool, true, false, ◌&&◌, ◌||◌, if◌then◌else◌, Option, Some, None, Result, Ok, Err, OnOk, IfSome, IsTrue, filter, inl, inr, refl, ap, ap₂, sym, subst, subst₂, ◌∙◌}
 use mathlib.Core.List.{append-nil}
 use Rattle.std.specs.{Borrow.Bor, Io.KnownBytes.{IsAtEnd, append_known}, List.list_all}
 use Rattle.std.proofs.lemmas.List.Folds.{list_all-append}
@@ -109,6 +109,11 @@ unbuffered (Some bytes) buffer empty = ap (λ (more : List ℕ). Some (bytes ++ 
 chosen : (b : Bool) (greatest : ℕ) (done : Unit) → checked_status (Ok done) (if b then Some greatest else None) ≡ (if b then greatest else 2)
 chosen true greatest done = refl
 chosen false greatest done = refl
+
+-- the buffer is empty, unless the checks stopped
+pub flushed_unless : (ended : Result Unit Stop) (found : Option ℕ) (status : ℕ) (left : List ℕ) → status ≡ checked_status ended found → OnOk ended (left ≡ []) → status ≢ 3 → left ≡ []
+flushed_unless (Ok done) found status left is flushed other = flushed
+flushed_unless (Err stop) found status left is flushed other = absurd (other is)
 
 -- the end of all checks
 pub request_told : (files : FileMap) (asked : CheckRequest) (ended : Result Unit Stop) (found : Option ℕ) (status : ℕ) (before after : Option (List ℕ)) (old new : Told)

@@ -37,6 +37,7 @@ pub(crate) fn check_images<D: World, W: Write + Drop, V: Write>(
 ) -> (u8, BufWriter<W, Global>)
     requires { writer_buffer out ≡ [] }
     ensures ends { Ends result.0 complaints.old.count complaints.new.count }
+    ensures flushed { result.0 ≢ 3 → writer_buffer result.1 ≡ [] }
     ensures told { AnswersRequest (D.map world.old) request.now result.0
         (writer_contents W.contents out) (writer_contents W.contents result.1) }
     ensures same { SameFiles (D.map world.old) (D.map world.new) }
