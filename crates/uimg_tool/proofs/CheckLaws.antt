@@ -1,7 +1,7 @@
 -- Answers about some images, and then about others.
 use Rattle.std.proofs.Common.{◌≡◌, ◌≢◌, ℕ, List, [], ◌∷◌, ◌++◌, map, drop, Bool, true, false, ◌&&◌, ◌||◌, if◌then◌else◌, Option, Some, None, Result, Ok, Err, OnOk, IfSome, IsTrue, filter, inl, inr, refl, ap, ap₂, sym, subst, subst₂, ◌∙◌}
 use mathlib.Core.List.{append-nil}
-use Rattle.std.specs.{Borrow.Bor, Io.KnownBytes.{IsAtEnd, append_known}, List.list_all}
+use Rattle.std.specs.{Borrow.Bor, Io.KnownBytes.{IsAtEnd}, List.list_all}
 use Rattle.std.proofs.lemmas.List.Folds.{list_all-append}
 use Rattle.uimg_cli.specs.declared.command_line.check.CheckRequest.{CheckRequest}
 use Rattle.uimg_tool.specs.Checking.{AnswersRequest, nothing_told}
@@ -40,13 +40,6 @@ pub each_same : (old_files new_files : FileMap) (asked : CheckRequest) (paths : 
 each_same old_files new_files asked [] old new same each = each
 each_same old_files new_files asked (path ∷ paths) old new same each =
     (each.0, answers_same old_files new_files asked path old each.0 same each.1, each_same old_files new_files asked paths each.0 new same each.2)
-
-pub files_then : (a b c : FileMap) → SameFiles a b → SameFiles b c → SameFiles a c
-files_then a b c first more = record {
-  bytes = more.bytes ∙ first.bytes;
-  honest = more.honest ∙ first.honest;
-  complete = more.complete ∙ first.complete;
-}
 
 -- all images, when none is left
 pub each_left : (files : FileMap) (asked : CheckRequest) (items : List (Bor (List ℕ))) (i : ℕ) (old cur : Told) → items ≡ asked.images.items → drop i items ≡ []
@@ -100,11 +93,6 @@ all_named files then_files asked file old mid new stay is each names = (
   subst (λ (it : Option (Bor (List ℕ))). from_file files asked it names.0) (sym is) (names_same files then_files asked file.now names.0 stay names.1),
   each_then files asked _ names.0 old mid new each (each_same files then_files asked names.0 mid new stay names.2),
 )
-
--- nothing waits in a buffer
-pub unbuffered : (known : Option (List ℕ)) (buffer : List ℕ) → buffer ≡ [] → append_known known buffer ≡ known
-unbuffered None buffer empty = refl
-unbuffered (Some bytes) buffer empty = ap (λ (more : List ℕ). Some (bytes ++ more)) empty ∙ ap Some (append-nil bytes)
 
 chosen : (b : Bool) (greatest : ℕ) (done : Unit) → checked_status (Ok done) (if b then Some greatest else None) ≡ (if b then greatest else 2)
 chosen true greatest done = refl

@@ -1,9 +1,9 @@
 -- The first piece of a file of paths.
-use Rattle.std.proofs.Common.{◌≡◌, ◌<◌, ◌-◌, ℕ, zero, suc, List, [], ◌∷◌, ◌++◌, length, Bool, true, false, ◌==◌, cond, if◌then◌else◌, take, slice_index, refl, ap, ap₂, sym, ◌&&◌, ◌∙◌, arith, filter, append-nil, append_assoc, Option, Some, None, IfSome, is_some, true≢false, unwrap_or, Result, Ok, Vec, Global, vec_items, subst}
+use Rattle.std.proofs.Common.{◌≡◌, ◌<◌, ◌-◌, ℕ, List, [], ◌∷◌, ◌++◌, length, Bool, true, false, ◌==◌, if◌then◌else◌, take, slice_index, refl, ap, ap₂, sym, ◌&&◌, ◌∙◌, arith, filter, append-nil, append_assoc, Option, Some, None, IfSome, is_some, true≢false, unwrap_or, Result, Ok, Vec, Global, vec_items, subst}
 use Rattle.std.proofs.lemmas.Bool.{lt-ltb}
 use Rattle.std.specs.Io.{Buffered.{reader_buffer, reader_capacity, reader_inner, reader_remaining}, Iter.YieldsKnownPiece, KnownBytes.{IsAtEnd, prepend_known}}
 use Rattle.std.specs.declared.io.buffered.BufReader.{BufReader}
-use Rattle.std.specs.Io.BufRead.{DropsThrough, take_through, drop_through, strip_last, ends_with_byte, first_piece}
+use Rattle.std.specs.Io.BufRead.{DropsThrough, take_through, drop_through, strip_last, first_piece}
 use Rattle.uimg_tool.specs.Paths.{is_name, onto, paths_in, pieces}
 
 some_some : {X : Type 0} {a b : X} → Some a ≡ Some b → a ≡ b

@@ -1,6 +1,6 @@
 -- What a strict check finds further in a file.
-use Rattle.std.proofs.Common.{◌≡◌, ◌+◌, ◌-◌, ◌^◌, ◌<◌, ℕ, min, List, [], ◌∷◌, map, length, take, Bool, true, false, Option, Some, None, Result, Ok, Err, IsTrue, IfOk, IfErr, refl, ap, ap₂, sym, subst, ◌∙◌, arith, sum_by, slice_index_or, true≢false}
-use Rattle.std.proofs.lemmas.List.{length-map, Sums.{sum_by-cons, sum_by_more}}
+use Rattle.std.proofs.Common.{◌≡◌, ◌+◌, ◌-◌, ◌^◌, ℕ, min, List, [], ◌∷◌, map, length, true, false, Option, Some, None, Result, Ok, Err, IsTrue, refl, ap, ap₂, sym, subst, ◌∙◌, sum_by, true≢false}
+use Rattle.std.proofs.lemmas.List.{length-map, Sums.{sum_by-cons}}
 use Rattle.std.specs.Option.{option_map}
 use Rattle.uimg_base.specs.{Device.{Device, SameDevice}}
 use Rattle.uimg_checks.specs.References.{TellsMissing, missing_in, read_missing}
@@ -19,16 +19,16 @@ use Rattle.uimg_checks.specs.declared.references.missing.Missing.{Missing}
 use Rattle.uimg_fit_base.specs.declared.fault.Fault.{Fault as FitEngineFault}
 use Rattle.uimg_fit_base.specs.declared.fault.Fault.TheVariants as of
 use Rattle.uimg_fit_checking.specs.Survey.{ConfigurationSaid, Said, read_configuration, read_name, read_survey, survey_of}
-use Rattle.uimg_fit_checking.specs.SurveyParts.{Surveys, is_own}
+use Rattle.uimg_fit_checking.specs.SurveyParts.{Surveys}
 use Rattle.uimg_fit_checking.specs.declared.surveying.facts.ConfigurationFacts.{ConfigurationFacts}
 use Rattle.uimg_fit_checking.specs.declared.surveying.facts.Survey.{Survey}
 use Rattle.uimg_fit_checking.specs.declared.surveying.fault.SurveyFault.{SurveyFault}
-use Rattle.uimg_fit_checking.specs.declared.surveying.fault.SurveyFault.TheVariants.{Stopped, OutOfMemory, Changed}
-use Rattle.uimg_strict.specs.{Looseness.{LooseSaid, looseness_of}, Telling.{TellsLooseness, read_loose}}
+use Rattle.uimg_fit_checking.specs.declared.surveying.fault.SurveyFault.TheVariants.{Stopped}
+use Rattle.uimg_strict.specs.{Looseness.{LooseSaid, looseness_of}, Telling.{TellsLooseness}}
 use Rattle.uimg_strict.specs.declared.loose.Loose.{Loose}
 use Rattle.uimg_tool.specs.CheckEnds.{AnswersFault, Shows}
 use Rattle.uimg_tool.specs.StrictEnds.{TellsFurther}
-use Rattle.uimg_tool.specs.Verdicts.{Verdict, Finds, Lacks, facts_verdict, fit_verdict, is_right, lacks_or, loose_or, loosens, node_count, strict_verdict}
+use Rattle.uimg_tool.specs.Verdicts.{Verdict, Finds, facts_verdict, fit_verdict, is_right, lacks_or, loose_or, node_count, strict_verdict}
 use Rattle.uimg_tool.proofs.VerdictLaws.{fault_shown, over, told_fault, unread_shows}
 
 by_looseness : (file : List ℕ) (found : Checked (List ℕ)) (r : Result (Option LooseSaid) FitEngineFault) → looseness_of file ≡ r
@@ -38,39 +38,6 @@ by_looseness file found r is = ap (λ (it : Result (Option LooseSaid) FitEngineF
 by_facts : (file : List ℕ) (found : Checked (List ℕ)) (r : Result Said FitEngineFault) → TellsLooseness file (Ok None) → survey_of file ≡ r
     → fit_verdict file found ≡ facts_verdict found r
 by_facts file found r tight is = by_looseness file found (Ok None) tight ∙ ap (facts_verdict found) is
-
-pub loose_found : (file : List ℕ) (loose : Loose) → TellsLooseness file (Ok (Some loose)) → (found : Checked (List ℕ)) → fit_verdict file found ≡ loosens (read_loose loose)
-loose_found file loose told found = by_looseness file found (Ok (Some (read_loose loose))) told
-
-pub loose_stopped : (file : List ℕ) (fault : SurveyFault) → TellsLooseness file (Err fault) → (found : Checked (List ℕ)) → TellsFurther file found (Err fault)
-loose_stopped file (Stopped (of.Blob fault at)) told found = λ memory. by_looseness file found (Err (of.Blob fault at)) (told memory)
-loose_stopped file (Stopped (of.Fit fault)) told found = by_looseness file found (Err (of.Fit fault)) told
-loose_stopped file (Stopped of.Read) told found = tt
-loose_stopped file (Stopped of.Put) told found = told
-loose_stopped file OutOfMemory told found = tt
-loose_stopped file Changed told found = told
-
-survey_stopped_in : (file : List ℕ) (fault : SurveyFault) → TellsLooseness file (Ok None) → Surveys file (Err fault) → (found : Checked (List ℕ)) → TellsFurther file found (Err fault)
-survey_stopped_in file (Stopped (of.Blob fault at)) tight told found = λ memory. by_facts file found (Err (of.Blob fault at)) tight (told memory)
-survey_stopped_in file (Stopped (of.Fit fault)) tight told found = by_facts file found (Err (of.Fit fault)) tight told
-survey_stopped_in file (Stopped of.Read) tight told found = tt
-survey_stopped_in file (Stopped of.Put) tight told found = told
-survey_stopped_in file OutOfMemory tight told found = tt
-survey_stopped_in file Changed tight told found = told
-
-pub survey_stopped : (d e : Device) (fault : SurveyFault) → SameDevice d e → (IsTrue d.honest → TellsLooseness d.bytes (Ok None)) → (IsTrue e.honest → Surveys e.bytes (Err fault))
-    → IsTrue d.honest → (found : Checked (List ℕ)) → TellsFurther d.bytes found (Err fault)
-survey_stopped d e fault same tight told honest =
-    survey_stopped_in d.bytes fault (tight honest) (over d e (λ file. Surveys file (Err fault)) same told honest)
-
--- only a failed read or refused memory stops the look for missing names
-pub missing_stopped : (file : List ℕ) (fault : SurveyFault) → is_own fault ≡ true → (found : Checked (List ℕ)) → TellsFurther file found (Err fault)
-missing_stopped file (Stopped (of.Blob fault at)) own found = absurd (true≢false (sym own))
-missing_stopped file (Stopped (of.Fit fault)) own found = absurd (true≢false (sym own))
-missing_stopped file (Stopped of.Read) own found = tt
-missing_stopped file (Stopped of.Put) own found = absurd (true≢false (sym own))
-missing_stopped file OutOfMemory own found = tt
-missing_stopped file Changed own found = absurd (true≢false (sym own))
 
 -- the verdict by the facts of a survey
 surveyed : (d e f : Device) (survey : Survey) (missing : Option Missing) → SameDevice d e → SameDevice e f → (IsTrue d.honest → TellsLooseness d.bytes (Ok None))
@@ -83,12 +50,6 @@ surveyed d e f survey missing first more tight told lost honest found =
     (over e f (λ file. TellsMissing file (missing_in (read_survey file survey)) (Ok missing)) more lost) honest in
     by_facts d.bytes found (Ok (read_survey d.bytes survey)) (tight honest) said
     ∙ ap (λ (it : Option _). lacks_or it (Finds found (Some (node_count (read_survey d.bytes survey).configurations)))) (sym lacks)
-
-pub missing_found : (d e f : Device) (survey : Survey) (missing : Missing) → SameDevice d e → SameDevice e f → (IsTrue d.honest → TellsLooseness d.bytes (Ok None))
-    → (IsTrue e.honest → Surveys e.bytes (Ok survey)) → (IsTrue f.honest → TellsMissing f.bytes (missing_in (read_survey f.bytes survey)) (Ok (Some missing)))
-    → IsTrue d.honest → (found : Checked (List ℕ)) → fit_verdict d.bytes found ≡ Lacks (read_missing d.bytes missing)
-missing_found d e f survey missing first more tight told lost honest found =
-    surveyed d e f survey (Some missing) first more tight told lost honest found
 
 nodes_sum : (file : List ℕ) (cs : List ConfigurationFacts) → sum_by (λ (c : ConfigurationSaid). length c.nodes) (map (read_configuration file) cs) ≡ sum_by (λ (c : ConfigurationFacts). length c.nodes.items) cs
 nodes_sum file [] = refl
@@ -140,8 +101,3 @@ other_shown file (fit.Wrong image hash word) answer other shows = shows
 other_shown file (fit.Weak image) answer other shows = shows
 other_shown file (fit.Overlapping image) answer other shows = shows
 other_shown file fit.NoImage answer other shows = shows
-
--- one more of the summands of a count that saturates
-pub counted_one : {X : Type 0} (f : X → ℕ) (xs : List X) (i : ℕ) (x : X) (before now : ℕ) → x ≡ slice_index_or xs i x → i < length xs
-    → before ≡ min (sum_by f (take i xs)) (2 ^ 64 - 1) → now ≡ min (before + f x) (2 ^ 64 - 1) → now ≡ min (sum_by f (take (i + 1) xs)) (2 ^ 64 - 1)
-counted_one f xs i x before now is within so more = omega (arith, so, more, ap f is, sum_by_more f xs i x within)

@@ -3,11 +3,9 @@ use Rattle.std.proofs.Common.{◌≡◌, ℕ, List, Bool, true, false, if◌then
 use Rattle.uimg_base.specs.{Device.{Device, SameDevice}, Named.{FileMap, Opens, SameFiles}}
 use Rattle.uimg_base.specs.declared.spans.Span.{Span}
 use Rattle.uimg_blob_reading.specs.Faults.{refuses_memory}
-use Rattle.uimg_checks.specs.Answers.{answer_status}
 use Rattle.uimg_checks.specs.Finding.{TellsCheck, TellsCheckIn, check_of, told_at}
 use Rattle.uimg_checks.specs.declared.answer.Answer.{Answer}
 use Rattle.uimg_checks.specs.declared.answer.Answer.TheVariants.{Found, Missing, Loose, Refused, Failed}
-use Rattle.uimg_checks.specs.declared.answer.Stop.{Stop}
 use Rattle.uimg_checks.specs.declared.finding.Checked.{Checked}
 use Rattle.uimg_checks.specs.declared.references.missing.Missing.{Missing as MissingName}
 use Rattle.uimg_cli.specs.declared.command_line.check.CheckRequest.{CheckRequest}
@@ -15,17 +13,10 @@ use Rattle.uimg_engine.specs.Headline.{is_fit}
 use Rattle.uimg_engine.specs.declared.fault.Fault.{Fault}
 use Rattle.uimg_engine.specs.declared.fault.Fault.TheVariants as engine
 use Rattle.uimg_requests.specs.declared.command.Form.TheVariants as form
-use Rattle.uimg_tool.specs.CheckEnds.{AnswersFault, AnswersFound, AnswersLine, AnswersMissing, IsVerdict, Shows}
+use Rattle.uimg_tool.specs.CheckEnds.{AnswersFault, AnswersFound, AnswersLine, AnswersMissing, Shows}
 use Rattle.uimg_tool.specs.Checks.{AnswersBytes, AnswersFile}
 use Rattle.uimg_tool.specs.Statuses.{fault_status}
 use Rattle.uimg_tool.specs.Verdicts.{Verdict, Refuses, verdict_by, verdict_of}
-
-pub verdict_shown : (answer : Answer) (verdict : Verdict) → IsVerdict answer verdict → Shows answer verdict
-verdict_shown (Failed stop) verdict is = tt
-verdict_shown (Found told more) verdict is = is
-verdict_shown (Missing configuration property name) verdict is = is
-verdict_shown (Loose shown told name) verdict is = is
-verdict_shown (Refused stop) verdict is = is
 
 pub fault_shown : (fault : Fault) (answer : Answer) → AnswersFault fault answer → Shows answer (Refuses fault)
 fault_shown fault (Failed stop) told = tt

@@ -1,5 +1,5 @@
 -- The checks of many images: what is answered of each, in order.
-use Rattle.std.specs.Prelude.{◌≡◌, ℕ, max, List, [], ◌∷◌, ◌++◌, map, codes, Option, Some, None, Bool, true, false, ◌&&◌, if◌then◌else◌, IsTrue, IfSome}
+use Rattle.std.specs.Prelude.{◌≡◌, ℕ, max, List, [], ◌∷◌, ◌++◌, map, codes, Option, Some, None, Bool, true, ◌&&◌, if◌then◌else◌, IsTrue, IfSome}
 use Rattle.std.specs.{Borrow.Bor, Io.{Buffered.writer_contents, KnownBytes.Appends}, List.list_all, Str.bytes_eq}
 use Rattle.uimg_base.specs.Named.{FileMap}
 use Rattle.uimg_checks.specs.Answers.{answer_status, answer_word}

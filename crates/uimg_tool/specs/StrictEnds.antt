@@ -16,7 +16,7 @@ use Rattle.uimg_fit_checking.specs.declared.surveying.fault.SurveyFault.TheVaria
 use Rattle.uimg_legacy.specs.declared.fault.Fault.{Fault as LegacyFault}
 use Rattle.uimg_strict.specs.{Headers.TellsHeader, Telling.read_loose}
 use Rattle.uimg_strict.specs.declared.loose.Looseness.{Looseness}
-use Rattle.uimg_tool.specs.CheckEnds.{AnswersEnd, AnswersFault}
+use Rattle.uimg_tool.specs.CheckEnds.{AnswersFault}
 use Rattle.uimg_tool.specs.Verdicts.{Verdict, Finds, Lacks, Refuses, fit_verdict, loosens}
 use Rattle.uimg_tool.specs.declared.strict_answers.Further.{Further}
 use Rattle.uimg_tool.specs.declared.strict_answers.Further.TheVariants as further
