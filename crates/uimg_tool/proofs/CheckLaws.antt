@@ -1,11 +1,14 @@
 -- Answers about some images, and then about others.
-use Rattle.std.proofs.Common.{◌≡◌, ℕ, List, [], ◌∷◌, ◌++◌, map, drop, Bool, true, false, ◌&&◌, ◌||◌, if◌then◌else◌, Option, Some, None, Result, Ok, Err, OnOk, inl, inr, refl, ap, ap₂, sym, subst, ◌∙◌}
+use Rattle.std.proofs.Common.{◌≡◌, ◌≢◌, ℕ, List, [], ◌∷◌, ◌++◌, map, drop, Bool, true, false, ◌&&◌, ◌||◌, if◌then◌else◌, Option, Some, None, Result, Ok, Err, OnOk, IfSome, IsTrue, filter, inl, inr, refl, ap, ap₂, sym, subst, subst₂, ◌∙◌}
 use mathlib.Core.List.{append-nil}
-use Rattle.std.specs.{Borrow.Bor, Io.KnownBytes.append_known}
+use Rattle.std.specs.{Borrow.Bor, Io.KnownBytes.{IsAtEnd}, List.list_all}
 use Rattle.std.proofs.lemmas.List.Folds.{list_all-append}
 use Rattle.uimg_cli.specs.declared.command_line.check.CheckRequest.{CheckRequest}
 use Rattle.uimg_tool.specs.Checking.{AnswersRequest, nothing_told}
-use Rattle.uimg_tool.specs.Checks.{AnswersAll, AnswersEach, AnswersNamed, AnswersUnlessEmpty, Told, from_file, is_name}
+use Rattle.uimg_base.specs.Named.{FileMap, SameFiles}
+use Rattle.uimg_tool.specs.Checks.{Answers, AnswersAll, AnswersEach, AnswersNamed, AnswersUnlessEmpty, AreNames, Told, from_file, names_end, names_path}
+use Rattle.uimg_tool.specs.Paths.{is_name, paths_in}
+use Rattle.uimg_tool.proofs.{PathLaws.{Left, left_ends}, VerdictLaws.file_same}
 use Rattle.uimg_tool.specs.Statuses.{checked_status}
 use Rattle.uimg_tool.specs.declared.check_program.Stop.{Stop}
 
@@ -13,51 +16,97 @@ pub on_ok : {X F P Q : Type 0} (r : Result X F) → (P → Q) → OnOk r P → O
 on_ok (Ok x) f h = f h
 on_ok (Err e) f h = tt
 
-pub each_then : (asked : CheckRequest) (paths others : List (List ℕ)) (old mid new : Told) → AnswersEach asked paths old mid → AnswersEach asked others mid new
-    → AnswersEach asked (paths ++ others) old new
-each_then asked [] others old mid new first more = subst (λ (it : Told). AnswersEach asked others it new) first more
-each_then asked (path ∷ paths) others old mid new first more =
-    (first.0, first.1, each_then asked paths others first.0 mid new first.2 more)
+pub each_then : (files : FileMap) (asked : CheckRequest) (paths others : List (List ℕ)) (old mid new : Told) → AnswersEach files asked paths old mid
+    → AnswersEach files asked others mid new → AnswersEach files asked (paths ++ others) old new
+each_then files asked [] others old mid new first more = subst (λ (it : Told). AnswersEach files asked others it new) first more
+each_then files asked (path ∷ paths) others old mid new first more =
+    (first.0, first.1, each_then files asked paths others first.0 mid new first.2 more)
 
--- all images, when none is left
-pub each_left : (asked : CheckRequest) (items : List (Bor (List ℕ))) (i : ℕ) (old cur : Told) → items ≡ asked.images.items → drop i items ≡ []
-    → ((last : Told) → AnswersEach asked (map (λ path. path.now) (drop i items)) cur last → AnswersEach asked (map (λ path. path.now) items) old last)
-    → AnswersEach asked (map (λ path. path.now) asked.images.items) old cur
-each_left asked items i old cur are none so =
-    subst (λ (l : List (Bor (List ℕ))). AnswersEach asked (map (λ path. path.now) l) old cur) are
-    (so cur (subst (λ (l : List (Bor (List ℕ))). AnswersEach asked (map (λ path. path.now) l) cur cur) (sym none) refl))
-
--- one more, unless its name is empty
-pub named_then : (asked : CheckRequest) (path : List ℕ) (old mid new : Told) → AnswersNamed asked old mid → AnswersUnlessEmpty asked path mid new → AnswersNamed asked old new
-named_then asked [] old mid new names same = subst (λ (it : Told). AnswersNamed asked old it) (sym same) names
-named_then asked (byte ∷ rest) old mid new names answer = (
-  names.0 ++ (byte ∷ rest) ∷ [],
-  list_all-append is_name names.0 ((byte ∷ rest) ∷ []) ∙ ap₂ (λ (a b : Bool). a && b) names.1 refl,
-  each_then asked names.0 ((byte ∷ rest) ∷ []) old mid new names.2 (new, answer, refl),
+-- the same answers about files that are the same
+pub answers_same : (old_files new_files : FileMap) (asked : CheckRequest) (path : List ℕ) (old new : Told) → SameFiles old_files new_files → Answers new_files asked path old new
+    → Answers old_files asked path old new
+answers_same old_files new_files asked path old new same answers = (
+  answers.0,
+  record {
+    file = file_same old_files new_files asked path answers.0 same answers.1.file;
+    status = answers.1.status;
+    counted = answers.1.counted;
+    written = answers.1.written;
+  },
 )
 
-pub all_given : (asked : CheckRequest) (old new : Told) → asked.files_from ≡ None → AnswersEach asked (map (λ path. path.now) asked.images.items) old new → AnswersAll asked old new
-all_given asked old new none each =
-    ([], subst (λ (it : Option (Bor (List ℕ))). from_file it []) (sym none) refl, each_then asked _ [] old new new each refl)
+pub each_same : (old_files new_files : FileMap) (asked : CheckRequest) (paths : List (List ℕ)) (old new : Told) → SameFiles old_files new_files → AnswersEach new_files asked paths old new
+    → AnswersEach old_files asked paths old new
+each_same old_files new_files asked [] old new same each = each
+each_same old_files new_files asked (path ∷ paths) old new same each =
+    (each.0, answers_same old_files new_files asked path old each.0 same each.1, each_same old_files new_files asked paths each.0 new same each.2)
 
-pub all_named : (asked : CheckRequest) (file : Bor (List ℕ)) (old mid new : Told) → asked.files_from ≡ Some file → AnswersEach asked (map (λ path. path.now) asked.images.items) old mid
-    → AnswersNamed asked mid new → AnswersAll asked old new
-all_named asked file old mid new is each names =
-    (names.0, subst (λ (it : Option (Bor (List ℕ))). from_file it names.0) (sym is) names.1, each_then asked _ names.0 old mid new each names.2)
+-- all images, when none is left
+pub each_left : (files : FileMap) (asked : CheckRequest) (items : List (Bor (List ℕ))) (i : ℕ) (old cur : Told) → items ≡ asked.images.items → drop i items ≡ []
+    → ((last : Told) → AnswersEach files asked (map (λ path. path.now) (drop i items)) cur last → AnswersEach files asked (map (λ path. path.now) items) old last)
+    → AnswersEach files asked (map (λ path. path.now) asked.images.items) old cur
+each_left files asked items i old cur are none so =
+    subst (λ (l : List (Bor (List ℕ))). AnswersEach files asked (map (λ path. path.now) l) old cur) are
+    (so cur (subst (λ (l : List (Bor (List ℕ))). AnswersEach files asked (map (λ path. path.now) l) cur cur) (sym none) refl))
 
--- nothing waits in a buffer
-pub unbuffered : (known : Option (List ℕ)) (buffer : List ℕ) → buffer ≡ [] → append_known known buffer ≡ known
-unbuffered None buffer empty = refl
-unbuffered (Some bytes) buffer empty = ap (λ (more : List ℕ). Some (bytes ++ more)) empty ∙ ap Some (append-nil bytes)
+-- one more, unless its name is empty
+each_more : (files then_files : FileMap) (asked : CheckRequest) (path : List ℕ) (names : List (List ℕ)) (old mid new : Told) → SameFiles files then_files → AnswersEach files asked names old mid
+    → AnswersUnlessEmpty then_files asked path mid new → AnswersEach files asked (names ++ filter is_name (path ∷ [])) old new
+each_more files then_files asked [] names old mid new stay each same =
+    subst (λ (l : List (List ℕ)). AnswersEach files asked l old new) (sym (append-nil names)) (subst (λ (it : Told). AnswersEach files asked names old it) (sym same) each)
+each_more files then_files asked (byte ∷ rest) names old mid new stay each answer =
+    each_then files asked names ((byte ∷ rest) ∷ []) old mid new each (new, answers_same files then_files asked (byte ∷ rest) mid new stay answer, refl)
+
+pub each_item : (files then_files : FileMap) (asked : CheckRequest) (path item : List ℕ) (names : List (List ℕ)) (old mid new : Told) → path ≡ item → SameFiles files then_files
+    → AnswersEach files asked names old mid → AnswersUnlessEmpty then_files asked path mid new → AnswersEach files asked (names ++ filter is_name (item ∷ [])) old new
+each_item files then_files asked path item names old mid new is stay each answers =
+    each_more files then_files asked item names old mid new stay each (subst (λ (p : List ℕ). AnswersUnlessEmpty then_files asked p mid new) is answers)
+
+pub all_names : (path : List ℕ) (names : List (List ℕ)) → list_all is_name names ≡ true → list_all is_name (names ++ filter is_name (path ∷ [])) ≡ true
+all_names [] names all = ap (list_all is_name) (append-nil names) ∙ all
+all_names (byte ∷ rest) names all = list_all-append is_name names ((byte ∷ rest) ∷ []) ∙ ap₂ (λ (a b : Bool). a && b) all refl
+
+-- the names are those in the file, when all of it was read
+pub are_names : (files : FileMap) (asked : CheckRequest) (path : List ℕ) (end : ℕ) (whole known : Option (List ℕ)) (names : List (List ℕ)) → end ≡ names_end asked
+    → (IsTrue files.honest → whole ≡ files.bytes (names_path path)) → list_all is_name names ≡ true → Left end whole known names → IsAtEnd known → AreNames files asked path names
+are_names files asked path end whole known names is from all left ends = record {
+  some = all;
+  file = λ honest. subst₂ (λ (n : ℕ) (bytes : Option (List ℕ)). IfSome bytes (λ file. names ≡ paths_in n file)) is (from honest) (left_ends end whole known names left ends);
+}
+
+names_same : (files then_files : FileMap) (asked : CheckRequest) (path : List ℕ) (names : List (List ℕ)) → SameFiles files then_files → AreNames then_files asked path names → AreNames files asked path names
+names_same files then_files asked path names same are = record {
+  some = are.some;
+  file = λ honest. subst (λ (bytes : List ℕ → Option (List ℕ)). IfSome (bytes (names_path path)) (λ file. names ≡ paths_in (names_end asked) file)) same.bytes
+      (are.file (subst (λ (b : Bool). IsTrue b) (sym same.honest) honest));
+}
+
+pub all_given : (files : FileMap) (asked : CheckRequest) (old new : Told) → asked.files_from ≡ None → AnswersEach files asked (map (λ path. path.now) asked.images.items) old new
+    → AnswersAll files asked old new
+all_given files asked old new none each =
+    ([], subst (λ (it : Option (Bor (List ℕ))). from_file files asked it []) (sym none) refl, each_then files asked _ [] old new new each refl)
+
+pub all_named : (files then_files : FileMap) (asked : CheckRequest) (file : Bor (List ℕ)) (old mid new : Told) → SameFiles files then_files → asked.files_from ≡ Some file
+    → AnswersEach files asked (map (λ path. path.now) asked.images.items) old mid → AnswersNamed then_files asked file.now mid new → AnswersAll files asked old new
+all_named files then_files asked file old mid new stay is each names = (
+  names.0,
+  subst (λ (it : Option (Bor (List ℕ))). from_file files asked it names.0) (sym is) (names_same files then_files asked file.now names.0 stay names.1),
+  each_then files asked _ names.0 old mid new each (each_same files then_files asked names.0 mid new stay names.2),
+)
 
 chosen : (b : Bool) (greatest : ℕ) (done : Unit) → checked_status (Ok done) (if b then Some greatest else None) ≡ (if b then greatest else 2)
 chosen true greatest done = refl
 chosen false greatest done = refl
 
+-- the buffer is empty, unless the checks stopped
+pub flushed_unless : (ended : Result Unit Stop) (found : Option ℕ) (status : ℕ) (left : List ℕ) → status ≡ checked_status ended found → OnOk ended (left ≡ []) → status ≢ 3 → left ≡ []
+flushed_unless (Ok done) found status left is flushed other = flushed
+flushed_unless (Err stop) found status left is flushed other = absurd (other is)
+
 -- the end of all checks
-pub request_told : (asked : CheckRequest) (ended : Result Unit Stop) (found : Option ℕ) (status : ℕ) (before after : Option (List ℕ)) (old new : Told)
+pub request_told : (files : FileMap) (asked : CheckRequest) (ended : Result Unit Stop) (found : Option ℕ) (status : ℕ) (before after : Option (List ℕ)) (old new : Told)
     → status ≡ checked_status ended found → found ≡ (if new.has_checked || asked.allows_none then Some new.greatest else None) → old ≡ nothing_told before
-    → OnOk ended (AnswersAll asked old new) → OnOk ended (new.text ≡ after) → AnswersRequest asked status before after
-request_told asked (Err stop) found status before after old new is greatest begins all text = inl is
-request_told asked (Ok done) found status before after old new is greatest begins all text =
-    inr (new, subst (λ (it : Told). AnswersAll asked it new) begins all, text, is ∙ ap (checked_status (Ok done)) greatest ∙ chosen (new.has_checked || asked.allows_none) new.greatest done)
+    → OnOk ended (AnswersAll files asked old new) → OnOk ended (new.text ≡ after) → AnswersRequest files asked status before after
+request_told files asked (Err stop) found status before after old new is greatest begins all text = inl is
+request_told files asked (Ok done) found status before after old new is greatest begins all text =
+    inr (new, subst (λ (it : Told). AnswersAll files asked it new) begins all, text, is ∙ ap (checked_status (Ok done)) greatest ∙ chosen (new.has_checked || asked.allows_none) new.greatest done)

@@ -5,4 +5,7 @@ pub mod CommandLaws
 pub mod InfoLaws
 pub mod MapLaws
 pub mod OldWordLaws
+pub mod PathLaws
 pub mod RunLaws
+pub mod StrictLaws
+pub mod VerdictLaws

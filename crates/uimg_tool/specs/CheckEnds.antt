@@ -1,5 +1,5 @@
 -- What a check answers at its end.
-use Rattle.std.specs.Prelude.{◌≡◌, ◌≢◌, ⊤, ℕ, ◌==◌, List, [], ◌∷◌, codes, Option, Some, None, Result, Ok, Err}
+use Rattle.std.specs.Prelude.{◌≡◌, ◌≢◌, ⊤, ℕ, ◌==◌, min, take, List, codes, Option, Some, None, Result, Ok, Err}
 use Rattle.std.specs.{Borrow.Bor, Option.option_map, Prelude.{Bool, true, false, IsTrue, is_some}}
 use Rattle.uimg_base.specs.declared.spans.Span.{Span}
 use Rattle.uimg_checks.specs.declared.answer.Format.{Format}
@@ -12,7 +12,6 @@ use Rattle.uimg_checks.specs.declared.finding.Checked.{Checked}
 use Rattle.uimg_checks.specs.declared.finding.Checked.TheVariants as checked
 use Rattle.uimg_checks.specs.Properties.{property_name}
 use Rattle.uimg_checks.specs.declared.references.missing.Missing.{Missing}
-use Rattle.uimg_strict.specs.declared.loose.{Loose.Loose, Looseness.Looseness}
 use Rattle.uimg_fit_checking.specs.declared.checking.Finding.{Finding}
 use Rattle.uimg_fit_checking.specs.declared.checking.Finding.TheVariants as fit
 use Rattle.uimg_engine.specs.declared.fault.Fault.{Fault}
@@ -20,6 +19,7 @@ use Rattle.uimg_engine.specs.declared.fault.Fault.TheVariants as engine
 use Rattle.uimg_tool.specs.declared.unpack_answers.Ending.{Ending}
 use Rattle.uimg_tool.specs.declared.unpack_answers.Ending.TheVariants as ending
 use Rattle.uimg_tool.specs.Statuses.{fault_status, trouble_status}
+use Rattle.uimg_tool.specs.Verdicts.{Verdict, Finds, Lacks, Loosens, Refuses}
 
 -- the format of the image, if a fault shows it
 abbrev pub format_of : Fault → Option Format
@@ -62,13 +62,17 @@ nameless checked.Right = checked.Right
 nameless checked.Damaged = checked.Damaged
 nameless checked.Weak = checked.Weak
 
--- A finding is answered as it is, unless its names cannot be read. A fault is answered as one.
-abbrev pub AnswersEnd : Result (Checked Span) Fault → Option ℕ → Answer → Type 0
-AnswersEnd (Ok found) unchecked (Found told more) =
+-- A finding is answered as it is, unless its names cannot be read.
+abbrev pub AnswersFound : Checked Span → Option ℕ → Answer → Type 0
+AnswersFound found unchecked (Found told more) =
     (nameless told ≡ nameless found) × (more ≡ unchecked)
-AnswersEnd (Ok found) unchecked (Failed stop) = ⊤
-AnswersEnd (Ok found) unchecked answer = ⊥
-AnswersEnd (Err fault) unchecked answer = AnswersFault fault answer
+AnswersFound found unchecked (Failed stop) = AnswersFault engine.Read (Failed stop)
+AnswersFound found unchecked answer = ⊥
+
+-- a check that is not strict: what is found, or the fault
+abbrev pub AnswersEnd : Result (Checked Span) Fault → Answer → Type 0
+AnswersEnd (Ok found) answer = AnswersFound found None answer
+AnswersEnd (Err fault) answer = AnswersFault fault answer
 
 -- A line without a code is answered as a refusal only if it is one.
 abbrev pub AnswersLine : Bool → Answer → Type 0
@@ -85,34 +89,67 @@ AnswersEnding ending.NoImage answer = answer ≡ Found (checked.Fit fit.NoImage)
 AnswersEnding (ending.Stopped fault) answer = AnswersFault fault answer
 AnswersEnding (ending.Troubled trouble) answer = AnswersLine (trouble_status trouble == 1) answer
 
--- What a strict check refuses of a FIT image, with the node's name; the root, whose name is empty, is
--- told as `/`.
-abbrev pub node_name : List ℕ → List ℕ
-node_name [] = codes "/"
-node_name (byte ∷ rest) = byte ∷ rest
+-- the names of a finding
+abbrev pub fit_names : Finding (Bor (List ℕ)) → Finding (List ℕ)
+fit_names (fit.Right images nodes) = fit.Right images nodes
+fit_names (fit.Unhashed image) = fit.Unhashed image.now
+fit_names (fit.Wrong image hash word) = fit.Wrong image.now hash.now word
+fit_names (fit.Weak image) = fit.Weak image.now
+fit_names (fit.Overlapping image) = fit.Overlapping image.now
+fit_names fit.NoImage = fit.NoImage
 
-abbrev pub names_node : Option (List ℕ) → Option (Bor (List ℕ)) → Type 0
-names_node None told = told ≡ None
-names_node (Some name) None = ⊥
-names_node (Some name) (Some told) = told.now ≡ node_name name
+abbrev pub names_in : Checked (Bor (List ℕ)) → Checked (List ℕ)
+names_in (checked.Fit finding) = checked.Fit (fit_names finding)
+names_in checked.Right = checked.Right
+names_in checked.Damaged = checked.Damaged
+names_in checked.Weak = checked.Weak
 
-abbrev pub IsLooseAs : Option (List ℕ) → Looseness → Answer → Type 0
-IsLooseAs name why (answer.Loose form told node) = (form ≡ format.Fit) × (told ≡ why) × names_node name node
-IsLooseAs name why other = ⊥
+-- the names of a finding in buffers of 255 bytes
+abbrev pub kept_names : List ℕ → List ℕ → Finding Span → Finding (List ℕ)
+kept_names images hashes (fit.Right count nodes) = fit.Right count nodes
+kept_names images hashes (fit.Unhashed image) = fit.Unhashed (take (min image.length 255) images)
+kept_names images hashes (fit.Wrong image hash word) =
+    fit.Wrong (take (min image.length 255) images) (take (min hash.length 255) hashes) word
+kept_names images hashes (fit.Weak image) = fit.Weak (take (min image.length 255) images)
+kept_names images hashes (fit.Overlapping image) =
+    fit.Overlapping (take (min image.length 255) images)
+kept_names images hashes fit.NoImage = fit.NoImage
 
-abbrev pub AnswersLoose : Loose → Answer → Type 0
-AnswersLoose found answer = IsLooseAs (option_map (λ name. name.items) found.node) found.why answer
+-- a name that may be told
+abbrev pub told_name : Option (Bor (List ℕ)) → Option (List ℕ)
+told_name name = option_map (λ told. told.now) name
+
+-- The answer is this verdict.
+abbrev pub IsVerdict : Answer → Verdict → Type 0
+IsVerdict (Found told more) (Finds found unchecked) =
+    (names_in told ≡ found) × (more ≡ unchecked)
+IsVerdict (Found told more) other = ⊥
+IsVerdict (answer.Missing configuration property name) (Lacks said) =
+    (told_name configuration ≡ said.configuration)
+    × (property.now ≡ property_name said.reference) × (name.now ≡ said.name)
+IsVerdict (answer.Missing configuration property name) other = ⊥
+IsVerdict (answer.Loose shown told name) (Loosens form why node) =
+    (shown ≡ form) × (told ≡ why) × (told_name name ≡ node)
+IsVerdict (answer.Loose shown told name) other = ⊥
+IsVerdict (Refused stop) (Refuses fault) = TellsFault fault 1 stop
+IsVerdict (Refused stop) other = ⊥
+IsVerdict (Failed stop) verdict = ⊥
+
+-- the same, or that the check failed
+abbrev pub Shows : Answer → Verdict → Type 0
+Shows (Failed stop) verdict = ⊤
+Shows (Found told more) verdict = IsVerdict (Found told more) verdict
+Shows (answer.Missing configuration property name) verdict =
+    IsVerdict (answer.Missing configuration property name) verdict
+Shows (answer.Loose shown told name) verdict = IsVerdict (answer.Loose shown told name) verdict
+Shows (Refused stop) verdict = IsVerdict (Refused stop) verdict
 
 -- A missing name is answered with its property. If a configuration gives it, a name of that is
--- answered, too, or that its name cannot be read.
-abbrev pub names_configuration : Option Span → Option (Bor (List ℕ)) → Type 0
-names_configuration None told = told ≡ None
-names_configuration (Some place) None = ⊥
-names_configuration (Some place) (Some told) = ⊤
-
+-- answered, too, unless that cannot be read.
 abbrev pub AnswersMissing : Missing → Answer → Type 0
 AnswersMissing found (answer.Missing configuration property name) =
-    names_configuration found.configuration configuration
+    (is_some configuration ≡ is_some found.configuration)
     × (property.now ≡ property_name found.reference) × (name.now ≡ found.name.items)
-AnswersMissing found (Failed stop) = is_some found.configuration ≡ true
+AnswersMissing found (Failed stop) =
+    (is_some found.configuration ≡ true) × AnswersFault engine.Read (Failed stop)
 AnswersMissing found other = ⊥

@@ -1,10 +1,11 @@
 -- The checks of many images: what is answered of each, in order.
-use Rattle.std.specs.Prelude.{◌≡◌, ℕ, max, List, [], ◌∷◌, ◌++◌, map, codes, Option, Some, None, Bool, true, false, ◌&&◌, if◌then◌else◌}
-use Rattle.std.specs.{Io.{Buffered.writer_contents, KnownBytes.Appends}, List.list_all, Str.bytes_eq}
+use Rattle.std.specs.Prelude.{◌≡◌, ℕ, max, List, [], ◌∷◌, ◌++◌, map, codes, Option, Some, None, Bool, true, ◌&&◌, if◌then◌else◌, IsTrue, IfSome}
+use Rattle.std.specs.{Borrow.Bor, Io.{Buffered.writer_contents, KnownBytes.Appends}, List.list_all, Str.bytes_eq}
+use Rattle.uimg_base.specs.Named.{FileMap}
 use Rattle.uimg_checks.specs.Answers.{answer_status, answer_word}
 use Rattle.uimg_checks.specs.declared.answer.Answer.{Answer}
 use Rattle.uimg_cli.specs.declared.command_line.check.CheckRequest.{CheckRequest}
-use Rattle.uimg_tool.specs.AnswerTexts.{answer_text}
+use Rattle.uimg_tool.specs.{AnswerTexts.answer_text, CheckEnds.Shows, Paths.{is_name, paths_in}, Verdicts.verdict_of}
 use Rattle.uimg_tool.specs.declared.check_program.Checks.{Checks}
 
 -- The greatest status so far, whether any image was checked, and what the output has, if contracts
@@ -27,41 +28,65 @@ text_for asked path answer =
     if asked.is_quiet && bytes_eq (answer_word answer) (codes "ok") then []
     else answer_text asked.as_json path answer
 
--- The image at a path is answered: the status counts, and its text is written.
-pub record IsAnswered (asked : CheckRequest) (path : List ℕ) (answer : Answer) (old new : Told) : Type 0 where
+-- The answer shows the verdict about the bytes of a file, or else that the check failed. It failed if
+-- there is no file.
+abbrev pub AnswersBytes : CheckRequest → Option (List ℕ) → Answer → Type 0
+AnswersBytes asked None answer = answer_status answer ≡ 3
+AnswersBytes asked (Some file) answer = Shows answer (verdict_of asked file)
+
+-- the answer about the file at a path, if the files are honest
+abbrev pub AnswersFile : FileMap → CheckRequest → List ℕ → Answer → Type 0
+AnswersFile files asked path answer =
+    IsTrue files.honest → AnswersBytes asked (files.bytes path) answer
+
+-- The image at a path is answered: its file decides the answer, the status counts, and its text is
+-- written.
+pub record IsAnswered (files : FileMap) (asked : CheckRequest) (path : List ℕ) (answer : Answer) (old new : Told) : Type 0 where
+  pub file : AnswersFile files asked path answer
   pub status : new.greatest ≡ max old.greatest (answer_status answer)
   pub counted : new.has_checked ≡ true
   pub written : Appends old.text new.text (text_for asked path answer)
 
-abbrev pub Answers : CheckRequest → List ℕ → Told → Told → Type 0
-Answers asked path old new = (answer : Answer) × IsAnswered asked path answer old new
+abbrev pub Answers : FileMap → CheckRequest → List ℕ → Told → Told → Type 0
+Answers files asked path old new = (answer : Answer) × IsAnswered files asked path answer old new
 
 -- each of some images, in order
-abbrev pub AnswersEach : CheckRequest → List (List ℕ) → Told → Told → Type 0
-AnswersEach asked [] old new = new ≡ old
-AnswersEach asked (path ∷ paths) old new =
-    (next : Told) × Answers asked path old next × AnswersEach asked paths next new
+abbrev pub AnswersEach : FileMap → CheckRequest → List (List ℕ) → Told → Told → Type 0
+AnswersEach files asked [] old new = new ≡ old
+AnswersEach files asked (path ∷ paths) old new =
+    (next : Told) × Answers files asked path old next × AnswersEach files asked paths next new
 
 -- no image for an empty name
-abbrev pub AnswersUnlessEmpty : CheckRequest → List ℕ → Told → Told → Type 0
-AnswersUnlessEmpty asked [] old new = new ≡ old
-AnswersUnlessEmpty asked (byte ∷ rest) old new = Answers asked (byte ∷ rest) old new
+abbrev pub AnswersUnlessEmpty : FileMap → CheckRequest → List ℕ → Told → Told → Type 0
+AnswersUnlessEmpty files asked [] old new = new ≡ old
+AnswersUnlessEmpty files asked (byte ∷ rest) old new = Answers files asked (byte ∷ rest) old new
 
-abbrev pub is_name : List ℕ → Bool
-is_name [] = false
-is_name (byte ∷ rest) = true
+-- the path of the file of names; `-` is standard input
+abbrev pub names_path : List ℕ → List ℕ
+names_path path = if bytes_eq path (codes "-") then codes "/dev/stdin" else path
+
+-- the byte after each name
+abbrev pub names_end : CheckRequest → ℕ
+names_end asked = if asked.has_nuls then 0 else 10
+
+-- The names are those in the file, if the files are honest; none is empty.
+pub record AreNames (files : FileMap) (asked : CheckRequest) (path : List ℕ) (names : List (List ℕ)) : Type 0 where
+  pub some : list_all is_name names ≡ true
+  pub file : IsTrue files.honest
+      → IfSome (files.bytes (names_path path)) (λ file. names ≡ paths_in (names_end asked) file)
 
 -- images whose names a file has
-abbrev pub AnswersNamed : CheckRequest → Told → Told → Type 0
-AnswersNamed asked old new =
-    (names : List (List ℕ)) × (list_all is_name names ≡ true) × AnswersEach asked names old new
+abbrev pub AnswersNamed : FileMap → CheckRequest → List ℕ → Told → Told → Type 0
+AnswersNamed files asked path old new = (names : List (List ℕ)) × AreNames files asked path names
+    × AnswersEach files asked names old new
 
 -- Names come from a file only if one is given.
-abbrev pub from_file : {P : Type 0} → Option P → List (List ℕ) → Type 0
-from_file None names = names ≡ []
-from_file (Some path) names = list_all is_name names ≡ true
+abbrev pub from_file : FileMap → CheckRequest → Option (Bor (List ℕ)) → List (List ℕ) → Type 0
+from_file files asked None names = names ≡ []
+from_file files asked (Some path) names = AreNames files asked path.now names
 
 -- the images of the command line, and then those that a file names
-abbrev pub AnswersAll : CheckRequest → Told → Told → Type 0
-AnswersAll asked old new = (names : List (List ℕ)) × from_file asked.files_from names
-    × AnswersEach asked (map (λ path. path.now) asked.images.items ++ names) old new
+abbrev pub AnswersAll : FileMap → CheckRequest → Told → Told → Type 0
+AnswersAll files asked old new =
+    (names : List (List ℕ)) × from_file files asked asked.files_from names
+    × AnswersEach files asked (map (λ path. path.now) asked.images.items ++ names) old new

@@ -22,7 +22,7 @@ AnswersOne (asked.Show text) files status old new = (status ≡ 3) ⊎ (status �
 -- A request. Of an unpacking nothing is claimed here.
 abbrev pub AnswersAsked : Asked → FileMap → ℕ → (old new : Option (List ℕ)) → Type 0
 AnswersAsked (One it) files status old new = AnswersOne it files status old new
-AnswersAsked (Check it) files status old new = AnswersRequest it status old new
+AnswersAsked (Check it) files status old new = AnswersRequest files it status old new
 AnswersAsked (Unpack it) files status old new = ⊤
 AnswersAsked (Map it) files status old new = ⊤
 AnswersAsked (Info it) files status old new = ⊤

@@ -16,6 +16,7 @@ pub mod MadeEnds
 pub mod MapAnswers
 pub mod MapEnds
 pub mod OtherAlgos
+pub mod Paths
 pub mod Programs
 pub mod Reading
 pub mod RequestEnds
@@ -24,4 +25,5 @@ pub mod Statuses
 pub mod StrictEnds
 pub mod TreeSizes
 pub mod UnpackEnds
+pub mod Verdicts
 pub mod WordAnswers

@@ -1,34 +1,48 @@
 -- What a strict check answers of an image whose hashes or checksums are right.
-use Rattle.std.specs.Prelude.{◌≡◌, ⊤, ℕ, List, Option, Some, None, Result, Ok, Err}
+use Rattle.std.specs.Prelude.{◌≡◌, ⊤, ℕ, List, Option, Some, None, Result, Ok, Err, false}
 use Rattle.uimg_base.specs.{Device.Device, Honest.IfHonest, Lent.Lent}
-use Rattle.uimg_checks.specs.declared.answer.Format.TheVariants.{Legacy}
-use Rattle.uimg_checks.specs.declared.finding.Checked.TheVariants as checked
-use Rattle.uimg_engine.specs.Faults.{of_legacy}
-use Rattle.uimg_legacy.specs.declared.fault.Fault.{Fault as LegacyFault}
-use Rattle.uimg_strict.specs.Headers.{TellsHeader}
-use Rattle.uimg_strict.specs.declared.loose.Looseness.{Looseness}
-use Rattle.uimg_tool.specs.CheckEnds.{AnswersEnd, AnswersFault}
+use Rattle.uimg_blob_reading.specs.Faults.{refuses_memory}
+use Rattle.uimg_checks.specs.References.{read_missing}
 use Rattle.uimg_checks.specs.declared.answer.Answer.{Answer}
 use Rattle.uimg_checks.specs.declared.answer.Answer.TheVariants as answer
-use Rattle.uimg_strict.specs.Telling.{TellsLooseness}
+use Rattle.uimg_checks.specs.declared.answer.Format.TheVariants.{Legacy}
+use Rattle.uimg_checks.specs.declared.finding.Checked.{Checked}
+use Rattle.uimg_checks.specs.declared.finding.Checked.TheVariants as checked
+use Rattle.uimg_engine.specs.Faults.{of_legacy}
+use Rattle.uimg_engine.specs.declared.fault.Fault.TheVariants as engine
+use Rattle.uimg_fit_base.specs.declared.fault.Fault.TheVariants as of
+use Rattle.uimg_fit_checking.specs.declared.surveying.fault.SurveyFault.{SurveyFault}
+use Rattle.uimg_fit_checking.specs.declared.surveying.fault.SurveyFault.TheVariants.{Stopped, OutOfMemory, Changed}
+use Rattle.uimg_legacy.specs.declared.fault.Fault.{Fault as LegacyFault}
+use Rattle.uimg_strict.specs.{Headers.TellsHeader, Telling.read_loose}
+use Rattle.uimg_strict.specs.declared.loose.Looseness.{Looseness}
+use Rattle.uimg_tool.specs.CheckEnds.{AnswersFault}
+use Rattle.uimg_tool.specs.Verdicts.{Verdict, Finds, Lacks, Refuses, fit_verdict, loosens}
 use Rattle.uimg_tool.specs.declared.strict_answers.Further.{Further}
 use Rattle.uimg_tool.specs.declared.strict_answers.Further.TheVariants as further
 
--- What was found further in a file: something loose, or nothing loose, but perhaps a missing name.
-abbrev pub TellsFurther : List ℕ → Further → Type 0
-TellsFurther file (further.Loose loose) = TellsLooseness file (Ok (Some loose))
-TellsFurther file (further.Missing missing) = TellsLooseness file (Ok None)
-TellsFurther file (further.Nodes nodes) = TellsLooseness file (Ok None)
+-- the verdict by what was found further
+abbrev pub further_verdict : List ℕ → Checked (List ℕ) → Further → Verdict
+further_verdict file found (further.Loose loose) = loosens (read_loose loose)
+further_verdict file found (further.Missing missing) = Lacks (read_missing file missing)
+further_verdict file found (further.Nodes nodes) = Finds found (Some nodes)
 
--- A finding is answered with the number of nodes only if nothing in the file is loose.
-abbrev pub AnswersStrictly : List ℕ → Answer → Type 0
-AnswersStrictly file (answer.Found found (Some nodes)) = TellsLooseness file (Ok None)
-AnswersStrictly file other = ⊤
+-- What was found further in a file is its verdict, unless a read failed or memory was refused.
+abbrev pub TellsFurther : List ℕ → Checked (List ℕ) → Result Further SurveyFault → Type 0
+TellsFurther file found (Ok more) = fit_verdict file found ≡ further_verdict file found more
+TellsFurther file found (Err (Stopped (of.Blob fault at))) =
+    refuses_memory fault ≡ false → fit_verdict file found ≡ Refuses (engine.Blob fault at)
+TellsFurther file found (Err (Stopped (of.Fit fault))) =
+    fit_verdict file found ≡ Refuses (engine.Fit fault)
+TellsFurther file found (Err (Stopped of.Read)) = ⊤
+TellsFurther file found (Err (Stopped of.Put)) = ⊥
+TellsFurther file found (Err OutOfMemory) = ⊤
+TellsFurther file found (Err Changed) = ⊥
 
 -- the answer about a legacy image whose checksums are right
 abbrev pub AnswersHeader : Result (Option Looseness) LegacyFault → Answer → Type 0
 AnswersHeader (Ok (Some why)) told = told ≡ answer.Loose Legacy why None
-AnswersHeader (Ok None) told = AnswersEnd (Ok checked.Right) None told
+AnswersHeader (Ok None) told = told ≡ answer.Found checked.Right None
 AnswersHeader (Err fault) told = AnswersFault (of_legacy fault) told
 
 abbrev pub AnswersLegacy : {S : Type 0} → (S → Device) → Lent S → Answer → Type 0

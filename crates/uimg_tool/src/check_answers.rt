@@ -1,7 +1,13 @@
 //! Turns the end of a check into its result.
 
-ghost use Rattle.std.specs.Prelude.{◌≡◌, ◌≤◌, None, false, IfSome};
-ghost use Rattle.uimg_tool.specs.CheckEnds.{AnswersEnd, AnswersFault, AnswersLine, AnswersLoose, AnswersMissing, format_of, nameless_fit, offset_of};
+ghost use Rattle.std.specs.Prelude.{◌≡◌, ◌≤◌, None, false, true, take, min, IfSome};
+ghost use Rattle.uimg_base.specs.{Device.SameDevice, Honest.IfHonest, Named.SameFiles};
+ghost use Rattle.uimg_checks.specs.{Finding.found_at, ReferenceNames.name_in_span, References.read_missing};
+ghost use Rattle.uimg_fit_checking.specs.Checks.{named_finding};
+ghost use Rattle.uimg_strict.specs.Telling.{read_loose};
+ghost use Rattle.uimg_tool.specs.CheckEnds.{AnswersFault, AnswersFound, AnswersLine, AnswersMissing, IsVerdict, Shows, fit_names, format_of, kept_names, nameless_fit, offset_of};
+ghost use Rattle.uimg_tool.specs.Reading.{changes};
+ghost use Rattle.uimg_tool.specs.Verdicts.{Finds, Lacks, loosens};
 
 use crate::request_fault::{REFUSED, status_of_fault};
 use std::alloc::Global;
@@ -71,7 +77,9 @@ pub(crate) fn answer_of_unread<'a, D: World>(
     path: &str,
     names: &'a mut Names,
 ) -> Answer<'a>
-    ensures { AnswersLine false result }
+    ensures answers { AnswersLine false result }
+    ensures same { SameFiles (D.map world.old) (D.map world.new) }
+    ensures changes { changes (D.trace world.new) ≡ changes (D.trace world.old) }
 {
     match world.reason_unread(path) {
         Some(reason) => answer_of_line(&Unread(reason), false, names),
@@ -110,38 +118,54 @@ pub(crate) fn answer_of_line<'a, D: Display>(
     }
 }
 
-/// Returns the result of a check, with the number of nodes of configurations, if they were counted.
-/// The names are read from the source; if a read fails, that is the result.
-pub(crate) fn answer_of<'a, S: Source>(
-    end: Result<Checked<Span>, Fault>,
+/// Returns the result for a finding, with the number of nodes of configurations, if they were
+/// counted. The names are read from the source; if a read fails, that is the result.
+pub(crate) fn answer_of_found<'a, S: Source>(
+    found: Checked<Span>,
     unchecked: Option<u64>,
     source: &mut S,
     names: &'a mut Names,
 ) -> Answer<'a>
-    ensures { AnswersEnd end unchecked result }
+    ensures any { AnswersFound found unchecked result }
+    ensures shows { IfHonest S.device source
+        (λ file. Shows result (Finds (found_at file found) unchecked)) }
 {
-    let found = match end {
-        Ok(Checked::Fit(finding)) => {
-            if !read_names(finding, source, names) {
-                return answer_of_fault(Fault::Read, names);
-            }
-            Checked::Fit(named(finding, names))
-        }
-        Ok(Checked::Right) => Checked::Right,
-        Ok(Checked::Damaged) => Checked::Damaged,
-        Ok(Checked::Weak) => Checked::Weak,
-        Err(fault) => return answer_of_fault(fault, names),
-    };
-    Answer::Found(found, unchecked)
+    match found {
+        Checked::Fit(finding) => answer_of_finding(finding, unchecked, source, names),
+        Checked::Right => Answer::Found(Checked::Right, unchecked),
+        Checked::Damaged => Answer::Found(Checked::Damaged, unchecked),
+        Checked::Weak => Answer::Found(Checked::Weak, unchecked),
+    }
+}
+
+/// Returns the result for a finding about a FIT image.
+#[tactic(auto, using(crate::proofs::VerdictLaws::unread_found, crate::proofs::VerdictLaws::unread_shows))]
+pub(crate) fn answer_of_finding<'a, S: Source>(
+    finding: Finding<Span>,
+    unchecked: Option<u64>,
+    source: &mut S,
+    names: &'a mut Names,
+) -> Answer<'a>
+    ensures any { AnswersFound (Checked.Fit finding) unchecked result }
+    ensures shows { IfHonest S.device source
+        (λ file. Shows result (Finds (Checked.Fit (named_finding file finding)) unchecked)) }
+{
+    if !read_names(finding, source, names) {
+        return answer_of_fault(Fault::Read, names);
+    }
+    Answer::Found(Checked::Fit(named(finding, names)), unchecked)
 }
 
 /// Returns the result for a missing name.
+#[tactic(auto, using(crate::proofs::VerdictLaws::unread_missing))]
 pub(crate) fn answer_of_missing<'a, S: Source>(
     missing: Missing,
     source: &mut S,
     names: &'a mut Names,
 ) -> Answer<'a>
-    ensures { AnswersMissing missing result }
+    ensures any { AnswersMissing missing result }
+    ensures shows { IfHonest S.device source
+        (λ file. Shows result (Lacks (read_missing file missing))) }
 {
     let Missing {
         configuration,
@@ -169,7 +193,7 @@ pub(crate) fn answer_of_missing<'a, S: Source>(
 /// Returns the result for what a strict check refuses of a FIT image. The root, whose name is empty,
 /// is told as `/`.
 pub(crate) fn answer_of_loose<'a>(loose: Loose, names: &'a mut Names) -> Answer<'a>
-    ensures { AnswersLoose loose result }
+    ensures { IsVerdict result (loosens (read_loose loose)) }
 {
     let Loose { why, node } = loose;
     let Some(name) = node else {
@@ -254,22 +278,28 @@ fn offset_of(fault: Fault) -> Option<u64>
 }
 
 // Reads the names of a finding. Returns false if one cannot be read.
-fn read_names<S: Source>(finding: Finding<Span>, source: &mut S, names: &mut Names) -> bool {
+fn read_names<S: Source>(finding: Finding<Span>, source: &mut S, names: &mut Names) -> bool
+    ensures { IfHonest S.device source (λ file. result ≡ true →
+        kept_names names.new.image names.new.hash finding ≡ named_finding file finding) }
+{
     match finding {
         Finding::Right { .. } | Finding::NoImage => true,
         Finding::Unhashed(image) | Finding::Weak(image) | Finding::Overlapping(image) => {
             read_name(source, image, &mut names.image).is_some()
         }
         Finding::Wrong { image, hash, .. } => {
-            read_name(source, image, &mut names.image).is_some()
-                && read_name(source, hash, &mut names.hash).is_some()
+            if read_name(source, image, &mut names.image).is_none() {
+                return false;
+            }
+            read_name(source, hash, &mut names.hash).is_some()
         }
     }
 }
 
 // Returns a finding with its names, which were read.
 fn named<'a>(finding: Finding<Span>, names: &'a Names) -> Finding<&'a [u8]>
-    ensures { nameless_fit result ≡ nameless_fit finding }
+    ensures any { nameless_fit result ≡ nameless_fit finding }
+    ensures names { fit_names result ≡ kept_names names.now.image names.now.hash finding }
 {
     match finding {
         Finding::Right { images, hashes } => Finding::Right { images, hashes },
@@ -287,25 +317,34 @@ fn named<'a>(finding: Finding<Span>, names: &'a Names) -> Finding<&'a [u8]>
 
 // Returns the length of a name, at most that of the longest.
 fn name_length(name: Span) -> usize
-    ensures { result ≤ 255 }
+    ensures { result ≡ min name.length 255 }
 {
     u64::min(name.length, NAME_LEN as u64) as usize
 }
 
 // Returns a name that was read into `bytes`.
-fn name_in(bytes: &[u8; NAME_LEN], name: Span) -> &[u8] {
+fn name_in(bytes: &[u8; NAME_LEN], name: Span) -> &[u8]
+    ensures { result.now ≡ take (min name.length 255) bytes.now }
+{
     &bytes[..name_length(name)]
 }
 
 // Reads a name into `bytes`, and returns its length, or none if it cannot be read.
 fn read_name<S: Source>(source: &mut S, name: Span, bytes: &mut [u8; NAME_LEN]) -> Option<usize>
-    ensures { IfSome result (λ length. length ≤ 255) }
+    ensures same { SameDevice (S.device source.old) (S.device source.new) }
+    ensures length { IfSome result (λ length. length ≡ min name.length 255) }
+    ensures bytes { IfHonest S.device source (λ file. IfSome result
+        (λ length. take (min name.length 255) bytes.new ≡ name_in_span file name)) }
 {
     let length = name_length(name);
-    let size = source.size().ok()?;
-    if name.place > size || size - name.place < length as u64 {
+    let Ok(size) = source.size() else {
+        return None;
+    };
+    if name.length > NAME_LEN as u64 || name.place > size || size - name.place < name.length {
         return None;
     }
-    source.fill_at(name.place, &mut bytes[..length]).ok()?;
-    Some(length)
+    match source.fill_at(name.place, &mut bytes[..length]) {
+        Ok(()) => Some(length),
+        Err(_) => None,
+    }
 }

@@ -1,23 +1,23 @@
 //! Checks many images, with a line for each.
 
 ghost use Rattle.std.specs.Prelude.{◌≡◌, ◌≢◌, ◌≤◌, ◌+◌, ◌||◌, [], max, true, Some, None, OnOk, if◌then◌else◌};
-ghost use Rattle.std.specs.Io.{Buffered.{writer_buffer, writer_contents, writer_inner}, KnownBytes.Appends};
+ghost use Rattle.std.specs.Io.{Buffered.{writer_buffer, writer_contents}, KnownBytes.Appends};
+ghost use Rattle.uimg_base.specs.Named.{SameFiles};
 ghost use Rattle.uimg_checks.specs.Answers.{answer_status};
-ghost use Rattle.uimg_tool.specs.{AnswerTexts.{answer_text, object_line, text_line}, Checking.AnswersRequest, Complaints.Ends, Statuses.{Grows, checked_status}};
+ghost use Rattle.uimg_tool.specs.{AnswerTexts.{answer_text, object_line, text_line}, Checking.AnswersRequest, Checks.{names_end, names_path}, Complaints.Ends, Reading.changes, Statuses.{Grows, checked_status}};
 
-use crate::check_answers::{NOT_UTF8, Names, answer_of, answer_of_unread};
+use crate::check_answers::{NOT_UTF8, Names, answer_of_unread};
 use crate::complaints::Complaints;
 use crate::json_lines::put_json;
-use crate::path_list::PathList;
+use crate::path_list::paths_in;
 use crate::request_fault::{DONE, FAILED, RequestFault, WRONG_LINE};
-use crate::strict_answers::{answer_of_fit, answer_of_legacy};
+use crate::strict_answers::answer_of_source;
 use std::alloc::{AllocError, Global};
 use std::io;
-use std::io::{BufRead, BufReader, BufWriter, ErrorKind, Write};
+use std::io::{BufWriter, ErrorKind, Write};
 use uimg_base::Room;
-use uimg_checks::{Answer, Checked, check, line_text, object_text};
+use uimg_checks::{Answer, line_text, object_text};
 use uimg_cli::{CheckRequest, WordsFault};
-use uimg_fit_checking::Finding;
 use uimg_printing::Printed;
 use uimg_unpacking::World;
 
@@ -25,7 +25,7 @@ use uimg_unpacking::World;
 const STANDARD_INPUT: &str = "/dev/stdin";
 
 /// Checks the requested images, those of the command line first, with a line for each on `out`,
-/// even after one that is not right. Returns the greatest status, or that of a wrong command line if
+/// even after one that is not right. Changes no file. Returns the greatest status, or that of a wrong command line if
 /// there is no image, unless none is allowed. A file of names that cannot be read, a line that cannot
 /// be written and refused memory end it with a line on standard error; a closed `out` ends it
 /// without one, as failed, because not all images were checked. Returns `out`, too.
@@ -37,8 +37,11 @@ pub(crate) fn check_images<D: World, W: Write + Drop, V: Write>(
 ) -> (u8, BufWriter<W, Global>)
     requires { writer_buffer out ≡ [] }
     ensures ends { Ends result.0 complaints.old.count complaints.new.count }
-    ensures told { AnswersRequest request.now result.0 (writer_contents W.contents out)
-        (writer_contents W.contents result.1) }
+    ensures flushed { result.0 ≢ 3 → writer_buffer result.1 ≡ [] }
+    ensures told { AnswersRequest (D.map world.old) request.now result.0
+        (writer_contents W.contents out) (writer_contents W.contents result.1) }
+    ensures same { SameFiles (D.map world.old) (D.map world.new) }
+    ensures changes { changes (D.trace world.new) ≡ changes (D.trace world.old) }
 {
     let mut checks = Checks {
         room: Room::new(world.alloc()),
@@ -126,7 +129,7 @@ struct Checks<W: Write + Drop> {
 }
 
 impl<W: Write + Drop> Checks<W> {
-    ghost use Rattle.uimg_tool.specs.Checks.{Answers, AnswersAll, AnswersNamed, AnswersUnlessEmpty, told};
+    ghost use Rattle.uimg_tool.specs.Checks.{Answers, AnswersAll, AnswersFile, AnswersNamed, AnswersUnlessEmpty, told};
 
     // Checks all requested images.
     fn check_all<'b, D: World>(
@@ -135,8 +138,10 @@ impl<W: Write + Drop> Checks<W> {
         request: &CheckRequest<'b>,
     ) -> Result<(), Stop<'b>>
         ensures grows { Grows self.old.greatest self.new.greatest }
-        ensures told { OnOk result (AnswersAll request.now (told W.contents self.old)
-            (told W.contents self.new)) }
+        ensures told { OnOk result (AnswersAll (D.map world.old) request.now
+            (told W.contents self.old) (told W.contents self.new)) }
+        ensures same { SameFiles (D.map world.old) (D.map world.new) }
+        ensures changes { changes (D.trace world.new) ≡ changes (D.trace world.old) }
         ensures flushed { writer_buffer self.old.out ≡ [] →
             OnOk result (writer_buffer self.new.out ≡ []) }
     {
@@ -157,21 +162,21 @@ impl<W: Write + Drop> Checks<W> {
         path: &'b str,
     ) -> Result<(), Stop<'b>>
         ensures grows { Grows self.old.greatest self.new.greatest }
-        ensures told { OnOk result (AnswersNamed request.now (told W.contents self.old)
-            (told W.contents self.new)) }
+        ensures told { OnOk result (AnswersNamed (D.map world.old) request.now path.entry.now
+            (told W.contents self.old) (told W.contents self.new)) }
+        ensures same { SameFiles (D.map world.old) (D.map world.new) }
+        ensures changes { changes (D.trace world.new) ≡ changes (D.trace world.old) }
         ensures flushed { writer_buffer self.old.out ≡ [] →
             OnOk result (writer_buffer self.new.out ≡ []) }
     {
-        let from = if path == "-" { STANDARD_INPUT } else { path };
-        let file = match world.read(from) {
+        let file = match world.read(names_path(path)) {
             Ok(file) => file,
             Err(error) => return Err(Stop::NoNames(path, error)),
         };
-        let end = if request.has_nuls { 0 } else { b'\n' };
-        let Ok(names) = BufReader::new(world.alloc(), PathList::new(file, end)) else {
+        let Ok(names) = paths_in(world.alloc(), file, names_end(request)) else {
             return Err(Stop::NoMemory);
         };
-        for name in names.split(world.alloc(), end) {
+        for name in names {
             match name {
                 Ok(name) => self.check_unless_empty(world, request, name.as_slice())?,
                 Err(error) => return Err(stop_of_names(error, path)),
@@ -188,8 +193,10 @@ impl<W: Write + Drop> Checks<W> {
         path: &[u8],
     ) -> Result<(), Stop<'b>>
         ensures grows { Grows self.old.greatest self.new.greatest }
-        ensures told { OnOk result (AnswersUnlessEmpty request.now path.now
+        ensures told { OnOk result (AnswersUnlessEmpty (D.map world.old) request.now path.now
             (told W.contents self.old) (told W.contents self.new)) }
+        ensures same { SameFiles (D.map world.old) (D.map world.new) }
+        ensures changes { changes (D.trace world.new) ≡ changes (D.trace world.old) }
         ensures flushed { writer_buffer self.old.out ≡ [] →
             OnOk result (writer_buffer self.new.out ≡ []) }
     {
@@ -207,16 +214,15 @@ impl<W: Write + Drop> Checks<W> {
         path: &[u8],
     ) -> Result<(), Stop<'b>>
         ensures grows { Grows self.old.greatest self.new.greatest }
-        ensures told { OnOk result (Answers request.now path.now (told W.contents self.old)
-            (told W.contents self.new)) }
+        ensures told { OnOk result (Answers (D.map world.old) request.now path.now
+            (told W.contents self.old) (told W.contents self.new)) }
+        ensures same { SameFiles (D.map world.old) (D.map world.new) }
+        ensures changes { changes (D.trace world.new) ≡ changes (D.trace world.old) }
         ensures flushed { writer_buffer self.old.out ≡ [] →
             OnOk result (writer_buffer self.new.out ≡ []) }
     {
         let mut names = Names::new(world.alloc());
-        let answer = match str::from_utf8(path) {
-            Ok(path) => self.answer(world, request, path, &mut names),
-            Err(_) => NOT_UTF8,
-        };
+        let answer = self.answer(world, request, path, &mut names);
         self.note(&answer);
         if request.is_quiet && answer.word() == "ok" {
             return Ok(());
@@ -235,29 +241,63 @@ impl<W: Write + Drop> Checks<W> {
         self.has_checked = true;
     }
 
-    // Checks the file at a path.
+    // Checks the file at a path, which may have any bytes.
+    #[tactic(auto, using(crate::proofs::VerdictLaws::failed_file))]
     fn answer<'n, D: World>(
+        &mut self,
+        world: &mut D,
+        request: &CheckRequest<'_>,
+        path: &[u8],
+        names: &'n mut Names,
+    ) -> Answer<'n>
+        ensures greatest { self.new.greatest ≡ self.old.greatest }
+        ensures out { self.new.out ≡ self.old.out }
+        ensures file { AnswersFile (D.map world.old) request.now path.now result }
+        ensures same { SameFiles (D.map world.old) (D.map world.new) }
+        ensures changes { changes (D.trace world.new) ≡ changes (D.trace world.old) }
+    {
+        match str::from_utf8(path) {
+            Ok(path) => self.answer_text(world, request, path, names),
+            Err(_) => NOT_UTF8,
+        }
+    }
+
+    // Checks the file at a path that is text.
+    #[tactic(auto, using(crate::proofs::VerdictLaws::file_answered, crate::proofs::VerdictLaws::failed_file))]
+    fn answer_text<'n, D: World>(
         &mut self,
         world: &mut D,
         request: &CheckRequest<'_>,
         path: &str,
         names: &'n mut Names,
     ) -> Answer<'n>
-        ensures same { self.new.greatest ≡ self.old.greatest }
+        ensures greatest { self.new.greatest ≡ self.old.greatest }
         ensures out { self.new.out ≡ self.old.out }
+        ensures file { AnswersFile (D.map world.old) request.now path.now result }
+        ensures same { SameFiles (D.map world.old) (D.map world.new) }
+        ensures changes { changes (D.trace world.new) ≡ changes (D.trace world.old) }
     {
-        let Ok(mut source) = world.open(path) else {
-            return answer_of_unread(world, path, names);
-        };
-        let end = check(request.need, &mut source, &mut self.room);
-        match end {
-            Ok(Checked::Fit(Finding::Right { .. })) if request.is_strict => {
-                answer_of_fit(world.alloc(), end, &mut source, &mut self.room, names)
+        match world.open(path) {
+            Ok(mut source) => {
+                answer_of_source(world.alloc(), request, &mut source, &mut self.room, names)
             }
-            Ok(Checked::Right) if request.is_strict => answer_of_legacy(&mut source, names),
-            _ => answer_of(end, None, &mut source, names),
+            Err(_) => answer_of_unread(world, path, names),
         }
     }
+}
+
+// Returns the path of the file of names; `-` is standard input.
+fn names_path(path: &str) -> &str
+    ensures { result.now ≡ names_path path.entry.now }
+{
+    if path == "-" { STANDARD_INPUT } else { path }
+}
+
+// Returns the byte after each name.
+fn names_end(request: &CheckRequest<'_>) -> u8
+    ensures { result ≡ names_end request.now }
+{
+    if request.has_nuls { 0 } else { b'\n' }
 }
 
 // Writes what is told of a result, and flushes it.

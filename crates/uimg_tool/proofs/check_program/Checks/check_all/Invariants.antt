@@ -1,13 +1,17 @@
 use Rattle.std.proofs.Common.{◌≡◌, [], drop, map}
 use Rattle.std.specs.Io.Buffered.{writer_buffer}
+use Rattle.uimg_base.specs.Named.{SameFiles}
 use Rattle.uimg_tool.specs.Checks.{AnswersEach, Told, told}
+use Rattle.uimg_tool.specs.Reading.{changes}
 use Rattle.uimg_tool.specs.Statuses.{Grows}
 use Rattle.uimg_tool.proofs.check_program.Checks.check_all.Given as goal
 
--- what is answered of the rest is answered of all; the greatest status did not fall
+-- what is answered of the rest is answered of all; the greatest status did not fall, and no file was changed
 abbrev pub invariant-loop-path : goal.invariant-loop-path
 invariant-loop-path g l =
     Grows l.fn.self.greatest l.self.greatest
     × (writer_buffer l.fn.self.out ≡ [] → writer_buffer l.self.out ≡ [])
-    × ((last : Told) → AnswersEach l.request (map (λ path. path.now) (drop l.path-index l.path-items)) (told g.W.Write.contents l.self) last
-    → AnswersEach l.request (map (λ path. path.now) l.path-items) (told g.W.Write.contents l.fn.self) last)
+    × SameFiles (g.D.World.map l.fn.world) (g.D.World.map l.world)
+    × (changes (g.D.World.trace l.world) ≡ changes (g.D.World.trace l.fn.world))
+    × ((last : Told) → AnswersEach (g.D.World.map l.fn.world) l.request (map (λ path. path.now) (drop l.path-index l.path-items)) (told g.W.Write.contents l.self) last
+    → AnswersEach (g.D.World.map l.fn.world) l.request (map (λ path. path.now) l.path-items) (told g.W.Write.contents l.fn.self) last)

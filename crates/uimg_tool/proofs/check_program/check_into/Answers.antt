@@ -1,9 +1,0 @@
-use Rattle.std.proofs.Common.{◌∙◌, ap, rules, sym}
-use Rattle.uimg_tool.specs.Checks.{told}
-use Rattle.uimg_tool.proofs.CheckLaws.{on_ok, request_told, unbuffered}
-use Rattle.uimg_tool.proofs.check_program.check_into.Goals as goal
-
-pub returns-clause-told : goal.returns-clause-told
-returns-clause-told g c =
-    request_told c.args.request.now c.check_all-ended.result c.found-found.result c.tell_ended.result _ _ _ (told g.W.Write.contents c.check_all-ended.new.self) c.tell_ended.ensures.status c.found-found.ensures (search rules)
-    c.check_all-ended.ensures.told (on_ok c.check_all-ended.result (λ empty. unbuffered _ _ empty ∙ ap g.W.Write.contents (sym c.into_parts-out.ensures.inner)) (c.check_all-ended.ensures.flushed c.requires))

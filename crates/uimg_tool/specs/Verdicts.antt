@@ -1,0 +1,92 @@
+-- What a check says of a file, as a function of its bytes.
+use Rattle.std.specs.Prelude.{ℕ, min, ◌-◌, ◌^◌, List, [], ◌∷◌, codes, length, Option, Some, None, Result, Ok, Err, Bool, true, false, if◌then◌else◌}
+use Rattle.std.specs.{List.sum_by, Option.option_map}
+use Rattle.uimg_checks.specs.Finding.{check_of}
+use Rattle.uimg_checks.specs.References.{MissingSaid, missing_in}
+use Rattle.uimg_checks.specs.declared.answer.Format.{Format}
+use Rattle.uimg_checks.specs.declared.answer.Format.TheVariants as format
+use Rattle.uimg_checks.specs.declared.finding.Checked.{Checked}
+use Rattle.uimg_checks.specs.declared.finding.Checked.TheVariants as checked
+use Rattle.uimg_engine.specs.{Faults.of_fit, Headline.is_fit}
+use Rattle.uimg_engine.specs.declared.fault.Fault.{Fault}
+use Rattle.uimg_engine.specs.declared.fault.Fault.TheVariants as engine
+use Rattle.uimg_fit_base.specs.declared.fault.Fault.{Fault as FitEngineFault}
+use Rattle.uimg_fit_checking.specs.Survey.{Said, ConfigurationSaid, survey_of}
+use Rattle.uimg_fit_checking.specs.declared.checking.Finding.{Finding}
+use Rattle.uimg_fit_checking.specs.declared.checking.Finding.TheVariants as fit
+use Rattle.uimg_legacy.specs.declared.fault.LegacyFault.{LegacyFault}
+use Rattle.uimg_requests.specs.declared.command.Form.TheVariants as form
+use Rattle.uimg_strict.specs.{Headers.loose_legacy, Looseness.{LooseSaid, looseness_of}}
+use Rattle.uimg_strict.specs.declared.loose.Looseness.{Looseness}
+use Rattle.uimg_cli.specs.declared.command_line.check.CheckRequest.{CheckRequest}
+
+-- A finding, with the number of the nodes of configurations if a strict check counted them; a name
+-- without a node; what strictness refuses, and the node; or the fault that refuses the file.
+pub data Verdict : Type 0 where
+  Finds : Checked (List ℕ) → Option ℕ → Verdict
+  Lacks : MissingSaid → Verdict
+  Loosens : Format → Looseness → Option (List ℕ) → Verdict
+  Refuses : Fault → Verdict
+
+-- The name of a node; the root, whose name is empty, is told as `/`.
+abbrev pub node_name : List ℕ → List ℕ
+node_name [] = codes "/"
+node_name (byte ∷ rest) = byte ∷ rest
+
+abbrev pub loosens : LooseSaid → Verdict
+loosens said = Loosens format.Fit said.why (option_map node_name said.node)
+
+-- how many child nodes the configurations have; the count saturates
+abbrev pub node_count : List ConfigurationSaid → ℕ
+node_count configurations = min (sum_by (λ c. length c.nodes) configurations) (2 ^ 64 - 1)
+
+-- a missing name, or else the finding
+abbrev pub lacks_or : Option MissingSaid → Verdict → Verdict
+lacks_or (Some said) later = Lacks said
+lacks_or None later = later
+
+-- a FIT image's names, or else the finding with the number of nodes
+abbrev pub facts_verdict : Checked (List ℕ) → Result Said FitEngineFault → Verdict
+facts_verdict found (Ok said) =
+    lacks_or (missing_in said) (Finds found (Some (node_count said.configurations)))
+facts_verdict found (Err fault) = Refuses (of_fit fault)
+
+-- what strictness refuses, or else what comes later
+abbrev pub loose_or : Result (Option LooseSaid) FitEngineFault → Verdict → Verdict
+loose_or (Ok (Some said)) later = loosens said
+loose_or (Ok None) later = later
+loose_or (Err fault) later = Refuses (of_fit fault)
+
+-- a strict check of a FIT image with this finding
+abbrev pub fit_verdict : List ℕ → Checked (List ℕ) → Verdict
+fit_verdict file found = loose_or (looseness_of file) (facts_verdict found (survey_of file))
+
+-- a strict check of a legacy image whose checksums are right
+abbrev pub header_verdict : Result (Option Looseness) LegacyFault → Verdict
+header_verdict (Ok (Some why)) = Loosens format.Legacy why None
+header_verdict (Ok None) = Finds checked.Right None
+header_verdict (Err fault) = Refuses (engine.Legacy fault)
+
+-- whether all hash nodes are right, and each image has one
+abbrev pub is_right : {N : Type 0} → Finding N → Bool
+is_right (fit.Right images nodes) = true
+is_right other = false
+
+-- a strict check looks further only if all hashes or checksums are right
+abbrev pub strict_verdict : List ℕ → Checked (List ℕ) → Verdict
+strict_verdict file (checked.Fit finding) =
+    if is_right finding then fit_verdict file (checked.Fit finding)
+    else Finds (checked.Fit finding) None
+strict_verdict file checked.Right = header_verdict (loose_legacy file)
+strict_verdict file other = Finds other None
+
+-- the verdict by what is found
+abbrev pub verdict_by : Bool → List ℕ → Result (Checked (List ℕ)) Fault → Verdict
+verdict_by is_strict file (Ok found) =
+    if is_strict then strict_verdict file found else Finds found None
+verdict_by is_strict file (Err fault) = Refuses fault
+
+-- the verdict of a requested check about a file, whose first bytes decide the format
+abbrev pub verdict_of : CheckRequest → List ℕ → Verdict
+verdict_of asked file =
+    verdict_by asked.is_strict file (check_of (is_fit form.Guess file) asked.need file)
