@@ -28,8 +28,8 @@ asked_emptied : (it : Asked) (files : FileMap) (status : ℕ) (before x y : Opti
 asked_emptied (One it) files status before x y left flushed same answers = one it files status before x y (λ fine. same (flushed fine)) answers
 asked_emptied (Check it) files status before x y left flushed same answers = unless status _ x y (λ fine. same (flushed fine)) answers
 asked_emptied (Unpack it) files status before x y left flushed same answers = tt
-asked_emptied (Map it) files status before x y left flushed same answers = tt
-asked_emptied (Info it) files status before x y left flushed same answers = tt
+asked_emptied (Map it) files status before x y left flushed same answers = λ none. unless status _ x y (λ fine. same (flushed none fine)) (answers none)
+asked_emptied (Info it) files status before x y left flushed same answers = unless status _ x y (λ fine. same (flushed fine)) answers
 
 pub emptied : (it : Asked) (files : FileMap) (status : ℕ) (before old x y new : Option (List ℕ)) (left : List ℕ) → Flushes it status left → (left ≡ [] → x ≡ y) → before ≡ old → y ≡ new
     → AnswersAsked it files status before x → AnswersAsked it files status old new

@@ -7,6 +7,7 @@ use Rattle.uimg_cli.specs.declared.command_line.Request.{Request}
 use Rattle.uimg_cli.specs.declared.command_line.Request.TheVariants as asked
 use Rattle.uimg_compat.specs.declared.request.OldRequest.{OldRequest}
 use Rattle.uimg_compat.specs.declared.request.OldRequest.TheVariants as old
+use Rattle.uimg_tool.specs.{Answering.AnswersBy, Facts.IsFactsAnswer, MapAnswers.IsMapAnswer}
 use Rattle.uimg_tool.specs.Checking.{AnswersRequest}
 use Rattle.uimg_tool.specs.Reading.{changes}
 use Rattle.uimg_tool.specs.Running.{AnswersRun, OnlyOverwrites}
@@ -19,13 +20,15 @@ AnswersOne (asked.Run it) files status old new = it.outfile ≡ None → Answers
 AnswersOne (asked.Make it) files status old new = ⊤
 AnswersOne (asked.Show text) files status old new = (status ≡ 3) ⊎ (status ≡ 0)
 
--- A request. Of an unpacking nothing is claimed here.
+-- A request. Of an unpacking, and of a map that is drawn, nothing is claimed here.
 abbrev pub AnswersAsked : Asked → FileMap → ℕ → (old new : Option (List ℕ)) → Type 0
 AnswersAsked (One it) files status old new = AnswersOne it files status old new
 AnswersAsked (Check it) files status old new = AnswersRequest files it status old new
 AnswersAsked (Unpack it) files status old new = ⊤
-AnswersAsked (Map it) files status old new = ⊤
-AnswersAsked (Info it) files status old new = ⊤
+AnswersAsked (Map it) files status old new =
+    it.picture ≡ None → AnswersBy files it.image.now IsMapAnswer status old new
+AnswersAsked (Info it) files status old new =
+    AnswersBy files it.image.now (IsFactsAnswer it.image.now) status old new
 
 -- What a request leaves in a buffer that was empty: nothing, unless it failed. Of an unpacking, and of a
 -- map that is drawn to a file, nothing is claimed.

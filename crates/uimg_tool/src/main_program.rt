@@ -3,12 +3,12 @@
 
 ghost use Rattle.std.specs.Prelude.{◌≡◌, ◌≤◌, IfSome, Some, map, option_map};
 ghost use Rattle.uimg_cli.specs.Reading.{AsksNothing, ReadsWords};
-ghost use Rattle.uimg_tool.specs.{Complaints.Ends, Programs.AskNothing, Statuses.words_status};
+ghost use Rattle.uimg_tool.specs.{Complaints.Ends, Programs.{AskNothing, OldAsksNothing}, Statuses.words_status};
 ghost use Rattle.uimg_tool.specs.WordAnswers.{AnswersWords, epoch_of, words_of};
 
 use crate::commands::carry_out_asked;
 use crate::complaints::Complaints;
-use crate::old_program::{carry_out_old, complaints_of, read_old_words};
+use crate::old_program::{carry_out_old, read_old_words};
 use crate::old_tools::Tool;
 use crate::request_fault::{FAILED, WRONG_LINE};
 use std::alloc::Global;
@@ -25,7 +25,6 @@ use uimg_unpacking::{DiskWorld, World};
 /// since 1970; they give the time of a new image. Listings, reports and help go to `out`, buffered,
 /// and are written before a fault is reported. A fault is one line on `err`; failed writes to `err`
 /// are ignored.
-#[tactic(auto, using(crate::proofs::OldWordLaws::nothing_read))]
 pub fn program<R: Files + AllocGlobal, W: Write, V: Write>(
     rt: &R,
     words: &[&str],
@@ -40,23 +39,53 @@ pub fn program<R: Files + AllocGlobal, W: Write, V: Write>(
     ensures unprinted { AskNothing (option_map (λ text. text.now) epoch.entry) now
         (map (λ word. word.now) words.entry.now) → out.new ≡ out.old }
 {
-    let world = &mut DiskWorld::new(rt);
-    let (status, _) = match Tool::of_words(words) {
-        Some(tool) => {
-            let asked = read_old_words(rt.alloc(), tool, words, epoch, now);
-            let complaints = &mut complaints_of(tool, err);
-            carry_out_old(rt, world, tool, asked, out, complaints)
-        }
-        None => {
-            let line = CommandLine {
-                words,
-                epoch,
-                time: now,
-            };
-            let complaints = &mut Complaints::new("uimg", err);
-            carry_out_words(rt, world, line, out, complaints)
-        }
+    let line = CommandLine {
+        words,
+        epoch,
+        time: now,
     };
+    match Tool::of_words(words) {
+        Some(tool) => run_as_tool(rt, tool, line, out, err),
+        None => run_as_uimg(rt, line, out, err),
+    }
+}
+
+// Carries out a command line of a tool, over the files of the system.
+#[tactic(auto, using(crate::proofs::OldWordLaws::nothing_read))]
+fn run_as_tool<R: Files + AllocGlobal, W: Write, V: Write>(
+    rt: &R,
+    tool: Tool,
+    line: CommandLine<'_>,
+    out: &mut W,
+    err: &mut V,
+) -> u8
+    ensures status { result ≤ 3 }
+    ensures nothing { OldAsksNothing tool (epoch_of line.entry) line.entry.time (words_of line.entry)
+        → 2 ≤ result }
+    ensures unprinted { OldAsksNothing tool (epoch_of line.entry) line.entry.time (words_of line.entry)
+        → out.new ≡ out.old }
+{
+    let asked = read_old_words(rt.alloc(), tool, line.words, line.epoch, line.time);
+    let complaints = &mut Complaints::new(tool.name(), err);
+    let (status, _) = carry_out_old(rt, &mut DiskWorld::new(rt), tool, asked, out, complaints);
+    status
+}
+
+// Carries out a command line of `uimg`, over the files of the system.
+fn run_as_uimg<R: Files + AllocGlobal, W: Write, V: Write>(
+    rt: &R,
+    line: CommandLine<'_>,
+    out: &mut W,
+    err: &mut V,
+) -> u8
+    ensures status { result ≤ 3 }
+    ensures nothing { AsksNothing (epoch_of line.entry) line.entry.time (words_of line.entry)
+        → 2 ≤ result }
+    ensures unprinted { AsksNothing (epoch_of line.entry) line.entry.time (words_of line.entry)
+        → out.new ≡ out.old }
+{
+    let complaints = &mut Complaints::new("uimg", err);
+    let (status, _) = carry_out_words(rt, &mut DiskWorld::new(rt), line, out, complaints);
     status
 }
 

@@ -42,13 +42,6 @@ pub(crate) fn read_old_words<'a>(
     }
 }
 
-/// Returns standard error of a tool, to which no fault was told.
-pub(crate) fn complaints_of<'a, V: Write>(tool: Tool, err: &'a mut V) -> Complaints<'a, V>
-    ensures { result.count ≡ 0 }
-{
-    Complaints::new(tool.name(), err)
-}
-
 /// Carries out what a tool's command line requests. An image is written to a new file and gets its
 /// name when it is complete, unless something exists there that is not a regular file. Returns the
 /// status, and `out` unless memory for its buffer was refused.
