@@ -1,10 +1,12 @@
--- What the words of `uimg` answer, over the files of a world.
+-- What the words of `uimg`, mkimage and dumpimage answer, over the files of a world.
 use Rattle.std.specs.Prelude.{◌≡◌, ℕ, List, map, IsTrue, Option, Result, Ok, Err}
 use Rattle.std.specs.Option.{option_map}
 use Rattle.uimg_base.specs.Named.{FileMap}
 use Rattle.uimg_cli.specs.Reading.{ReadsWords}
 use Rattle.uimg_cli.specs.declared.command_line.{Asked.Asked, words_fault.WordsFault.WordsFault}
-use Rattle.uimg_tool.specs.{Commands.{AnswersAsked, Changes}, Statuses.words_status}
+use Rattle.uimg_tool.specs.{Commands.{AnswersAsked, AnswersOld, Changes}, Programs.ReadsOld, Statuses.{old_words_status, words_status}}
+use Rattle.uimg_tool.specs.declared.old_tools.Tool.{Tool}
+use Rattle.uimg_compat.specs.declared.{fault.OldFault.OldFault, request.OldRequest.OldRequest}
 use Rattle.uimg_tool.specs.declared.main_program.CommandLine.{CommandLine}
 use Rattle.uimg_unpacking.specs.Deeds.{Deed}
 
@@ -32,3 +34,15 @@ pub record AnswersWords (line : CommandLine) (files : FileMap) (status : ℕ) (o
   pub reads : ReadsWords (epoch_of line) line.time (words_of line) read
   pub answers : AnswersRead read files status old new
   pub changes : ChangesRead read before after
+
+-- A request of mkimage or dumpimage is answered, over an honest world. Wrong words print nothing.
+abbrev pub AnswersOldRead : Result OldRequest OldFault → FileMap → ℕ → (old new : Option (List ℕ)) → Type 0
+AnswersOldRead (Ok asked) files status old new = IsTrue files.honest → AnswersOld asked files status old new
+AnswersOldRead (Err fault) files status old new = (status ≡ old_words_status fault) × (new ≡ old)
+
+-- What the words of a tool ask for, or what is wrong with them, is answered.
+pub record AnswersOldWords (tool : Tool) (line : CommandLine) (files : FileMap) (status : ℕ)
+    (old new : Option (List ℕ)) : Type 0 where
+  pub read : Result OldRequest OldFault
+  pub reads : ReadsOld tool (epoch_of line) line.time (words_of line) read
+  pub answers : AnswersOldRead read files status old new

@@ -8,7 +8,7 @@ ghost use Rattle.uimg_tool.specs.WordAnswers.{AnswersWords, epoch_of, words_of};
 
 use crate::commands::carry_out_asked;
 use crate::complaints::Complaints;
-use crate::old_program::{carry_out_old, read_old_words};
+use crate::old_program::carry_out_old;
 use crate::old_tools::Tool;
 use crate::request_fault::{FAILED, WRONG_LINE};
 use std::alloc::Global;
@@ -45,19 +45,21 @@ pub fn program<R: Files + AllocGlobal, W: Write, V: Write>(
         time: now,
     };
     match Tool::of_words(words) {
-        Some(tool) => run_as_tool(rt, tool, line, out, err),
-        None => run_as_uimg(rt, line, out, err),
+        Some(tool) => {
+            let complaints = &mut Complaints::new(tool.name(), err);
+            run_as_tool(rt, tool, line, out, complaints)
+        }
+        None => run_as_uimg(rt, line, out, &mut Complaints::new("uimg", err)),
     }
 }
 
-// Carries out a command line of a tool, over the files of the system.
-#[tactic(auto, using(crate::proofs::OldWordLaws::nothing_read))]
+// Carries out the words of a tool, over the files of the system.
 fn run_as_tool<R: Files + AllocGlobal, W: Write, V: Write>(
     rt: &R,
     tool: Tool,
     line: CommandLine<'_>,
     out: &mut W,
-    err: &mut V,
+    complaints: &mut Complaints<'_, V>,
 ) -> u8
     ensures status { result ≤ 3 }
     ensures nothing { OldAsksNothing tool (epoch_of line.entry) line.entry.time (words_of line.entry)
@@ -65,18 +67,16 @@ fn run_as_tool<R: Files + AllocGlobal, W: Write, V: Write>(
     ensures unprinted { OldAsksNothing tool (epoch_of line.entry) line.entry.time (words_of line.entry)
         → out.new ≡ out.old }
 {
-    let asked = read_old_words(rt.alloc(), tool, line.words, line.epoch, line.time);
-    let complaints = &mut Complaints::new(tool.name(), err);
-    let (status, _) = carry_out_old(rt, &mut DiskWorld::new(rt), tool, asked, out, complaints);
+    let (status, _) = carry_out_old(rt, &mut DiskWorld::new(rt), tool, line, out, complaints);
     status
 }
 
-// Carries out a command line of `uimg`, over the files of the system.
+// Carries out the words of `uimg`, over the files of the system.
 fn run_as_uimg<R: Files + AllocGlobal, W: Write, V: Write>(
     rt: &R,
     line: CommandLine<'_>,
     out: &mut W,
-    err: &mut V,
+    complaints: &mut Complaints<'_, V>,
 ) -> u8
     ensures status { result ≤ 3 }
     ensures nothing { AsksNothing (epoch_of line.entry) line.entry.time (words_of line.entry)
@@ -84,7 +84,6 @@ fn run_as_uimg<R: Files + AllocGlobal, W: Write, V: Write>(
     ensures unprinted { AsksNothing (epoch_of line.entry) line.entry.time (words_of line.entry)
         → out.new ≡ out.old }
 {
-    let complaints = &mut Complaints::new("uimg", err);
     let (status, _) = carry_out_words(rt, &mut DiskWorld::new(rt), line, out, complaints);
     status
 }

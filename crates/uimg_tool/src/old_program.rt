@@ -1,14 +1,16 @@
 //! The program with the names of mkimage and dumpimage.
 
-ghost use Rattle.std.specs.Prelude.{◌≡◌, [], IfErr, IfOk, IfSome, IsTrue, Some, map, option_map};
+ghost use Rattle.std.specs.Prelude.{◌≡◌, ◌≤◌, [], IfSome, IsTrue, Some};
 ghost use Rattle.std.specs.Io.Buffered.{writer_buffer, writer_contents};
 ghost use Rattle.uimg_tool.specs.Complaints.{Ends};
 ghost use Rattle.uimg_tool.specs.Commands.{AnswersOld, FlushesOld};
-ghost use Rattle.uimg_tool.specs.{Programs.{ReadsOld}, Statuses.old_words_status};
+ghost use Rattle.uimg_tool.specs.{Programs.{OldAsksNothing, ReadsOld}, Statuses.old_words_status};
+ghost use Rattle.uimg_tool.specs.WordAnswers.{AnswersOldWords, epoch_of, words_of};
 
 use crate::auto_program::make_auto;
 use crate::complaints::Complaints;
 use crate::fit_program::make_fit;
+use crate::main_program::CommandLine;
 use crate::old_files::{How, make_image, run_old};
 use crate::old_tools::Tool;
 use crate::request_fault::{DONE, WRONG_LINE};
@@ -22,44 +24,30 @@ use uimg_names::Field;
 use uimg_requests::VERSION;
 use uimg_unpacking::World;
 
-/// Takes the words of a command line, the program's name first, as this tool of U-Boot 2023.01
-/// does.
-#[tactic(auto, unfolding(crate::specs::Programs::ReadsOld))]
-pub(crate) fn read_old_words<'a>(
-    alloc: Global,
-    tool: Tool,
-    words: &'a [&'a str],
-    epoch: Option<&str>,
-    now: u32,
-) -> Result<OldRequest<'a>, OldFault<'a>>
-    ensures { ReadsOld tool (option_map (λ text. text.now) epoch.entry) now
-        (map (λ word. word.now) words.entry.now) result }
-{
-    let words = words.get(1..).unwrap_or(&[]);
-    match tool {
-        Tool::Mkimage => read_mkimage(alloc, words, epoch, now),
-        Tool::Dumpimage => read_dumpimage(alloc, words),
-    }
-}
-
-/// Carries out what a tool's command line requests. An image is written to a new file and gets its
-/// name when it is complete, unless something exists there that is not a regular file. Returns the
-/// status, and `out` unless memory for its buffer was refused.
+/// Carries out the words of a command line as this tool of U-Boot 2023.01 does. An image is written
+/// to a new file and gets its name when it is complete, unless something exists there that is not a
+/// regular file. Returns the status, and `out` unless memory for its buffer was refused.
+///
+/// Over an honest world, unless the status is 3, a listing of an image, or a part of it that is
+/// printed, is exactly the definition's of the bytes at its path, as is the status.
+#[tactic(auto, using(crate::proofs::OldWordLaws::nothing_read))]
 pub(crate) fn carry_out_old<R: Files + AllocGlobal, D: World, W: Write + Drop, V: Write>(
     rt: &R,
     world: &mut D,
     tool: Tool,
-    asked: Result<OldRequest<'_>, OldFault<'_>>,
+    line: CommandLine<'_>,
     out: W,
     complaints: &mut Complaints<'_, V>,
 ) -> (u8, Option<W>)
     ensures ends { Ends result.0 complaints.old.count complaints.new.count }
-    ensures refused { IfErr asked.entry (λ fault. result.0 ≡ old_words_status fault) }
-    ensures unprinted { IfErr asked.entry (λ fault. result.1 ≡ Some out) }
-    ensures told { IsTrue (D.map world.old).honest → IfOk asked.entry (λ it. IfSome result.1 (λ written.
-        AnswersOld it (D.map world.old) result.0 (W.contents out) (W.contents written))) }
+    ensures nothing { OldAsksNothing tool (epoch_of line.entry) line.entry.time (words_of line.entry)
+        → 2 ≤ result.0 }
+    ensures unprinted { OldAsksNothing tool (epoch_of line.entry) line.entry.time (words_of line.entry)
+        → result.1 ≡ Some out }
+    ensures told { IfSome result.1 (λ written. AnswersOldWords tool line.entry (D.map world.old)
+        result.0 (W.contents out) (W.contents written)) }
 {
-    match asked {
+    match read_old_words(rt.alloc(), tool, line) {
         Ok(request) => match BufWriter::new(rt.alloc(), out) {
             Ok(gathered) => {
                 let (status, gathered) = carry_out_request(
@@ -71,8 +59,35 @@ pub(crate) fn carry_out_old<R: Files + AllocGlobal, D: World, W: Write + Drop, V
             }
             Err(_) => (complaints.tell_no_memory(), None),
         },
-        Err(OldFault::OutOfMemory) => (complaints.tell_no_memory(), Some(out)),
-        Err(fault) => (complaints.tell(&fault, WRONG_LINE), Some(out)),
+        Err(fault) => (tell_old_fault(&fault, complaints), Some(out)),
+    }
+}
+
+// Reads the words. Not inlined, so that what this takes of the stack is free when the request is
+// carried out.
+#[inline(never)]
+#[tactic(auto, unfolding(crate::specs::Programs::ReadsOld))]
+fn read_old_words<'a>(
+    alloc: Global,
+    tool: Tool,
+    line: CommandLine<'a>,
+) -> Result<OldRequest<'a>, OldFault<'a>>
+    ensures { ReadsOld tool (epoch_of line.entry) line.entry.time (words_of line.entry) result }
+{
+    let words = line.words.get(1..).unwrap_or(&[]);
+    match tool {
+        Tool::Mkimage => read_mkimage(alloc, words, line.epoch, line.time),
+        Tool::Dumpimage => read_dumpimage(alloc, words),
+    }
+}
+
+fn tell_old_fault<V: Write>(fault: &OldFault<'_>, complaints: &mut Complaints<'_, V>) -> u8
+    ensures status { result ≡ old_words_status fault.now }
+    ensures ends { Ends result complaints.old.count complaints.new.count }
+{
+    match fault {
+        OldFault::OutOfMemory => complaints.tell_no_memory(),
+        _ => complaints.tell(fault, WRONG_LINE),
     }
 }
 
