@@ -6,9 +6,12 @@ use Rattle.std.specs.Int.{from_be_bytes, w32}
 use Rattle.uimg_sums.specs.declared.algo.Algo.{Algo}
 use Rattle.uimg_sums.specs.declared.algo.Algo.TheVariants as algo
 use Rattle.uimg_legacy.specs.Checking.{Checks}
-use Rattle.uimg_legacy.specs.declared.fault.Fault.{Fault}
+use Rattle.uimg_legacy.specs.declared.fault.Fault.{Fault, TheVariants.{Legacy, Put}}
+use Rattle.uimg_legacy.specs.declared.fault.LegacyFault.TheVariants.{BadDataCrc}
+use Rattle.uimg_unpacking.specs.declared.trouble.Trouble.{Trouble}
+use Rattle.uimg_unpacking.specs.declared.trouble.Trouble.TheVariants as of
 use Rattle.uimg_unpacking.specs.declared.part_unpacking.PartsEnded.{PartsEnded}
-use Rattle.uimg_unpacking.specs.declared.part_unpacking.PartsEnded.TheVariants.{Stopped}
+use Rattle.uimg_unpacking.specs.declared.part_unpacking.PartsEnded.TheVariants.{Kept, Stopped, Troubled}
 
 -- a word of several digits begins with a zero
 abbrev pub has_leading_zero : List ℕ → Bool
@@ -41,3 +44,11 @@ pub record EndsUnlessRefused (file : List ℕ) (end result : PartsEnded) : Type 
   pub checked : Result Bool Fault
   pub checks : Checks file checked
   pub is : result ≡ end_after checked end
+
+-- the end by what was unpacked: the parts are kept just if the checksum of the data is right
+abbrev pub end_of_parts : Result Bool Fault → Option Trouble → PartsEnded
+end_of_parts (Ok true) trouble = Kept
+end_of_parts (Ok false) trouble = Stopped (Legacy BadDataCrc)
+end_of_parts (Err Put) (Some trouble) = Troubled trouble
+end_of_parts (Err Put) None = Troubled of.Put
+end_of_parts (Err fault) trouble = Stopped fault

@@ -7,7 +7,7 @@ ghost use Rattle.uimg_base.specs.Device.{SameDevice};
 ghost use Rattle.uimg_base.specs.Honest.{HonestSource, IfHonest};
 ghost use Rattle.uimg_base.specs.Using.{Asks};
 ghost use Rattle.uimg_legacy.specs.Unpacking.{is_part_asked};
-ghost use Rattle.uimg_unpacking.specs.PartEnds.{has_leading_zero, is_number, stands_by_crc32, size_at, EndsUnlessRefused};
+ghost use Rattle.uimg_unpacking.specs.PartEnds.{end_of_parts, has_leading_zero, is_number, stands_by_crc32, size_at, EndsUnlessRefused};
 ghost use Rattle.uimg_unpacking.specs.Places.{stays_within};
 
 use crate::disk_world::DiskWorld;
@@ -93,13 +93,19 @@ fn unpack_parts_in<W: World, S: Source, O: Write + Drop>(
     let mut taker = PartFolder::new(world, alloc, asked, out, &code);
     let unpacked = uimg_legacy::unpack(only, source, &mut room, &mut taker);
     let (world, trouble) = taker.end();
-    let ended = match unpacked {
+    (world, ended(unpacked, trouble))
+}
+
+// Returns how it ended by what was unpacked, with the trouble if it is known.
+fn ended(unpacked: Result<bool, Fault>, trouble: Option<Trouble>) -> PartsEnded
+    ensures { result ≡ end_of_parts unpacked trouble }
+{
+    match unpacked {
         Ok(true) => PartsEnded::Kept,
         Ok(false) => PartsEnded::Stopped(Fault::Legacy(LegacyFault::BadDataCrc)),
         Err(Fault::Put) => PartsEnded::Troubled(trouble.unwrap_or(Trouble::Put)),
         Err(fault) => PartsEnded::Stopped(fault),
-    };
-    (world, ended)
+    }
 }
 
 // Returns an end, unless the image's header or its table of parts is refused.

@@ -2,14 +2,12 @@
 
 ghost use Rattle.std.specs.Prelude.{◌≡◌, None, length, is_ok, is_some, not, true};
 ghost use Rattle.uimg_unpacking.specs.NamingAll.{NamesFiles, PutsBackFiles, SyncsNames, NamesAll, NamesComplete, TakesBack};
+ghost use Rattle.uimg_unpacking.specs.Troubles.{trouble_in};
 
 use crate::naming::{forget_old, name_files, put_back_all, remove_all_old};
 use crate::staging::Staging;
 use crate::trouble::{ShownPath, Trouble};
 use crate::world::World;
-
-/// The error of a file system that cannot wait for a folder (`EINVAL`).
-const INVALID: i32 = 22;
 
 impl<'a, 'c, W: World> Staging<'a, 'c, W> {
     // Begins to give files their names.
@@ -73,9 +71,8 @@ impl<'a, 'c, W: World> Staging<'a, 'c, W> {
     }
 
     // Waits until the names in the folder are on the disk, if that is requested and there are any.
-    // A file system that never waits for a folder is none to wait for.
     fn sync(&mut self) -> Result<(), Trouble>
-        ensures told { SyncsNames self.old.folder self.old.files.items (is_ok result)
+        ensures told { SyncsNames self.old.folder self.old.files.items (trouble_in result)
             (W.trace self.old.world) (W.trace self.new.world) }
         ensures files { self.new.files ≡ self.old.files }
         ensures folder { self.new.folder ≡ self.old.folder }
@@ -85,11 +82,11 @@ impl<'a, 'c, W: World> Staging<'a, 'c, W> {
             return Ok(());
         }
         match self.world.sync_dir(self.folder.path) {
-            Err(reason) if reason.raw_os_error() != Some(INVALID) => {
+            Ok(()) => Ok(()),
+            Err(reason) => {
                 let path = String::from_str(self.alloc, self.folder.path)?;
                 Err(Trouble::CannotSync(ShownPath(path), reason))
             }
-            _ => Ok(()),
         }
     }
 
