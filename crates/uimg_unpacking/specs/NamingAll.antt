@@ -7,7 +7,7 @@ use Rattle.uimg_unpacking.specs.Refusals.{DropsLast}
 use Rattle.uimg_unpacking.specs.declared.begun.Begun.{Begun}
 use Rattle.uimg_unpacking.specs.declared.folder.Folder.{Folder}
 use Rattle.uimg_unpacking.specs.declared.trouble.Trouble.{Trouble}
-use Rattle.uimg_unpacking.specs.declared.trouble.Trouble.TheVariants.{CannotSync, OutOfMemory}
+use Rattle.uimg_unpacking.specs.declared.trouble.Trouble.TheVariants.{CannotSync, NotPutBack, OutOfMemory}
 
 -- a file gets its name, or not
 abbrev pub NamesIt : Folder → Begun → Bool → List Deed → List Deed → Type 0
@@ -38,11 +38,23 @@ abbrev pub UnlessLater : Bool → Begun → Bool → Bool → List Deed → List
 UnlessLater true its has_name is_back before after = (is_back ≡ true) × (after ≡ before)
 UnlessLater false its has_name is_back before after = PutsItBack its has_name is_back before after
 
--- The names are taken back, and a trouble is returned: the given one, unless something is not back.
-pub record TakesBack (files : List Begun) (named : ℕ) (trouble result : Trouble) (before after : List Deed) : Type 0 where
+-- the trouble that old files are not back, but in a temporary folder, or of no memory
+abbrev pub IsNotPutBack : List ℕ → Trouble → Type 0
+IsNotPutBack made (NotPutBack path) = string_bytes path.0 ≡ made
+IsNotPutBack made OutOfMemory = ⊤
+IsNotPutBack made _ = ⊥
+
+-- the trouble that is returned by whether all is back: the given one, unless something is in a folder
+abbrev pub TellsBack : Bool → Option (List ℕ) → Trouble → Trouble → Type 0
+TellsBack true made trouble result = result ≡ trouble
+TellsBack false (Some made) trouble result = IsNotPutBack made result
+TellsBack false None trouble result = result ≡ trouble
+
+-- The names are taken back, and a trouble is returned.
+pub record TakesBack (files : List Begun) (named : ℕ) (made : Option (List ℕ)) (trouble result : Trouble) (before after : List Deed) : Type 0 where
   pub are_back : Bool
   pub taken : PutsBackFiles files named are_back before after
-  pub same : are_back ≡ true → result ≡ trouble
+  pub told : TellsBack are_back made trouble result
 
 -- What was kept of replaced files is removed, whatever that answers.
 abbrev pub ForgetsOld : List Begun → List Deed → List Deed → Type 0

@@ -1,6 +1,7 @@
 //! Files get their names together, or none does.
 
-ghost use Rattle.std.specs.Prelude.{◌≡◌, None, length, is_ok, is_some, not, true};
+ghost use Rattle.std.specs.Prelude.{◌≡◌, None, length, is_ok, is_some, not, string_bytes, true};
+ghost use Rattle.std.specs.Option.{option_map};
 ghost use Rattle.uimg_unpacking.specs.NamingAll.{NamesFiles, PutsBackFiles, SyncsNames, NamesAll, NamesComplete, TakesBack};
 ghost use Rattle.uimg_unpacking.specs.Troubles.{trouble_in};
 
@@ -114,7 +115,8 @@ impl<'a, 'c, W: World> Staging<'a, 'c, W> {
     // in their place.
     fn taken_back(&mut self, number: usize, trouble: Trouble) -> Trouble
         requires { self.old.is_naming ≡ true }
-        ensures told { TakesBack self.old.files.items number trouble result
+        ensures told { TakesBack self.old.files.items number
+            (option_map string_bytes self.old.made) trouble result
             (W.trace self.old.world) (W.trace self.new.world) }
         ensures folder { self.new.folder ≡ self.old.folder }
         ensures naming { self.new.is_naming ≡ self.old.is_naming }
@@ -126,7 +128,7 @@ impl<'a, 'c, W: World> Staging<'a, 'c, W> {
         match &self.made {
             Some(made) => match String::from_str(self.alloc, made.as_str()) {
                 Ok(made) => Trouble::NotPutBack(ShownPath(made)),
-                Err(_) => trouble,
+                Err(error) => Trouble::from(error),
             },
             None => trouble,
         }
