@@ -1,11 +1,12 @@
 -- What is read of a legacy image before its parts, and how its unpacking ends.
-use Rattle.std.specs.Prelude.{◌≡◌, ℕ, ◌+◌, ◌*◌, nat_lt, ◌==◌, ◌&&◌, not, List, length, slice_index, take, drop, Bool, true, false, if◌then◌else◌, Option, Some, None, Result, Ok, Err}
+use Rattle.std.specs.Prelude.{◌≡◌, ⊤, ℕ, ◌+◌, ◌*◌, nat_lt, ◌==◌, ◌&&◌, not, List, length, slice_index, take, drop, Bool, true, false, if◌then◌else◌, Option, Some, None, Result, Ok, Err}
 use Rattle.std.specs.Char.{is_ascii_digit}
 use Rattle.std.specs.List.{list_all}
 use Rattle.std.specs.Int.{from_be_bytes, w32}
 use Rattle.uimg_sums.specs.declared.algo.Algo.{Algo}
 use Rattle.uimg_sums.specs.declared.algo.Algo.TheVariants as algo
 use Rattle.uimg_legacy.specs.Checking.{Checks}
+use Rattle.uimg_legacy.specs.Unpacking.{HasRightParts, unpack_of}
 use Rattle.uimg_legacy.specs.declared.fault.Fault.{Fault, TheVariants.{Legacy, Put}}
 use Rattle.uimg_legacy.specs.declared.fault.LegacyFault.TheVariants.{BadDataCrc}
 use Rattle.uimg_unpacking.specs.declared.trouble.Trouble.{Trouble}
@@ -52,3 +53,8 @@ end_of_parts (Ok false) trouble = Stopped (Legacy BadDataCrc)
 end_of_parts (Err Put) (Some trouble) = Troubled trouble
 end_of_parts (Err Put) None = Troubled of.Put
 end_of_parts (Err fault) trouble = Stopped fault
+
+-- The parts are kept only if the image has them, all or the requested one, and its data's CRC is right.
+abbrev pub KeepsRight : List ℕ → PartsEnded → Type 0
+KeepsRight file Kept = (only : Option ℕ) × HasRightParts (unpack_of only file)
+KeepsRight file _ = ⊤
