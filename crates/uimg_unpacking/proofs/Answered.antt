@@ -1,5 +1,5 @@
 -- What calls answer.
-use Rattle.std.proofs.Common.{◌≡◌, false, refl, ℕ, List, Option, Some, None, Result, Ok, Err, is_ok, sym}
+use Rattle.std.proofs.Common.{◌≡◌, false, refl, ℕ, List, Some, None, Result, Ok, Err, is_ok, sym}
 use Rattle.std.specs.declared.io.Error.{Error}
 use Rattle.std.specs.IoError.{error_kind}
 use Rattle.std.specs.declared.io.ErrorKind.{ErrorKind}

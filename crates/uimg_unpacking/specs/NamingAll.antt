@@ -1,8 +1,8 @@
 -- How all files of a folder get their names, and how all names are taken back.
-use Rattle.std.specs.Prelude.{◌≡◌, ⊤, ℕ, zero, suc, List, [], ◌∷◌, length, map, Bool, true, false, not, nat_lt, ◌&&◌, if◌then◌else◌, Option, Some, None, string_bytes}
+use Rattle.std.specs.Prelude.{◌≡◌, ⊤, ℕ, zero, suc, List, [], ◌∷◌, length, map, Bool, true, false, nat_lt, ◌&&◌, Option, Some, None, string_bytes}
 use Rattle.uimg_unpacking.specs.Clearing.{unanswered, removals}
 use Rattle.uimg_unpacking.specs.Deeds.{Answer, Done, Deed, Syncs}
-use Rattle.uimg_unpacking.specs.Naming.{is_done, Names, PutsBack}
+use Rattle.uimg_unpacking.specs.Naming.{Names, PutsBack}
 use Rattle.uimg_unpacking.specs.Refusals.{DropsLast}
 use Rattle.uimg_unpacking.specs.declared.begun.Begun.{Begun}
 use Rattle.uimg_unpacking.specs.declared.folder.Folder.{Folder}

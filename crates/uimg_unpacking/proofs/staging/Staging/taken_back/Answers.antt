@@ -1,4 +1,4 @@
-use Rattle.std.proofs.Common.{rules, refl, true}
+use Rattle.std.proofs.Common.{rules, refl}
 use Rattle.uimg_unpacking.proofs.staging.Staging.taken_back.Goals as goal
 
 pub returns-then-is_back-clause-told : goal.returns-then-is_back-clause-told
