@@ -9,7 +9,7 @@ use Rattle.uimg_legacy.specs.{declared.fault.Fault.TheVariants.{Legacy, Read, Pu
 use Rattle.uimg_legacy.specs.{Header.{header, spelled, spelled_with}, Parts.has_parts}
 use Rattle.uimg_legacy.specs.Work.{data_read, sizes_read_with}
 use Rattle.uimg_legacy.specs.UnpackingSteps.{TakesDataBetween, SettlesBetween, unpack_work}
-use Rattle.uimg_legacy.specs.Unpacking.{Part, chosen_parts, parts_in, data_there, unpacked, unpack_of, AreRight, UnpacksBetween, KeepsRightBetween}
+use Rattle.uimg_legacy.specs.Unpacking.{Part, chosen_parts, parts_in, data_there, unpacked, unpack_of, AreRight, UnpacksBetween, HasRightParts, EndsAs, KeepsRightBetween}
 use Rattle.uimg_legacy.proofs.HeaderLaws.{fields-spelled, header-spelled, length-spelled}
 use Rattle.uimg_legacy.proofs.ReadsBackLaw.{head-append, header_from}
 
@@ -108,6 +108,22 @@ stops only honest h d e r (Legacy fault) from to old new is same true_one read i
     (unpack_known only d.bytes h read inside ∙ ap (λ (xs : List ℕ). unpacked only h (payload xs h)) (sym same.bytes) ∙ refused_data only h (payload e.bytes h) fault (p at_e), kept)
 stops only honest h d e r Read from to old new is same true_one read inside p kept = subst (λ (x : Result Bool Fault). UnpacksBetween x (unpack_of only d.bytes) old new) (sym is) kept
 stops only honest h d e r Put from to old new is same true_one read inside p kept = subst (λ (x : Result Bool Fault). UnpacksBetween x (unpack_of only d.bytes) old new) (sym is) kept
+
+-- the same whatever the taker does
+pub ends_of : (r : Result Bool Fault) (told : Result (Option (List Part)) LegacyFault) (old new : List Part) → UnpacksBetween r told old new → EndsAs r told
+ends_of (Ok true) told old new k = subst (λ (t : Result (Option (List Part)) LegacyFault). HasRightParts t) (sym k.is) tt
+ends_of (Ok false) told old new k = k.0
+ends_of (Err (Legacy fault)) told old new k = k.0
+ends_of (Err Read) told old new k = tt
+ends_of (Err Put) told old new k = tt
+
+pub ends_kept : (only : Option ℕ) (honest : Bool) (h : Header) (d e : Device) (right kept : Bool) (from to : List Part) → SameDevice d e → IsTrue d.honest → header d.bytes ≡ Ok h → 64 + h.size ≤ length d.bytes → TakesDataBetween only honest h e (Ok right) from to → kept ≡ right → EndsAs (Ok kept) (unpack_of only d.bytes)
+ends_kept only honest h d e true kept from to same one read inside p is =
+    let ps = chosen_parts only 0 p.parts in
+    let q : TakesDataBetween only true h e (Ok true) [] ps = record { bytes = p.bytes; parts = p.parts; long = p.long; sum = p.sum; cut = p.cut; right = p.right; held = λ known. refl } in
+    ends_of (Ok kept) (unpack_of only d.bytes) [] ps (unpacks {E = Fault} (Ok kept) only true h d e true kept [] ps [] [] ps same one read inside refl refl q refl (is, refl))
+ends_kept only honest h d e false kept from to same one read inside p is =
+    ends_of (Ok kept) (unpack_of only d.bytes) [] [] (unpacks {E = Fault} (Ok kept) only true h d e false kept [] [] [] [] [] same one read inside refl refl p refl (is, refl))
 
 -- the most that is asked for
 pub work_known : (d e : Device) (h : Header) → SameDevice d e → header d.bytes ≡ Ok h → 64 + h.size ≤ length d.bytes → unpack_work d.bytes ≡ 64 + (h.size + 8 * (sizes_read_with (has_parts h.kind) (payload e.bytes h) + 1))

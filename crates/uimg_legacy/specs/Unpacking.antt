@@ -100,6 +100,20 @@ UnpacksBetween (Err (Legacy fault)) told old new = (told ≡ Err fault) × (new 
 UnpacksBetween (Err Read) told old new = new ≡ old
 UnpacksBetween (Err Put) told old new = new ≡ old
 
+-- there are parts, and the data's CRC is right
+abbrev pub HasRightParts : Result (Option (List Part)) LegacyFault → Type 0
+HasRightParts (Ok (Some parts)) = ⊤
+HasRightParts (Ok None) = ⊥
+HasRightParts (Err fault) = ⊥
+
+-- What a result says of an image, whatever becomes of the parts.
+abbrev pub EndsAs : Result Bool Fault → Result (Option (List Part)) LegacyFault → Type 0
+EndsAs (Ok true) told = HasRightParts told
+EndsAs (Ok false) told = told ≡ Ok None
+EndsAs (Err (Legacy fault)) told = told ≡ Err fault
+EndsAs (Err Read) told = ⊤
+EndsAs (Err Put) told = ⊤
+
 -- the same for an honest source and an honest taker
 abbrev pub Unpacks : {S T : Type 0} → Option ℕ → Result Bool Fault → (S → Device) → Lent S → Bool
     → (T → List Part) → Lent T → Type 0

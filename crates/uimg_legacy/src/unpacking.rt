@@ -1,8 +1,9 @@
 //! Unpacking: parts are written while the image's data are summed.
 
 ghost use Rattle.std.specs.Prelude.{◌≡◌, [], IfOk, IsTrue};
+ghost use Rattle.uimg_base.specs.Honest.{IfHonest};
 ghost use Rattle.uimg_legacy.specs.{Commands.TakesOut, UnpackingSteps.{Settles, unpack_work}};
-ghost use Rattle.uimg_legacy.specs.Unpacking.{AreRight, Unpacks, KeepsRight, Extracts};
+ghost use Rattle.uimg_legacy.specs.Unpacking.{AreRight, Unpacks, EndsAs, KeepsRight, Extracts, unpack_of};
 ghost use Rattle.uimg_legacy.specs.Told.{TellsAll, Tells, settling};
 
 mod mem_parts;
@@ -63,6 +64,7 @@ pub fn unpack<S: Source, A: Allocator, T: PartTaker>(
     ensures takes { TakesOut unpack_work result S.device source room }
     ensures right { KeepsRight only result T.honest T.kept taker }
     ensures told { Unpacks only result S.device source T.honest T.kept taker }
+    ensures ends { IfHonest S.device source (λ file. EndsAs result (unpack_of only file)) }
     ensures extracts { Extracts result S.device source T.honest T.kept taker }
     ensures stays { T.place taker.new ≡ T.place taker.old }
     ensures tells { TellsAll only result T.notes T.told taker }

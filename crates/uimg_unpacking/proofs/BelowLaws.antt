@@ -1,5 +1,5 @@
 -- What follows a text at the start of a path, by a comparison of as many bytes.
-use Rattle.std.proofs.Common.{◌≡◌, ◌∙◌, ℕ, ◌==◌, ◌&&◌, Bool, true, false, if◌then◌else◌, length, take, drop, List, [], ◌∷◌, Option, Some, None, nat_eq, refl, ap, sym, rules}
+use Rattle.std.proofs.Common.{◌≡◌, ◌∙◌, ℕ, ◌==◌, ◌&&◌, Bool, true, false, if◌then◌else◌, length, take, drop, List, [], ◌∷◌, Some, None, nat_eq, refl, ap, sym, rules}
 use Rattle.std.specs.Cmp.Lexicographic.{pointwise}
 use Rattle.std.specs.Option.{option_map_or}
 use Rattle.uimg_unpacking.specs.Places.{behind}

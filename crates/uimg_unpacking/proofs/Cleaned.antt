@@ -1,7 +1,7 @@
 -- What is removed of commands that were stopped is in the folder.
 use Rattle.std.proofs.Common.{◌≡◌, ◌∷◌, ◌∙◌, ap, refl, ℕ, List, Bool, true, false, Option}
 use Rattle.std.specs.Borrow.{Bor}
-use Rattle.uimg_unpacking.specs.Deeds.{Answer, Done, Deed, Removes, RemovesAll, Resolves, Looks}
+use Rattle.uimg_unpacking.specs.Deeds.{Answer, Deed, Removes, RemovesAll, Resolves, Looks}
 use Rattle.uimg_unpacking.specs.Cleaning.{MayBeIn, not_in, may_be_in, SeeksImage, no_image, resolved, unresolved, removal, CleansAt, has_image, nothing_there, cleaned}
 use Rattle.uimg_unpacking.specs.Places.{is_temporary_folder, stays_within}
 use Rattle.uimg_unpacking.specs.declared.kind.Kind.{Kind}

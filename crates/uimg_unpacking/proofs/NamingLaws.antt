@@ -1,5 +1,5 @@
 -- How files get their names one after another, and lose them.
-use Rattle.std.proofs.Common.{◌≡◌, ℕ, zero, suc, ◌+◌, ◌<◌, length, slice_index_or, drop-cons, List, [], ◌∷◌, Bool, true, false, ◌&&◌, nat_lt, refl, sym, ap, ap₂, subst, drop, ◌∙◌, arith, rules}
+use Rattle.std.proofs.Common.{◌≡◌, ℕ, zero, suc, ◌+◌, ◌<◌, length, slice_index_or, drop-cons, List, [], ◌∷◌, Bool, true, false, ◌&&◌, nat_lt, refl, sym, ap₂, subst, drop, ◌∙◌, arith}
 use Rattle.std.proofs.lemmas.Bool.{lt-ltb, le-ltb, ltb-true, ltb-false}
 use Rattle.uimg_unpacking.specs.Deeds.{Deed}
 use Rattle.uimg_unpacking.specs.NamingAll.{NamesIt, NamesFiles, PutsItBack, PutsBackFiles, UnlessLater}

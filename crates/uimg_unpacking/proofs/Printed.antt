@@ -1,5 +1,5 @@
 -- What is written, one piece after another.
-use Rattle.std.proofs.Common.{◌≡◌, ◌++◌, ◌∙◌, ℕ, List, [], Option, Some, None, ap, sym, append_assoc, append-nil}
+use Rattle.std.proofs.Common.{◌++◌, ◌∙◌, ℕ, List, [], Option, Some, None, ap, sym, append_assoc, append-nil}
 use Rattle.std.specs.Io.KnownBytes.{Appends}
 
 pub appends_more : (a b c : Option (List ℕ)) (x y : List ℕ) → Appends a b x → Appends b c y → Appends a c (x ++ y)

@@ -1,11 +1,15 @@
 -- How the unpacking of a FIT image ends.
-use Rattle.std.specs.Prelude.{◌≡◌, ⊤, ℕ, ◌==◌, ◌&&◌, nat_le, length, List, ◌++◌, codes, Bool, true, false, if◌then◌else◌, is_some, Option, Some, None, Result, Err}
+use Rattle.std.specs.Prelude.{◌≡◌, ⊤, ℕ, ◌==◌, ◌&&◌, nat_le, length, List, ◌++◌, codes, Bool, true, false, if◌then◌else◌, is_some, Option, Some, None, Result, Ok, Err}
 use Rattle.std.specs.Borrow.{Bor}
 use Rattle.std.specs.Io.KnownBytes.{Appends}
-use Rattle.uimg_fit_base.specs.declared.fault.Fault.{Fault, TheVariants.{Fit}}
+use Rattle.uimg_fit_base.specs.declared.fault.Fault.{Fault, TheVariants.{Fit, Put}}
 use Rattle.uimg_fit_base.specs.declared.fault.FitFault.TheVariants.{NoSuchImage}
 use Rattle.uimg_printing.specs.Printing.{printed}
+use Rattle.uimg_fit_checking.specs.Unpacking.{as_bytes}
+use Rattle.uimg_fit_checking.specs.declared.unpacking.Unpacked.{Unpacked, TheVariants.{Taken, Overlapping}}
 use Rattle.uimg_unpacking.specs.Objects.{told_as, about_payload}
+use Rattle.uimg_unpacking.specs.declared.trouble.Trouble.{Trouble}
+use Rattle.uimg_unpacking.specs.declared.trouble.Trouble.TheVariants as of
 use Rattle.uimg_unpacking.specs.declared.unpacking.Ended.{Ended}
 use Rattle.uimg_unpacking.specs.declared.unpacking.Ended.TheVariants.{Kept, Refused, NoImage, Stopped, Troubled}
 use Rattle.uimg_unpacking.specs.declared.unpacking.Unpacking.{Unpacking}
@@ -30,3 +34,21 @@ TellsOverlap path name (Troubled trouble) old new = ⊤
 TellsOverlap path name Kept old new = ⊥
 TellsOverlap path name NoImage old new = ⊥
 TellsOverlap path name (Stopped fault) old new = ⊥
+
+-- whether each requested payload was given and is kept
+abbrev pub is_whole : Result Unpacked Fault → Bool
+is_whole (Ok (Taken all)) = all
+is_whole (Ok (Overlapping name)) = false
+is_whole (Err fault) = false
+
+-- the end if the image is not refused: what is said of the payloads, unless there is a trouble
+abbrev pub EndsGiven : Unpacking → Unpacked → ℕ → Option Trouble → Ended → Option (List ℕ) → Option (List ℕ) → Type 0
+EndsGiven asked (Taken all) count (Some trouble) result old new = result ≡ Troubled trouble
+EndsGiven asked (Taken all) count None result old new = result ≡ end_of_taken asked all count
+EndsGiven asked (Overlapping name) count trouble result old new = TellsOverlap asked.json (as_bytes name) result old new
+
+-- the end at a fault: its trouble if a payload could not be written
+abbrev pub end_of_fault : Fault → Option Trouble → Ended
+end_of_fault Put (Some trouble) = Troubled trouble
+end_of_fault Put None = Troubled of.Put
+end_of_fault fault trouble = Stopped fault

@@ -1,12 +1,15 @@
 -- How files get their names, and how names are taken back: which calls are made, in order, and what is returned, by what
 -- the calls answer. A trace has the newest call first.
-use Rattle.std.specs.Prelude.{◌≡◌, ℕ, List, ◌∷◌, Bool, true, false, Option, None}
+use Rattle.std.specs.Prelude.{◌≡◌, ⊤, ℕ, List, ◌∷◌, Bool, true, false, Option, None, Result, Ok, Err, is_ok, string_bytes}
+use Rattle.std.specs.declared.io.Error.{Error}
 use Rattle.uimg_unpacking.specs.Deeds.{Answer, Done, Exists, Failed, Deed, Links, Renames, Removes, Looks}
 use Rattle.uimg_unpacking.specs.Allowing.{Allows, Refused}
 use Rattle.uimg_unpacking.specs.Kinds.{is_something}
 use Rattle.uimg_unpacking.specs.declared.file_id.FileId.{FileId}
 use Rattle.uimg_unpacking.specs.declared.kind.Kind.{Kind}
 use Rattle.uimg_unpacking.specs.declared.kind.Kind.TheVariants.{Nothing}
+use Rattle.uimg_unpacking.specs.declared.trouble.Trouble.{Trouble}
+use Rattle.uimg_unpacking.specs.declared.trouble.Trouble.TheVariants.{CannotCreate}
 
 abbrev pub is_done : Answer → Bool
 is_done Done = true
@@ -40,6 +43,12 @@ pub data NamesOver (new old whole : List ℕ) (answer : Answer) (before after : 
   nothing_there : (kind : Kind) → is_something kind ≡ false → GivesName new whole false answer (Looks whole kind ∷ before) after → NamesOver new old whole answer before after
   not_kept : (kind : Kind) → is_something kind ≡ true → is_done answer ≡ false → KeepsAs whole old answer (Looks whole kind ∷ before) after → NamesOver new old whole answer before after
   replaced : (kind : Kind) (kept : List Deed) → is_something kind ≡ true → KeepsAs whole old Done (Looks whole kind ∷ before) kept → GivesName new whole true answer kept after → NamesOver new old whole answer before after
+
+-- that a path cannot be created, and why, if it is not
+abbrev pub TellsCreated : List ℕ → Result ⊤ Error → Result ⊤ Trouble → Type 0
+TellsCreated whole (Ok done) result = is_ok result ≡ true
+TellsCreated whole (Err reason) (Err (CannotCreate path why)) = (string_bytes path.0 ≡ whole) × (why ≡ reason)
+TellsCreated whole (Err reason) result = ⊥
 
 -- A file at `new` gets the path `whole`, if that may be written.
 pub data Names (image : Option FileId) (is_forced : Bool) (new old whole : List ℕ) (is_named : Bool) (before after : List Deed) : Type 0 where

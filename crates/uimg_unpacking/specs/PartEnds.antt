@@ -1,14 +1,18 @@
 -- What is read of a legacy image before its parts, and how its unpacking ends.
-use Rattle.std.specs.Prelude.{◌≡◌, ℕ, ◌+◌, ◌*◌, nat_lt, ◌==◌, ◌&&◌, not, List, length, slice_index, take, drop, Bool, true, false, if◌then◌else◌, Option, Some, None, Result, Ok, Err}
+use Rattle.std.specs.Prelude.{◌≡◌, ⊤, ℕ, ◌+◌, ◌*◌, nat_lt, ◌==◌, ◌&&◌, not, List, length, slice_index, take, drop, Bool, true, false, if◌then◌else◌, Option, Some, None, Result, Ok, Err}
 use Rattle.std.specs.Char.{is_ascii_digit}
 use Rattle.std.specs.List.{list_all}
 use Rattle.std.specs.Int.{from_be_bytes, w32}
 use Rattle.uimg_sums.specs.declared.algo.Algo.{Algo}
 use Rattle.uimg_sums.specs.declared.algo.Algo.TheVariants as algo
 use Rattle.uimg_legacy.specs.Checking.{Checks}
-use Rattle.uimg_legacy.specs.declared.fault.Fault.{Fault}
+use Rattle.uimg_legacy.specs.Unpacking.{HasRightParts, unpack_of}
+use Rattle.uimg_legacy.specs.declared.fault.Fault.{Fault, TheVariants.{Legacy, Put}}
+use Rattle.uimg_legacy.specs.declared.fault.LegacyFault.TheVariants.{BadDataCrc}
+use Rattle.uimg_unpacking.specs.declared.trouble.Trouble.{Trouble}
+use Rattle.uimg_unpacking.specs.declared.trouble.Trouble.TheVariants as of
 use Rattle.uimg_unpacking.specs.declared.part_unpacking.PartsEnded.{PartsEnded}
-use Rattle.uimg_unpacking.specs.declared.part_unpacking.PartsEnded.TheVariants.{Stopped}
+use Rattle.uimg_unpacking.specs.declared.part_unpacking.PartsEnded.TheVariants.{Kept, Stopped, Troubled}
 
 -- a word of several digits begins with a zero
 abbrev pub has_leading_zero : List ℕ → Bool
@@ -41,3 +45,16 @@ pub record EndsUnlessRefused (file : List ℕ) (end result : PartsEnded) : Type 
   pub checked : Result Bool Fault
   pub checks : Checks file checked
   pub is : result ≡ end_after checked end
+
+-- the end by what was unpacked: the parts are kept just if the checksum of the data is right
+abbrev pub end_of_parts : Result Bool Fault → Option Trouble → PartsEnded
+end_of_parts (Ok true) trouble = Kept
+end_of_parts (Ok false) trouble = Stopped (Legacy BadDataCrc)
+end_of_parts (Err Put) (Some trouble) = Troubled trouble
+end_of_parts (Err Put) None = Troubled of.Put
+end_of_parts (Err fault) trouble = Stopped fault
+
+-- The parts are kept only if the image has them, all or the requested one, and its data's CRC is right.
+abbrev pub KeepsRight : List ℕ → PartsEnded → Type 0
+KeepsRight file Kept = (only : Option ℕ) × HasRightParts (unpack_of only file)
+KeepsRight file _ = ⊤

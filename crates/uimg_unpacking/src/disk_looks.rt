@@ -1,6 +1,7 @@
 //! What the operating system tells of a path, and how it is opened.
 
-ghost use Rattle.std.specs.Prelude.{IfOk};
+ghost use Rattle.std.specs.Prelude.{◌≡◌, IfErr, IfOk, OnOk, Some, pos};
+ghost use Rattle.std.specs.IoError.{raw_os_error};
 ghost use Rattle.uimg_base.specs.Device.{IsFresh};
 ghost use Rattle.uimg_unpacking.specs.Deeds.{IsKindOf};
 
@@ -12,6 +13,9 @@ use uimg_base::{FileSource, Source, SourceFault};
 
 /// The error of a path that leads to a folder (`EISDIR`).
 const IS_A_FOLDER: i32 = 21;
+
+/// The error of a file system that cannot wait for a folder (`EINVAL`).
+const INVALID: i32 = 22;
 
 /// Opens the file at a path as a source. One that is a pipe is not opened, which would wait for a
 /// writer.
@@ -61,8 +65,19 @@ pub(crate) fn kind_of(found: &io::Result<fs::Metadata>) -> Kind
     }
 }
 
-/// Waits until the names in a folder are on the disk.
+/// Waits until the names in a folder are on the disk, if its file system can wait for a folder.
 pub(crate) fn sync_folder<R: Files>(rt: &R, path: &str) -> io::Result<()> {
     let folder = fs::open(rt, path)?;
-    fs::OpenFile::sync_all(&folder)
+    unless_unable(fs::OpenFile::sync_all(&folder))
+}
+
+// Returns what a wait has answered, but that it is done if the file system cannot wait.
+fn unless_unable(synced: io::Result<()>) -> io::Result<()>
+    ensures { IfErr synced (λ error. OnOk result (raw_os_error error ≡ Some (pos 22))) }
+{
+    match synced {
+        Ok(()) => Ok(()),
+        Err(error) if error.raw_os_error() == Some(INVALID) => Ok(()),
+        Err(error) => Err(error),
+    }
 }

@@ -4,7 +4,7 @@ ghost use Rattle.std.specs.Prelude.{◌≡◌, None, length, ℕ, List, nat_lt, 
 ghost use Rattle.std.specs.List.{list_all};
 ghost use Rattle.uimg_unpacking.specs.Deeds.{answer_of};
 ghost use Rattle.uimg_unpacking.specs.Naming.{GivesName, KeepsAs, PutsBack};
-ghost use Rattle.uimg_unpacking.specs.Naming.{Names, NamesOver, RemovesOld};
+ghost use Rattle.uimg_unpacking.specs.Naming.{Names, NamesOver, RemovesOld, TellsCreated};
 ghost use Rattle.uimg_unpacking.specs.NamingAll.{NamesFiles, PutsBackFiles, UnlessLater, ForgetsOld};
 ghost use Rattle.uimg_unpacking.specs.Places.{is_begun_in, stays_within};
 
@@ -186,7 +186,8 @@ fn name_over<W: World>(world: &mut W, its: &Begun) -> io::Result<()>
 
 // Returns the trouble that a file cannot be created, if it is not.
 fn created(named: io::Result<()>, whole: String) -> Result<(), Trouble>
-    ensures { is_ok result ≡ is_ok named }
+    ensures is { is_ok result ≡ is_ok named }
+    ensures told { TellsCreated (string_bytes whole) named result }
 {
     match named {
         Ok(()) => Ok(()),

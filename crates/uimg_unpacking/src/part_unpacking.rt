@@ -7,7 +7,7 @@ ghost use Rattle.uimg_base.specs.Device.{SameDevice};
 ghost use Rattle.uimg_base.specs.Honest.{HonestSource, IfHonest};
 ghost use Rattle.uimg_base.specs.Using.{Asks};
 ghost use Rattle.uimg_legacy.specs.Unpacking.{is_part_asked};
-ghost use Rattle.uimg_unpacking.specs.PartEnds.{has_leading_zero, is_number, stands_by_crc32, size_at, EndsUnlessRefused};
+ghost use Rattle.uimg_unpacking.specs.PartEnds.{KeepsRight, end_of_parts, has_leading_zero, is_number, stands_by_crc32, size_at, EndsUnlessRefused};
 ghost use Rattle.uimg_unpacking.specs.Places.{stays_within};
 
 use crate::disk_world::DiskWorld;
@@ -55,7 +55,8 @@ pub fn unpack_parts<R: Files + AllocGlobal, S: Source, W: Write + Drop>(
     source: &mut S,
     out: W,
 ) -> PartsEnded
-    ensures { SameDevice (S.device source.old) (S.device source.new) }
+    ensures same { SameDevice (S.device source.old) (S.device source.new) }
+    ensures kept { IfHonest S.device source (λ file. KeepsRight file result) }
 {
     let (_, ended) = unpack_parts_in(DiskWorld::new(rt), rt.alloc(), asked, source, out);
     ended
@@ -73,33 +74,56 @@ fn unpack_parts_in<W: World, S: Source, O: Write + Drop>(
     requires { W.trace world ≡ [] }
     ensures within { stays_within asked.now.folder.path.now true (W.trace result.0) ≡ true }
     ensures same { SameDevice (S.device source.old) (S.device source.new) }
+    ensures kept { IfHonest S.device source (λ file. KeepsRight file result.1) }
 {
     let mut room = Room::new(alloc);
     if !stands_by_crc32(asked.need) {
         return (world, unless_refused(source, &mut room, PartsEnded::Weak));
     }
     let only = asked.only.map(number_of);
-    if let Some(most) = asked.limits.bytes {
-        match bytes_of(only, source) {
-            Ok(bytes) if bytes > most => {
-                let end = PartsEnded::Troubled(Trouble::TooManyBytes(most));
-                return (world, unless_refused(source, &mut room, end));
-            }
-            Ok(_) => {}
-            Err(fault) => return (world, PartsEnded::Stopped(fault)),
+    match excess(asked.limits.bytes, only, source) {
+        Ok(Some(trouble)) => {
+            let end = PartsEnded::Troubled(trouble);
+            return (world, unless_refused(source, &mut room, end));
         }
+        Ok(None) => {}
+        Err(fault) => return (world, PartsEnded::Stopped(fault)),
     }
     let code = ErrorCode::new(None);
     let mut taker = PartFolder::new(world, alloc, asked, out, &code);
     let unpacked = uimg_legacy::unpack(only, source, &mut room, &mut taker);
     let (world, trouble) = taker.end();
-    let ended = match unpacked {
+    (world, ended(unpacked, trouble))
+}
+
+// Returns how it ended by what was unpacked, with the trouble if it is known.
+fn ended(unpacked: Result<bool, Fault>, trouble: Option<Trouble>) -> PartsEnded
+    ensures { result ≡ end_of_parts unpacked trouble }
+{
+    match unpacked {
         Ok(true) => PartsEnded::Kept,
         Ok(false) => PartsEnded::Stopped(Fault::Legacy(LegacyFault::BadDataCrc)),
         Err(Fault::Put) => PartsEnded::Troubled(trouble.unwrap_or(Trouble::Put)),
         Err(fault) => PartsEnded::Stopped(fault),
+    }
+}
+
+// Returns the trouble that the requested parts have more bytes than are enough, if they have.
+fn excess<S: Source>(
+    most: Option<u64>,
+    only: Option<u32>,
+    source: &mut S,
+) -> Result<Option<Trouble>, Fault>
+    ensures { SameDevice (S.device source.old) (S.device source.new) }
+{
+    let Some(most) = most else {
+        return Ok(None);
     };
-    (world, ended)
+    let bytes = bytes_of(only, source)?;
+    if bytes > most {
+        return Ok(Some(Trouble::TooManyBytes(most)));
+    }
+    Ok(None)
 }
 
 // Returns an end, unless the image's header or its table of parts is refused.

@@ -5,7 +5,7 @@ ghost use Rattle.std.specs.Option.{option_map};
 ghost use Rattle.uimg_base.specs.Device.{SameDevice};
 ghost use Rattle.uimg_base.specs.Honest.{IfHonest};
 ghost use Rattle.uimg_fit_checking.specs.Unpacking.{as_bytes, unpack_work};
-ghost use Rattle.uimg_unpacking.specs.Ends.{asked_name, end_of_taken, TellsOverlap};
+ghost use Rattle.uimg_unpacking.specs.Ends.{asked_name, is_whole, end_of_taken, end_of_fault, TellsOverlap, EndsGiven};
 ghost use Rattle.uimg_unpacking.specs.Places.{stays_within};
 
 use crate::disk_world::DiskWorld;
@@ -113,16 +113,54 @@ fn unpack_in<W: World, S: Source, O: Write + Drop>(
     let code = ErrorCode::new(None);
     let mut taker = FolderTaker::new(world, alloc, asked, out, &code);
     let unpacked = uimg_fit_checking::unpack(only, asked.need, source, &mut room, &mut taker);
-    let is_whole = matches!(unpacked, Ok(Unpacked::Taken(true)));
-    let (world, mut out, count, trouble) = taker.end(is_whole);
-    let ended = match (unpacked, trouble) {
-        (Ok(Unpacked::Taken(_)), Some(trouble)) => Ended::Troubled(trouble),
-        (Ok(Unpacked::Taken(all)), None) => taken(asked, all, count),
-        (Ok(Unpacked::Overlapping(name)), _) => { overlapping(alloc, asked.json, &mut out, &name) }
-        (Err(Fault::Put), trouble) => Ended::Troubled(trouble.unwrap_or(Trouble::Put)),
-        (Err(fault), _) => Ended::Stopped(fault),
+    let (world, mut out, count, trouble) = taker.end(is_whole(&unpacked));
+    let ended = match unpacked {
+        Ok(unpacked) => given(alloc, asked, unpacked, (count, trouble), &mut out),
+        Err(fault) => stopped(fault, trouble),
     };
     (world, ended)
+}
+
+// Returns whether each requested payload was given and is kept.
+fn is_whole(unpacked: &Result<Unpacked, Fault>) -> bool
+    ensures { result ≡ is_whole unpacked.now }
+{
+    match unpacked {
+        Ok(Unpacked::Taken(all)) => *all,
+        Ok(Unpacked::Overlapping(_)) => false,
+        Err(_) => false,
+    }
+}
+
+// Returns how it ended if the image is not refused: after how many payloads, with which trouble.
+fn given<W: Write + Drop>(
+    alloc: Global,
+    asked: &Unpacking<'_>,
+    unpacked: Unpacked,
+    after: (usize, Option<Trouble>),
+    out: &mut W,
+) -> Ended
+    ensures { EndsGiven asked.now unpacked after.0 after.1 result
+        (W.contents out.old) (W.contents out.new) }
+{
+    let (count, trouble) = after;
+    match unpacked {
+        Unpacked::Overlapping(name) => overlapping(alloc, asked.json, out, &name),
+        Unpacked::Taken(all) => match trouble {
+            Some(trouble) => Ended::Troubled(trouble),
+            None => taken(asked, all, count),
+        },
+    }
+}
+
+// Returns how it ended at a fault, with the trouble if it is known.
+fn stopped(fault: Fault, trouble: Option<Trouble>) -> Ended
+    ensures { result ≡ end_of_fault fault trouble }
+{
+    match fault {
+        Fault::Put => Ended::Troubled(trouble.unwrap_or(Trouble::Put)),
+        _ => Ended::Stopped(fault),
+    }
 }
 
 // Returns the requested name, if there is one; `None` if it is too long for an image's name.

@@ -97,7 +97,7 @@ pub trait World: Drop {
     fn remove_dir_all(&mut self, path: &str) -> io::Result<()>
         ensures { trace self.new ≡ Deed.RemovesAll path.now (answer_of result) ∷ trace self.old };
 
-    /// Waits until the names in a folder are on the disk.
+    /// Waits until the names in a folder are on the disk, if its file system can wait for a folder.
     fn sync_dir(&mut self, path: &str) -> io::Result<()>
         ensures { trace self.new ≡ Deed.Syncs path.now (answer_of result) ∷ trace self.old };
 

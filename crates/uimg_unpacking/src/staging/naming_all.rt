@@ -1,15 +1,14 @@
 //! Files get their names together, or none does.
 
-ghost use Rattle.std.specs.Prelude.{◌≡◌, None, length, is_ok, is_some, not, true};
+ghost use Rattle.std.specs.Prelude.{◌≡◌, None, length, is_ok, is_some, not, string_bytes, true};
+ghost use Rattle.std.specs.Option.{option_map};
 ghost use Rattle.uimg_unpacking.specs.NamingAll.{NamesFiles, PutsBackFiles, SyncsNames, NamesAll, NamesComplete, TakesBack};
+ghost use Rattle.uimg_unpacking.specs.Troubles.{trouble_in};
 
 use crate::naming::{forget_old, name_files, put_back_all, remove_all_old};
 use crate::staging::Staging;
 use crate::trouble::{ShownPath, Trouble};
 use crate::world::World;
-
-/// The error of a file system that cannot wait for a folder (`EINVAL`).
-const INVALID: i32 = 22;
 
 impl<'a, 'c, W: World> Staging<'a, 'c, W> {
     // Begins to give files their names.
@@ -73,9 +72,8 @@ impl<'a, 'c, W: World> Staging<'a, 'c, W> {
     }
 
     // Waits until the names in the folder are on the disk, if that is requested and there are any.
-    // A file system that never waits for a folder is none to wait for.
     fn sync(&mut self) -> Result<(), Trouble>
-        ensures told { SyncsNames self.old.folder self.old.files.items (is_ok result)
+        ensures told { SyncsNames self.old.folder self.old.files.items (trouble_in result)
             (W.trace self.old.world) (W.trace self.new.world) }
         ensures files { self.new.files ≡ self.old.files }
         ensures folder { self.new.folder ≡ self.old.folder }
@@ -85,11 +83,11 @@ impl<'a, 'c, W: World> Staging<'a, 'c, W> {
             return Ok(());
         }
         match self.world.sync_dir(self.folder.path) {
-            Err(reason) if reason.raw_os_error() != Some(INVALID) => {
+            Ok(()) => Ok(()),
+            Err(reason) => {
                 let path = String::from_str(self.alloc, self.folder.path)?;
                 Err(Trouble::CannotSync(ShownPath(path), reason))
             }
-            _ => Ok(()),
         }
     }
 
@@ -117,7 +115,8 @@ impl<'a, 'c, W: World> Staging<'a, 'c, W> {
     // in their place.
     fn taken_back(&mut self, number: usize, trouble: Trouble) -> Trouble
         requires { self.old.is_naming ≡ true }
-        ensures told { TakesBack self.old.files.items number trouble result
+        ensures told { TakesBack self.old.files.items number
+            (option_map string_bytes self.old.made) trouble result
             (W.trace self.old.world) (W.trace self.new.world) }
         ensures folder { self.new.folder ≡ self.old.folder }
         ensures naming { self.new.is_naming ≡ self.old.is_naming }
@@ -129,7 +128,7 @@ impl<'a, 'c, W: World> Staging<'a, 'c, W> {
         match &self.made {
             Some(made) => match String::from_str(self.alloc, made.as_str()) {
                 Ok(made) => Trouble::NotPutBack(ShownPath(made)),
-                Err(_) => trouble,
+                Err(error) => Trouble::from(error),
             },
             None => trouble,
         }

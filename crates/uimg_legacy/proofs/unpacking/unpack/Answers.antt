@@ -1,9 +1,9 @@
-use Rattle.std.proofs.Common.{rules, ◌≡◌, ℕ, List, length, refl, ap, arith}
+use Rattle.std.proofs.Common.{rules, ◌≡◌, ℕ, List, [], length, refl, ap, arith}
 use Rattle.std.specs.Prelude.{Ok, Err}
 use Rattle.uimg_legacy.specs.declared.fault.Fault.{TheVariants.{Read, Put}}
 use Rattle.uimg_legacy.proofs.ToldLaws.{ends_before, ends_by, ends_untold, ends_told}
 use Rattle.uimg_legacy.proofs.{SourceLaws.{honest_still, same_still}, ExtractedLaws.extracts}
-use Rattle.uimg_legacy.proofs.UnpackLaws.{is_spelled, unpack_truncated, are_right, keeps_right, unpacks, stops, work_known}
+use Rattle.uimg_legacy.proofs.UnpackLaws.{is_spelled, unpack_truncated, are_right, keeps_right, unpacks, stops, ends_of, ends_kept, work_known}
 use Rattle.uimg_legacy.proofs.unpacking.unpack.Goals as goal
 
 pub returns-then-branch-header-clause-told : goal.returns-then-branch-header-clause-told
@@ -80,6 +80,26 @@ returns-clause-told g c = λ honest known.
     let same = same_still c.read_header.ensures.reads.uses.same c.size.ensures.same in
     let long = ap (λ (xs : List ℕ). length xs) c.read_header.ensures.reads.uses.same.bytes in
     unpacks c.settle.result c.args.only g.T.PartTaker.honest c.in_ok-header.header _ _ c.in_ok-right.right c.in_ok-settle.field-0 _ _ _ _ _ same honest (c.in_ok-header.ensures.gives honest) (omega (arith, c.in_ok-size.ensures.length, long, c.if-branch-header.false)) known (c.requires known) c.in_ok-right.ensures.taken (c.take_data.ensures.takes.kept known) (c.in_ok-settle.ensures.kept known)
+
+pub returns-then-branch-header-clause-ends : goal.returns-then-branch-header-clause-ends
+returns-then-branch-header-clause-ends g c = λ honest.
+    let long = ap (λ (xs : List ℕ). length xs) c.read_header.ensures.reads.uses.same.bytes in
+    unpack_truncated c.args.only _ c.in_ok-header.header (c.in_ok-header.ensures.gives honest) (omega (arith, c.in_ok-size.ensures.length, long, c.if-branch-header.true))
+
+pub returns-in_err-right-clause-ends : goal.returns-in_err-right-clause-ends
+returns-in_err-right-clause-ends g c = λ honest.
+    let same = same_still c.read_header.ensures.reads.uses.same c.size.ensures.same in
+    let long = ap (λ (xs : List ℕ). length xs) c.read_header.ensures.reads.uses.same.bytes in
+    let fault = c.in_err-right.field-0.0 in
+    let is : c.from_residual-in_err-right.result ≡ Err fault = search rules in
+    ends_of c.from_residual-in_err-right.result _ [] []
+    (stops c.args.only g.T.PartTaker.honest c.in_ok-header.header _ _ c.from_residual-in_err-right.result fault _ _ [] [] is same honest (c.in_ok-header.ensures.gives honest) (omega (arith, c.in_ok-size.ensures.length, long, c.if-branch-header.false)) c.in_err-right.ensures.taken refl)
+
+pub returns-clause-ends : goal.returns-clause-ends
+returns-clause-ends g c = λ honest.
+    let same = same_still c.read_header.ensures.reads.uses.same c.size.ensures.same in
+    let long = ap (λ (xs : List ℕ). length xs) c.read_header.ensures.reads.uses.same.bytes in
+    ends_kept c.args.only g.T.PartTaker.honest c.in_ok-header.header _ _ c.in_ok-right.right c.in_ok-settle.field-0 _ _ same honest (c.in_ok-header.ensures.gives honest) (omega (arith, c.in_ok-size.ensures.length, long, c.if-branch-header.false)) c.in_ok-right.ensures.taken c.in_ok-settle.ensures.is
 
 pub returns-clause-extracts : goal.returns-clause-extracts
 returns-clause-extracts g c = λ honest known. extracts c.args.only _ (Ok c.in_ok-settle.field-0) _ _ (returns-clause-told g c honest known)

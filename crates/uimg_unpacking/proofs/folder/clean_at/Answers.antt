@@ -1,7 +1,7 @@
-use Rattle.std.proofs.Common.{rules, refl, ◌∙◌, ap}
+use Rattle.std.proofs.Common.{rules, refl}
 use Rattle.std.specs.IoError.{error_kind}
 use Rattle.uimg_unpacking.specs.Deeds.{answer_of}
-use Rattle.uimg_unpacking.specs.Cleaning.{has_image, nothing_there, cleaned, removed_if}
+use Rattle.uimg_unpacking.specs.Cleaning.{has_image, nothing_there, cleaned}
 use Rattle.uimg_unpacking.proofs.Answered.{refusal-unremoved}
 use Rattle.uimg_unpacking.proofs.folder.clean_at.Goals as goal
 

@@ -13,13 +13,13 @@ returns-in-Err g c =
 pub returns-then-folder : goal.returns-then-folder
 returns-then-folder g c =
     over_it (answer_of c.name_over-named.result) (g.W.World.trace c.allows.new.world) c.if-folder.true
-    (c.created.ensures ∙ done-ok c.name_over-named.result)
+    (c.created.ensures.is ∙ done-ok c.name_over-named.result)
     (rw (c.in-Ok.is, c.in_ok-whole.ensures.ok, c.as_str.ensures.value) at c.allows.ensures.told)
     c.name_over-named.ensures
 
 pub returns : goal.returns
 returns g c =
     anew (answer_of c.name_file-named.result) (g.W.World.trace c.allows.new.world) c.if-folder.false
-    (c.created-2.ensures ∙ done-ok c.name_file-named.result)
+    (c.created-2.ensures.is ∙ done-ok c.name_file-named.result)
     (rw (c.in-Ok.is, c.in_ok-whole.ensures.ok, c.as_str.ensures.value) at c.allows.ensures.told)
     (rw (c.as_str-2.ensures.value, c.as_str-3.ensures.value) at c.name_file-named.ensures)

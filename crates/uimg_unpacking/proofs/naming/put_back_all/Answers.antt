@@ -1,4 +1,4 @@
-use Rattle.std.proofs.Common.{rules, arith, ◌≡◌, ◌∙◌, ◌+◌, ◌∷◌, ℕ, Bool, List, [], sym, ap, subst, true, drop, ◌&&◌}
+use Rattle.std.proofs.Common.{rules, ◌≡◌, ◌∙◌, ◌+◌, ◌∷◌, Bool, List, [], sym, ap, subst, true, drop, ◌&&◌}
 use Rattle.std.proofs.lemmas.List.{drop_all}
 use Rattle.uimg_unpacking.specs.NamingAll.{PutsBackFiles}
 use Rattle.uimg_unpacking.specs.Places.{is_begun_in}

@@ -1,4 +1,4 @@
-use Rattle.std.proofs.Common.{codes, ◌++◌, sym}
+use Rattle.std.proofs.Common.{◌++◌, sym}
 use Rattle.uimg_fit_checking.specs.Unpacking.{as_bytes}
 use Rattle.uimg_printing.proofs.StepLaws.{after, appended_as, tokens_append}
 use Rattle.uimg_unpacking.specs.Objects.{about_payload, file_members, kept_verdict, vouched_members}

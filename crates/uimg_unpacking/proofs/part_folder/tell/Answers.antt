@@ -1,7 +1,7 @@
-use Rattle.std.proofs.Common.{rules, arith, ◌≡◌, ◌+◌, ◌<◌, ◌∷◌, ℕ, List, [], length, drop, sym, ap, subst}
+use Rattle.std.proofs.Common.{rules, ◌≡◌, ◌+◌, ◌<◌, ℕ, List, [], length, drop, sym, subst}
 use Rattle.std.proofs.lemmas.List.{drop_all}
 use Rattle.std.specs.Io.KnownBytes.{Appends}
-use Rattle.uimg_unpacking.specs.Objects.{part_told, parts_told}
+use Rattle.uimg_unpacking.specs.Objects.{parts_told}
 use Rattle.uimg_unpacking.proofs.NamingLaws.{first_of}
 use Rattle.uimg_unpacking.proofs.Printed.{appends_more, appends_none}
 use Rattle.uimg_unpacking.proofs.part_folder.tell.Goals as goal

@@ -1,6 +1,7 @@
 use Rattle.std.proofs.Common.{◌≡◌, ◌∙◌, true, List, ℕ, ap, subst}
 use Rattle.uimg_unpacking.specs.declared.folder.Folder.{Folder}
 use Rattle.uimg_unpacking.specs.Places.{stays_within}
+use Rattle.uimg_unpacking.proofs.PartLaws.{kept_right}
 use Rattle.uimg_unpacking.proofs.Placing.{stays_naming}
 use Rattle.uimg_unpacking.proofs.part_unpacking.unpack_parts_in.Goals as goal
 
@@ -12,3 +13,7 @@ returns-clause-within g c =
     (c.unpack-unpacked.ensures.stays ∙ ap (λ (f : Folder). f.path.now) c.new-taker.ensures)
     (stays_naming taker.staging.folder.path.now taker.staging.is_naming
     (g.W.World.trace c.end-world.result.0) c.end-world.ensures)
+
+pub returns-clause-kept : goal.returns-clause-kept
+returns-clause-kept g c = λ honest.
+    kept_right (g.S.Source.device c.args.source.now) (g.S.Source.device c.excess.new.source) c.map-only.result c.unpack-unpacked.result c.end-world.result.1 c.ended.result c.excess.ensures honest c.ended.ensures c.unpack-unpacked.ensures.ends

@@ -1,4 +1,4 @@
-use Rattle.std.proofs.Common.{◌≡◌, ◌∙◌, ap, string_bytes}
+use Rattle.std.proofs.Common.{◌∙◌, ap, string_bytes}
 use Rattle.uimg_unpacking.specs.Places.{is_temporary_folder}
 use Rattle.uimg_unpacking.specs.Troubles.{done_in}
 use Rattle.uimg_unpacking.proofs.Cleaned.{cleans_within}

@@ -1,4 +1,4 @@
-use Rattle.std.proofs.Common.{rules, refl, subst, ap, Bool, true, false, is_ok}
+use Rattle.std.proofs.Common.{rules, subst, Bool, true, false, is_ok}
 use Rattle.uimg_unpacking.specs.NamingAll.{NamesAll, complete, without_last, not_dropped}
 use Rattle.uimg_unpacking.specs.Refusals.{DropsLast}
 use Rattle.uimg_unpacking.proofs.staging.Staging.name_all.Goals as goal

@@ -1,4 +1,4 @@
-use Rattle.std.proofs.Common.{rules, refl, ◌≡◌, ◌∙◌, ◌++◌, ◌∷◌, [], true, is_ok}
+use Rattle.std.proofs.Common.{rules, ◌≡◌, true, is_ok}
 use Rattle.uimg_unpacking.specs.Places.{is_begun_in}
 use Rattle.uimg_unpacking.proofs.Placing.{pushed}
 use Rattle.uimg_unpacking.proofs.staging.Staging.refuse_last.Goals as goal

@@ -1,18 +1,26 @@
-use Rattle.std.proofs.Common.{rules, ◌∙◌, ap}
+use Rattle.std.proofs.Common.{rules, ◌≡◌, refl, subst, sym, Option, Some}
 use Rattle.std.specs.IoError.{error_kind}
-use Rattle.uimg_unpacking.specs.Deeds.{answer_of}
-use Rattle.uimg_unpacking.specs.Naming.{is_done}
-use Rattle.uimg_unpacking.specs.NamingAll.{waited}
-use Rattle.uimg_unpacking.proofs.Answered.{refusal-undone}
+use Rattle.uimg_unpacking.specs.Deeds.{Done, refusal}
+use Rattle.uimg_unpacking.specs.NamingAll.{SyncsNames, waited}
+use Rattle.uimg_unpacking.specs.Troubles.{trouble_in}
+use Rattle.uimg_unpacking.specs.declared.trouble.Trouble.{Trouble}
+use Rattle.uimg_unpacking.specs.declared.trouble.Trouble.TheVariants.{OutOfMemory}
+use Rattle.uimg_unpacking.proofs.Answered.{refusal-unsynced}
 use Rattle.uimg_unpacking.proofs.staging.Staging.sync.Goals as goal
 
-pub returns-in_default-clause-told : goal.returns-in_default-clause-told
-returns-in_default-clause-told g c = waited (answer_of c.sync_dir.result) (λ is. cc) (search rules)
+pub returns-in-Ok-clause-told : goal.returns-in-Ok-clause-told
+returns-in-Ok-clause-told g c = waited Done refl (rw (c.in-Ok.is) at c.sync_dir.ensures)
 
 pub returns-in_ok-path-in-Err-clause-told : goal.returns-in_ok-path-in-Err-clause-told
 returns-in_ok-path-in-Err-clause-told g c =
-    waited (answer_of c.sync_dir.result) (λ is. ap (λ r. is_done (answer_of r)) c.in-Err.is ∙ refusal-undone (error_kind c.in-Err.reason)) (search rules)
+    let kind = error_kind c.in-Err.reason in
+    waited (refusal kind) (refusal-unsynced c.args.self.now.folder.path.now kind _ c.in_ok-path-in-Err.ensures.ok)
+    (rw (c.in-Err.is) at c.sync_dir.ensures)
 
 pub returns-in_err-path-in-Err-clause-told : goal.returns-in_err-path-in-Err-clause-told
 returns-in_err-path-in-Err-clause-told g c =
-    waited (answer_of c.sync_dir.result) (λ is. ap (λ r. is_done (answer_of r)) c.in-Err.is ∙ refusal-undone (error_kind c.in-Err.reason)) (search rules)
+    let it = c.args.self.now in
+    let kind = error_kind c.in-Err.reason in
+    let told : trouble_in c.from_residual.result ≡ Some OutOfMemory = search rules in
+    subst (λ (t : Option Trouble). SyncsNames it.folder it.files.items t (g.W.World.trace it.world) (g.W.World.trace c.sync_dir.new.self)) (sym told)
+    (waited (refusal kind) (refusal-unsynced it.folder.path.now kind OutOfMemory tt) (rw (c.in-Err.is) at c.sync_dir.ensures))
