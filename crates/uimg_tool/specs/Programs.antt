@@ -1,6 +1,6 @@
 -- Which tool a command line is for, and whether its words ask for nothing.
-use Rattle.std.specs.Prelude.{◌≡◌, ℕ, List, [], ◌∷◌, ◌||◌, codes, drop, Option, Some, None, Result, is_err, true, if◌then◌else◌}
-use Rattle.std.specs.Str.{bytes_eq}
+use Rattle.std.specs.Prelude.{◌≡◌, ℕ, List, [], ◌∷◌, ◌||◌, codes, drop, map, Option, Some, None, Result, is_err, true, if◌then◌else◌}
+use Rattle.std.specs.{Option.option_map, Str.bytes_eq}
 use Rattle.uimg_cli.specs.Reading.{AsksNothing}
 use Rattle.uimg_compat.specs.Asked.{asked_of}
 use Rattle.uimg_compat.specs.AutoSource.{file_name}
@@ -9,8 +9,16 @@ use Rattle.uimg_compat.specs.Getopt.{Text}
 use Rattle.uimg_compat.specs.Requests.{mkimage_asked}
 use Rattle.uimg_compat.specs.Wrong.{Tells}
 use Rattle.uimg_compat.specs.declared.{fault.OldFault.OldFault, request.OldRequest.OldRequest}
+use Rattle.uimg_tool.specs.declared.command_line.CommandLine.{CommandLine}
 use Rattle.uimg_tool.specs.declared.old_tools.Tool.{Tool}
 use Rattle.uimg_tool.specs.declared.old_tools.Tool.TheVariants.{Mkimage, Dumpimage}
+
+-- the words of a command line, and the text of SOURCE_DATE_EPOCH
+abbrev pub words_of : CommandLine → List Text
+words_of line = map (λ word. word.now) line.words.now
+
+abbrev pub epoch_of : CommandLine → Option Text
+epoch_of line = option_map (λ text. text.now) line.epoch
 
 -- the tool of a name, with or without `uimg-` before it
 unfoldable pub tool_named : Text → Option Tool

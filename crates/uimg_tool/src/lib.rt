@@ -6,6 +6,7 @@ mod blob_room;
 mod body_source;
 mod check_answers;
 mod check_program;
+mod command_line;
 mod commands;
 mod complaints;
 mod dts_program;

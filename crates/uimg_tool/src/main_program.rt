@@ -1,20 +1,22 @@
 //! The function `program`, the whole program: reads the words of a command line, and carries out
 //! their request.
 
-ghost use Rattle.std.specs.Prelude.{◌≡◌, ◌≤◌, IfSome, Some, map, option_map};
+ghost use Rattle.std.specs.Prelude.{◌≡◌, ◌≤◌, [], Err, IfErr, IfOk, map, option_map};
+ghost use Rattle.std.specs.Io.Buffered.{writer_buffer, writer_inner};
 ghost use Rattle.uimg_cli.specs.Reading.{AsksNothing, ReadsWords};
-ghost use Rattle.uimg_tool.specs.{Complaints.Ends, Programs.{AskNothing, OldAsksNothing}, Statuses.words_status};
-ghost use Rattle.uimg_tool.specs.WordAnswers.{AnswersWords, epoch_of, words_of};
+ghost use Rattle.uimg_tool.specs.{Complaints.Ends, Programs.{AskNothing, epoch_of, words_of}, Statuses.words_status};
+ghost use Rattle.uimg_tool.specs.WordAnswers.{AnswersWords};
 
+use crate::command_line::{CommandLine, ReadLine};
 use crate::commands::carry_out_asked;
 use crate::complaints::Complaints;
-use crate::old_program::carry_out_old;
+use crate::old_program::run_as_tool;
 use crate::old_tools::Tool;
 use crate::request_fault::{FAILED, WRONG_LINE};
 use std::alloc::Global;
 use std::io::{BufWriter, Write};
 use std::rt::Files;
-use uimg_cli::{Asked, WordsFault, read_words};
+use uimg_cli::{WordsFault, read_words};
 use uimg_unpacking::{DiskWorld, World};
 
 /// Carries out the words of a command line, the program's name first, and returns the exit status.
@@ -53,25 +55,8 @@ pub fn program<R: Files + AllocGlobal, W: Write, V: Write>(
     }
 }
 
-// Carries out the words of a tool, over the files of the system.
-fn run_as_tool<R: Files + AllocGlobal, W: Write, V: Write>(
-    rt: &R,
-    tool: Tool,
-    line: CommandLine<'_>,
-    out: &mut W,
-    complaints: &mut Complaints<'_, V>,
-) -> u8
-    ensures status { result ≤ 3 }
-    ensures nothing { OldAsksNothing tool (epoch_of line.entry) line.entry.time (words_of line.entry)
-        → 2 ≤ result }
-    ensures unprinted { OldAsksNothing tool (epoch_of line.entry) line.entry.time (words_of line.entry)
-        → out.new ≡ out.old }
-{
-    let (status, _) = carry_out_old(rt, &mut DiskWorld::new(rt), tool, line, out, complaints);
-    status
-}
-
 // Carries out the words of `uimg`, over the files of the system.
+#[tactic(auto, using(uimg_cli::proofs::ReadingLaws::nothing_read))]
 fn run_as_uimg<R: Files + AllocGlobal, W: Write, V: Write>(
     rt: &R,
     line: CommandLine<'_>,
@@ -84,63 +69,50 @@ fn run_as_uimg<R: Files + AllocGlobal, W: Write, V: Write>(
     ensures unprinted { AsksNothing (epoch_of line.entry) line.entry.time (words_of line.entry)
         → out.new ≡ out.old }
 {
-    let (status, _) = carry_out_words(rt, &mut DiskWorld::new(rt), line, out, complaints);
+    let read = match read_line(rt.alloc(), line) {
+        Ok(read) => read,
+        Err(fault) => return tell_words_fault(&fault, complaints),
+    };
+    let Ok(gathered) = BufWriter::new(rt.alloc(), out) else {
+        return complaints.tell_no_memory();
+    };
+    let (status, _) = carry_out_line(rt, &mut DiskWorld::new(rt), &read, gathered, complaints);
     status
 }
 
-/// A command line.
-#[derive(Clone, Copy)]
-pub(crate) struct CommandLine<'a> {
-    /// Its words, the program's name first.
-    pub(crate) words: &'a [&'a str],
-
-    /// The text of SOURCE_DATE_EPOCH, if it is set.
-    pub(crate) epoch: Option<&'a str>,
-
-    /// The current time in seconds since 1970.
-    pub(crate) time: u32,
-}
-
-/// Carries out the words of `uimg` over a world of files; what is made or unpacked is read and
-/// written by `rt`. Returns the status, and `out` unless memory for its buffer was refused.
+/// Carries out a command line of `uimg` over a world of files; what is made or unpacked is read and
+/// written by `rt`. Returns the status, and what `out` buffers for.
 ///
 /// Over an honest world, unless the status is 3, exactly what the definition tells of the bytes at
-/// the paths of the words is written to `out`, and the status is the definition's.
-#[tactic(auto, using(uimg_cli::proofs::ReadingLaws::nothing_read))]
-pub(crate) fn carry_out_words<R: Files + AllocGlobal, D: World, W: Write + Drop, V: Write>(
+/// the paths of the words is written, and the status is the definition's.
+pub(crate) fn carry_out_line<R: Files + AllocGlobal, D: World, W: Write + Drop, V: Write>(
     rt: &R,
     world: &mut D,
-    line: CommandLine<'_>,
-    out: W,
+    read: &ReadLine<'_>,
+    out: BufWriter<W, Global>,
     complaints: &mut Complaints<'_, V>,
-) -> (u8, Option<W>)
+) -> (u8, W)
+    requires { writer_buffer out ≡ [] }
     ensures ends { Ends result.0 complaints.old.count complaints.new.count }
-    ensures nothing { AsksNothing (epoch_of line.entry) line.entry.time (words_of line.entry)
-        → 2 ≤ result.0 }
-    ensures unprinted { AsksNothing (epoch_of line.entry) line.entry.time (words_of line.entry)
-        → result.1 ≡ Some out }
-    ensures told { IfSome result.1 (λ written. AnswersWords line.entry (D.map world.old) result.0
-        (W.contents out) (W.contents written) (D.trace world.old) (D.trace world.new)) }
+    ensures told { AnswersWords read.now.line (D.map world.old) result.0
+        (W.contents (writer_inner out)) (W.contents result.1) (D.trace world.old)
+        (D.trace world.new) }
 {
-    match asked_by(rt.alloc(), line) {
-        Ok(asked) => match BufWriter::new(rt.alloc(), out) {
-            Ok(gathered) => {
-                let (status, out) = carry_out_asked(rt, world, &asked, gathered, complaints);
-                (status, Some(out))
-            }
-            Err(_) => (complaints.tell_no_memory(), None),
-        },
-        Err(fault) => (tell_words_fault(&fault, complaints), Some(out)),
-    }
+    carry_out_asked(rt, world, &read.asked, out, complaints)
 }
 
 // Reads the words. Not inlined, so that what this takes of the stack is free when the request is
 // carried out.
 #[inline(never)]
-fn asked_by<'a>(alloc: Global, line: CommandLine<'a>) -> Result<Asked<'a>, WordsFault>
-    ensures { ReadsWords (epoch_of line.entry) line.entry.time (words_of line.entry) result }
+fn read_line<'a>(alloc: Global, line: CommandLine<'a>) -> Result<ReadLine<'a>, WordsFault>
+    ensures ok { IfOk result (λ read. read.line ≡ line.entry) }
+    ensures wrong { IfErr result (λ fault.
+        ReadsWords (epoch_of line.entry) line.entry.time (words_of line.entry) (Err fault)) }
 {
-    read_words(alloc, line.words, line.epoch, line.time)
+    match read_words(alloc, line.words, line.epoch, line.time) {
+        Ok(asked) => Ok(ReadLine { line, asked }),
+        Err(fault) => Err(fault),
+    }
 }
 
 fn tell_words_fault<V: Write>(fault: &WordsFault, complaints: &mut Complaints<'_, V>) -> u8

@@ -1,16 +1,16 @@
 //! The program with the names of mkimage and dumpimage.
 
-ghost use Rattle.std.specs.Prelude.{◌≡◌, ◌≤◌, [], IfSome, IsTrue, Some};
-ghost use Rattle.std.specs.Io.Buffered.{writer_buffer, writer_contents};
+ghost use Rattle.std.specs.Prelude.{◌≡◌, ◌≤◌, [], Err, IfErr, IfOk, IsTrue};
+ghost use Rattle.std.specs.Io.Buffered.{writer_buffer, writer_contents, writer_inner};
 ghost use Rattle.uimg_tool.specs.Complaints.{Ends};
 ghost use Rattle.uimg_tool.specs.Commands.{AnswersOld, FlushesOld};
-ghost use Rattle.uimg_tool.specs.{Programs.{OldAsksNothing, ReadsOld}, Statuses.old_words_status};
-ghost use Rattle.uimg_tool.specs.WordAnswers.{AnswersOldWords, epoch_of, words_of};
+ghost use Rattle.uimg_tool.specs.{Programs.{OldAsksNothing, ReadsOld, epoch_of, words_of}, Statuses.old_words_status};
+ghost use Rattle.uimg_tool.specs.WordAnswers.{AnswersOldWords};
 
 use crate::auto_program::make_auto;
+use crate::command_line::{CommandLine, OldLine};
 use crate::complaints::Complaints;
 use crate::fit_program::make_fit;
-use crate::main_program::CommandLine;
 use crate::old_files::{How, make_image, run_old};
 use crate::old_tools::Tool;
 use crate::request_fault::{DONE, WRONG_LINE};
@@ -22,50 +22,86 @@ use std::rt::Files;
 use uimg_compat::{OldFault, OldRequest, Show, read_dumpimage, read_mkimage, title_of};
 use uimg_names::Field;
 use uimg_requests::VERSION;
-use uimg_unpacking::World;
+use uimg_unpacking::{DiskWorld, World};
 
-/// Carries out the words of a command line as this tool of U-Boot 2023.01 does. An image is written
-/// to a new file and gets its name when it is complete, unless something exists there that is not a
-/// regular file. Returns the status, and `out` unless memory for its buffer was refused.
-///
-/// Over an honest world, unless the status is 3, a listing of an image, or a part of it that is
-/// printed, is exactly the definition's of the bytes at its path, as is the status.
+/// Carries out the words of a tool of U-Boot 2023.01, over the files of the system.
 #[tactic(auto, using(crate::proofs::OldWordLaws::nothing_read))]
+pub(crate) fn run_as_tool<R: Files + AllocGlobal, W: Write, V: Write>(
+    rt: &R,
+    tool: Tool,
+    line: CommandLine<'_>,
+    out: &mut W,
+    complaints: &mut Complaints<'_, V>,
+) -> u8
+    ensures status { result ≤ 3 }
+    ensures nothing { OldAsksNothing tool (epoch_of line.entry) line.entry.time (words_of line.entry)
+        → 2 ≤ result }
+    ensures unprinted { OldAsksNothing tool (epoch_of line.entry) line.entry.time (words_of line.entry)
+        → out.new ≡ out.old }
+{
+    let read = match read_old_line(rt.alloc(), tool, line) {
+        Ok(read) => read,
+        Err(fault) => return tell_old_fault(&fault, complaints),
+    };
+    let Ok(gathered) = BufWriter::new(rt.alloc(), out) else {
+        return complaints.tell_no_memory();
+    };
+    let (status, _) = carry_out_old(rt, &mut DiskWorld::new(rt), read, gathered, complaints);
+    status
+}
+
+/// Carries out a command line of a tool over a world of files. An image is written to a new file and
+/// gets its name when it is complete, unless something exists there that is not a regular file.
+/// Returns the status, and what `out` buffers for.
+///
+/// Over an honest world, unless the status is 3, the listing of an image, or nothing if the tool is
+/// to be quiet, is exactly the definition's of the bytes at its path, as is the status.
 pub(crate) fn carry_out_old<R: Files + AllocGlobal, D: World, W: Write + Drop, V: Write>(
     rt: &R,
     world: &mut D,
-    tool: Tool,
-    line: CommandLine<'_>,
-    out: W,
+    read: OldLine<'_>,
+    out: BufWriter<W, Global>,
     complaints: &mut Complaints<'_, V>,
-) -> (u8, Option<W>)
+) -> (u8, W)
+    requires { writer_buffer out ≡ [] }
     ensures ends { Ends result.0 complaints.old.count complaints.new.count }
-    ensures nothing { OldAsksNothing tool (epoch_of line.entry) line.entry.time (words_of line.entry)
-        → 2 ≤ result.0 }
-    ensures unprinted { OldAsksNothing tool (epoch_of line.entry) line.entry.time (words_of line.entry)
-        → result.1 ≡ Some out }
-    ensures told { IfSome result.1 (λ written. AnswersOldWords tool line.entry (D.map world.old)
-        result.0 (W.contents out) (W.contents written)) }
+    ensures told { AnswersOldWords read.entry.tool read.entry.line (D.map world.old) result.0
+        (W.contents (writer_inner out)) (W.contents result.1) }
 {
-    match read_old_words(rt.alloc(), tool, line) {
-        Ok(request) => match BufWriter::new(rt.alloc(), out) {
-            Ok(gathered) => {
-                let (status, gathered) = carry_out_request(
-                    rt, world, tool, request, gathered, complaints,
-                );
-                // A failed write leaves text in the buffer, which its drop would try to write again.
-                let (out, _) = gathered.into_parts();
-                (status, Some(out))
-            }
-            Err(_) => (complaints.tell_no_memory(), None),
-        },
-        Err(fault) => (tell_old_fault(&fault, complaints), Some(out)),
-    }
+    let OldLine {
+        tool,
+        line: _,
+        request,
+    } = read;
+    let (status, gathered) = carry_out_request(rt, world, tool, request, out, complaints);
+    // A failed write leaves text in the buffer, which its drop would try to write again.
+    let (out, _) = gathered.into_parts();
+    (status, out)
 }
 
 // Reads the words. Not inlined, so that what this takes of the stack is free when the request is
 // carried out.
 #[inline(never)]
+fn read_old_line<'a>(
+    alloc: Global,
+    tool: Tool,
+    line: CommandLine<'a>,
+) -> Result<OldLine<'a>, OldFault<'a>>
+    ensures ok { IfOk result (λ read. (read.tool ≡ tool) × (read.line ≡ line.entry)) }
+    ensures wrong { IfErr result (λ fault.
+        ReadsOld tool (epoch_of line.entry) line.entry.time (words_of line.entry) (Err fault)) }
+{
+    match read_old_words(alloc, tool, line) {
+        Ok(request) => Ok(OldLine {
+            tool,
+            line,
+            request,
+        }),
+        Err(fault) => Err(fault),
+    }
+}
+
+// Reads the words.
 #[tactic(auto, unfolding(crate::specs::Programs::ReadsOld))]
 fn read_old_words<'a>(
     alloc: Global,
