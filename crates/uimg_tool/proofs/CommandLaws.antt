@@ -5,11 +5,9 @@ use Rattle.uimg_cli.specs.declared.command_line.Asked.{Asked}
 use Rattle.uimg_cli.specs.declared.command_line.Asked.TheVariants.{One, Check, Unpack, Map, Info}
 use Rattle.uimg_cli.specs.declared.command_line.Request.{Request}
 use Rattle.uimg_cli.specs.declared.command_line.Request.TheVariants as asked
-use Rattle.uimg_compat.specs.declared.request.OldRequest.{OldRequest}
-use Rattle.uimg_compat.specs.declared.request.OldRequest.TheVariants as old
 use Rattle.uimg_tool.specs.{Answering.IsAnswer, Checking.nothing_told, Checks.{AnswersAll, Told}}
 use Rattle.uimg_tool.specs.{Facts.IsFactsAnswer, MapAnswers.IsMapAnswer, Running.{outcome_on, outcome_status, printed}}
-use Rattle.uimg_tool.specs.Commands.{AnswersAsked, AnswersOld, AnswersOne, Flushes, FlushesOld}
+use Rattle.uimg_tool.specs.Commands.{AnswersAsked, AnswersOne, Flushes}
 
 -- unless the status is 3
 decided : (status : ℕ) (Q : Option (List ℕ) → Type 0) (x y : Option (List ℕ)) (failed : Bool) → (status == 3) ≡ failed → (status ≢ 3 → x ≡ y) → Q x → (status ≡ 3) ⊎ Q y
@@ -41,18 +39,3 @@ pub emptied : (it : Asked) (files : FileMap) (status : ℕ) (before old x y new 
     → AnswersAsked it files status before x → AnswersAsked it files status old new
 emptied it files status before old x y new left flushed same is gives answers =
     subst (λ (z : Option (List ℕ)). AnswersAsked it files status z new) is (subst (λ (z : Option (List ℕ)). AnswersAsked it files status before z) gives (asked_emptied it files status before x y left flushed same answers))
-
-still_old : (it : OldRequest) (files : FileMap) (status : ℕ) (before x y : Option (List ℕ)) (left : List ℕ) → (left ≡ [] → x ≡ y) → FlushesOld it status left
-    → AnswersOld it files status before x → AnswersOld it files status before y
-still_old (old.Run it is_quiet) files status before x y left same flushed answers = λ none.
-    unless status (λ (z : Option (List ℕ)). (file : List ℕ) × (files.bytes it.image.now ≡ Some file) × IsAnswer (λ f. outcome_status (outcome_on it f).end) (λ f. printed is_quiet (outcome_on it f).text) file status before z) x y (λ fine. same (flushed none fine)) (answers none)
-still_old (old.Make it is_quiet) files status before x y left same flushed answers = tt
-still_old (old.MakeFit it) files status before x y left same flushed answers = tt
-still_old (old.MakeAuto it) files status before x y left same flushed answers = tt
-still_old (old.Update it) files status before x y left same flushed answers = tt
-still_old (old.Show it) files status before x y left same flushed answers = tt
-
-pub old_emptied : (it : OldRequest) (files : FileMap) (status : ℕ) (before old x y new : Option (List ℕ)) (left : List ℕ) → FlushesOld it status left → (left ≡ [] → x ≡ y) → before ≡ old → y ≡ new
-    → AnswersOld it files status before x → AnswersOld it files status old new
-old_emptied it files status before old x y new left flushed same is gives answers =
-    subst (λ (z : Option (List ℕ)). AnswersOld it files status z new) is (subst (λ (z : Option (List ℕ)). AnswersOld it files status before z) gives (still_old it files status before x y left same flushed answers))

@@ -1,7 +1,7 @@
 -- What is answered of a file by its facts.
-use Rattle.std.proofs.Common.{◌≡◌, ℕ, List, length, Bool, true, false, if◌then◌else◌, Option, Some, None, Result, Ok, Err, Vec, inl, inr, refl, ap, sym, subst, ◌∙◌, arith, true≢false}
+use Rattle.std.proofs.Common.{◌≡◌, ℕ, List, length, Bool, true, false, if◌then◌else◌, Option, Some, Result, Ok, Err, Vec, inl, inr, refl, ap, sym, subst, ◌∙◌, arith, true≢false}
 use Rattle.std.specs.{Prelude.{◌⊎◌, ◌≢◌, IfOk, IsTrue}, Io.KnownBytes.Appends}
-use Rattle.json.specs.{Json.Json, Print.print, Tree.json_tokens}
+use Rattle.json.specs.{Json.Json}
 use Rattle.uimg_base.specs.{Device.{Device, SameDevice}, Named.FileMap, Results.◌>>=◌, declared.spans.Span.Span}
 use Rattle.uimg_blob_reading.specs.Faults.{refuses_memory}
 use Rattle.uimg_blob_reading.specs.declared.fault.BlobFault.{BlobFault}

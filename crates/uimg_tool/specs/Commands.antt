@@ -5,8 +5,6 @@ use Rattle.uimg_cli.specs.declared.command_line.Asked.{Asked}
 use Rattle.uimg_cli.specs.declared.command_line.Asked.TheVariants.{One, Check, Unpack, Map, Info}
 use Rattle.uimg_cli.specs.declared.command_line.Request.{Request}
 use Rattle.uimg_cli.specs.declared.command_line.Request.TheVariants as asked
-use Rattle.uimg_compat.specs.declared.request.OldRequest.{OldRequest}
-use Rattle.uimg_compat.specs.declared.request.OldRequest.TheVariants as old
 use Rattle.uimg_tool.specs.{Answering.AnswersBy, Facts.IsFactsAnswer, MapAnswers.IsMapAnswer}
 use Rattle.uimg_tool.specs.Checking.{AnswersRequest}
 use Rattle.uimg_tool.specs.Reading.{changes}
@@ -37,8 +35,8 @@ Flushes (Unpack it) status left = ⊤
 Flushes (Map it) status left = it.picture ≡ None → status ≢ 3 → left ≡ []
 Flushes it status left = status ≢ 3 → left ≡ []
 
--- A command on one image changes only the file of an extraction, a check and facts no file, a map none
--- but its picture. What a making and an unpacking change is not said here.
+-- A command on one image changes only the file of an extraction, a check, facts and a map that is not
+-- drawn no file. What other requests change is not said here.
 abbrev pub ChangesOne : Request → List Deed → List Deed → Type 0
 ChangesOne (asked.Run it) old new = OnlyOverwrites it.outfile old new
 ChangesOne (asked.Make it) old new = ⊤
@@ -50,14 +48,3 @@ Changes (Check it) old new = changes new ≡ changes old
 Changes (Unpack it) old new = ⊤
 Changes (Map it) old new = it.picture ≡ None → changes new ≡ changes old
 Changes (Info it) old new = changes new ≡ changes old
-
--- a request of mkimage or dumpimage: the listing of an image, or the extraction of a part
-abbrev pub AnswersOld : OldRequest → FileMap → ℕ → (old new : Option (List ℕ)) → Type 0
-AnswersOld (old.Run it is_quiet) files status before after =
-    it.outfile ≡ None → AnswersRun is_quiet it files status before after
-AnswersOld it files status before after = ⊤
-
--- what such a request leaves in a buffer that was empty
-abbrev pub FlushesOld : OldRequest → ℕ → List ℕ → Type 0
-FlushesOld (old.Run it is_quiet) status left = it.outfile ≡ None → status ≢ 3 → left ≡ []
-FlushesOld it status left = ⊤

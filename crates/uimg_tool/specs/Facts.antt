@@ -1,5 +1,5 @@
 -- The facts of an image, and what is answered of a file by them.
-use Rattle.std.specs.Prelude.{◌≡◌, ◌⊎◌, ◌++◌, ⊤, ℕ, List, length, Option, Some, Bool, true, false, Vec, Result, Ok, Err}
+use Rattle.std.specs.Prelude.{◌≡◌, ◌⊎◌, ⊤, ℕ, List, length, Option, Some, Bool, true, false, Vec, Result, Ok, Err}
 use Rattle.std.specs.Io.KnownBytes.{Appends}
 use Rattle.json.specs.{Json.Json, Print.print, Tree.json_tokens}
 use Rattle.uimg_base.specs.{Named.FileMap, Results.◌>>=◌}

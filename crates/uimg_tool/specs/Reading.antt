@@ -1,4 +1,4 @@
--- What was asked of a world of files besides reading.
+-- What was asked of a world of files beside reading and looking.
 use Rattle.std.specs.Prelude.{List, [], ◌∷◌}
 use Rattle.uimg_unpacking.specs.Deeds.{Deed, Opens, Explains, Reads, Finds, Identifies, Looks, Resolves}
 

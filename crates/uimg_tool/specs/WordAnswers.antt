@@ -1,11 +1,9 @@
--- What the words of `uimg`, mkimage and dumpimage answer, over the files of a world.
+-- What the words of `uimg` answer, over the files of a world.
 use Rattle.std.specs.Prelude.{ℕ, List, IsTrue, Option, Ok}
 use Rattle.uimg_base.specs.Named.{FileMap}
 use Rattle.uimg_cli.specs.Reading.{ReadsWords}
 use Rattle.uimg_cli.specs.declared.command_line.Asked.{Asked}
-use Rattle.uimg_tool.specs.{Commands.{AnswersAsked, AnswersOld, Changes}, Programs.{ReadsOld, epoch_of, words_of}}
-use Rattle.uimg_tool.specs.declared.old_tools.Tool.{Tool}
-use Rattle.uimg_compat.specs.declared.request.OldRequest.{OldRequest}
+use Rattle.uimg_tool.specs.{Commands.{AnswersAsked, Changes}, Programs.{epoch_of, words_of}}
 use Rattle.uimg_tool.specs.declared.command_line.CommandLine.{CommandLine}
 use Rattle.uimg_unpacking.specs.Deeds.{Deed}
 
@@ -17,10 +15,3 @@ pub record AnswersWords (line : CommandLine) (files : FileMap) (status : ℕ) (o
   pub reads : ReadsWords (epoch_of line) line.time (words_of line) (Ok asked)
   pub answers : IsTrue files.honest → AnswersAsked asked files status old new
   pub changes : Changes asked before after
-
--- What the words of a tool ask for is answered, over an honest world.
-pub record AnswersOldWords (tool : Tool) (line : CommandLine) (files : FileMap) (status : ℕ)
-    (old new : Option (List ℕ)) : Type 0 where
-  pub asked : OldRequest
-  pub reads : ReadsOld tool (epoch_of line) line.time (words_of line) (Ok asked)
-  pub answers : IsTrue files.honest → AnswersOld asked files status old new

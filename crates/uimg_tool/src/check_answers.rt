@@ -1,6 +1,6 @@
 //! Turns the end of a check into its result.
 
-ghost use Rattle.std.specs.Prelude.{◌≡◌, ◌≤◌, None, false, true, take, min, IfSome};
+ghost use Rattle.std.specs.Prelude.{◌≡◌, None, false, true, take, min, IfSome};
 ghost use Rattle.uimg_base.specs.{Device.SameDevice, Honest.IfHonest, Named.SameFiles};
 ghost use Rattle.uimg_checks.specs.{Finding.found_at, ReferenceNames.name_in_span, References.read_missing};
 ghost use Rattle.uimg_fit_checking.specs.Checks.{named_finding};

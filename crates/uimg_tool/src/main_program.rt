@@ -1,13 +1,13 @@
 //! The function `program`, the whole program: reads the words of a command line, and carries out
 //! their request.
 
-ghost use Rattle.std.specs.Prelude.{◌≡◌, ◌≤◌, [], Err, IfErr, IfOk, map, option_map};
+ghost use Rattle.std.specs.Prelude.{◌≡◌, ◌≤◌, [], Ok, map, option_map};
 ghost use Rattle.std.specs.Io.Buffered.{writer_buffer, writer_inner};
 ghost use Rattle.uimg_cli.specs.Reading.{AsksNothing, ReadsWords};
 ghost use Rattle.uimg_tool.specs.{Complaints.Ends, Programs.{AskNothing, epoch_of, words_of}, Statuses.words_status};
 ghost use Rattle.uimg_tool.specs.WordAnswers.{AnswersWords};
 
-use crate::command_line::{CommandLine, ReadLine};
+use crate::command_line::CommandLine;
 use crate::commands::carry_out_asked;
 use crate::complaints::Complaints;
 use crate::old_program::run_as_tool;
@@ -16,7 +16,7 @@ use crate::request_fault::{FAILED, WRONG_LINE};
 use std::alloc::Global;
 use std::io::{BufWriter, Write};
 use std::rt::Files;
-use uimg_cli::{WordsFault, read_words};
+use uimg_cli::{Asked, WordsFault, read_words};
 use uimg_unpacking::{DiskWorld, World};
 
 /// Carries out the words of a command line, the program's name first, and returns the exit status.
@@ -69,50 +69,48 @@ fn run_as_uimg<R: Files + AllocGlobal, W: Write, V: Write>(
     ensures unprinted { AsksNothing (epoch_of line.entry) line.entry.time (words_of line.entry)
         → out.new ≡ out.old }
 {
-    let read = match read_line(rt.alloc(), line) {
-        Ok(read) => read,
+    let asked = match asked_by(rt.alloc(), line) {
+        Ok(asked) => asked,
         Err(fault) => return tell_words_fault(&fault, complaints),
     };
     let Ok(gathered) = BufWriter::new(rt.alloc(), out) else {
         return complaints.tell_no_memory();
     };
-    let (status, _) = carry_out_line(rt, &mut DiskWorld::new(rt), &read, gathered, complaints);
+    let world = &mut DiskWorld::new(rt);
+    let (status, _) = carry_out_words(rt, world, line, &asked, gathered, complaints);
     status
 }
 
-/// Carries out a command line of `uimg` over a world of files; what is made or unpacked is read and
-/// written by `rt`. Returns the status, and what `out` buffers for.
+/// Carries out what the words of a command line ask for, over a world of files; what is made or
+/// unpacked is read and written by `rt`. Returns the status, and what `out` buffers for.
 ///
 /// Over an honest world, unless the status is 3, exactly what the definition tells of the bytes at
 /// the paths of the words is written, and the status is the definition's.
-pub(crate) fn carry_out_line<R: Files + AllocGlobal, D: World, W: Write + Drop, V: Write>(
+pub(crate) fn carry_out_words<R: Files + AllocGlobal, D: World, W: Write + Drop, V: Write>(
     rt: &R,
     world: &mut D,
-    read: &ReadLine<'_>,
+    _line: CommandLine<'_>,
+    asked: &Asked<'_>,
     out: BufWriter<W, Global>,
     complaints: &mut Complaints<'_, V>,
 ) -> (u8, W)
-    requires { writer_buffer out ≡ [] }
+    requires read { ReadsWords (epoch_of _line) _line.time (words_of _line) (Ok asked.now) }
+    requires empty { writer_buffer out ≡ [] }
     ensures ends { Ends result.0 complaints.old.count complaints.new.count }
-    ensures told { AnswersWords read.now.line (D.map world.old) result.0
+    ensures told { AnswersWords _line.entry (D.map world.old) result.0
         (W.contents (writer_inner out)) (W.contents result.1) (D.trace world.old)
         (D.trace world.new) }
 {
-    carry_out_asked(rt, world, &read.asked, out, complaints)
+    carry_out_asked(rt, world, asked, out, complaints)
 }
 
 // Reads the words. Not inlined, so that what this takes of the stack is free when the request is
 // carried out.
 #[inline(never)]
-fn read_line<'a>(alloc: Global, line: CommandLine<'a>) -> Result<ReadLine<'a>, WordsFault>
-    ensures ok { IfOk result (λ read. read.line ≡ line.entry) }
-    ensures wrong { IfErr result (λ fault.
-        ReadsWords (epoch_of line.entry) line.entry.time (words_of line.entry) (Err fault)) }
+fn asked_by<'a>(alloc: Global, line: CommandLine<'a>) -> Result<Asked<'a>, WordsFault>
+    ensures { ReadsWords (epoch_of line.entry) line.entry.time (words_of line.entry) result }
 {
-    match read_words(alloc, line.words, line.epoch, line.time) {
-        Ok(asked) => Ok(ReadLine { line, asked }),
-        Err(fault) => Err(fault),
-    }
+    read_words(alloc, line.words, line.epoch, line.time)
 }
 
 fn tell_words_fault<V: Write>(fault: &WordsFault, complaints: &mut Complaints<'_, V>) -> u8

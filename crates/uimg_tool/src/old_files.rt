@@ -57,6 +57,8 @@ pub(crate) fn run_old<D: World, W: Write + Drop, V: Write>(
         (writer_contents W.contents out) (writer_contents W.contents result.1) }
     ensures flushed { request.now.outfile ≡ None → result.0 ≢ 3 → writer_buffer out ≡ [] →
         writer_buffer result.1 ≡ [] }
+    ensures kept { request.now.outfile ≡ None →
+        changes (D.trace world.new) ≡ changes (D.trace world.old) }
 {
     let Some(outfile) = request.outfile else {
         return run_in_place(world, is_quiet, request, out, complaints);
@@ -87,6 +89,8 @@ fn run_in_place<D: World, W: Write + Drop, V: Write>(
         AnswersRun is_quiet request.now (D.map world.old) result.0
         (writer_contents W.contents out) (writer_contents W.contents result.1) }
     ensures flushed { result.0 ≢ 3 → writer_buffer out ≡ [] → writer_buffer result.1 ≡ [] }
+    ensures kept { request.now.outfile ≡ None →
+        changes (D.trace world.new) ≡ changes (D.trace world.old) }
 {
     if is_quiet {
         let end = run_command(world, request, None, &mut Out::new(io::sink()));
@@ -192,10 +196,17 @@ fn make_by<'a, R: Files + AllocGlobal, W: Write>(
             printed: Ok(()),
         };
     }
-    Made {
-        end: make_command(rt, request, way, out),
-        printed: out.flush(),
-    }
+    let Ok(mut gathered) = BufWriter::new(rt.alloc(), out) else {
+        return Made {
+            end: Err(RequestFault::OutOfMemory),
+            printed: Ok(()),
+        };
+    };
+    let end = make_command(rt, request, way, &mut gathered);
+    let printed = gathered.flush();
+    // A failed write leaves text in the buffer, which its drop would try to write again.
+    let (_, _) = gathered.into_parts();
+    Made { end, printed }
 }
 
 /// Gives an image that was made its name, even if its listing could not be printed, or removes its

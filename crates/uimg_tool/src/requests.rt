@@ -3,7 +3,6 @@
 ghost use Rattle.std.specs.Prelude.{◌≡◌, ◌∷◌, OnOk, IfErr, IfSome, IsTrue, None, Some};
 ghost use Rattle.std.specs.Io.KnownBytes.{Appends};
 ghost use Rattle.uimg_base.specs.{Honest.IfHonest, Outcome.Tells};
-ghost use Rattle.uimg_tool.specs.Reading.{changes};
 ghost use Rattle.uimg_tool.specs.RequestEnds.{IsUnwritten, MakeEnds, OverEnds, RunEnds, ShowEnds};
 ghost use Rattle.uimg_tool.specs.Running.{ComparesFiles, IntoEnds, OnlyOverwrites, TellsAt, is_opened, meant_end, outcome_on};
 ghost use Rattle.uimg_unpacking.specs.Deeds.{Deed};

@@ -1,5 +1,6 @@
 //! Writes the image of a tree, as mkimage does.
 
+ghost use Rattle.std.specs.Prelude.{◌≡◌, Err};
 ghost use Rattle.uimg_tool.specs.{Complaints.Ends, RequestEnds.TreeEnds};
 
 use crate::blob_room::set_blob_size;
@@ -13,7 +14,7 @@ use crate::safe_path::{Writing, writing_of};
 use std::alloc::Global;
 use std::cell::Cell;
 use std::fs::OpenFile;
-use std::io::Write;
+use std::io::{BufWriter, Write};
 use std::{fs, io, rt};
 use uimg_base::{Files, Out, Room, Status};
 use uimg_blob_writing::{Reservation, Tree};
@@ -67,7 +68,7 @@ pub(crate) fn write_image<R: rt::Files + AllocGlobal, F: Files, W: Write, V: Wri
     }
 }
 
-// Makes the image of a tree in a new file. Returns how that ended, and how the flush of the
+// Makes the image of a tree in a new file. Returns how that ended, and how the flush of the buffered
 // listing did.
 fn make_beside<'a, R: rt::Files + AllocGlobal, F: Files, W: Write>(
     rt: &R,
@@ -80,20 +81,18 @@ fn make_beside<'a, R: rt::Files + AllocGlobal, F: Files, W: Write>(
     ensures { TreeEnds request.entry.image result.end }
 {
     let Begun { file, path } = begun;
+    let Ok(mut gathered) = BufWriter::new(rt.alloc(), out) else {
+        return unprinted(RequestFault::OutOfMemory);
+    };
     let again = match request.roomy_size {
         Some(size) => match file.try_clone() {
             Ok(again) => Some((again, size)),
-            Err(reason) => {
-                return Made {
-                    end: Err(RequestFault::NotPut(request.image, reason)),
-                    printed: Ok(()),
-                };
-            }
+            Err(reason) => return unprinted(RequestFault::NotPut(request.image, reason)),
         },
         None => None,
     };
     let end = match NewShelf::new(rt, path.new.as_str(), file) {
-        Ok(shelf) => make_on(rt, request, tree, files, shelf, out),
+        Ok(shelf) => make_on(rt, request, tree, files, shelf, &mut gathered),
         Err(_) => Err(RequestFault::OutOfMemory),
     };
     let end = match (end, again) {
@@ -103,9 +102,19 @@ fn make_beside<'a, R: rt::Files + AllocGlobal, F: Files, W: Write>(
         },
         (end, _) => end,
     };
+    let printed = gathered.flush();
+    // A failed write leaves text in the buffer, which its drop would try to write again.
+    let (_, _) = gathered.into_parts();
+    Made { end, printed }
+}
+
+// Returns that a making ended before anything was printed.
+fn unprinted<'a>(fault: RequestFault<'a>) -> Made<'a>
+    ensures { result.end ≡ Err fault.entry }
+{
     Made {
-        end,
-        printed: out.flush(),
+        end: Err(fault),
+        printed: Ok(()),
     }
 }
 

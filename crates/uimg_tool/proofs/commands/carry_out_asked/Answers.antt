@@ -1,4 +1,4 @@
-use Rattle.std.proofs.Common.{◌∙◌, ap, sym}
+use Rattle.std.proofs.Common.{ap, sym}
 use Rattle.uimg_tool.proofs.BufferLaws.{unbuffered}
 use Rattle.uimg_tool.proofs.CommandLaws.{emptied}
 use Rattle.uimg_tool.proofs.commands.carry_out_asked.Goals as goal
