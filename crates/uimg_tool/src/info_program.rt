@@ -12,7 +12,7 @@ ghost use Rattle.uimg_unpacking.specs.Deeds.{Deed};
 use crate::check_answers::{CHANGED, Names, answer_of_fault, answer_of_unread};
 use crate::complaints::Complaints;
 use crate::json_lines::put_json;
-use crate::request_fault::{DONE, FAILED, RequestFault};
+use crate::request_fault::DONE;
 use std::alloc::{AllocError, Global};
 use std::io;
 use std::io::{BufWriter, Write};

@@ -1,6 +1,6 @@
 //! The folder for payloads and parts, and the paths of their files.
 
-ghost use Rattle.std.specs.Prelude.{◌≡◌, ◌++◌, codes, IfOk, string_bytes, decimal, false, true, is_ok, ℕ, List, Bool};
+ghost use Rattle.std.specs.Prelude.{◌≡◌, ◌++◌, codes, IfOk, string_bytes, decimal, false, true, ℕ, List, Bool};
 ghost use Rattle.uimg_unpacking.specs.Allowing.{Allows};
 ghost use Rattle.uimg_unpacking.specs.Cleaning.{MayBeIn, SeeksImage, CleansAt, removal, is_at_or_below, ends_name};
 ghost use Rattle.uimg_unpacking.specs.Deeds.{answer_of};

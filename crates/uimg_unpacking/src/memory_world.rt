@@ -21,7 +21,8 @@ const FAILED: u64 = 2;
 
 /// Files in memory: pairs of a path and its bytes. Of equal paths, the first counts.
 ///
-/// They are honest and complete. Each call that would change them fails.
+/// They are honest and complete. Each call that would change them fails, as do those that resolve a
+/// path or wait for names, and no file is found by which it is (`file_at`).
 #[derive(Drop)]
 pub struct MemoryWorld<'a> {
     alloc: Global,

@@ -1,6 +1,6 @@
 //! The names of files, each used once.
 
-ghost use Rattle.std.specs.Prelude.{◌≡◌, ◌++◌, [], codes, decimal, not, IfOk, IfSome, OnOk, string_bytes, true, false};
+ghost use Rattle.std.specs.Prelude.{◌≡◌, [], not, IfOk, IfSome, OnOk, string_bytes, true, false};
 ghost use Rattle.std.specs.Bool.{OnFalse};
 ghost use Rattle.uimg_unpacking.specs.FileNames.{is_file_name};
 ghost use Rattle.uimg_unpacking.specs.Names.{is_used, StayUsed};

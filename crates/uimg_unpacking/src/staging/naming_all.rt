@@ -2,7 +2,7 @@
 
 ghost use Rattle.std.specs.Prelude.{◌≡◌, None, length, is_ok, is_some, not, string_bytes, true};
 ghost use Rattle.std.specs.Option.{option_map};
-ghost use Rattle.uimg_unpacking.specs.NamingAll.{NamesFiles, PutsBackFiles, SyncsNames, NamesAll, NamesComplete, TakesBack};
+ghost use Rattle.uimg_unpacking.specs.NamingAll.{NamesFiles, SyncsNames, NamesAll, NamesComplete, TakesBack};
 ghost use Rattle.uimg_unpacking.specs.Troubles.{trouble_in};
 
 use crate::naming::{forget_old, name_files, put_back_all, remove_all_old};
