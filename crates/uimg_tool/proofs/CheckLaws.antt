@@ -6,11 +6,12 @@ use Rattle.std.proofs.lemmas.List.Folds.{list_all-append}
 use Rattle.uimg_cli.specs.declared.command_line.check.CheckRequest.{CheckRequest}
 use Rattle.uimg_tool.specs.Checking.{AnswersRequest, nothing_told}
 use Rattle.uimg_base.specs.Named.{FileMap, SameFiles}
-use Rattle.uimg_tool.specs.Checks.{Answers, AnswersAll, AnswersEach, AnswersNamed, AnswersUnlessEmpty, AreNames, Told, from_file, names_end, names_path}
+use Rattle.uimg_tool.specs.Checks.{Answers, AnswersAll, AnswersEach, AnswersNamed, AnswersFrom, AnswersUnlessEmpty, AreNames, Told, after_names, names_end, names_path}
 use Rattle.uimg_tool.specs.Paths.{is_name, paths_in}
 use Rattle.uimg_tool.proofs.{PathLaws.{Left, left_ends}, VerdictLaws.file_same}
 use Rattle.uimg_tool.specs.Statuses.{checked_status}
 use Rattle.uimg_tool.specs.declared.check_program.Stop.{Stop}
+use Rattle.uimg_unpacking.specs.Deeds.{Deed}
 
 pub on_ok : {X F P Q : Type 0} (r : Result X F) → (P → Q) → OnOk r P → OnOk r Q
 on_ok (Ok x) f h = f h
@@ -32,6 +33,7 @@ answers_same old_files new_files asked path old new same answers = (
     status = answers.1.status;
     counted = answers.1.counted;
     written = answers.1.written;
+    looked = answers.1.looked;
   },
 )
 
@@ -84,14 +86,15 @@ names_same files then_files asked path names same are = record {
 pub all_given : (files : FileMap) (asked : CheckRequest) (old new : Told) → asked.files_from ≡ None → AnswersEach files asked (map (λ path. path.now) asked.images.items) old new
     → AnswersAll files asked old new
 all_given files asked old new none each =
-    ([], subst (λ (it : Option (Bor (List ℕ))). from_file files asked it []) (sym none) refl, each_then files asked _ [] old new new each refl)
+    (new, each, subst (λ (it : Option (Bor (List ℕ))). AnswersFrom files asked it new new) (sym none) refl)
 
 pub all_named : (files then_files : FileMap) (asked : CheckRequest) (file : Bor (List ℕ)) (old mid new : Told) → SameFiles files then_files → asked.files_from ≡ Some file
     → AnswersEach files asked (map (λ path. path.now) asked.images.items) old mid → AnswersNamed then_files asked file.now mid new → AnswersAll files asked old new
 all_named files then_files asked file old mid new stay is each names = (
-  names.0,
-  subst (λ (it : Option (Bor (List ℕ))). from_file files asked it names.0) (sym is) (names_same files then_files asked file.now names.0 stay names.1),
-  each_then files asked _ names.0 old mid new each (each_same files then_files asked names.0 mid new stay names.2),
+  mid,
+  each,
+  subst (λ (it : Option (Bor (List ℕ))). AnswersFrom files asked it mid new) (sym is)
+      (names.0, names_same files then_files asked file.now names.0 stay names.1, each_same files then_files asked names.0 (after_names file.now mid) new stay names.2),
 )
 
 chosen : (b : Bool) (greatest : ℕ) (done : Unit) → checked_status (Ok done) (if b then Some greatest else None) ≡ (if b then greatest else 2)
@@ -104,9 +107,9 @@ flushed_unless (Ok done) found status left is flushed other = flushed
 flushed_unless (Err stop) found status left is flushed other = absurd (other is)
 
 -- the end of all checks
-pub request_told : (files : FileMap) (asked : CheckRequest) (ended : Result Unit Stop) (found : Option ℕ) (status : ℕ) (before after : Option (List ℕ)) (old new : Told)
-    → status ≡ checked_status ended found → found ≡ (if new.has_checked || asked.allows_none then Some new.greatest else None) → old ≡ nothing_told before
-    → OnOk ended (AnswersAll files asked old new) → OnOk ended (new.text ≡ after) → AnswersRequest files asked status before after
-request_told files asked (Err stop) found status before after old new is greatest begins all text = inl is
-request_told files asked (Ok done) found status before after old new is greatest begins all text =
-    inr (new, subst (λ (it : Told). AnswersAll files asked it new) begins all, text, is ∙ ap (checked_status (Ok done)) greatest ∙ chosen (new.has_checked || asked.allows_none) new.greatest done)
+pub request_told : (files : FileMap) (asked : CheckRequest) (ended : Result Unit Stop) (found : Option ℕ) (status : ℕ) (before after : Option (List ℕ)) (asked_before asked_after : List Deed) (old new : Told)
+    → status ≡ checked_status ended found → found ≡ (if new.has_checked || asked.allows_none then Some new.greatest else None) → old ≡ nothing_told before asked_before
+    → OnOk ended (AnswersAll files asked old new) → OnOk ended (new.text ≡ after) → new.trace ≡ asked_after → AnswersRequest files asked status before after asked_before asked_after
+request_told files asked (Err stop) found status before after asked_before asked_after old new is greatest begins all text noted = inl is
+request_told files asked (Ok done) found status before after asked_before asked_after old new is greatest begins all text noted =
+    inr (new, subst (λ (it : Told). AnswersAll files asked it new) begins all, text, noted, is ∙ ap (checked_status (Ok done)) greatest ∙ chosen (new.has_checked || asked.allows_none) new.greatest done)

@@ -2,10 +2,13 @@ pub mod BesideLaws
 pub mod BufferLaws
 pub mod CheckLaws
 pub mod CommandLaws
+pub mod ExtractLaws
 pub mod InfoLaws
+pub mod MakingLaws
 pub mod MapLaws
 pub mod OldWordLaws
 pub mod PathLaws
 pub mod RunLaws
 pub mod StrictLaws
+pub mod UnpackLaws
 pub mod VerdictLaws

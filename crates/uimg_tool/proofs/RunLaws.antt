@@ -19,7 +19,7 @@ blob_means : (fault : Fault) (no_memory : Bool) → (unless_memory no_memory (re
 blob_means fault true = inr refl
 blob_means fault false = inl refl
 
-means : (fault : Fault) → (end_of (Err fault) ≡ Some (refused fault)) ⊎ (fault_status fault ≡ 3)
+pub means : (fault : Fault) → (end_of (Err fault) ≡ Some (refused fault)) ⊎ (fault_status fault ≡ 3)
 means (engine.Legacy fault) = inl refl
 means (engine.Blob fault at) = blob_means (engine.Blob fault at) (refuses_memory fault)
 means (engine.Fit fault) = inl refl

@@ -1,5 +1,5 @@
 -- The checks of many images: what is answered of each, in order.
-use Rattle.std.specs.Prelude.{◌≡◌, ℕ, max, List, [], ◌∷◌, ◌++◌, map, codes, Option, Some, None, Bool, true, ◌&&◌, if◌then◌else◌, IsTrue, IfSome}
+use Rattle.std.specs.Prelude.{◌≡◌, ◌⊎◌, ℕ, max, List, [], ◌∷◌, map, codes, Option, Some, None, Bool, true, false, ◌&&◌, if◌then◌else◌, IsTrue, IfSome}
 use Rattle.std.specs.{Borrow.Bor, Io.{Buffered.writer_contents, KnownBytes.Appends}, List.list_all, Str.bytes_eq}
 use Rattle.uimg_base.specs.Named.{FileMap}
 use Rattle.uimg_checks.specs.Answers.{answer_status, answer_word}
@@ -7,20 +7,29 @@ use Rattle.uimg_checks.specs.declared.answer.Answer.{Answer}
 use Rattle.uimg_cli.specs.declared.command_line.check.CheckRequest.{CheckRequest}
 use Rattle.uimg_tool.specs.{AnswerTexts.answer_text, CheckEnds.Shows, Paths.{is_name, paths_in}, Verdicts.verdict_of}
 use Rattle.uimg_tool.specs.declared.check_program.Checks.{Checks}
+use Rattle.uimg_unpacking.specs.Deeds.{Deed, Done, Explains, Opens, Reads}
 
--- The greatest status so far, whether any image was checked, and what the output has, if contracts
--- know it.
+-- The greatest status so far, whether any image was checked, what the output has, if contracts know
+-- it, and what the world was asked.
 pub record Told : Type 0 where
   pub greatest : ℕ
   pub has_checked : Bool
   pub text : Option (List ℕ)
+  pub trace : List Deed
 
-abbrev pub told : {W : Type 0} → (W → Option (List ℕ)) → Checks W → Told
-told contents checks = record {
+abbrev pub told : {W : Type 0} → (W → Option (List ℕ)) → Checks W → List Deed → Told
+told contents checks trace = record {
   greatest = checks.greatest;
   has_checked = checks.has_checked;
   text = writer_contents contents checks.out;
+  trace = trace;
 }
+
+-- The file at a path was opened, or it was asked why it cannot be; or nothing was, as of a path that is
+-- no text.
+abbrev pub LooksAt : List ℕ → List Deed → List Deed → Type 0
+LooksAt path before after = (after ≡ Opens path true ∷ before)
+    ⊎ (after ≡ Explains path ∷ Opens path false ∷ before) ⊎ (after ≡ before)
 
 -- what is written for an answer: nothing for one that is ok, if it is to be quiet
 abbrev pub text_for : CheckRequest → List ℕ → Answer → List ℕ
@@ -39,13 +48,14 @@ abbrev pub AnswersFile : FileMap → CheckRequest → List ℕ → Answer → Ty
 AnswersFile files asked path answer =
     IsTrue files.honest → AnswersBytes asked (files.bytes path) answer
 
--- The image at a path is answered: its file decides the answer, the status counts, and its text is
--- written.
+-- The image at a path is answered: its file decides the answer, the status counts, its text is
+-- written, and no other file is asked for.
 pub record IsAnswered (files : FileMap) (asked : CheckRequest) (path : List ℕ) (answer : Answer) (old new : Told) : Type 0 where
   pub file : AnswersFile files asked path answer
   pub status : new.greatest ≡ max old.greatest (answer_status answer)
   pub counted : new.has_checked ≡ true
   pub written : Appends old.text new.text (text_for asked path answer)
+  pub looked : LooksAt path old.trace new.trace
 
 abbrev pub Answers : FileMap → CheckRequest → List ℕ → Told → Told → Type 0
 Answers files asked path old new = (answer : Answer) × IsAnswered files asked path answer old new
@@ -75,18 +85,22 @@ pub record AreNames (files : FileMap) (asked : CheckRequest) (path : List ℕ) (
   pub file : IsTrue files.honest
       → IfSome (files.bytes (names_path path)) (λ file. names ≡ paths_in (names_end asked) file)
 
+-- the same after the file of names was opened
+abbrev pub after_names : List ℕ → Told → Told
+after_names path old = record old { trace = Reads (names_path path) Done ∷ old.trace }
+
 -- images whose names a file has
 abbrev pub AnswersNamed : FileMap → CheckRequest → List ℕ → Told → Told → Type 0
 AnswersNamed files asked path old new = (names : List (List ℕ)) × AreNames files asked path names
-    × AnswersEach files asked names old new
+    × AnswersEach files asked names (after_names path old) new
 
--- Names come from a file only if one is given.
-abbrev pub from_file : FileMap → CheckRequest → Option (Bor (List ℕ)) → List (List ℕ) → Type 0
-from_file files asked None names = names ≡ []
-from_file files asked (Some path) names = AreNames files asked path.now names
+-- those that a file names, if one is given
+abbrev pub AnswersFrom : FileMap → CheckRequest → Option (Bor (List ℕ)) → Told → Told → Type 0
+AnswersFrom files asked None old new = new ≡ old
+AnswersFrom files asked (Some path) old new = AnswersNamed files asked path.now old new
 
 -- the images of the command line, and then those that a file names
 abbrev pub AnswersAll : FileMap → CheckRequest → Told → Told → Type 0
 AnswersAll files asked old new =
-    (names : List (List ℕ)) × from_file files asked asked.files_from names
-    × AnswersEach files asked (map (λ path. path.now) asked.images.items ++ names) old new
+    (mid : Told) × AnswersEach files asked (map (λ path. path.now) asked.images.items) old mid
+    × AnswersFrom files asked asked.files_from mid new

@@ -1,31 +1,37 @@
 -- What a command of `uimg` answers, over the files of a world, and which of them it may change.
-use Rattle.std.specs.Prelude.{◌≡◌, ◌≢◌, ⊤, ◌⊎◌, ℕ, List, [], Option, None, false}
-use Rattle.uimg_base.specs.Named.{FileMap}
+use Rattle.std.specs.Prelude.{◌≡◌, ◌≢◌, ⊤, ◌⊎◌, ℕ, List, [], ◌∷◌, Option, None, is_some, Bool, false, true}
+use Rattle.uimg_base.specs.{Device.Device, Named.FileMap}
 use Rattle.uimg_cli.specs.declared.command_line.Asked.{Asked}
 use Rattle.uimg_cli.specs.declared.command_line.Asked.TheVariants.{One, Check, Unpack, Map, Info}
 use Rattle.uimg_cli.specs.declared.command_line.Request.{Request}
 use Rattle.uimg_cli.specs.declared.command_line.Request.TheVariants as asked
-use Rattle.uimg_tool.specs.{Answering.AnswersBy, Facts.IsFactsAnswer, MapAnswers.IsMapAnswer}
+use Rattle.uimg_requests.specs.declared.requests.RunRequest.{RunRequest}
+use Rattle.uimg_tool.specs.{Answering.AnswersBy, Extracting.AnswersExtraction, Facts.IsFactsAnswer, Makings.AnswersMaking, MapAnswers.IsMapAnswer}
 use Rattle.uimg_tool.specs.Checking.{AnswersRequest}
-use Rattle.uimg_tool.specs.Reading.{changes}
 use Rattle.uimg_tool.specs.Running.{AnswersRun, OnlyOverwrites}
-use Rattle.uimg_unpacking.specs.Deeds.{Deed}
+use Rattle.uimg_unpacking.specs.Deeds.{Deed, LendsReader, LendsShelf, changes}
+use Rattle.uimg_unpacking.specs.Places.{ChangesWithin}
 
--- A command on one image that prints, or a text. Of an extraction to a file and of a making nothing is
--- claimed.
-abbrev pub AnswersOne : Request → FileMap → ℕ → (old new : Option (List ℕ)) → Type 0
-AnswersOne (asked.Run it) files status old new = it.outfile ≡ None → AnswersRun false it files status old new
-AnswersOne (asked.Make it) files status old new = ⊤
-AnswersOne (asked.Show text) files status old new = (status ≡ 3) ⊎ (status ≡ 0)
+-- a command on one image, which prints, or extracts to a file
+abbrev pub AnswersImage : {F : Type 0} → (F → Option (List ℕ)) → Bool → RunRequest → FileMap → ℕ → (old new : Option (List ℕ)) → Type 0
+AnswersImage contents true it files status old new = AnswersExtraction contents it files status old new
+AnswersImage contents false it files status old new = AnswersRun false it files status old new
+
+-- A command on one image, the making of one, or a text. F is the type of the world's files, and K that of
+-- what its shelves keep.
+abbrev pub AnswersOne : {F K : Type 0} → (F → Option (List ℕ)) → (K → Device) → Request → FileMap → ℕ → (old new : Option (List ℕ)) → Type 0
+AnswersOne contents device (asked.Run it) files status old new = AnswersImage contents (is_some it.outfile) it files status old new
+AnswersOne contents device (asked.Make it) files status old new = AnswersMaking device it files status old new
+AnswersOne contents device (asked.Show text) files status old new = (status ≡ 3) ⊎ (status ≡ 0)
 
 -- A request. Of an unpacking, and of a map that is drawn, nothing is claimed here.
-abbrev pub AnswersAsked : Asked → FileMap → ℕ → (old new : Option (List ℕ)) → Type 0
-AnswersAsked (One it) files status old new = AnswersOne it files status old new
-AnswersAsked (Check it) files status old new = AnswersRequest files it status old new
-AnswersAsked (Unpack it) files status old new = ⊤
-AnswersAsked (Map it) files status old new =
+abbrev pub AnswersAsked : {F K : Type 0} → (F → Option (List ℕ)) → (K → Device) → Asked → FileMap → ℕ → (old new : Option (List ℕ)) → (before after : List Deed) → Type 0
+AnswersAsked contents device (One it) files status old new before after = AnswersOne contents device it files status old new
+AnswersAsked contents device (Check it) files status old new before after = AnswersRequest files it status old new before after
+AnswersAsked contents device (Unpack it) files status old new before after = ⊤
+AnswersAsked contents device (Map it) files status old new before after =
     it.picture ≡ None → AnswersBy files it.image.now IsMapAnswer status old new
-AnswersAsked (Info it) files status old new =
+AnswersAsked contents device (Info it) files status old new before after =
     AnswersBy files it.image.now (IsFactsAnswer it.image.now) status old new
 
 -- What a request leaves in a buffer that was empty: nothing, unless it failed. Of an unpacking, and of a
@@ -35,16 +41,17 @@ Flushes (Unpack it) status left = ⊤
 Flushes (Map it) status left = it.picture ≡ None → status ≢ 3 → left ≡ []
 Flushes it status left = status ≢ 3 → left ≡ []
 
--- A command on one image changes only the file of an extraction, a check, facts and a map that is not
--- drawn no file. What other requests change is not said here.
+-- A command on one image changes only the file of an extraction. A making lends a reader, and a shelf
+-- in its image's file alone. A check, facts and a map that is not drawn change no file, and an unpacking
+-- only what is its own in its folder. What a map that is drawn changes is not said here.
 abbrev pub ChangesOne : Request → List Deed → List Deed → Type 0
 ChangesOne (asked.Run it) old new = OnlyOverwrites it.outfile old new
-ChangesOne (asked.Make it) old new = ⊤
+ChangesOne (asked.Make it) old new = new ≡ LendsShelf it.written.now ∷ LendsReader ∷ old
 ChangesOne (asked.Show text) old new = new ≡ old
 
 abbrev pub Changes : Asked → List Deed → List Deed → Type 0
 Changes (One it) old new = ChangesOne it old new
 Changes (Check it) old new = changes new ≡ changes old
-Changes (Unpack it) old new = ⊤
+Changes (Unpack it) old new = ChangesWithin it.folder.now true old new
 Changes (Map it) old new = it.picture ≡ None → changes new ≡ changes old
 Changes (Info it) old new = changes new ≡ changes old

@@ -1,7 +1,7 @@
 -- How a file that was written beside its name ends, by its paths.
 use Rattle.std.specs.Prelude.{◌≡◌, List, Bool, string_bytes}
-use Rattle.uimg_unpacking.specs.Deeds.{Answer, Deed}
-use Rattle.uimg_tool.specs.{BesidePaths.Finishes, Reading.changes}
+use Rattle.uimg_unpacking.specs.Deeds.{Answer, Deed, changes}
+use Rattle.uimg_tool.specs.BesidePaths.{Finishes}
 use Rattle.uimg_tool.specs.declared.safe_path.SafePath.{SafePath}
 
 -- It gets its name if it is complete, and else is removed, whatever the calls answer. Nothing is changed

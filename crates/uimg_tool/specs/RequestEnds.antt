@@ -61,8 +61,8 @@ StoppedAs asked fault (request.Stopped told) = told ≡ fault
 StoppedAs asked fault other = ⊥
 
 -- a making that has met its own outfile, or not
-abbrev pub AsMade : MakeRequest → Result ⊤ Fault → Bool → Result Status RequestFault → Type 0
-AsMade asked (Ok done) met (Ok status) = status ≡ Done
+abbrev pub AsMade : {K : Type 0} → MakeRequest → Result K Fault → Bool → Result Status RequestFault → Type 0
+AsMade asked (Ok kept) met (Ok status) = status ≡ Done
 AsMade asked (Err fault) true (Err (request.WritesWhatIsRead path)) = path ≡ asked.outfile
 AsMade asked (Err fault) false (Err told) = StoppedAs asked fault told
 AsMade asked made met result = ⊥

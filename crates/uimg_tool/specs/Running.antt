@@ -7,11 +7,11 @@ use Rattle.uimg_engine.specs.{Faults.{end_of, is_of_making}, Headline.outcome_of
 use Rattle.uimg_engine.specs.declared.fault.Fault.{Fault}
 use Rattle.uimg_engine.specs.declared.fault.Fault.TheVariants as engine
 use Rattle.uimg_requests.specs.declared.requests.RunRequest.{RunRequest}
-use Rattle.uimg_tool.specs.{Answering.AnswersAs, Reading.changes, Statuses.fault_status}
+use Rattle.uimg_tool.specs.{Answering.AnswersAs, Statuses.fault_status}
 use Rattle.uimg_tool.specs.declared.request_fault.RequestFault.{RequestFault}
 use Rattle.uimg_tool.specs.declared.request_fault.RequestFault.TheVariants as request
 use Rattle.uimg_unpacking.specs.Allowing.{is_image}
-use Rattle.uimg_unpacking.specs.Deeds.{Answer, Deed, Identifies, Overwrites}
+use Rattle.uimg_unpacking.specs.Deeds.{Answer, Deed, Identifies, Overwrites, changes}
 use Rattle.uimg_unpacking.specs.declared.file_id.FileId.{FileId}
 
 -- the outcome of the requested command on a file

@@ -1,13 +1,13 @@
 //! Turns the end of a check into its result.
 
-ghost use Rattle.std.specs.Prelude.{◌≡◌, None, false, true, take, min, IfSome};
+ghost use Rattle.std.specs.Prelude.{◌≡◌, ◌∷◌, None, false, true, take, min, IfSome};
 ghost use Rattle.uimg_base.specs.{Device.SameDevice, Honest.IfHonest, Named.SameFiles};
 ghost use Rattle.uimg_checks.specs.{Finding.found_at, ReferenceNames.name_in_span, References.read_missing};
 ghost use Rattle.uimg_fit_checking.specs.Checks.{named_finding};
 ghost use Rattle.uimg_strict.specs.Telling.{read_loose};
 ghost use Rattle.uimg_tool.specs.CheckEnds.{AnswersFault, AnswersFound, AnswersLine, AnswersMissing, IsVerdict, Shows, fit_names, format_of, kept_names, nameless_fit, offset_of};
-ghost use Rattle.uimg_tool.specs.Reading.{changes};
 ghost use Rattle.uimg_tool.specs.Verdicts.{Finds, Lacks, loosens};
+ghost use Rattle.uimg_unpacking.specs.Deeds.{Deed};
 
 use crate::request_fault::{REFUSED, status_of_fault};
 use std::alloc::Global;
@@ -79,7 +79,7 @@ pub(crate) fn answer_of_unread<'a, D: World>(
 ) -> Answer<'a>
     ensures answers { AnswersLine false result }
     ensures same { SameFiles (D.map world.old) (D.map world.new) }
-    ensures changes { changes (D.trace world.new) ≡ changes (D.trace world.old) }
+    ensures asked { D.trace world.new ≡ Deed.Explains path.now ∷ D.trace world.old }
 {
     match world.reason_unread(path) {
         Some(reason) => answer_of_line(&Unread(reason), false, names),

@@ -4,7 +4,8 @@ ghost use Rattle.std.specs.Prelude.{◌≡◌, ◌≢◌, ◌≤◌, ◌+◌, �
 ghost use Rattle.std.specs.Io.{Buffered.{writer_buffer, writer_contents}, KnownBytes.Appends};
 ghost use Rattle.uimg_base.specs.Named.{SameFiles};
 ghost use Rattle.uimg_checks.specs.Answers.{answer_status};
-ghost use Rattle.uimg_tool.specs.{AnswerTexts.{answer_text, object_line, text_line}, Checking.AnswersRequest, Checks.{names_end, names_path}, Complaints.Ends, Reading.changes, Statuses.{Grows, checked_status}};
+ghost use Rattle.uimg_tool.specs.{AnswerTexts.{answer_text, object_line, text_line}, Checking.AnswersRequest, Checks.{names_end, names_path}, Complaints.Ends, Statuses.{Grows, checked_status}};
+ghost use Rattle.uimg_unpacking.specs.Deeds.{changes};
 
 use crate::check_answers::{NOT_UTF8, Names, answer_of_unread};
 use crate::complaints::Complaints;
@@ -25,10 +26,11 @@ use uimg_unpacking::World;
 const STANDARD_INPUT: &str = "/dev/stdin";
 
 /// Checks the requested images, those of the command line first, with a line for each on `out`,
-/// even after one that is not right. Changes no file. Returns the greatest status, or that of a wrong command line if
-/// there is no image, unless none is allowed. A file of names that cannot be read, a line that cannot
-/// be written and refused memory end it with a line on standard error; a closed `out` ends it
-/// without one, as failed, because not all images were checked. Returns `out`, too.
+/// even after one that is not right. Changes no file. Returns the greatest status, or that of a
+/// wrong command line if there is no image, unless none is allowed. A file of names that cannot be
+/// read, a line that cannot be written and refused memory end it with a line on standard error; a
+/// closed `out` ends it without one, as failed, because not all images were checked. Returns `out`,
+/// too.
 pub(crate) fn check_images<D: World, W: Write + Drop, V: Write>(
     world: &mut D,
     request: &CheckRequest<'_>,
@@ -39,7 +41,8 @@ pub(crate) fn check_images<D: World, W: Write + Drop, V: Write>(
     ensures ends { Ends result.0 complaints.old.count complaints.new.count }
     ensures flushed { result.0 ≢ 3 → writer_buffer result.1 ≡ [] }
     ensures told { AnswersRequest (D.map world.old) request.now result.0
-        (writer_contents W.contents out) (writer_contents W.contents result.1) }
+        (writer_contents W.contents out) (writer_contents W.contents result.1)
+        (D.trace world.old) (D.trace world.new) }
     ensures same { SameFiles (D.map world.old) (D.map world.new) }
     ensures changes { changes (D.trace world.new) ≡ changes (D.trace world.old) }
 {
@@ -129,7 +132,7 @@ struct Checks<W: Write + Drop> {
 }
 
 impl<W: Write + Drop> Checks<W> {
-    ghost use Rattle.uimg_tool.specs.Checks.{Answers, AnswersAll, AnswersFile, AnswersNamed, AnswersUnlessEmpty, told};
+    ghost use Rattle.uimg_tool.specs.Checks.{Answers, AnswersAll, AnswersFile, AnswersNamed, AnswersUnlessEmpty, LooksAt, told};
 
     // Checks all requested images.
     fn check_all<'b, D: World>(
@@ -139,7 +142,8 @@ impl<W: Write + Drop> Checks<W> {
     ) -> Result<(), Stop<'b>>
         ensures grows { Grows self.old.greatest self.new.greatest }
         ensures told { OnOk result (AnswersAll (D.map world.old) request.now
-            (told W.contents self.old) (told W.contents self.new)) }
+            (told W.contents self.old (D.trace world.old))
+            (told W.contents self.new (D.trace world.new))) }
         ensures same { SameFiles (D.map world.old) (D.map world.new) }
         ensures changes { changes (D.trace world.new) ≡ changes (D.trace world.old) }
         ensures flushed { writer_buffer self.old.out ≡ [] →
@@ -163,7 +167,8 @@ impl<W: Write + Drop> Checks<W> {
     ) -> Result<(), Stop<'b>>
         ensures grows { Grows self.old.greatest self.new.greatest }
         ensures told { OnOk result (AnswersNamed (D.map world.old) request.now path.entry.now
-            (told W.contents self.old) (told W.contents self.new)) }
+            (told W.contents self.old (D.trace world.old))
+            (told W.contents self.new (D.trace world.new))) }
         ensures same { SameFiles (D.map world.old) (D.map world.new) }
         ensures changes { changes (D.trace world.new) ≡ changes (D.trace world.old) }
         ensures flushed { writer_buffer self.old.out ≡ [] →
@@ -194,7 +199,8 @@ impl<W: Write + Drop> Checks<W> {
     ) -> Result<(), Stop<'b>>
         ensures grows { Grows self.old.greatest self.new.greatest }
         ensures told { OnOk result (AnswersUnlessEmpty (D.map world.old) request.now path.now
-            (told W.contents self.old) (told W.contents self.new)) }
+            (told W.contents self.old (D.trace world.old))
+            (told W.contents self.new (D.trace world.new))) }
         ensures same { SameFiles (D.map world.old) (D.map world.new) }
         ensures changes { changes (D.trace world.new) ≡ changes (D.trace world.old) }
         ensures flushed { writer_buffer self.old.out ≡ [] →
@@ -215,7 +221,8 @@ impl<W: Write + Drop> Checks<W> {
     ) -> Result<(), Stop<'b>>
         ensures grows { Grows self.old.greatest self.new.greatest }
         ensures told { OnOk result (Answers (D.map world.old) request.now path.now
-            (told W.contents self.old) (told W.contents self.new)) }
+            (told W.contents self.old (D.trace world.old))
+            (told W.contents self.new (D.trace world.new))) }
         ensures same { SameFiles (D.map world.old) (D.map world.new) }
         ensures changes { changes (D.trace world.new) ≡ changes (D.trace world.old) }
         ensures flushed { writer_buffer self.old.out ≡ [] →
@@ -253,6 +260,7 @@ impl<W: Write + Drop> Checks<W> {
         ensures greatest { self.new.greatest ≡ self.old.greatest }
         ensures out { self.new.out ≡ self.old.out }
         ensures file { AnswersFile (D.map world.old) request.now path.now result }
+        ensures looked { LooksAt path.now (D.trace world.old) (D.trace world.new) }
         ensures same { SameFiles (D.map world.old) (D.map world.new) }
         ensures changes { changes (D.trace world.new) ≡ changes (D.trace world.old) }
     {
@@ -274,6 +282,7 @@ impl<W: Write + Drop> Checks<W> {
         ensures greatest { self.new.greatest ≡ self.old.greatest }
         ensures out { self.new.out ≡ self.old.out }
         ensures file { AnswersFile (D.map world.old) request.now path.now result }
+        ensures looked { LooksAt path.now (D.trace world.old) (D.trace world.new) }
         ensures same { SameFiles (D.map world.old) (D.map world.new) }
         ensures changes { changes (D.trace world.new) ≡ changes (D.trace world.old) }
     {

@@ -1,68 +1,68 @@
 //! Carries out a request of `uimg` over a world of files, and turns its end into a line and an exit
 //! status.
 
-ghost use Rattle.std.specs.Prelude.{◌≡◌, ◌≢◌, [], IsTrue, None, false};
+ghost use Rattle.std.specs.Prelude.{◌≡◌, ◌≢◌, ◌∷◌, [], IsTrue, is_some};
 ghost use Rattle.std.specs.Io.Buffered.{writer_buffer, writer_contents, writer_inner};
-ghost use Rattle.uimg_tool.specs.{Commands.{AnswersAsked, AnswersOne, Changes, ChangesOne, Flushes}, Complaints.Ends, Statuses.end_status};
-ghost use Rattle.uimg_tool.specs.Running.{AnswersRun, AnswersShow, OnlyOverwrites};
+ghost use Rattle.uimg_tool.specs.{Commands.{AnswersAsked, AnswersImage, AnswersOne, Changes, ChangesOne, Flushes}, Complaints.Ends, Statuses.end_status};
+ghost use Rattle.uimg_tool.specs.{Makings.AnswersMaking, Running.{AnswersShow, OnlyOverwrites}};
+ghost use Rattle.uimg_unpacking.specs.Deeds.{Deed};
 
 use crate::check_program::check_images;
 use crate::complaints::{Complaints, is_closed};
 use crate::info_program::tell_facts;
+use crate::making::make_in;
 use crate::map_program::map_image;
 use crate::request_fault::{DONE, FAILED, REFUSED, RequestFault, status_of};
-use crate::requests::{Made, Way, make_command, run_command, show};
+use crate::requests::{Made, run_command, show};
 use crate::unpack_program::unpack_image;
 use std::alloc::Global;
 use std::fmt::Display;
 use std::io::{BufWriter, Write};
-use std::rt::Files;
 use uimg_base::{Out, Status};
 use uimg_cli::{Asked, Request};
-use uimg_requests::RunRequest;
-use uimg_unpacking::World;
+use uimg_requests::{MakeRequest, RunRequest};
+use uimg_unpacking::{MakingWorld, World};
 
-/// Carries out a request. What is made or unpacked is read and written by `rt`, all else is done in
-/// the world. Returns the status and what `out` buffers for.
-pub(crate) fn carry_out_asked<R: Files + AllocGlobal, D: World, W: Write + Drop, V: Write>(
-    rt: &R,
+/// Carries out a request in a world. Returns the status and what `out` buffers for.
+pub(crate) fn carry_out_asked<'a, D: MakingWorld<'a>, W: Write + Drop, V: Write>(
     world: &mut D,
-    asked: &Asked<'_>,
+    asked: &'a Asked<'a>,
     out: BufWriter<W, Global>,
     complaints: &mut Complaints<'_, V>,
 ) -> (u8, W)
     requires { writer_buffer out ≡ [] }
     ensures ends { Ends result.0 complaints.old.count complaints.new.count }
-    ensures told { IsTrue (D.map world.old).honest → AnswersAsked asked.now (D.map world.old) result.0
-        (W.contents (writer_inner out)) (W.contents result.1) }
+    ensures told { IsTrue (D.map world.old).honest → AnswersAsked D.File.contents D.Shelf.Kept.device asked.now (D.map world.old) result.0
+        (W.contents (writer_inner out)) (W.contents result.1) (D.trace world.old)
+        (D.trace world.new) }
     ensures changed { Changes asked.now (D.trace world.old) (D.trace world.new) }
 {
-    let (status, out) = carry_out_buffered(rt, world, asked, out, complaints);
+    let (status, out) = carry_out_buffered(world, asked, out, complaints);
     // A failed write leaves text in the buffer, which its drop would try to write again.
     let (out, _) = out.into_parts();
     (status, out)
 }
 
 // Does the same, and returns the buffer.
-fn carry_out_buffered<R: Files + AllocGlobal, D: World, W: Write + Drop, V: Write>(
-    rt: &R,
+fn carry_out_buffered<'a, D: MakingWorld<'a>, W: Write + Drop, V: Write>(
     world: &mut D,
-    asked: &Asked<'_>,
+    asked: &'a Asked<'a>,
     mut out: BufWriter<W, Global>,
     complaints: &mut Complaints<'_, V>,
 ) -> (u8, BufWriter<W, Global>)
     requires { writer_buffer out ≡ [] }
     ensures ends { Ends result.0 complaints.old.count complaints.new.count }
-    ensures told { IsTrue (D.map world.old).honest → AnswersAsked asked.now (D.map world.old) result.0
-        (writer_contents W.contents out) (writer_contents W.contents result.1) }
+    ensures told { IsTrue (D.map world.old).honest → AnswersAsked D.File.contents D.Shelf.Kept.device asked.now (D.map world.old) result.0
+        (writer_contents W.contents out) (writer_contents W.contents result.1)
+        (D.trace world.old) (D.trace world.new) }
     ensures flushed { Flushes asked.now result.0 (writer_buffer result.1) }
     ensures changed { Changes asked.now (D.trace world.old) (D.trace world.new) }
 {
     match asked {
-        Asked::One(request) => carry_out_one(rt, world, request, out, complaints),
+        Asked::One(request) => carry_out_one(world, request, out, complaints),
         Asked::Check(request) => check_images(world, request, out, complaints),
         Asked::Unpack(request) => {
-            let status = unpack_image(rt, request, &mut out, complaints);
+            let status = unpack_image(world, request, &mut out, complaints);
             (status, out)
         }
         Asked::Map(request) => {
@@ -77,28 +77,21 @@ fn carry_out_buffered<R: Files + AllocGlobal, D: World, W: Write + Drop, V: Writ
 }
 
 // Carries out a command on one image, the making of one, or prints a text. Returns `out`, too.
-fn carry_out_one<'a, R: Files + AllocGlobal, D: World, W: Write + Drop, V: Write>(
-    rt: &'a R,
+fn carry_out_one<'a, D: MakingWorld<'a>, W: Write + Drop, V: Write>(
     world: &mut D,
     request: &'a Request<'a>,
-    mut out: BufWriter<W, Global>,
+    out: BufWriter<W, Global>,
     complaints: &mut Complaints<'_, V>,
 ) -> (u8, BufWriter<W, Global>)
     ensures ends { Ends result.0 complaints.old.count complaints.new.count }
-    ensures told { IsTrue (D.map world.old).honest → AnswersOne request.now (D.map world.old) result.0
+    ensures told { IsTrue (D.map world.old).honest → AnswersOne D.File.contents D.Shelf.Kept.device request.now (D.map world.old) result.0
         (writer_contents W.contents out) (writer_contents W.contents result.1) }
     ensures flushed { result.0 ≢ 3 → writer_buffer result.1 ≡ [] }
     ensures changed { ChangesOne request.now (D.trace world.old) (D.trace world.new) }
 {
     match request {
         Request::Run(request) => run_image(world, request, out, complaints),
-        Request::Make(request) => {
-            let made = Made {
-                end: make_command(rt, request, Way::within(&[]), &mut out),
-                printed: out.flush(),
-            };
-            (tell_end(&made.told(), complaints), out)
-        }
+        Request::Make(request) => make_one(world, request, out, complaints),
         Request::Show(text) => show_text(text, out, complaints),
     }
 }
@@ -111,14 +104,39 @@ fn run_image<D: World, W: Write + Drop, V: Write>(
     complaints: &mut Complaints<'_, V>,
 ) -> (u8, BufWriter<W, Global>)
     ensures ends { Ends result.0 complaints.old.count complaints.new.count }
-    ensures told { IsTrue (D.map world.old).honest → request.now.outfile ≡ None →
-        AnswersRun false request.now (D.map world.old) result.0 (writer_contents W.contents out)
-        (writer_contents W.contents result.1) }
+    ensures told { IsTrue (D.map world.old).honest → AnswersImage D.File.contents
+        (is_some request.now.outfile) request.now (D.map world.old) result.0
+        (writer_contents W.contents out) (writer_contents W.contents result.1) }
     ensures flushed { result.0 ≢ 3 → writer_buffer result.1 ≡ [] }
     ensures written { OnlyOverwrites request.now.outfile (D.trace world.old) (D.trace world.new) }
 {
     let mut out = Out::new(out);
     let end = run_command(world, request, None, &mut out);
+    let mut out = out.into_inner();
+    let made = Made {
+        end,
+        printed: out.flush(),
+    };
+    (tell_end(&made.told(), complaints), out)
+}
+
+// Makes an image, and prints its listing.
+fn make_one<'a, D: MakingWorld<'a>, W: Write + Drop, V: Write>(
+    world: &mut D,
+    request: &'a MakeRequest<'a>,
+    out: BufWriter<W, Global>,
+    complaints: &mut Complaints<'_, V>,
+) -> (u8, BufWriter<W, Global>)
+    ensures ends { Ends result.0 complaints.old.count complaints.new.count }
+    ensures told { IsTrue (D.map world.old).honest → AnswersMaking D.Shelf.Kept.device request.now
+        (D.map world.old) result.0 (writer_contents W.contents out)
+        (writer_contents W.contents result.1) }
+    ensures flushed { result.0 ≢ 3 → writer_buffer result.1 ≡ [] }
+    ensures lent { D.trace world.new
+        ≡ Deed.LendsShelf request.now.written.now ∷ Deed.LendsReader ∷ D.trace world.old }
+{
+    let mut out = Out::new(out);
+    let end = make_in(world, request, &mut out);
     let mut out = out.into_inner();
     let made = Made {
         end,

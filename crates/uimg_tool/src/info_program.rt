@@ -5,9 +5,9 @@ ghost use Rattle.std.specs.Io.{Buffered.{writer_buffer, writer_contents}, KnownB
 ghost use Rattle.uimg_base.specs.Honest.{IfHonest};
 ghost use Rattle.uimg_checks.specs.{Answers.answer_status, Objects.check_json};
 ghost use Rattle.uimg_engine.specs.declared.fault.Fault.TheVariants.{Legacy};
-ghost use Rattle.uimg_tool.specs.{Answering.AnswersBy, Complaints.Ends, JsonLines.shown_line, Reading.changes};
+ghost use Rattle.uimg_tool.specs.{Answering.AnswersBy, Complaints.Ends, JsonLines.shown_line};
 ghost use Rattle.uimg_tool.specs.Facts.{GivesFacts, IsFactsAnswer, IsObjectOf, IsTextOf, TellsFacts, facts_of, fault_as, legacy_facts};
-ghost use Rattle.uimg_unpacking.specs.Deeds.{Deed};
+ghost use Rattle.uimg_unpacking.specs.Deeds.{Deed, changes};
 
 use crate::check_answers::{CHANGED, Names, answer_of_fault, answer_of_unread};
 use crate::complaints::Complaints;

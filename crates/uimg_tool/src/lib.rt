@@ -11,6 +11,7 @@ mod commands;
 mod complaints;
 mod dts_program;
 mod fit_program;
+mod folder_files;
 mod info_program;
 mod json_lines;
 mod known_sources;

@@ -17,7 +17,7 @@ use std::alloc::Global;
 use std::io::{BufWriter, Write};
 use std::rt::Files;
 use uimg_cli::{Asked, WordsFault, read_words};
-use uimg_unpacking::{DiskWorld, World};
+use uimg_unpacking::{DiskWorld, MakingWorld};
 
 /// Carries out the words of a command line, the program's name first, and returns the exit status.
 /// A program whose name, after its last slash, is `mkimage`, `dumpimage`, `uimg-mkimage` or
@@ -77,31 +77,31 @@ fn run_as_uimg<R: Files + AllocGlobal, W: Write, V: Write>(
         return complaints.tell_no_memory();
     };
     let world = &mut DiskWorld::new(rt);
-    let (status, _) = carry_out_words(rt, world, line, &asked, gathered, complaints);
+    let (status, _) = carry_out_words(world, line, &asked, gathered, complaints);
     status
 }
 
-/// Carries out what the words of a command line ask for, over a world of files; what is made or
-/// unpacked is read and written by `rt`. Returns the status, and what `out` buffers for.
+/// Carries out what the words of a command line ask for, over a world of files. Returns the status,
+/// and what `out` buffers for. The line is here for the contract alone, which says that its words
+/// were read to what is asked for.
 ///
 /// Over an honest world, unless the status is 3, exactly what the definition tells of the bytes at
 /// the paths of the words is written, and the status is the definition's.
-pub(crate) fn carry_out_words<R: Files + AllocGlobal, D: World, W: Write + Drop, V: Write>(
-    rt: &R,
+pub(crate) fn carry_out_words<'a, D: MakingWorld<'a>, W: Write + Drop, V: Write>(
     world: &mut D,
     _line: CommandLine<'_>,
-    asked: &Asked<'_>,
+    asked: &'a Asked<'a>,
     out: BufWriter<W, Global>,
     complaints: &mut Complaints<'_, V>,
 ) -> (u8, W)
     requires read { ReadsWords (epoch_of _line) _line.time (words_of _line) (Ok asked.now) }
     requires empty { writer_buffer out ≡ [] }
     ensures ends { Ends result.0 complaints.old.count complaints.new.count }
-    ensures told { AnswersWords _line.entry (D.map world.old) result.0
+    ensures told { AnswersWords D.File.contents D.Shelf.Kept.device _line.entry (D.map world.old) result.0
         (W.contents (writer_inner out)) (W.contents result.1) (D.trace world.old)
         (D.trace world.new) }
 {
-    carry_out_asked(rt, world, asked, out, complaints)
+    carry_out_asked(world, asked, out, complaints)
 }
 
 // Reads the words. Not inlined, so that what this takes of the stack is free when the request is

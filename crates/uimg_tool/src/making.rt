@@ -1,16 +1,48 @@
-//! Makes an image on a disk.
+//! Makes an image, over a world of files or on a disk.
 
-ghost use Rattle.std.specs.Prelude.{◌≡◌, ◌⊎◌, [], true};
+ghost use Rattle.std.specs.Prelude.{◌≡◌, ◌∷◌, ◌⊎◌, [], Some, IsTrue, true};
+ghost use Rattle.uimg_engine.specs.Commands.{HonestFiles, MakesCommand};
+ghost use Rattle.uimg_tool.specs.{Makings.MakesAt, Statuses.end_status};
 ghost use Rattle.uimg_tool.specs.RequestEnds.{AsMade, IsFileAt, MakeEnds, StoppedAs};
+ghost use Rattle.uimg_unpacking.specs.Deeds.{Deed};
 
+use crate::folder_files::FolderFiles;
+use crate::reasons::Watched;
 use crate::request_fault::RequestFault;
 use crate::searched_files::SearchedFiles;
 use crate::xip_files::XipFiles;
+use std::alloc::Global;
+use std::cell::Cell;
 use std::io::Write;
-use std::rt;
+use std::{io, rt};
 use uimg_base::{Files, Out, Room, Shelf, Status};
 use uimg_engine::{DiskFiles, Fault, make_by};
 use uimg_requests::{MakeCommand, MakeRequest};
+use uimg_unpacking::MakingWorld;
+
+/// Makes the requested image over a world: on a shelf of the image's path, of the files in the
+/// folder of the request.
+#[tactic(auto, using(crate::proofs::MakingLaws::made_end))]
+pub(crate) fn make_in<'a, D: MakingWorld<'a>, W: Write>(
+    world: &mut D,
+    request: &'a MakeRequest<'a>,
+    out: &mut Out<W>,
+) -> Result<Status, RequestFault<'a>>
+    ensures ends { MakeEnds request.now result }
+    ensures told { IsTrue (D.map world.old).honest → MakesAt D.Shelf.Kept.device request.now
+        (D.map world.old) result out.old out.new }
+    ensures lent { D.trace world.new
+        ≡ Deed.LendsShelf request.now.written.now ∷ Deed.LendsReader ∷ D.trace world.old }
+{
+    let alloc = world.alloc();
+    let reader = world.reader();
+    let mut files = FolderFiles::new(reader, alloc, request.folder, request.outfile);
+    let code = Cell::new(None);
+    let shelf = Watched::new(world.shelf_at(request.written), &code);
+    let made = make_over(alloc, request, &mut files, shelf, out);
+    let end = end_of(request, made, files.has_met_left_out());
+    end_written(request, end, code.get())
+}
 
 /// Makes the requested image on a shelf. Files that are not in the folder of the request are looked
 /// for in the others.
@@ -28,7 +60,13 @@ pub(crate) fn make_image<'a, R: rt::Files + AllocGlobal, H: Shelf, W: Write>(
         return make_xip(rt, request, files, shelf, out);
     }
     let mut files = SearchedFiles::new(rt, request.folder, others, request.outfile);
-    let made = make_over(rt, request, &mut files, shelf, out);
+    let made = make_over(
+        rt.alloc(),
+        request,
+        &mut files,
+        shelf,
+        &mut Out::new(&mut *out),
+    );
     end_of(request, made, files.has_met_left_out())
 }
 
@@ -44,7 +82,13 @@ fn make_xip<'a, R: rt::Files + AllocGlobal, H: Shelf, W: Write>(
     ensures { MakeEnds request.now result }
 {
     let mut files = XipFiles::new(files);
-    match make_over(rt, request, &mut files, shelf, out) {
+    match make_over(
+        rt.alloc(),
+        request,
+        &mut files,
+        shelf,
+        &mut Out::new(&mut *out),
+    ) {
         Err(Fault::NoFile(number)) if files.has_met_no_room() => {
             Err(RequestFault::NoRoom(file_path(request, number)))
         }
@@ -53,40 +97,61 @@ fn make_xip<'a, R: rt::Files + AllocGlobal, H: Shelf, W: Write>(
 }
 
 // Makes an image over files.
-fn make_over<R: rt::Files + AllocGlobal, F: Files, H: Shelf, W: Write>(
-    rt: &R,
+fn make_over<F: Files, H: Shelf, W: Write>(
+    alloc: Global,
     request: &MakeRequest<'_>,
     files: &mut F,
     shelf: H,
-    out: &mut W,
-) -> Result<(), Fault> {
-    let made = make_by(
-        rt.alloc(),
+    out: &mut Out<W>,
+) -> Result<H::Kept, Fault>
+    ensures { HonestFiles F.map files → IsTrue H.honest → H.contents shelf ≡ Some [] →
+        MakesCommand H.Kept.device request.now.manner.naming request.now.command
+        request.now.manner.time request.now.manner.align (F.map files.old).bytes result out }
+{
+    let mut room = Room::new(alloc);
+    make_by(
+        alloc,
         &request.command,
         request.manner,
         files,
         shelf,
-        &mut Room::new(rt.alloc()),
-        &mut Out::new(&mut *out),
-    );
-    match made {
-        Ok(_) => Ok(()),
-        Err(fault) => Err(fault),
-    }
+        &mut room,
+        out,
+    )
 }
 
 // Returns how making an image ended, with the path from the command line.
-fn end_of<'a>(
+fn end_of<'a, K: Drop>(
     request: &'a MakeRequest<'a>,
-    made: Result<(), Fault>,
+    made: Result<K, Fault>,
     has_met_outfile: bool,
 ) -> Result<Status, RequestFault<'a>>
     ensures { AsMade request.now made has_met_outfile result }
 {
     match made {
-        Ok(()) => Ok(Status::Done),
+        Ok(_) => Ok(Status::Done),
         Err(_) if has_met_outfile => Err(RequestFault::WritesWhatIsRead(request.outfile)),
         Err(fault) => Err(stopped_making(request, fault)),
+    }
+}
+
+/// Returns how a making ended that wrote to a file: a failed write is told with the image's path
+/// and the system's reason, if there is one.
+pub(crate) fn end_written<'a>(
+    request: &'a MakeRequest<'a>,
+    made: Result<Status, RequestFault<'a>>,
+    code: Option<i32>,
+) -> Result<Status, RequestFault<'a>>
+    requires { MakeEnds request.now made }
+    ensures ends { MakeEnds request.now result }
+    ensures status { end_status result ≡ end_status made }
+{
+    match (made, code) {
+        (Err(RequestFault::Stopped(Fault::Put)), Some(code)) => {
+            let reason = io::Error::from_raw_os_error(code);
+            Err(RequestFault::NotPut(request.outfile, reason))
+        }
+        (made, _) => made,
     }
 }
 

@@ -5,10 +5,10 @@ ghost use Rattle.std.specs.{Borrow.Bor, Io.Buffered.{writer_buffer, writer_conte
 ghost use Rattle.uimg_base.specs.Honest.{IfHonest};
 ghost use Rattle.uimg_map.specs.{Lines.PutsLines, Maps.contents_of, Picture.DrawsPicture};
 ghost use Rattle.uimg_printing.specs.Printing.{printed};
-ghost use Rattle.uimg_tool.specs.{Answering.AnswersBy, Complaints.Ends, Reading.changes};
+ghost use Rattle.uimg_tool.specs.{Answering.AnswersBy, Complaints.Ends};
 ghost use Rattle.uimg_tool.specs.MapAnswers.{IsMapAnswer, PrintsMap};
 ghost use Rattle.uimg_tool.specs.MapEnds.{DrawEnds, PrintEnds, map_status};
-ghost use Rattle.uimg_unpacking.specs.Deeds.{Deed};
+ghost use Rattle.uimg_unpacking.specs.Deeds.{Deed, changes};
 
 use crate::complaints::Complaints;
 use crate::reasons::reason_of_code;

@@ -3,7 +3,8 @@
 ghost use Rattle.std.specs.Prelude.{◌≡◌, ◌≢◌, [], IsTrue, None, is_ok, if◌then◌else◌};
 ghost use Rattle.std.specs.Io.Buffered.{writer_buffer, writer_contents};
 ghost use Rattle.uimg_tool.specs.{Complaints.Ends, Finishing.FinishesBy, RequestEnds.{MakeEnds, is_about_source}};
-ghost use Rattle.uimg_tool.specs.{Reading.changes, Running.AnswersRun, Statuses.end_status};
+ghost use Rattle.uimg_tool.specs.{Running.AnswersRun, Statuses.end_status};
+ghost use Rattle.uimg_unpacking.specs.Deeds.{changes};
 
 use crate::complaints::Complaints;
 use crate::request_fault::{DONE, FAILED, REFUSED, RequestFault, status_of, status_of_fault};

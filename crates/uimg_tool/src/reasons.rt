@@ -1,6 +1,6 @@
 //! The operating system's reasons for what could not be written.
 
-ghost use Rattle.std.specs.Prelude.{false};
+ghost use Rattle.std.specs.Prelude.{◌≡◌};
 
 use std::cell::Cell;
 use std::io;
@@ -24,8 +24,18 @@ pub(crate) struct Watched<'a, W: Write> {
 
 impl<'a, W: Write> Watched<'a, W> {
     /// Returns a writer that notes its errors in this cell.
-    pub(crate) fn new(writer: W, code: &'a Cell<Option<i32>>) -> Watched<'a, W> {
+    pub(crate) fn new(writer: W, code: &'a Cell<Option<i32>>) -> Watched<'a, W>
+        ensures { result.writer ≡ writer }
+    {
         Watched { writer, code }
+    }
+
+    /// Returns the writer.
+    pub(crate) fn into_inner(self) -> W
+        ensures { result ≡ self.writer }
+    {
+        let Watched { writer, code: _ } = self;
+        writer
     }
 }
 
@@ -52,7 +62,9 @@ impl<'a, W: Write> Write for Watched<'a, W> {
 impl<'a, H: Shelf> Shelf for Watched<'a, H> {
     type Kept = H::Kept;
 
-    ghost honest = { false };
+    ghost honest = { H.honest };
+
+    ghost steady = { H.steady };
 
     fn keep(self) -> Result<H::Kept, SourceFault> {
         let Watched { writer, code: _ } = self;

@@ -1,13 +1,14 @@
 //! Carries out a request: a command on one image, the making of one, or the printing of a text.
 
-ghost use Rattle.std.specs.Prelude.{◌≡◌, ◌∷◌, OnOk, IfErr, IfSome, IsTrue, None, Some};
+ghost use Rattle.std.specs.Prelude.{◌≡◌, ◌∷◌, [], OnOk, IfErr, IfOk, IfSome, IsTrue, None, Some, is_some, true};
 ghost use Rattle.std.specs.Io.KnownBytes.{Appends};
-ghost use Rattle.uimg_base.specs.{Honest.IfHonest, Outcome.Tells};
+ghost use Rattle.uimg_base.specs.{Honest.IfHonest, Named.SameFiles, Outcome.Tells};
 ghost use Rattle.uimg_tool.specs.RequestEnds.{IsUnwritten, MakeEnds, OverEnds, RunEnds, ShowEnds};
+ghost use Rattle.uimg_tool.specs.Extracting.{ExtractsAt, ExtractsTo};
 ghost use Rattle.uimg_tool.specs.Running.{ComparesFiles, IntoEnds, OnlyOverwrites, TellsAt, is_opened, meant_end, outcome_on};
 ghost use Rattle.uimg_unpacking.specs.Deeds.{Deed};
 
-use crate::making::make_image;
+use crate::making::{end_written, make_image};
 use crate::new_shelf::NewShelf;
 use crate::reasons::{Watched, reason_of_code};
 use crate::request_fault::RequestFault;
@@ -93,6 +94,9 @@ pub(crate) fn run_command<'a, D: World, W: Write>(
     ensures ends { RunEnds request.now result }
     ensures told { IsTrue (D.map world.old).honest → request.now.outfile ≡ None →
         TellsAt request.now (D.map world.old) result out.old out.new }
+    ensures extracted { IsTrue (D.map world.old).honest → is_some request.now.outfile ≡ true →
+        file ≡ None → ExtractsAt D.File.contents request.now (D.map world.old) result }
+    ensures silent { is_some request.now.outfile ≡ true → out.new ≡ out.old }
     ensures opened { request.now.outfile ≡ None →
         D.trace world.new ≡ Deed.Opens request.now.image.now (is_opened result) ∷ D.trace world.old }
     ensures written { OnlyOverwrites request.now.outfile (D.trace world.old) (D.trace world.new) }
@@ -116,14 +120,19 @@ fn extract_to<'a, D: World, S: Source>(
     source: &mut S,
 ) -> Result<Status, RequestFault<'a>>
     ensures ends { IntoEnds path.entry result }
+    ensures extracted { IsTrue (D.map world.old).honest → file ≡ None →
+        IfHonest S.device source (λ bytes. ExtractsTo D.File.contents request.now bytes result) }
     ensures written { OnlyOverwrites (Some path.entry) (D.trace world.old) (D.trace world.new) }
 {
     if is_same_file(world, path, request.image) {
         return Err(RequestFault::WritesWhatIsRead(path));
     }
     let code = Cell::new(None);
-    let outfile = Watched::new(outfile_at(world, path, file)?, &code);
-    match run_over(world.alloc(), request, source, &mut Out::new(outfile)) {
+    let outfile = outfile_at(world, path, file)?;
+    let mut out = Out::new(Watched::new(outfile, &code));
+    let ended = run_over(world.alloc(), request, source, &mut out);
+    drop(out.into_inner().into_inner());
+    match ended {
         Err(RequestFault::Stopped(Fault::Put)) => {
             Err(RequestFault::NotPut(path, reason_of_code(code.get())))
         }
@@ -157,6 +166,8 @@ fn outfile_at<'a, D: World>(
     file: Option<D::File>,
 ) -> Result<D::File, RequestFault<'a>>
     ensures ends { IfErr result (IsUnwritten path.entry) }
+    ensures empty { IsTrue (D.map world.old).honest → file ≡ None →
+        IfOk result (λ it. D.File.contents it ≡ Some []) }
     ensures written { OnlyOverwrites (Some path.entry) (D.trace world.old) (D.trace world.new) }
 {
     match file {
@@ -170,7 +181,8 @@ fn outfile_at<'a, D: World>(
 
 /// Returns whether two paths lead to the same file, also by links.
 pub(crate) fn is_same_file<D: World>(world: &mut D, path: &str, other: &str) -> bool
-    ensures { ComparesFiles path.now other.now result (D.trace world.old) (D.trace world.new) }
+    ensures compares { ComparesFiles path.now other.now result (D.trace world.old) (D.trace world.new) }
+    ensures same { SameFiles (D.map world.old) (D.map world.new) }
 {
     match (world.file_at(path), world.file_at(other)) {
         (Some(one), Some(two)) => one == two,
@@ -200,11 +212,5 @@ pub(crate) fn make_command<'a, R: Files + AllocGlobal, W: Write>(
             make_image(rt, request, folders, shelf, out)
         }
     };
-    match (made, code.get()) {
-        (Err(RequestFault::Stopped(Fault::Put)), Some(code)) => {
-            let reason = io::Error::from_raw_os_error(code);
-            Err(RequestFault::NotPut(request.outfile, reason))
-        }
-        (made, _) => made,
-    }
+    end_written(request, made, code.get())
 }

@@ -2,6 +2,7 @@
 
 ghost use Rattle.std.specs.Prelude.{◌≡◌};
 ghost use Rattle.uimg_tool.specs.{Statuses.trouble_status, CheckEnds.AnswersEnding};
+ghost use Rattle.uimg_unpacking.specs.Deeds.{changes};
 
 use crate::check_answers::{Names, answer_of_fault, answer_of_line, answer_of_unread};
 use crate::request_fault::{FAILED, REFUSED, WRONG_LINE};
@@ -73,7 +74,8 @@ pub(crate) fn answer_of_ending<'a, D: World>(
     ending: Ending,
     names: &'a mut Names,
 ) -> Answer<'a>
-    ensures { AnswersEnding ending result }
+    ensures answers { AnswersEnding ending result }
+    ensures kept { changes (D.trace world.new) ≡ changes (D.trace world.old) }
 {
     match ending {
         Ending::Told(_) => answer_of_unread(world, path, names),

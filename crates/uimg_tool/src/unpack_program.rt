@@ -2,6 +2,7 @@
 
 ghost use Rattle.std.specs.Prelude.{◌≡◌, ◌⊎◌, false};
 ghost use Rattle.uimg_tool.specs.{Complaints.Ends, EndingStatuses.HasEndingStatus, Statuses.{is_of_command, trouble_status}};
+ghost use Rattle.uimg_unpacking.specs.{Deeds.changes, Places.ChangesWithin};
 
 use crate::check_answers::Names;
 use crate::complaints::Complaints;
@@ -11,41 +12,62 @@ use crate::request_fault::{DONE, FAILED, REFUSED, RequestFault, status_of};
 use crate::unpack_answers::{Ending, answer_of_ending, status_of_trouble};
 use std::alloc::Global;
 use std::io::{BufWriter, Write};
-use std::rt::Files;
 use uimg_base::{Source, Status};
 use uimg_checks::object_text;
 use uimg_cli::UnpackRequest;
 use uimg_engine::{Fault, Form, is_fit};
 use uimg_printing::Printed;
-use uimg_unpacking::{
-    DiskWorld, FileId, Folder, Limits, Trouble, Unpacking, World, unpack, unpack_parts,
-};
+use uimg_unpacking::{FileId, Folder, Limits, Trouble, Unpacking, World, unpack, unpack_parts};
 
 /// Cleans the folder and unpacks the image, as requested, with a line for each removed file, payload
 /// or part on `out`. Returns the status. A fault is reported by a line on standard error, or
 /// for JSON on `out`.
-pub(crate) fn unpack_image<R: Files + AllocGlobal, W: Write + Drop, V: Write>(
-    rt: &R,
+#[tactic(auto, using(crate::proofs::UnpackLaws::cleaned_alone, crate::proofs::UnpackLaws::cleaned_first))]
+pub(crate) fn unpack_image<D: World, W: Write + Drop, V: Write>(
+    world: &mut D,
     request: &UnpackRequest<'_>,
     out: &mut BufWriter<W, Global>,
     complaints: &mut Complaints<'_, V>,
 ) -> u8
-    ensures { Ends result complaints.old.count complaints.new.count }
+    ensures ends { Ends result complaints.old.count complaints.new.count }
+    ensures within { ChangesWithin request.now.folder.now true (D.trace world.old) (D.trace world.new) }
 {
-    let cleaned = if request.cleans {
-        folder_of(request, None).clean(rt, request.image, out)
-    } else {
-        Ok(())
-    };
-    match (cleaned, request.image) {
+    match (clean_if(world, request, out), request.image) {
         (Err(trouble), _) => tell_trouble(trouble, complaints),
-        (Ok(()), Some(image)) => {
-            let ending = unpack_at(rt, image, request, out);
-            let world = &mut DiskWorld::new(rt);
-            tell_ending(world, image, request.as_json, ending, out, complaints)
-        }
+        (Ok(()), Some(image)) => unpack_and_tell(world, image, request, out, complaints),
         (Ok(()), None) => DONE,
     }
+}
+
+// Cleans the folder, if that is requested.
+#[tactic(auto, using(crate::proofs::UnpackLaws::unchanged))]
+fn clean_if<D: World, W: Write>(
+    world: &mut D,
+    request: &UnpackRequest<'_>,
+    out: &mut W,
+) -> Result<(), Trouble>
+    ensures { ChangesWithin request.now.folder.now false (D.trace world.old) (D.trace world.new) }
+{
+    if request.cleans {
+        return folder_of(request, None).clean(world, request.image, out);
+    }
+    Ok(())
+}
+
+// Unpacks the image at a path, and reports how that ended.
+#[tactic(auto, using(crate::proofs::UnpackLaws::told_after))]
+fn unpack_and_tell<D: World, W: Write + Drop, V: Write>(
+    world: &mut D,
+    path: &str,
+    request: &UnpackRequest<'_>,
+    out: &mut BufWriter<W, Global>,
+    complaints: &mut Complaints<'_, V>,
+) -> u8
+    ensures ends { Ends result complaints.old.count complaints.new.count }
+    ensures within { ChangesWithin request.now.folder.now true (D.trace world.old) (D.trace world.new) }
+{
+    let ending = unpack_at(world, path, request, out);
+    tell_ending(world, path, request.as_json, ending, out, complaints)
 }
 
 // Returns the folder of a request, for an image that is this file.
@@ -66,17 +88,20 @@ fn folder_of<'a>(request: &UnpackRequest<'a>, image: Option<FileId>) -> Folder<'
 }
 
 // Unpacks the image at a path.
-fn unpack_at<'a, R: Files + AllocGlobal, W: Write + Drop>(
-    rt: &R,
+#[tactic(auto, using(crate::proofs::UnpackLaws::unchanged, crate::proofs::UnpackLaws::looked_before))]
+fn unpack_at<'a, D: World, W: Write + Drop>(
+    world: &mut D,
     path: &'a str,
     request: &UnpackRequest<'a>,
     out: &mut W,
-) -> Ending {
-    let Ok(mut source) = DiskWorld::new(rt).open(path) else {
+) -> Ending
+    ensures { ChangesWithin request.now.folder.now true (D.trace world.old) (D.trace world.new) }
+{
+    let Ok(mut source) = world.open(path) else {
         return Ending::Unread;
     };
     let asked = Unpacking {
-        folder: folder_of(request, FileId::of(rt, path)),
+        folder: folder_of(request, world.file_at(path)),
         only: request.only,
         need: request.need,
         limits: Limits {
@@ -87,22 +112,25 @@ fn unpack_at<'a, R: Files + AllocGlobal, W: Write + Drop>(
         json: if request.as_json { Some(path) } else { None },
     };
     if request.as_json {
-        unpack_source(rt, &asked, &mut source, JsonOut::new(out))
+        unpack_source(world, &asked, &mut source, JsonOut::new(out))
     } else {
-        unpack_source(rt, &asked, &mut source, out)
+        unpack_source(world, &asked, &mut source, out)
     }
 }
 
 // Unpacks an image. The first four bytes decide its format.
-fn unpack_source<R: Files + AllocGlobal, S: Source, W: Write + Drop>(
-    rt: &R,
+#[tactic(auto, using(crate::proofs::UnpackLaws::unchanged))]
+fn unpack_source<D: World, S: Source, W: Write + Drop>(
+    world: &mut D,
     asked: &Unpacking<'_>,
     source: &mut S,
     out: W,
-) -> Ending {
+) -> Ending
+    ensures { ChangesWithin asked.now.folder.path.now true (D.trace world.old) (D.trace world.new) }
+{
     match is_fit(Form::Guess, source) {
-        Ok(true) => Ending::from(unpack(rt, asked, source, out)),
-        Ok(false) => Ending::from(unpack_parts(rt, asked, source, out)),
+        Ok(true) => Ending::from(unpack(world, asked, source, out)),
+        Ok(false) => Ending::from(unpack_parts(world, asked, source, out)),
         Err(fault) => Ending::Stopped(Fault::from(fault)),
     }
 }
@@ -118,6 +146,7 @@ fn tell_ending<D: World, W: Write + Drop, V: Write>(
 ) -> u8
     ensures ends { Ends result complaints.old.count complaints.new.count }
     ensures status { as_json ≡ false → HasEndingStatus ending result }
+    ensures kept { changes (D.trace world.new) ≡ changes (D.trace world.old) }
 {
     match ending {
         Ending::Told(Status::Done) => DONE,
@@ -157,7 +186,8 @@ fn tell_object<D: World, W: Write + Drop, V: Write>(
     out: &mut BufWriter<W, Global>,
     complaints: &mut Complaints<'_, V>,
 ) -> u8
-    ensures { Ends result complaints.old.count complaints.new.count }
+    ensures ends { Ends result complaints.old.count complaints.new.count }
+    ensures kept { changes (D.trace world.new) ≡ changes (D.trace world.old) }
 {
     let mut names = Names::new(world.alloc());
     let answer = answer_of_ending(world, path, ending, &mut names);

@@ -3,6 +3,7 @@ pub mod BelowLaws
 pub mod Cleaned
 pub mod NameLaws
 pub mod NamingLaws
+pub mod PartChanges
 pub mod PartLaws
 pub mod Placing
 pub mod Printed

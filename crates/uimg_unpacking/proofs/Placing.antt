@@ -5,7 +5,7 @@ use Rattle.std.specs.{Fmt.{digit_glyph, digits, digits_onto}, List.list_all, Opt
 use Rattle.std.proofs.lemmas.Bool.{and_parts, cases_eq}
 use Rattle.std.proofs.lemmas.List.Folds.{list_all-append, list_all_at}
 use mathlib.Core.List.{append_assoc}
-use Rattle.uimg_unpacking.specs.Deeds.{Answer, Done, Exists, Failed, Deed, Creates, Links, Renames, Removes, MakesFolder, RemovesFolder, RemovesAll, Looks, Identifies, Overwrites, changes_only}
+use Rattle.uimg_unpacking.specs.Deeds.{Answer, Done, Exists, Failed, Deed, Creates, Links, Renames, Removes, MakesFolder, RemovesFolder, RemovesAll, Looks, Identifies, Overwrites, LendsShelf, changes_only}
 use Rattle.uimg_unpacking.specs.FileNames.{is_file_name, is_allowed}
 use Rattle.uimg_unpacking.specs.Naming.{GivesName, over, linked, exists, taken, moved, KeepsAs, linked_too, moved_away, PutsBack, unnamed, removed, lost, put, NamesOver, nothing_there, not_kept, replaced, Names, no_memory, refused, anew, over_it, RemovesOld, not_forced, nothing_old, removed_old}
 use Rattle.uimg_unpacking.specs.Allowing.{Allows, is_the_image, is_looked_at, Refused}
@@ -171,6 +171,7 @@ wider_deed f n (MakesFolder p _) is = wider f p n is
 wider_deed f n (RemovesFolder p _) is = wider f p n is
 wider_deed f n (RemovesAll p _) is = wider f p n is
 wider_deed f n (Overwrites p _) is = wider f p n is
+wider_deed f n (LendsShelf p) is = wider f p n is
 wider_deed f n _ is = refl
 
 pub stays_naming : (folder : List ℕ) (is_naming : Bool) (trace : List Deed) → stays_within folder is_naming trace ≡ true → stays_within folder true trace ≡ true

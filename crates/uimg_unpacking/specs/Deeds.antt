@@ -59,6 +59,8 @@ pub data Deed : Type 0 where
   Reads : List ℕ → Answer → Deed
   Finds : List ℕ → Target → Deed
   Overwrites : List ℕ → Answer → Deed
+  LendsReader : Deed
+  LendsShelf : List ℕ → Deed
 
 -- the answer, the kind and others of a number, as a record of deeds has them
 abbrev pub answer_at : ℕ → Answer
@@ -99,7 +101,9 @@ deed_at call rest from to =
     else if call == 12 then Explains from
     else if call == 13 then Reads from (answer_at (slice_index rest 0))
     else if call == 14 then Finds from (target_at (slice_index rest 0))
-    else Overwrites from (answer_at (slice_index rest 0))
+    else if call == 15 then Overwrites from (answer_at (slice_index rest 0))
+    else if call == 16 then LendsReader
+    else LendsShelf from
 
 abbrev pub deed_of : List ℕ → List ℕ → List ℕ → Deed
 deed_of [] from to = deed_at 0 [] from to
@@ -115,4 +119,18 @@ changes_only ok (MakesFolder path _) = ok path
 changes_only ok (RemovesFolder path _) = ok path
 changes_only ok (RemovesAll path _) = ok path
 changes_only ok (Overwrites path _) = ok path
+changes_only ok (LendsShelf path) = ok path
 changes_only ok _ = true
+
+-- the calls that may change files, the newest first: all that do more than read, look, or lend what reads
+abbrev pub changes : List Deed → List Deed
+changes [] = []
+changes (Opens path opened ∷ before) = changes before
+changes (Explains path ∷ before) = changes before
+changes (Reads path answer ∷ before) = changes before
+changes (Finds path found ∷ before) = changes before
+changes (Identifies path file ∷ before) = changes before
+changes (Looks path kind ∷ before) = changes before
+changes (Resolves path answer ∷ before) = changes before
+changes (LendsReader ∷ before) = changes before
+changes (deed ∷ before) = deed ∷ changes before

@@ -1,10 +1,10 @@
 -- What an unpacking into a folder may change: files of the folder, when they get their names, and before that what is in
 -- a temporary folder within it.
-use Rattle.std.specs.Prelude.{ℕ, nat_le, List, [], ◌∷◌, ◌++◌, ◌==◌, codes, Bool, false, ◌&&◌, ◌||◌, if◌then◌else◌}
+use Rattle.std.specs.Prelude.{◌≡◌, ℕ, nat_le, List, [], ◌∷◌, ◌++◌, ◌==◌, codes, Bool, true, false, ◌&&◌, ◌||◌, if◌then◌else◌}
 use Rattle.std.specs.Prelude.{Option, Some, None, string_bytes}
 use Rattle.std.specs.List.{list_all}
 use Rattle.std.specs.Option.{option_map_or}
-use Rattle.uimg_unpacking.specs.Deeds.{Deed, changes_only}
+use Rattle.uimg_unpacking.specs.Deeds.{Deed, changes, changes_only}
 use Rattle.uimg_unpacking.specs.FileNames.{is_file_name}
 use Rattle.uimg_unpacking.specs.declared.begun.Begun.{Begun}
 
@@ -48,6 +48,12 @@ may_change folder is_naming path =
 -- a world changed only that
 abbrev pub stays_within : List ℕ → Bool → List Deed → Bool
 stays_within folder is_naming = list_all (changes_only (may_change folder is_naming))
+
+-- what was changed since is only that
+pub record ChangesWithin (folder : List ℕ) (is_naming : Bool) (old new : List Deed) : Type 0 where
+  pub made : List Deed
+  pub is : changes new ≡ made ++ changes old
+  pub within : stays_within folder is_naming made ≡ true
 
 -- the paths of a file that was begun
 unfoldable pub is_begun_in : List ℕ → Begun → Bool

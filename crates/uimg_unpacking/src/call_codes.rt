@@ -41,6 +41,10 @@ pub(crate) const FINDS: u64 = 14;
 
 pub(crate) const OVERWRITES: u64 = 15;
 
+pub(crate) const LENDS_READER: u64 = 16;
+
+pub(crate) const LENDS_SHELF: u64 = 17;
+
 /// Returns the number of an answer.
 pub(crate) fn code_of<X>(answer: &io::Result<X>) -> u64
     ensures { answer_at result ≡ answer_of answer.now }

@@ -19,8 +19,8 @@ use uimg_base::{FileSource, SourceFault};
 /// honest.
 #[derive(Drop)]
 pub struct DiskWorld<'a, R: Files + AllocGlobal> {
-    rt: &'a R,
-    record: Record,
+    pub(crate) rt: &'a R,
+    pub(crate) record: Record,
     refusals: u64,
 }
 
@@ -53,6 +53,14 @@ impl<'a, R: Files + AllocGlobal> World for DiskWorld<'a, R> {
 
     fn alloc(&self) -> Global {
         self.rt.alloc()
+    }
+
+    fn part(&self) -> DiskWorld<'a, R> {
+        DiskWorld::new(self.rt)
+    }
+
+    fn rejoin(&mut self, part: DiskWorld<'a, R>) {
+        self.record = part.record.after(&self.record);
     }
 
     fn open(&mut self, path: &str) -> Result<FileSource<R::File>, SourceFault> {

@@ -1,15 +1,15 @@
 //! The folder for payloads and parts, and the paths of their files.
 
 ghost use Rattle.std.specs.Prelude.{◌≡◌, ◌++◌, codes, IfOk, string_bytes, decimal, false, true, ℕ, List, Bool};
+ghost use Rattle.uimg_base.specs.Named.{SameFiles};
 ghost use Rattle.uimg_unpacking.specs.Allowing.{Allows};
 ghost use Rattle.uimg_unpacking.specs.Cleaning.{MayBeIn, SeeksImage, CleansAt, removal, is_at_or_below, ends_name};
 ghost use Rattle.uimg_unpacking.specs.Deeds.{answer_of};
 ghost use Rattle.uimg_unpacking.specs.Kinds.{is_no_link};
-ghost use Rattle.uimg_unpacking.specs.Places.{is_temporary_folder, stays_within};
+ghost use Rattle.uimg_unpacking.specs.Places.{ChangesWithin, is_temporary_folder, stays_within};
 ghost use Rattle.uimg_unpacking.specs.Refusing.{refused_of};
 ghost use Rattle.uimg_unpacking.specs.Troubles.{done_in};
 
-use crate::disk_world::DiskWorld;
 use crate::file_id::FileId;
 use crate::kind::Kind;
 use crate::trouble::{ShownPath, Trouble};
@@ -17,7 +17,6 @@ use crate::world::World;
 use std::alloc::{AllocError, Global};
 use std::io;
 use std::io::{ErrorKind, Write};
-use std::rt::Files;
 
 /// How many names are tried for a temporary folder. Commands that were stopped left those that exist.
 const TRIED: u32 = 10_000;
@@ -104,13 +103,20 @@ impl<'a> Folder<'a> {
 
     /// Removes the files and folders without a name in it, which commands that were stopped have
     /// left, with a line for each on `out`. Stops before one that is the image at a path, or has it.
-    pub fn clean<R: Files + AllocGlobal, O: Write>(
+    #[tactic(auto, using(crate::proofs::PartChanges::within))]
+    pub fn clean<W: World, O: Write>(
         &self,
-        rt: &R,
+        world: &mut W,
         image: Option<&str>,
         out: &mut O,
-    ) -> Result<(), Trouble> {
-        self.clean_in(&mut DiskWorld::new(rt), rt.alloc(), image, out)
+    ) -> Result<(), Trouble>
+        ensures within { ChangesWithin self.now.path.now false (W.trace world.old) (W.trace world.new) }
+        ensures files { SameFiles (W.map world.old) (W.map world.new) }
+    {
+        let mut part = world.part();
+        let cleaned = self.clean_in(&mut part, world.alloc(), image, out);
+        world.rejoin(part);
+        cleaned
     }
 
     fn clean_in<W: World, O: Write>(

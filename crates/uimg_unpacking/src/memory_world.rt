@@ -1,6 +1,6 @@
 //! Files in memory, which can be opened and read.
 
-ghost use Rattle.std.specs.Prelude.{◌≡◌, ◌∷◌, [], true};
+ghost use Rattle.std.specs.Prelude.{◌≡◌, ◌∷◌, [], IsErr, true};
 ghost use Rattle.std.specs.Option.{option_map};
 ghost use Rattle.uimg_base.specs.Named.{bytes_named};
 ghost use Rattle.uimg_unpacking.specs.Deeds.{Answer, answer_of, deed_of};
@@ -25,9 +25,9 @@ const FAILED: u64 = 2;
 /// path or wait for names, and no file is found by which it is (`file_at`).
 #[derive(Drop)]
 pub struct MemoryWorld<'a> {
-    alloc: Global,
-    files: &'a [(&'a [u8], &'a [u8])],
-    record: Record,
+    pub(crate) alloc: Global,
+    pub(crate) files: &'a [(&'a [u8], &'a [u8])],
+    pub(crate) record: Record,
     refusals: u64,
 }
 
@@ -50,21 +50,10 @@ impl<'a> MemoryWorld<'a> {
         }
     }
 
-    // Returns the bytes of the first file at a path.
-    fn bytes_at(&self, path: &str) -> Option<&'a [u8]>
-        ensures { option_map (λ bytes. bytes.now) result ≡ bytes_named path.now self.now.files.now }
-    {
-        for (known, bytes) in self.files {
-            if *known == path.as_bytes() {
-                return Some(*bytes);
-            }
-        }
-        None
-    }
-
     // Notes a call, and returns that it failed.
     fn refuse<X>(&mut self, call: u64, path: &str, other: &str) -> io::Result<X>
         ensures failed { answer_of result ≡ Answer.Failed }
+        ensures refused { IsErr result }
         ensures noted { self.new.record.deeds
             ≡ deed_of (call ∷ 2 ∷ []) path.now other.now ∷ self.old.record.deeds }
         ensures files { self.new.files ≡ self.old.files }
@@ -93,8 +82,21 @@ impl<'a> World for MemoryWorld<'a> {
         self.alloc
     }
 
+    fn part(&self) -> MemoryWorld<'a> {
+        MemoryWorld {
+            alloc: self.alloc,
+            files: self.files,
+            record: Record::new(),
+            refusals: 0,
+        }
+    }
+
+    fn rejoin(&mut self, part: MemoryWorld<'a>) {
+        self.record = part.record.after(&self.record);
+    }
+
     fn open(&mut self, path: &str) -> Result<MemSource<'a>, SourceFault> {
-        match self.bytes_at(path) {
+        match bytes_at(self.files, path) {
             Some(bytes) => {
                 self.record.note(&[OPENS, 0], path.as_bytes(), b"");
                 Ok(MemSource::new(bytes))
@@ -113,7 +115,7 @@ impl<'a> World for MemoryWorld<'a> {
     }
 
     fn read(&mut self, path: &str) -> io::Result<MemoryFile<'a>> {
-        match self.bytes_at(path) {
+        match bytes_at(self.files, path) {
             Some(bytes) => {
                 self.record.note(&[READS, 0], path.as_bytes(), b"");
                 Ok(MemoryFile::new(bytes))
@@ -123,7 +125,7 @@ impl<'a> World for MemoryWorld<'a> {
     }
 
     fn target_of(&mut self, path: &str) -> Target {
-        let target = match self.bytes_at(path) {
+        let target = match bytes_at(self.files, path) {
             Some(_) => Target::File,
             None => Target::Nothing,
         };
@@ -174,7 +176,7 @@ impl<'a> World for MemoryWorld<'a> {
     }
 
     fn kind_at(&mut self, path: &str) -> Kind {
-        let kind = match self.bytes_at(path) {
+        let kind = match bytes_at(self.files, path) {
             Some(_) => Kind::File,
             None => Kind::Nothing,
         };
@@ -187,4 +189,16 @@ impl<'a> World for MemoryWorld<'a> {
         self.record.note(&[IDENTIFIES], path.as_bytes(), b"");
         None
     }
+}
+
+/// Returns the bytes of the first file at a path.
+pub(crate) fn bytes_at<'a>(files: &'a [(&'a [u8], &'a [u8])], path: &str) -> Option<&'a [u8]>
+    ensures { option_map (λ bytes. bytes.now) result ≡ bytes_named path.now files.entry.now }
+{
+    for (known, bytes) in files {
+        if *known == path.as_bytes() {
+            return Some(*bytes);
+        }
+    }
+    None
 }

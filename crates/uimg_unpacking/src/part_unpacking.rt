@@ -5,12 +5,12 @@ ghost use Rattle.std.specs.Char.{is_ascii_digit};
 ghost use Rattle.std.specs.List.{list_all};
 ghost use Rattle.uimg_base.specs.Device.{SameDevice};
 ghost use Rattle.uimg_base.specs.Honest.{HonestSource, IfHonest};
+ghost use Rattle.uimg_base.specs.Named.{SameFiles};
 ghost use Rattle.uimg_base.specs.Using.{Asks};
 ghost use Rattle.uimg_legacy.specs.Unpacking.{is_part_asked};
 ghost use Rattle.uimg_unpacking.specs.PartEnds.{KeepsRight, end_of_parts, has_leading_zero, is_number, stands_by_crc32, size_at, EndsUnlessRefused};
-ghost use Rattle.uimg_unpacking.specs.Places.{stays_within};
+ghost use Rattle.uimg_unpacking.specs.Places.{ChangesWithin, stays_within};
 
-use crate::disk_world::DiskWorld;
 use crate::new_file::ErrorCode;
 use crate::part_folder::PartFolder;
 use crate::trouble::Trouble;
@@ -18,7 +18,6 @@ use crate::unpacking::Unpacking;
 use crate::world::World;
 use std::alloc::Global;
 use std::io::Write;
-use std::rt::Files;
 use uimg_base::{Algo, MULTI, Room, SCRIPT, Source, SourceFault};
 use uimg_legacy::{Fault, LegacyFault, read_header};
 
@@ -49,16 +48,20 @@ pub enum PartsEnded {
 /// requested alone. Nothing is written if something exists at one of these paths, unless files are
 /// replaced, if one leads to the image, or if there are more files or bytes than the limits allow.
 /// Files get their names once all are written; unless all get them, the folder is unchanged.
-pub fn unpack_parts<R: Files + AllocGlobal, S: Source, W: Write + Drop>(
-    rt: &R,
+#[tactic(auto, using(crate::proofs::PartChanges::within))]
+pub fn unpack_parts<W: World, S: Source, O: Write + Drop>(
+    world: &mut W,
     asked: &Unpacking<'_>,
     source: &mut S,
-    out: W,
+    out: O,
 ) -> PartsEnded
+    ensures within { ChangesWithin asked.now.folder.path.now true (W.trace world.old) (W.trace world.new) }
+    ensures files { SameFiles (W.map world.old) (W.map world.new) }
     ensures same { SameDevice (S.device source.old) (S.device source.new) }
     ensures kept { IfHonest S.device source (λ file. KeepsRight file result) }
 {
-    let (_, ended) = unpack_parts_in(DiskWorld::new(rt), rt.alloc(), asked, source, out);
+    let (part, ended) = unpack_parts_in(world.part(), world.alloc(), asked, source, out);
+    world.rejoin(part);
     ended
 }
 

@@ -4,11 +4,11 @@ ghost use Rattle.std.specs.Prelude.{◌≡◌, ◌+◌, ◌≤◌, [], true};
 ghost use Rattle.std.specs.Option.{option_map};
 ghost use Rattle.uimg_base.specs.Device.{SameDevice};
 ghost use Rattle.uimg_base.specs.Honest.{IfHonest};
+ghost use Rattle.uimg_base.specs.Named.{SameFiles};
 ghost use Rattle.uimg_fit_checking.specs.Unpacking.{as_bytes, unpack_work};
 ghost use Rattle.uimg_unpacking.specs.Ends.{asked_name, is_whole, end_of_taken, end_of_fault, TellsOverlap, EndsGiven};
-ghost use Rattle.uimg_unpacking.specs.Places.{stays_within};
+ghost use Rattle.uimg_unpacking.specs.Places.{ChangesWithin, stays_within};
 
-use crate::disk_world::DiskWorld;
 use crate::folder::Folder;
 use crate::folder_taker::FolderTaker;
 use crate::limits::Limits;
@@ -19,7 +19,6 @@ use crate::trouble::Trouble;
 use crate::world::World;
 use std::alloc::Global;
 use std::io::Write;
-use std::rt::Files;
 use uimg_base::{Algo, Room, Source};
 use uimg_fit_base::{Fault, FitFault};
 use uimg_fit_checking::{NodeName, Unpacked};
@@ -77,17 +76,21 @@ pub enum Ended {
 /// Files get their names once all are written and right. If a payload is refused, only the lines of
 /// refused ones are printed. Unless all files get their names, the folder is unchanged, except that
 /// `keeps_good` keeps the good ones, and removes what refused ones were to replace.
-pub fn unpack<R: Files + AllocGlobal, S: Source, W: Write + Drop>(
-    rt: &R,
+#[tactic(auto, using(crate::proofs::PartChanges::within))]
+pub fn unpack<W: World, S: Source, O: Write + Drop>(
+    world: &mut W,
     asked: &Unpacking<'_>,
     source: &mut S,
-    out: W,
+    out: O,
 ) -> Ended
+    ensures within { ChangesWithin asked.now.folder.path.now true (W.trace world.old) (W.trace world.new) }
+    ensures files { SameFiles (W.map world.old) (W.map world.new) }
     ensures same { SameDevice (S.device source.old) (S.device source.new) }
     ensures asked { IfHonest S.device source (λ file. (S.device source.new).asked
         ≤ (S.device source.old).asked + unpack_work file) }
 {
-    let (_, ended) = unpack_in(DiskWorld::new(rt), rt.alloc(), asked, source, out);
+    let (part, ended) = unpack_in(world.part(), world.alloc(), asked, source, out);
+    world.rejoin(part);
     ended
 }
 

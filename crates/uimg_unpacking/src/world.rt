@@ -16,7 +16,7 @@ use uimg_base::{Source, SourceFault};
 /// honest sources of the bytes that it has at a path. What a call that changes files makes of them is
 /// not claimed.
 pub trait World: Drop {
-    ghost use Rattle.std.specs.Prelude.{◌≡◌, List, ◌∷◌, None, IfOk, IsTrue, OnErr, is_err, is_ok};
+    ghost use Rattle.std.specs.Prelude.{◌≡◌, List, [], ◌∷◌, ◌++◌, None, Some, IfOk, IsTrue, OnErr, is_err, is_ok};
     ghost use Rattle.uimg_base.specs.{Device.RisesIf, Named.{FileMap, SameFiles, Opens}};
     ghost use Rattle.uimg_unpacking.specs.Deeds.{Deed, answer_of, resolved};
 
@@ -34,6 +34,17 @@ pub trait World: Drop {
 
     /// Returns the allocator of the program's memory.
     fn alloc(&self) -> Global;
+
+    /// Returns the same files as a world of their own, which was not asked for anything yet. What it
+    /// is asked for belongs to this world, too, once it is rejoined.
+    fn part(&self) -> Self
+        ensures trace { trace result ≡ [] }
+        ensures same { SameFiles (map self.now) (map result) };
+
+    /// Notes what a part of the world was asked for.
+    fn rejoin(&mut self, part: Self)
+        ensures noted { trace self.new ≡ trace part ++ trace self.old }
+        ensures same { SameFiles (map self.old) (map self.new) };
 
     /// Opens the file at a path as a source, of which nothing was requested yet.
     ///
@@ -65,9 +76,12 @@ pub trait World: Drop {
         ensures noted { trace self.new ≡ Deed.Finds path.now result ∷ trace self.old }
         ensures same { SameFiles (map self.old) (map self.new) };
 
-    /// Opens the file at a path to be written to, without its bytes, or creates it.
+    /// Opens the file at a path to be written to, without its bytes, or creates it. In an honest
+    /// world, contracts know that it is empty.
     fn create(&mut self, path: &str) -> io::Result<Self::File>
-        ensures { trace self.new ≡ Deed.Overwrites path.now (answer_of result) ∷ trace self.old };
+        ensures noted { trace self.new ≡ Deed.Overwrites path.now (answer_of result) ∷ trace self.old }
+        ensures empty { IsTrue (map self.old).honest →
+            IfOk result (λ file. Self.File.contents file ≡ Some []) };
 
     /// Creates a file where nothing exists.
     fn create_new(&mut self, path: &str) -> io::Result<Self::File>

@@ -5,8 +5,8 @@ use Rattle.uimg_tool.proofs.check_program.check_images.Goals as goal
 
 pub returns-clause-told : goal.returns-clause-told
 returns-clause-told g c =
-    request_told _ c.args.request.now c.check_all-ended.result c.found-found.result c.tell_ended.result _ _ _ (told g.W.Write.contents c.check_all-ended.new.self) c.tell_ended.ensures.status c.found-found.ensures (search rules)
-    c.check_all-ended.ensures.told (search rules)
+    request_told _ c.args.request.now c.check_all-ended.result c.found-found.result c.tell_ended.result _ _ _ _ _ (told g.W.Write.contents c.check_all-ended.new.self (g.D.World.trace c.check_all-ended.new.world)) c.tell_ended.ensures.status c.found-found.ensures (search rules)
+    c.check_all-ended.ensures.told (search rules) (search rules)
 
 pub returns-clause-flushed : goal.returns-clause-flushed
 returns-clause-flushed g c =

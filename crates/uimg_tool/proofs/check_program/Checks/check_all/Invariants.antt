@@ -2,7 +2,7 @@ use Rattle.std.proofs.Common.{◌≡◌, [], drop, map}
 use Rattle.std.specs.Io.Buffered.{writer_buffer}
 use Rattle.uimg_base.specs.Named.{SameFiles}
 use Rattle.uimg_tool.specs.Checks.{AnswersEach, Told, told}
-use Rattle.uimg_tool.specs.Reading.{changes}
+use Rattle.uimg_unpacking.specs.Deeds.{changes}
 use Rattle.uimg_tool.specs.Statuses.{Grows}
 use Rattle.uimg_tool.proofs.check_program.Checks.check_all.Given as goal
 
@@ -13,5 +13,5 @@ invariant-loop-path g l =
     × (writer_buffer l.fn.self.out ≡ [] → writer_buffer l.self.out ≡ [])
     × SameFiles (g.D.World.map l.fn.world) (g.D.World.map l.world)
     × (changes (g.D.World.trace l.world) ≡ changes (g.D.World.trace l.fn.world))
-    × ((last : Told) → AnswersEach (g.D.World.map l.fn.world) l.request (map (λ path. path.now) (drop l.path-index l.path-items)) (told g.W.Write.contents l.self) last
-    → AnswersEach (g.D.World.map l.fn.world) l.request (map (λ path. path.now) l.path-items) (told g.W.Write.contents l.fn.self) last)
+    × ((last : Told) → AnswersEach (g.D.World.map l.fn.world) l.request (map (λ path. path.now) (drop l.path-index l.path-items)) (told g.W.Write.contents l.self (g.D.World.trace l.world)) last
+    → AnswersEach (g.D.World.map l.fn.world) l.request (map (λ path. path.now) l.path-items) (told g.W.Write.contents l.fn.self (g.D.World.trace l.fn.world)) last)

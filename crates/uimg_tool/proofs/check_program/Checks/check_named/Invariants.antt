@@ -1,9 +1,9 @@
 use Rattle.std.proofs.Common.{◌≡◌, ℕ, List, [], true}
 use Rattle.std.specs.{Io.{Buffered.writer_buffer, Iter.split_byte}, List.list_all}
 use Rattle.uimg_base.specs.Named.{SameFiles}
-use Rattle.uimg_tool.specs.Checks.{AnswersEach, names_end, told}
+use Rattle.uimg_tool.specs.Checks.{AnswersEach, after_names, names_end, told}
 use Rattle.uimg_tool.specs.Paths.{bytes_left, is_name}
-use Rattle.uimg_tool.specs.Reading.{changes}
+use Rattle.uimg_unpacking.specs.Deeds.{changes}
 use Rattle.uimg_tool.specs.Statuses.{Grows}
 use Rattle.uimg_tool.proofs.PathLaws.{Left}
 use Rattle.uimg_tool.proofs.check_program.Checks.check_named.Given as goal
@@ -22,4 +22,5 @@ invariant-loop-name g l =
     × (changes (g.D.World.trace l.world) ≡ changes (g.D.World.trace l.fn.world))
     × (split_byte l.name-iterator ≡ names_end l.request)
     × ((names : List (List ℕ)) × (list_all is_name names ≡ true) × Left (names_end l.request) whole known names
-    × AnswersEach files l.request names (told g.W.Write.contents l.fn.self) (told g.W.Write.contents l.self))
+    × AnswersEach files l.request names (after_names l.fn.path.now (told g.W.Write.contents l.fn.self (g.D.World.trace l.fn.world)))
+    (told g.W.Write.contents l.self (g.D.World.trace l.world)))

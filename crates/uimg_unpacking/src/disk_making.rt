@@ -1,0 +1,48 @@
+//! What the files of the operating system lend for the making of an image.
+
+ghost use Rattle.std.specs.Prelude.{None, false};
+
+use crate::call_codes::*;
+use crate::disk_looks::open_source;
+use crate::disk_world::DiskWorld;
+use crate::file_id::FileId;
+use crate::making_world::{MakingWorld, Reader};
+use std::rt::Files;
+use uimg_base::{FileShelf, FileSource, SourceFault};
+
+/// What opens the files of the operating system. No contract says what they have, so it is not
+/// claimed to be honest.
+#[derive(Drop)]
+pub struct DiskReader<'a, R: Files + AllocGlobal> {
+    rt: &'a R,
+}
+
+impl<'a, R: Files + AllocGlobal> Reader for DiskReader<'a, R> {
+    type Opened = FileSource<R::File>;
+
+    ghost map = { λ _. record { bytes = λ _. None; honest = false; complete = false; refusals = 0 } };
+
+    fn open(&mut self, path: &str) -> Result<FileSource<R::File>, SourceFault> {
+        open_source(self.rt, path)
+    }
+
+    fn file_at(&mut self, path: &str) -> Option<FileId> {
+        FileId::of(self.rt, path)
+    }
+}
+
+impl<'a, R: Files + AllocGlobal> MakingWorld<'a> for DiskWorld<'a, R> {
+    type Reader = DiskReader<'a, R>;
+
+    type Shelf = FileShelf<'a, R>;
+
+    fn reader(&mut self) -> DiskReader<'a, R> {
+        self.record.note(&[LENDS_READER], b"", b"");
+        DiskReader { rt: self.rt }
+    }
+
+    fn shelf_at(&mut self, path: &'a str) -> FileShelf<'a, R> {
+        self.record.note(&[LENDS_SHELF], path.as_bytes(), b"");
+        FileShelf::new(self.rt, path)
+    }
+}

@@ -1,0 +1,58 @@
+//! A world of files in which images are made.
+
+use crate::file_id::FileId;
+use crate::world::World;
+use uimg_base::{Shelf, Source, SourceFault};
+
+/// What opens the files of a world, and finds which they are. It changes none, and so is lent to
+/// what makes an image while that is written.
+pub trait Reader: Drop {
+    ghost use Rattle.std.specs.Prelude.{◌≡◌, IfOk, is_err};
+    ghost use Rattle.uimg_base.specs.{Device.RisesIf, Named.{FileMap, SameFiles, Opens}};
+
+    /// What a file is opened as.
+    type Opened: Source;
+
+    /// The bytes at each path.
+    ghost map: { Self → FileMap };
+
+    /// Opens the file at a path as a source, of which nothing was requested yet.
+    ///
+    /// Returns `SourceFault` if the file cannot be opened, is a folder, or has no known length, as a
+    /// pipe.
+    fn open(&mut self, path: &str) -> Result<Self::Opened, SourceFault>
+        ensures same { SameFiles (map self.old) (map self.new) }
+        ensures opened { IfOk result (λ opened.
+            Opens (map self.old) path.now (Self.Opened.device opened)) };
+
+    /// Returns the file at a path, if there is one; links are followed.
+    fn file_at(&mut self, path: &str) -> Option<FileId>
+        ensures { SameFiles (map self.old) (map self.new) };
+}
+
+/// A world in which images are made. It lends a reader of its files, and shelves for new ones.
+pub trait MakingWorld<'p>: World {
+    ghost use Rattle.std.specs.Prelude.{◌≡◌, ◌∷◌, [], Some, IsTrue};
+    ghost use Rattle.uimg_base.specs.Named.{SameFiles};
+    ghost use Rattle.uimg_unpacking.specs.Deeds.{Deed};
+
+    /// What opens its files.
+    type Reader: Reader;
+
+    /// What an image is written to.
+    type Shelf: Shelf;
+
+    /// Lends a reader of its files.
+    fn reader(&mut self) -> Self::Reader
+        ensures noted { Self.trace self.new ≡ Deed.LendsReader ∷ Self.trace self.old }
+        ensures same { SameFiles (Self.map self.old) (Self.map self.new) }
+        ensures map { SameFiles (Self.map self.old) (Self.Reader.map result) };
+
+    /// Lends a shelf in the file at a path, which the first write creates or empties. In an honest
+    /// world it is honest, and nothing is on it yet.
+    fn shelf_at(&mut self, path: &'p str) -> Self::Shelf
+        ensures noted { Self.trace self.new ≡ Deed.LendsShelf path.now ∷ Self.trace self.old }
+        ensures same { SameFiles (Self.map self.old) (Self.map self.new) }
+        ensures honest { IsTrue (Self.map self.old).honest → IsTrue Self.Shelf.honest }
+        ensures empty { IsTrue (Self.map self.old).honest → Self.Shelf.contents result ≡ Some [] };
+}

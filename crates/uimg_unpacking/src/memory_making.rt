@@ -1,0 +1,56 @@
+//! What files in memory lend for the making of an image.
+
+ghost use Rattle.std.specs.Prelude.{true};
+ghost use Rattle.uimg_base.specs.Named.{bytes_named};
+
+use crate::call_codes::*;
+use crate::file_id::FileId;
+use crate::making_world::{MakingWorld, Reader};
+use crate::memory_world::{MemoryWorld, bytes_at};
+use std::alloc::Global;
+use uimg_base::{MemShelf, MemSource, SourceFault};
+
+/// What opens files in memory. No file is found by which it is.
+#[derive(Drop)]
+pub struct MemoryReader<'a> {
+    files: &'a [(&'a [u8], &'a [u8])],
+}
+
+impl<'a> Reader for MemoryReader<'a> {
+    type Opened = MemSource<'a>;
+
+    ghost map = { λ reader. record {
+      bytes = λ path. bytes_named path reader.files.now;
+      honest = true;
+      complete = true;
+      refusals = 0;
+    } };
+
+    fn open(&mut self, path: &str) -> Result<MemSource<'a>, SourceFault> {
+        match bytes_at(self.files, path) {
+            Some(bytes) => Ok(MemSource::new(bytes)),
+            None => Err(SourceFault),
+        }
+    }
+
+    fn file_at(&mut self, _path: &str) -> Option<FileId> {
+        None
+    }
+}
+
+/// A shelf of this world is in memory, and what it keeps is at no path.
+impl<'a> MakingWorld<'a> for MemoryWorld<'a> {
+    type Reader = MemoryReader<'a>;
+
+    type Shelf = MemShelf<Global>;
+
+    fn reader(&mut self) -> MemoryReader<'a> {
+        self.record.note(&[LENDS_READER], b"", b"");
+        MemoryReader { files: self.files }
+    }
+
+    fn shelf_at(&mut self, path: &'a str) -> MemShelf<Global> {
+        self.record.note(&[LENDS_SHELF], path.as_bytes(), b"");
+        MemShelf::new(self.alloc)
+    }
+}
