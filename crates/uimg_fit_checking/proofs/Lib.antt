@@ -6,5 +6,6 @@ pub mod CheckCountLaws
 pub mod UnpackLaws
 pub mod ClaimLaws
 pub mod TakeLaws
+pub mod EndedLaws
 pub mod UnpackedLaws
 pub mod SurveyLaws

@@ -96,13 +96,13 @@ take_paid file only image span asked middle new it is inside one two =
     omega (arith, size, length-slice file span.place span.length inside, one, two, some_nodes (hashes image), hashes_allowed image)
 
 -- an image, and those after it
-takes_more : (need : Option Algo) (only : Option (List ℕ)) (file : List ℕ) (image : NodeOf Spot) (more : List (NodeOf Spot))
+pub takes_more : (need : Option Algo) (only : Option (List ℕ)) (file : List ℕ) (image : NodeOf Spot) (more : List (NodeOf Spot))
     → takes need only file (image ∷ more)
     ≡ (if is_asked only image.name then take_of need image (bytes_or_none (payload file image)) ∷ takes need only file more else takes need only file more)
 unfolding takes
 takes_more need only file image more = refl
 
-no_takes : (need : Option Algo) (only : Option (List ℕ)) (file : List ℕ) → takes need only file [] ≡ []
+pub no_takes : (need : Option Algo) (only : Option (List ℕ)) (file : List ℕ) → takes need only file [] ≡ []
 unfolding takes
 no_takes need only file = refl
 

@@ -167,6 +167,28 @@ Unpacks (Err (of.Fit fault)) told old new = (told ≡ Err (of.Fit fault)) × (ne
 Unpacks (Err of.Read) told old new = StopsIn told old new
 Unpacks (Err of.Put) told old new = StopsIn told old new
 
+-- What a result says of a file, whatever the taker does with what it is given: the outcome of the
+-- definition, unless memory was refused or a device failed.
+abbrev pub EndsAs : Result Unpacked Fault → Result UnpackOutcome Fault → Type 0
+EndsAs (Ok (Taken all)) (Ok (taken ts)) = all ≡ list_all is_kept ts
+EndsAs (Ok (Overlapping name)) (Ok (overlaps its)) = as_bytes name ≡ its
+EndsAs (Ok found) told = ⊥
+EndsAs (Err (of.Blob fault at)) told = refuses_memory fault ≡ false → told ≡ Err (of.Blob fault at)
+EndsAs (Err (of.Fit fault)) told = told ≡ Err (of.Fit fault)
+EndsAs (Err of.Read) told = ⊤
+EndsAs (Err of.Put) told = ⊤
+
+-- What was given in a call: the result says whether each payload of it is kept.
+pub record GivesBy (all : Bool) (old new : List Take) : Type 0 where
+  pub given : List Take
+  pub is : new ≡ old ++ given
+  pub kept : all ≡ list_all is_kept given
+
+-- What a result says of what was given, whatever the source returned.
+abbrev pub Gives : Unpacked → List Take → List Take → Type 0
+Gives (Taken all) old new = GivesBy all old new
+Gives (Overlapping name) old new = new ≡ old
+
 -- the most bytes requested: all taken payloads have at most the file's length together
 abbrev pub unpack_work : List ℕ → ℕ
 unpack_work file = own_meta file + length file

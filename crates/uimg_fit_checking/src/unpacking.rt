@@ -1,9 +1,9 @@
 //! Unpacks the payloads of a FIT image: each is summed while it is written, kept if it is right.
 
-ghost use Rattle.std.specs.Prelude.{◌≡◌, IsTrue};
+ghost use Rattle.std.specs.Prelude.{◌≡◌, IfOk, IsTrue};
 ghost use Rattle.std.specs.Option.{option_map};
 ghost use Rattle.uimg_base.specs.Honest.{IfHonest};
-ghost use Rattle.uimg_fit_checking.specs.Unpacking.{Unpacks, unpack_of, unpack_work, as_bytes};
+ghost use Rattle.uimg_fit_checking.specs.Unpacking.{Unpacks, EndsAs, Gives, unpack_of, unpack_work, as_bytes};
 ghost use Rattle.uimg_fit_checking.specs.Claiming.{ClaimsTo, claims_of};
 ghost use Rattle.uimg_fit_reading.specs.Rooms.{TakesOut};
 
@@ -47,7 +47,9 @@ pub enum Unpacked {
 /// refused, and the next one follows. Each byte of a payload is requested once. So what an honest
 /// taker keeps has the digest that is given with it, even if the source changes between reads. Over
 /// an honest source at most the file's length is requested beside metadata, and an honest taker is
-/// given exactly what the definition says of each payload.
+/// given exactly what the definition says of each payload. Over an honest source the result is that
+/// of the definition too, for any taker, unless memory was refused or a device failed. Over any
+/// source, an honest taker that was given a refused payload never has `Taken(true)` returned.
 ///
 /// Returns the faults of the blob, then `NoImages`, then `NoData` and `DataOutside` of the images
 /// in their order, all before anything is given; nothing is given either if payloads overlap.
@@ -64,7 +66,11 @@ pub fn unpack<S: Source, A: Allocator, T: Taker>(
     ensures place { T.place taker.new ≡ T.place taker.old }
     ensures told { IfHonest S.device source (λ file. IsTrue T.honest → Unpacks result
         (unpack_of need (option_map as_bytes only) file) (T.takes taker.old) (T.takes taker.new)) }
-    ensures claimed { IfHonest S.device source (λ file. IsTrue T.honest → IsTrue T.notes → ClaimsTo
+    ensures given { IsTrue T.honest → IfOk result
+        (λ found. Gives found (T.takes taker.old) (T.takes taker.new)) }
+    ensures ended { IfHonest S.device source (λ file.
+        EndsAs result (unpack_of need (option_map as_bytes only) file)) }
+    ensures claimed { IfHonest S.device source (λ file. IsTrue T.notes → ClaimsTo
         (claims_of (option_map as_bytes only) file) result (T.claimed taker.old)
         (T.claimed taker.new)) }
 {

@@ -1,15 +1,16 @@
 //! Takes payloads one after the other: each is written while it is summed, then kept or refused.
 
-ghost use Rattle.std.specs.Prelude.{◌≡◌, ◌≤◌, ◌+◌, ◌*◌, true, Some, Ok, length, IsTrue};
+ghost use Rattle.std.specs.Prelude.{◌≡◌, ◌≤◌, ◌+◌, ◌*◌, true, Some, Ok, length, IfOk, IsTrue};
 ghost use Rattle.std.specs.List.{sum_by};
 ghost use Rattle.std.specs.Option.{option_map};
 ghost use Rattle.uimg_blob_reading.specs.LookUps.{hashes};
 ghost use Rattle.uimg_blob_reading.specs.Roles.{in_images};
 ghost use Rattle.uimg_fit_base.specs.Places.{payload};
 ghost use Rattle.uimg_fit_reading.specs.Nodes.{OfNode, OfNodes, HasNode, HasNodes};
-ghost use Rattle.uimg_fit_checking.specs.Unpacking.{take_of, takes, as_bytes, bytes_or_none, is_asked};
-ghost use Rattle.uimg_fit_checking.specs.UnpackingParts.{LeavesImage, TakesTo, TakesRequested, TakesAll, Fitting, size_if, take_allowance};
+ghost use Rattle.uimg_fit_checking.specs.Unpacking.{GivesBy, take_of, takes, as_bytes, bytes_or_none, is_asked};
+ghost use Rattle.uimg_fit_checking.specs.UnpackingParts.{LeavesImage, TakesTo, TakesRequested, TakesAll, EndsImage, EndsAll, Fitting, size_if, take_allowance};
 ghost use Rattle.uimg_fit_reading.specs.Puts.{Pays};
+ghost use Rattle.uimg_fit_reading.specs.Values.{in_span};
 
 use crate::unpacking::copies::take_payload;
 use crate::unpacking::refusals::{refusal_of, vouched_by};
@@ -44,6 +45,12 @@ fn take_requested<S: Source, A: Allocator, T: Taker>(
         OfNode (S.device source.old) blob.now room.old in_images payload.image (λ found.
         TakesRequested need found payload (S.device source.old).bytes result
         (T.takes taker.old) (T.takes taker.new)) }
+    ensures given { IsTrue T.honest → IfOk result
+        (λ all. GivesBy all (T.takes taker.old) (T.takes taker.new)) }
+    ensures ended { OfNode (S.device source.old) blob.now room.old in_images payload.image
+        (λ found. EndsImage true
+        (take_of need found (in_span (S.device source.old).bytes payload.span))
+        result (Ok (in_span (S.device source.old).bytes payload.span))) }
 {
     let shelf = taker.shelf(&payload.name)?;
     let first = first_hash(blob, room, payload.image);
@@ -80,6 +87,12 @@ fn take_image<S: Source, A: Allocator, T: Taker>(
         (take_of request.need found (bytes_or_none (payload (S.device source.old).bytes found)))
         result (payload (S.device source.old).bytes found)
         (T.takes taker.old) (T.takes taker.new)) }
+    ensures given { IsTrue T.honest → IfOk result
+        (λ all. GivesBy all (T.takes taker.old) (T.takes taker.new)) }
+    ensures ended { OfNode (S.device source.old) blob.now room.old in_images image
+        (λ found. EndsImage (is_asked (option_map as_bytes request.only) found.name)
+        (take_of request.need found (bytes_or_none (payload (S.device source.old).bytes found)))
+        result (payload (S.device source.old).bytes found)) }
 {
     match find_requested(source, blob, room, image, request.only)? {
         Some(payload) => take_requested(source, blob, room, payload, request.need, taker),
@@ -107,6 +120,12 @@ pub(super) fn take_images<S: Source, A: Allocator, T: Taker>(
         (λ found. Fitting (option_map as_bytes request.only) (S.device source.old).bytes found
         (TakesAll (takes request.need (option_map as_bytes request.only)
         (S.device source.old).bytes found) result (T.takes taker.old) (T.takes taker.new))) }
+    ensures given { IsTrue T.honest → IfOk result
+        (λ all. GivesBy all (T.takes taker.old) (T.takes taker.new)) }
+    ensures ended { OfNodes (S.device source.old) blob.now room.old in_images first
+        (λ found. Fitting (option_map as_bytes request.only) (S.device source.old).bytes found
+        (EndsAll (takes request.need (option_map as_bytes request.only)
+        (S.device source.old).bytes found) result)) }
 {
     let mut all = true;
     let mut next = first;

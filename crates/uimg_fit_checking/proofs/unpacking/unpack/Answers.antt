@@ -3,10 +3,11 @@ use Rattle.std.specs.Prelude.{Ok, Err}
 use Rattle.std.specs.List.{sum_by}
 use Rattle.std.specs.Option.{option_map}
 use Rattle.uimg_fit_reading.specs.Nodes.{Opened}
-use Rattle.uimg_fit_checking.specs.Unpacking.{takes, as_bytes}
-use Rattle.uimg_fit_checking.specs.UnpackingParts.{ClaimsImagesBetween, TakesAll, Fitting, take_allowance}
+use Rattle.uimg_fit_checking.specs.Unpacking.{Take, GivesBy, takes, as_bytes}
+use Rattle.uimg_fit_checking.specs.UnpackingParts.{ClaimsImagesBetween, TakesAll, EndsAll, Fitting, take_allowance}
 use Rattle.uimg_fit_reading.proofs.OpenedLaws.{still}
 use Rattle.uimg_fit_checking.proofs.UnpackedLaws.{unpack_is, unpack_refused, unpack_overlaps, fitting, unpack_taken, unpack_stops, unpack_within, claims_is, claims_treeless, claims_by, claims_before_fault}
+use Rattle.uimg_fit_checking.proofs.EndedLaws.{ends_refused, ends_overlapping, ends_taken, ends_stopped}
 use Rattle.uimg_fit_checking.specs.declared.unpacking.node_names.NodeName.{NodeName}
 use Rattle.uimg_fit_checking.specs.Claiming.{Claim}
 use Rattle.uimg_fit_checking.proofs.unpacking.unpack.Goals as goal
@@ -188,13 +189,13 @@ returns-clause-told g c = λ honest shelf.
     unpack_taken _ _ (takes c.args.need only file found.found) c.in_ok-all.all _ _ _ is fits (c.claim_images.ensures.none_given shelf) given
 
 pub returns-in_err-blob-clause-claimed : goal.returns-in_err-blob-clause-claimed
-returns-in_err-blob-clause-claimed g c = λ honest shelf known.
+returns-in_err-blob-clause-claimed g c = λ honest known.
     let fault = c.in_err-blob.field-0.0 in
     let is : c.from_residual.result ≡ Err fault = search rules in
     claims_treeless _ _ _ fault c.from_residual.result _ _ is (c.in_err-blob.ensures.gives honest)
 
 pub returns-in_err-name-clause-claimed : goal.returns-in_err-name-clause-claimed
-returns-in_err-name-clause-claimed g c = λ honest shelf known.
+returns-in_err-name-clause-claimed g c = λ honest known.
     let d = g.S.Source.device in
     let file = (d c.args.source.now).bytes in
     let only = option_map as_bytes c.args.only in
@@ -211,7 +212,7 @@ returns-in_err-name-clause-claimed g c = λ honest shelf known.
     claims_by (Option NodeName) _ file only found.found fault c.from_residual-in_err-name.result _ _ _ answer named (claims.claimed known)
 
 pub returns-in-Some-clause-claimed : goal.returns-in-Some-clause-claimed
-returns-in-Some-clause-claimed g c = λ honest shelf known.
+returns-in-Some-clause-claimed g c = λ honest known.
     let d = g.S.Source.device in
     let file = (d c.args.source.now).bytes in
     let only = option_map as_bytes c.args.only in
@@ -226,7 +227,7 @@ returns-in-Some-clause-claimed g c = λ honest shelf known.
     claims.claimed known ∙ ap (λ (l : List Claim). g.T.Taker.claimed c.args.taker.now ++ l) (sym named)
 
 pub returns-in_err-all-clause-claimed : goal.returns-in_err-all-clause-claimed
-returns-in_err-all-clause-claimed g c = λ honest shelf known.
+returns-in_err-all-clause-claimed g c = λ honest known.
     let d = g.S.Source.device in
     let file = (d c.args.source.now).bytes in
     let only = option_map as_bytes c.args.only in
@@ -243,12 +244,12 @@ returns-in_err-all-clause-claimed g c = λ honest shelf known.
     let bytes = c.claim_images.ensures.leaves.uses.same.bytes ∙ same.bytes in
     let fault = c.in_err-all.field-0.0 in
     let answer : c.from_residual-in_err-all.result ≡ Err fault = search rules in
-    let given = subst (λ (xs : List ℕ). Fitting only xs found.found (TakesAll (takes c.args.need only xs found.found) (Err fault) (g.T.Taker.takes c.claim_images.new.taker) (g.T.Taker.takes c.take_images.new.taker))) bytes
-    (c.in_err-all.ensures.told shelf h.nodes there found.found found.from) fits in
-    claims_before_fault _ fault c.from_residual-in_err-all.result _ _ _ _ _ _ _ _ answer named given (claims.claimed known) (c.take_images.ensures.none_claimed known)
+    let ended = subst (λ (xs : List ℕ). Fitting only xs found.found (EndsAll (takes c.args.need only xs found.found) (Err fault))) bytes
+    (c.in_err-all.ensures.ended h.nodes there found.found found.from) fits in
+    claims_before_fault _ fault c.from_residual-in_err-all.result _ _ (takes c.args.need only file found.found) _ _ _ answer named ended (claims.claimed known) (c.take_images.ensures.none_claimed known)
 
 pub returns-clause-claimed : goal.returns-clause-claimed
-returns-clause-claimed g c = λ honest shelf known.
+returns-clause-claimed g c = λ honest known.
     let d = g.S.Source.device in
     let file = (d c.args.source.now).bytes in
     let only = option_map as_bytes c.args.only in
@@ -261,3 +262,84 @@ returns-clause-claimed g c = λ honest shelf known.
     (c.in_ok-name.ensures.told h.nodes here found.found found.from) in
     let named = claims_is file h.nodes only found.found h.read.is found.is in
     c.take_images.ensures.none_claimed known ∙ claims.claimed known ∙ ap (λ (l : List Claim). g.T.Taker.claimed c.args.taker.now ++ l) (sym named)
+
+pub returns-in_err-name-clause-ended : goal.returns-in_err-name-clause-ended
+returns-in_err-name-clause-ended g c = λ honest.
+    let d = g.S.Source.device in
+    let file = (d c.args.source.now).bytes in
+    let only = option_map as_bytes c.args.only in
+    let h = c.in_ok-blob.ensures.gives honest in
+    let found = c.in_ok-first.ensures.told h.nodes h.read.indexed in
+    let same = c.read_tree.ensures.inspects.uses.same in
+    let opened : Opened (d c.args.source.now) c.in_ok-blob.blob c.read_tree.new.room h.nodes = record { honest = honest; read = h.read } in
+    let here = still same refl opened in
+    let claims = subst (λ (xs : List ℕ). ClaimsImagesBetween xs only found.found (d c.read_tree.new.source).asked (d c.claim_images.new.source).asked (Err c.in_err-name.field-0.0) g.T.Taker.notes (g.T.Taker.claimed c.args.taker.now) (g.T.Taker.claimed c.claim_images.new.taker)) same.bytes
+    (c.in_err-name.ensures.told h.nodes here found.found found.from) in
+    let is = unpack_is file h.nodes c.args.need only found.found h.read.is found.is in
+    let fault = c.in_err-name.field-0.0 in
+    let answer : c.from_residual-in_err-name.result ≡ Err fault = search rules in
+    ends_refused _ _ (takes c.args.need only file found.found) fault c.from_residual-in_err-name.result answer is claims.told
+
+pub returns-in-Some-clause-ended : goal.returns-in-Some-clause-ended
+returns-in-Some-clause-ended g c = λ honest.
+    let d = g.S.Source.device in
+    let file = (d c.args.source.now).bytes in
+    let only = option_map as_bytes c.args.only in
+    let h = c.in_ok-blob.ensures.gives honest in
+    let found = c.in_ok-first.ensures.told h.nodes h.read.indexed in
+    let same = c.read_tree.ensures.inspects.uses.same in
+    let opened : Opened (d c.args.source.now) c.in_ok-blob.blob c.read_tree.new.room h.nodes = record { honest = honest; read = h.read } in
+    let here = still same refl opened in
+    let claims = subst (λ (xs : List ℕ). ClaimsImagesBetween xs only found.found (d c.read_tree.new.source).asked (d c.claim_images.new.source).asked (Ok c.in_ok-name.field-0) g.T.Taker.notes (g.T.Taker.claimed c.args.taker.now) (g.T.Taker.claimed c.claim_images.new.taker)) same.bytes
+    (c.in_ok-name.ensures.told h.nodes here found.found found.from) in
+    let is = unpack_is file h.nodes c.args.need only found.found h.read.is found.is in
+    ends_overlapping _ _ (takes c.args.need only file found.found) c.in-Some.name c.in_ok-name.field-0 is c.in-Some.is claims.told
+
+pub returns-in_err-all-clause-ended : goal.returns-in_err-all-clause-ended
+returns-in_err-all-clause-ended g c = λ honest.
+    let d = g.S.Source.device in
+    let file = (d c.args.source.now).bytes in
+    let only = option_map as_bytes c.args.only in
+    let h = c.in_ok-blob.ensures.gives honest in
+    let found = c.in_ok-first.ensures.told h.nodes h.read.indexed in
+    let same = c.read_tree.ensures.inspects.uses.same in
+    let opened : Opened (d c.args.source.now) c.in_ok-blob.blob c.read_tree.new.room h.nodes = record { honest = honest; read = h.read } in
+    let here = still same refl opened in
+    let claims = subst (λ (xs : List ℕ). ClaimsImagesBetween xs only found.found (d c.read_tree.new.source).asked (d c.claim_images.new.source).asked (Ok c.in_ok-name.field-0) g.T.Taker.notes (g.T.Taker.claimed c.args.taker.now) (g.T.Taker.claimed c.claim_images.new.taker)) same.bytes
+    (c.in_ok-name.ensures.told h.nodes here found.found found.from) in
+    let fits = fitting _ c.in_ok-name.field-0 c.in_default.is claims.told in
+    let there = still c.claim_images.ensures.leaves.uses.same c.claim_images.ensures.leaves.room here in
+    let bytes = c.claim_images.ensures.leaves.uses.same.bytes ∙ same.bytes in
+    let is = unpack_is file h.nodes c.args.need only found.found h.read.is found.is in
+    let fault = c.in_err-all.field-0.0 in
+    let answer : c.from_residual-in_err-all.result ≡ Err fault = search rules in
+    let ended = subst (λ (xs : List ℕ). Fitting only xs found.found (EndsAll (takes c.args.need only xs found.found) (Err fault))) bytes
+    (c.in_err-all.ensures.ended h.nodes there found.found found.from) fits in
+    ends_stopped _ (takes c.args.need only file found.found) fault c.from_residual-in_err-all.result answer ended
+
+pub returns-clause-ended : goal.returns-clause-ended
+returns-clause-ended g c = λ honest.
+    let d = g.S.Source.device in
+    let file = (d c.args.source.now).bytes in
+    let only = option_map as_bytes c.args.only in
+    let h = c.in_ok-blob.ensures.gives honest in
+    let found = c.in_ok-first.ensures.told h.nodes h.read.indexed in
+    let same = c.read_tree.ensures.inspects.uses.same in
+    let opened : Opened (d c.args.source.now) c.in_ok-blob.blob c.read_tree.new.room h.nodes = record { honest = honest; read = h.read } in
+    let here = still same refl opened in
+    let claims = subst (λ (xs : List ℕ). ClaimsImagesBetween xs only found.found (d c.read_tree.new.source).asked (d c.claim_images.new.source).asked (Ok c.in_ok-name.field-0) g.T.Taker.notes (g.T.Taker.claimed c.args.taker.now) (g.T.Taker.claimed c.claim_images.new.taker)) same.bytes
+    (c.in_ok-name.ensures.told h.nodes here found.found found.from) in
+    let fits = fitting _ c.in_ok-name.field-0 c.in_default.is claims.told in
+    let there = still c.claim_images.ensures.leaves.uses.same c.claim_images.ensures.leaves.room here in
+    let bytes = c.claim_images.ensures.leaves.uses.same.bytes ∙ same.bytes in
+    let is = unpack_is file h.nodes c.args.need only found.found h.read.is found.is in
+    let ended = subst (λ (xs : List ℕ). Fitting only xs found.found (EndsAll (takes c.args.need only xs found.found) (Ok c.in_ok-all.all))) bytes
+    (c.in_ok-all.ensures.ended h.nodes there found.found found.from) fits in
+    ends_taken _ _ (takes c.args.need only file found.found) c.in_ok-all.all is fits ended
+
+pub returns-in-Some-clause-given : goal.returns-in-Some-clause-given
+returns-in-Some-clause-given g c = λ honest. c.claim_images.ensures.none_given honest
+
+pub returns-clause-given : goal.returns-clause-given
+returns-clause-given g c = λ honest.
+    subst (λ (l : List Take). GivesBy c.in_ok-all.all l (g.T.Taker.takes c.take_images.new.taker)) (c.claim_images.ensures.none_given honest) (c.in_ok-all.ensures.given honest)

@@ -1,14 +1,16 @@
-use Rattle.std.proofs.Common.{rules, ◌≡◌, ℕ, List, length, Option, IfSome, refl, ap, subst, sym}
+use Rattle.std.proofs.Common.{rules, ◌≡◌, ℕ, List, length, Option, true, IfSome, refl, ap, subst, sym}
 use Rattle.std.specs.Prelude.{Ok, Err}
 use Rattle.std.specs.Option.{option_map}
 use Rattle.uimg_texts.specs.Slices.{slice}
 use Rattle.uimg_blob_reading.specs.Roles.{in_images}
 use Rattle.uimg_fit_reading.specs.Nodes.{IsNode}
+use Rattle.uimg_fit_reading.specs.Values.{in_span}
 use Rattle.uimg_fit_checking.specs.declared.unpacking.requested.Requested.{Requested}
-use Rattle.uimg_fit_checking.specs.Unpacking.{as_bytes}
-use Rattle.uimg_fit_checking.specs.UnpackingParts.{IsPayloadOf, TellsFound}
+use Rattle.uimg_fit_checking.specs.Unpacking.{as_bytes, take_of}
+use Rattle.uimg_fit_checking.specs.UnpackingParts.{IsPayloadOf, TellsFound, EndsImage}
 use Rattle.uimg_fit_reading.proofs.OpenedLaws.{still}
 use Rattle.uimg_fit_checking.proofs.TakeLaws.{takes_skips, takes_lacks, takes_there, take_paid}
+use Rattle.uimg_fit_checking.proofs.EndedLaws.{gives_none, ends_skipped, ends_lacking, ends_there}
 use Rattle.uimg_fit_checking.proofs.unpacking.takes.take_image.Goals as goal
 
 pub returns-in_err-payload-clause-told : goal.returns-in_err-payload-clause-told
@@ -46,3 +48,32 @@ returns-in-Some-clause-told g c = λ honest t o found n.
     let message = slice file it.span.place it.span.length in
     let cut = ap (λ (xs : List ℕ). slice xs it.span.place it.span.length) (sym same.bytes) in
     takes_there file only c.args.request.need found message c.take_requested.result _ _ finds.asked finds.is (c.take_requested.ensures.told honest t (still same refl o) found node finds.named message cut)
+
+pub returns-in_err-payload-clause-ended : goal.returns-in_err-payload-clause-ended
+returns-in_err-payload-clause-ended g c = λ t o found n.
+    let file = (g.S.Source.device c.args.source.now).bytes in
+    let fault = c.in_err-payload.field-0.0 in
+    let is : c.from_residual.result ≡ Err fault = search rules in
+    ends_lacking file (option_map as_bytes c.args.request.only) _ found fault c.from_residual.result is (c.in_err-payload.ensures.told t o found n)
+
+pub returns-in-None-clause-ended : goal.returns-in-None-clause-ended
+returns-in-None-clause-ended g c = λ t o found n.
+    let file = (g.S.Source.device c.args.source.now).bytes in
+    let only = option_map as_bytes c.args.request.only in
+    ends_skipped file only _ found (subst (λ (x : Option Requested). TellsFound only file found (Ok x)) c.in-None.is (c.in_ok-payload.ensures.told t o found n))
+
+pub returns-in-Some-clause-ended : goal.returns-in-Some-clause-ended
+returns-in-Some-clause-ended g c = λ t o found n.
+    let file = (g.S.Source.device c.args.source.now).bytes in
+    let only = option_map as_bytes c.args.request.only in
+    let it = c.in-Some.payload in
+    let its = subst (λ (x : Option Requested). IfSome x (IsPayloadOf c.args.image (length file))) c.in-Some.is c.in_ok-payload.ensures.its in
+    let finds = subst (λ (x : Option Requested). TellsFound only file found (Ok x)) c.in-Some.is (c.in_ok-payload.ensures.told t o found n) in
+    let node = subst (λ (k : ℕ). IsNode t in_images k found) (sym its.number) n in
+    let same = c.find_requested.ensures.uses.same in
+    let ended = subst (λ (xs : List ℕ). EndsImage true (take_of c.args.request.need found (in_span xs it.span)) c.take_requested.result (Ok (in_span xs it.span))) same.bytes
+    (c.take_requested.ensures.ended t (still same refl o) found node) in
+    ends_there file only c.args.request.need found (in_span file it.span) c.take_requested.result finds.asked finds.is ended
+
+pub returns-in-None-clause-given : goal.returns-in-None-clause-given
+returns-in-None-clause-given g c = λ honest. gives_none (g.T.Taker.takes c.args.taker.now)

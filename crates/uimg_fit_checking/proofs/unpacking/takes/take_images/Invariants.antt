@@ -6,9 +6,10 @@ use Rattle.uimg_blob_reading.specs.LookUps.{NodeOf}
 use Rattle.uimg_blob_reading.specs.Roles.{in_images}
 use Rattle.uimg_blob_reading.specs.Spots.{Spot}
 use Rattle.uimg_fit_reading.specs.Nodes.{Opened, AreFrom}
-use Rattle.uimg_fit_checking.specs.Unpacking.{as_bytes}
+use Rattle.uimg_fit_checking.specs.Unpacking.{as_bytes, GivesBy}
 use Rattle.uimg_fit_checking.specs.UnpackingParts.{Fitting}
 use Rattle.uimg_fit_checking.proofs.TakeLaws.{LeftToPay, LeftToTake}
+use Rattle.uimg_fit_checking.proofs.EndedLaws.{LeftToEnd}
 use Rattle.uimg_fit_checking.proofs.unpacking.takes.take_images.Given as goal
 
 -- what is left to be paid for and to be taken, of payloads that do not overlap
@@ -28,6 +29,9 @@ invariant-loop-next g l =
           → Fitting only file found (LeftToPay t file only found (device l.fn.source).asked (device l.source).asked l.next);
       told : IsTrue g.T.Taker.honest → (t : Siblings) → Opened (device l.fn.source) l.blob l.fn.room t → (found : List (NodeOf Spot)) → AreFrom t in_images l.fn.first found
           → Fitting only file found (LeftToTake t file l.request.need only found l.all (g.T.Taker.takes l.fn.taker) (g.T.Taker.takes l.taker) l.next);
+      given : IsTrue g.T.Taker.honest → GivesBy l.all (g.T.Taker.takes l.fn.taker) (g.T.Taker.takes l.taker);
+      ended : (t : Siblings) → Opened (device l.fn.source) l.blob l.fn.room t → (found : List (NodeOf Spot)) → AreFrom t in_images l.fn.first found
+          → Fitting only file found (LeftToEnd t file l.request.need only found l.all l.next);
     }
 
 abbrev pub decreases-loop-next : goal.decreases-loop-next

@@ -1,4 +1,4 @@
-use Rattle.std.proofs.Common.{◌≡◌, ◌∙◌, ℕ, List, [], ◌∷◌, ◌++◌, Option, None, true, refl, ap, subst, sym, arith}
+use Rattle.std.proofs.Common.{◌≡◌, ◌∙◌, ℕ, List, [], ◌∷◌, ◌++◌, Option, None, true, false, refl, ap, subst, sym, arith}
 use Rattle.std.specs.Prelude.{Ok}
 use Rattle.std.specs.Option.{option_map}
 use Rattle.uimg_texts.specs.Slices.{slice}
@@ -6,10 +6,12 @@ use Rattle.uimg_base.specs.Sink.{Sink}
 use Rattle.uimg_blob_reading.specs.LookUps.{hashes}
 use Rattle.uimg_fit_checking.specs.declared.unpacking.taker.Refusal.{Refusal}
 use Rattle.uimg_fit_checking.specs.Checks.{wrong_in, or_weak}
-use Rattle.uimg_fit_checking.specs.Unpacking.{Take, kept, as_bytes, take_of, told_of}
+use Rattle.uimg_fit_checking.specs.Unpacking.{Take, kept, refused, as_bytes, take_of, told_of, is_kept}
 use Rattle.uimg_fit_checking.specs.UnpackingParts.{TakesTo}
+use Rattle.uimg_fit_reading.specs.Values.{in_span}
 use Rattle.uimg_fit_reading.proofs.OpenedLaws.{still}
 use Rattle.uimg_fit_checking.proofs.TakeLaws.{filled_by, kept_is}
+use Rattle.uimg_fit_checking.proofs.EndedLaws.{is_right, is_wrong, gives_one}
 use Rattle.uimg_fit_checking.proofs.unpacking.takes.take_requested.Goals as goal
 
 pub returns-in_err-set-clause-paid : goal.returns-in_err-set-clause-paid
@@ -80,3 +82,44 @@ returns-clause-told g c = λ honest t o found n named message is.
     subst (λ (xs : List ℕ). TakesTo true (take_of c.args.need found xs) (Ok true) (Ok xs) (g.T.Taker.takes c.args.taker.now) (g.T.Taker.takes c.keep.new.self)) whole
     (kept_is c.args.need found taken.message (as_bytes c.args.payload.name) _ c.vouched_by.result (Ok taken.message) _ _ named none (taken.set ∙ algos.algos) (c.vouched_by.ensures taken.message taken.digests)
     (given ∙ ap (λ (l : List Take). l ++ kept (as_bytes c.args.payload.name) taken.message c.vouched_by.result ∷ []) (c.in_ok-shelf.ensures.same honest)))
+
+pub returns-in-Some-clause-ended : goal.returns-in-Some-clause-ended
+returns-in-Some-clause-ended g c = λ t o found n.
+    let d = g.S.Source.device in
+    let span = c.args.payload.span in
+    let at = c.first_hash-first.ensures.hashes t o.read.indexed found n in
+    let algos = c.in_ok-set.ensures.found t o (hashes found) at in
+    let same = c.compared_algos.ensures.uses.same in
+    let taken = c.in_ok-digests.ensures.taken in
+    let there = still c.take_payload.ensures.uses.same c.take_payload.ensures.room (still same refl o) in
+    let its = c.in_ok-refusal.ensures.told t there found n taken.message taken.digests (taken.set ∙ algos.algos) in
+    let whole = subst (λ (xs : List ℕ). taken.message ≡ in_span xs span) same.bytes (taken.right (still same refl o).honest) in
+    let wrong = ap (λ (x : Option Refusal). option_map (told_of found.name) x) (sym c.in-Some.is) ∙ its.told in
+    is_wrong c.args.need found taken.message c.in-Some.refusal wrong ∙ ap (λ (xs : List ℕ). is_kept (take_of c.args.need found xs)) whole
+
+pub returns-clause-ended : goal.returns-clause-ended
+returns-clause-ended g c = λ t o found n.
+    let d = g.S.Source.device in
+    let span = c.args.payload.span in
+    let at = c.first_hash-first.ensures.hashes t o.read.indexed found n in
+    let algos = c.in_ok-set.ensures.found t o (hashes found) at in
+    let same = c.compared_algos.ensures.uses.same in
+    let taken = c.in_ok-digests.ensures.taken in
+    let there = still c.take_payload.ensures.uses.same c.take_payload.ensures.room (still same refl o) in
+    let its = c.in_ok-refusal.ensures.told t there found n taken.message taken.digests (taken.set ∙ algos.algos) in
+    let whole = subst (λ (xs : List ℕ). taken.message ≡ in_span xs span) same.bytes (taken.right (still same refl o).honest) in
+    let right = ap (λ (x : Option Refusal). option_map (told_of found.name) x) (sym c.in_default.is) ∙ its.told in
+    is_right c.args.need found taken.message right ∙ ap (λ (xs : List ℕ). is_kept (take_of c.args.need found xs)) whole
+
+pub returns-clause-given : goal.returns-clause-given
+returns-clause-given g c = λ honest.
+    let taken = c.in_ok-digests.ensures.taken in
+    let one = kept (as_bytes c.args.payload.name) taken.message c.vouched_by.result in
+    let holds = c.into_inner-shelf.ensures ∙ filled_by _ _ taken.message (ap (λ (s : Sink). s.contents) c.new-out.ensures ∙ c.in_ok-shelf.ensures.empty honest) taken.wrote.appended in
+    gives_one one true _ _ (c.in_ok-keep.ensures.given honest taken.message holds ∙ ap (λ (l : List Take). l ++ one ∷ []) (c.in_ok-shelf.ensures.same honest)) refl
+
+pub returns-in-Some-clause-given : goal.returns-in-Some-clause-given
+returns-in-Some-clause-given g c = λ honest.
+    let name = as_bytes c.args.payload.name in
+    let one = refused name (told_of name c.in-Some.refusal) in
+    gives_one one false _ _ (c.in_ok-refuse.ensures.given honest ∙ ap (λ (l : List Take). l ++ one ∷ []) (c.in_ok-shelf.ensures.same honest)) refl

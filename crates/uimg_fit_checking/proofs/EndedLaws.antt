@@ -1,0 +1,167 @@
+-- How unpacking ends, whatever its taker does.
+use Rattle.std.proofs.Common.{◌≡◌, ℕ, List, [], ◌∷◌, ◌++◌, length, Option, Some, None, Bool, true, false, ◌&&◌, refl, ap, sym, ◌∙◌, subst}
+use Rattle.std.specs.Prelude.{Result, Ok, Err, is_ok, if◌then◌else◌}
+use Rattle.std.specs.List.{list_all}
+use Rattle.std.specs.Option.{option_map}
+use Rattle.std.proofs.Math.Bool.{and-true}
+use Rattle.std.proofs.lemmas.List.{append_assoc, append-nil}
+use Rattle.std.proofs.lemmas.List.Folds.{list_all-append}
+use Rattle.uimg_sums.specs.declared.algo.Algo.{Algo}
+use Rattle.uimg_blob_reading.specs.Grammar.{Siblings}
+use Rattle.uimg_blob_reading.specs.LookUps.{NodeOf, hashes}
+use Rattle.uimg_blob_reading.specs.Roles.{in_images}
+use Rattle.uimg_blob_reading.proofs.PhaseLaws.{true_false}
+use Rattle.uimg_blob_reading.specs.Spots.{Spot}
+use Rattle.uimg_fit_base.specs.declared.fault.Fault.{Fault}
+use Rattle.uimg_fit_base.specs.declared.fault.Fault.TheVariants as of
+use Rattle.uimg_fit_base.specs.declared.fault.FitFault.{FitFault}
+use Rattle.uimg_fit_base.specs.Places.{payload}
+use Rattle.uimg_fit_reading.specs.Nodes.{AreFrom}
+use Rattle.uimg_fit_checking.specs.declared.unpacking.Unpacked.{Unpacked}
+use Rattle.uimg_fit_checking.specs.declared.unpacking.Unpacked.TheVariants.{Taken, Overlapping}
+use Rattle.uimg_fit_checking.specs.declared.unpacking.node_names.NodeName.{NodeName}
+use Rattle.uimg_fit_checking.specs.declared.unpacking.taker.Refusal.{Refusal}
+use Rattle.uimg_fit_checking.specs.Checks.{NamedFinding, wrong_in, or_weak}
+use Rattle.uimg_fit_checking.specs.Unpacking.{Take, UnpackOutcome, taken, overlaps, take_by, take_of, told_of, is_asked, bytes_or_none, is_kept, takes, overlapping, told_or_fault, as_bytes, EndsAs, GivesBy}
+use Rattle.uimg_fit_checking.specs.UnpackingParts.{TellsFound, ClaimsAll, EndsImage, EndsAll}
+use Rattle.uimg_fit_checking.proofs.ClaimLaws.{fits_first}
+use Rattle.uimg_fit_checking.proofs.TakeLaws.{takes_more, no_takes}
+use Rattle.uimg_fit_reading.proofs.ImageLaws.{none_left}
+
+-- a payload is kept if no refusal was found, else not
+pub is_right : (need : Option Algo) (image : NodeOf Spot) (message : List ℕ) → None ≡ or_weak (wrong_in image.name message (hashes image)) need image → true ≡ is_kept (take_of need image message)
+is_right need image message told = ap (λ (o : Option NamedFinding). is_kept (take_by image message o)) told
+
+pub is_wrong : (need : Option Algo) (image : NodeOf Spot) (message : List ℕ) (refusal : Refusal) → Some (told_of image.name refusal) ≡ or_weak (wrong_in image.name message (hashes image)) need image
+    → false ≡ is_kept (take_of need image message)
+is_wrong need image message refusal told = ap (λ (o : Option NamedFinding). is_kept (take_by image message o)) told
+
+-- an image that is not asked for
+pub ends_skipped : (file : List ℕ) (only : Option (List ℕ)) (one : Take) (image : NodeOf Spot) → is_asked only image.name ≡ false → EndsImage (is_asked only image.name) one (Ok true) (payload file image)
+ends_skipped file only one image is = sym (ap (λ (b : Bool). if b then is_kept one else true) is)
+
+-- one whose payload is not there, or was not found
+lacks_it : (file : List ℕ) (only : Option (List ℕ)) (one : Take) (image : NodeOf Spot) (fault : Fault) → TellsFound only file image (Err fault) → EndsImage (is_asked only image.name) one (Err fault) (payload file image)
+lacks_it file only one image (of.Blob fault at) tells = absurd tells
+lacks_it file only one image (of.Fit fault) tells = tells
+lacks_it file only one image of.Read tells = tt
+lacks_it file only one image of.Put tells = tt
+
+pub ends_lacking : (file : List ℕ) (only : Option (List ℕ)) (one : Take) (image : NodeOf Spot) (fault : Fault) (r : Result Bool Fault) → r ≡ Err fault → TellsFound only file image (Err fault)
+    → EndsImage (is_asked only image.name) one r (payload file image)
+ends_lacking file only one image fault r is tells = subst (λ (x : Result Bool Fault). EndsImage (is_asked only image.name) one x (payload file image)) (sym is) (lacks_it file only one image fault tells)
+
+-- one whose payload is there
+pub ends_there : (file : List ℕ) (only : Option (List ℕ)) (need : Option Algo) (image : NodeOf Spot) (message : List ℕ) (r : Result Bool Fault) → is_asked only image.name ≡ true → payload file image ≡ Ok message
+    → EndsImage true (take_of need image message) r (Ok message)
+    → EndsImage (is_asked only image.name) (take_of need image (bytes_or_none (payload file image))) r (payload file image)
+ends_there file only need image message r asked is ended =
+    subst (λ (p : Result (List ℕ) FitFault). EndsImage (is_asked only image.name) (take_of need image (bytes_or_none p)) r p) (sym is)
+    (subst (λ (b : Bool). EndsImage b (take_of need image message) r (Ok message)) (sym asked) ended)
+
+-- What was kept so far, with what is still to be kept, is all.
+pub record LeftToEnd (t : Siblings) (file : List ℕ) (need : Option Algo) (only : Option (List ℕ)) (found : List (NodeOf Spot)) (all : Bool) (next : Option ℕ) : Type 0 where
+  pub rest : List (NodeOf Spot)
+  pub from : AreFrom t in_images next rest
+  pub left : ℕ
+  pub fits : overlapping only file left rest ≡ Ok None
+  pub joined : (all && list_all is_kept (takes need only file rest)) ≡ list_all is_kept (takes need only file found)
+
+pub end_first : (t : Siblings) (file : List ℕ) (need : Option Algo) (only : Option (List ℕ)) (found : List (NodeOf Spot)) (next : Option ℕ) → AreFrom t in_images next found
+    → overlapping only file (length file) found ≡ Ok None → LeftToEnd t file need only found true next
+end_first t file need only found next from fits = record { rest = found; from = from; left = length file; fits = fits; joined = refl }
+
+-- one more, if it is asked for
+with_one : (b all ok : Bool) (one : Take) (later : List Take) → ok ≡ (if b then is_kept one else true) → ((all && ok) && list_all is_kept later) ≡ (all && list_all is_kept (if b then one ∷ later else later))
+with_one b false ok one later is = refl
+with_one true true ok one later is =
+    ap (λ (x : Bool). x && list_all is_kept later) (is ∙ sym (and-true (is_kept one))) ∙ sym (list_all-append is_kept (one ∷ []) later)
+with_one false true ok one later is = ap (λ (x : Bool). x && list_all is_kept later) is
+
+pub end_more : (t : Siblings) (file : List ℕ) (need : Option Algo) (only : Option (List ℕ)) (found : List (NodeOf Spot)) (all ok : Bool) (next : Option ℕ)
+    (k : LeftToEnd t file need only found all next) → (image : NodeOf Spot) (more : List (NodeOf Spot)) → k.rest ≡ image ∷ more → (following : Option ℕ)
+    → EndsImage (is_asked only image.name) (take_of need image (bytes_or_none (payload file image))) (Ok ok) (payload file image)
+    → AreFrom t in_images following more → LeftToEnd t file need only found (all && ok) following
+end_more t file need only found all ok next k image more are following ended from =
+    let f = fits_first only file k.left image more (sym (ap (overlapping only file k.left) are) ∙ k.fits) in
+    let one = take_of need image (bytes_or_none (payload file image)) in
+    record {
+      rest = more;
+      from = from;
+      left = f.rest;
+      fits = f.fits;
+      joined = with_one (is_asked only image.name) all ok one (takes need only file more) ended
+          ∙ sym (ap (λ (l : List Take). all && list_all is_kept l) (ap (takes need only file) are ∙ takes_more need only file image more)) ∙ k.joined;
+    }
+
+-- a device failed
+cut : (b : Bool) (one : Take) (fault : Fault) (p : Result (List ℕ) FitFault) (ts : List Take) → (b ≡ true → is_ok p ≡ true) → EndsImage b one (Err fault) p → EndsAll ts (Err fault)
+cut b one (of.Blob fault at) p ts there ended = ended
+cut b one (of.Fit fault) p ts there ended = true_false (sym (there ended.0) ∙ ap (λ (r : Result (List ℕ) FitFault). is_ok r) ended.1)
+cut b one of.Read p ts there ended = tt
+cut b one of.Put p ts there ended = tt
+
+pub end_cut : (t : Siblings) (file : List ℕ) (need : Option Algo) (only : Option (List ℕ)) (found : List (NodeOf Spot)) (all : Bool) (next : Option ℕ)
+    (k : LeftToEnd t file need only found all next) → (image : NodeOf Spot) (more : List (NodeOf Spot)) → k.rest ≡ image ∷ more → (fault : Fault)
+    → EndsImage (is_asked only image.name) (take_of need image (bytes_or_none (payload file image))) (Err fault) (payload file image)
+    → EndsAll (takes need only file found) (Err fault)
+end_cut t file need only found all next k image more are fault ended =
+    let f = fits_first only file k.left image more (sym (ap (overlapping only file k.left) are) ∙ k.fits) in
+    cut (is_asked only image.name) (take_of need image (bytes_or_none (payload file image))) fault (payload file image) (takes need only file found) f.there ended
+
+-- all were taken
+pub end_done : (t : Siblings) (file : List ℕ) (need : Option Algo) (only : Option (List ℕ)) (found : List (NodeOf Spot)) (all : Bool) (next : Option ℕ) → next ≡ None
+    → LeftToEnd t file need only found all next → EndsAll (takes need only file found) (Ok all)
+end_done t file need only found all next none k =
+    let nothing : k.rest ≡ [] = none_left t in_images k.rest (subst (λ (o : Option ℕ). AreFrom t in_images o k.rest) none k.from) in
+    sym (ap (λ (l : List Take). all && list_all is_kept l) (ap (takes need only file) nothing ∙ no_takes need only file) ∙ and-true all) ∙ k.joined
+
+-- an image is refused
+refuses : (told : Result UnpackOutcome Fault) (o : Result (Option (List ℕ)) FitFault) (ts : List Take) (fault : Fault) → told ≡ told_or_fault o ts → ClaimsAll o (Err fault) → EndsAs (Err fault) told
+refuses told o ts (of.Blob fault at) same claims = absurd claims
+refuses told o ts (of.Fit fault) same claims = same ∙ ap (λ (x : Result (Option (List ℕ)) FitFault). told_or_fault x ts) claims
+refuses told o ts of.Read same claims = tt
+refuses told o ts of.Put same claims = tt
+
+pub ends_refused : (told : Result UnpackOutcome Fault) (o : Result (Option (List ℕ)) FitFault) (ts : List Take) (fault : Fault) (r : Result Unpacked Fault) → r ≡ Err fault → told ≡ told_or_fault o ts → ClaimsAll o (Err fault) → EndsAs r told
+ends_refused told o ts fault r is same claims = subst (λ (x : Result Unpacked Fault). EndsAs x told) (sym is) (refuses told o ts fault same claims)
+
+-- payloads overlap
+pub ends_overlapping : (told : Result UnpackOutcome Fault) (o : Result (Option (List ℕ)) FitFault) (ts : List Take) (name : NodeName) (found : Option NodeName) → told ≡ told_or_fault o ts → found ≡ Some name
+    → o ≡ Ok (option_map as_bytes found) → EndsAs (Ok (Overlapping name)) told
+ends_overlapping told o ts name found same is claims =
+    let all : told ≡ Ok (overlaps (as_bytes name)) =
+    same ∙ ap (λ (x : Result (Option (List ℕ)) FitFault). told_or_fault x ts) (claims ∙ ap (λ (f : Option NodeName). let r : Result (Option (List ℕ)) FitFault = Ok (option_map as_bytes f) in r) is) in
+    subst (λ (r : Result UnpackOutcome Fault). EndsAs (Ok (Overlapping name)) r) (sym all) refl
+
+-- they don't
+pub ends_taken : (told : Result UnpackOutcome Fault) (o : Result (Option (List ℕ)) FitFault) (ts : List Take) (all : Bool) → told ≡ told_or_fault o ts → o ≡ Ok None → EndsAll ts (Ok all) → EndsAs (Ok (Taken all)) told
+ends_taken told o ts all same fits ended =
+    let whole : told ≡ Ok (taken ts) = same ∙ ap (λ (x : Result (Option (List ℕ)) FitFault). told_or_fault x ts) fits in
+    subst (λ (r : Result UnpackOutcome Fault). EndsAs (Ok (Taken all)) r) (sym whole) ended
+
+stops : (ts : List Take) (fault : Fault) (told : Result UnpackOutcome Fault) → EndsAll ts (Err fault) → EndsAs (Err fault) told
+stops ts (of.Blob fault at) told ended = absurd ended
+stops ts (of.Fit fault) told ended = absurd ended
+stops ts of.Read told ended = tt
+stops ts of.Put told ended = tt
+
+-- a device failed while they were taken
+pub ends_stopped : (told : Result UnpackOutcome Fault) (ts : List Take) (fault : Fault) (r : Result Unpacked Fault) → r ≡ Err fault → EndsAll ts (Err fault) → EndsAs r told
+ends_stopped told ts fault r is ended = subst (λ (x : Result Unpacked Fault). EndsAs x told) (sym is) (stops ts fault told ended)
+
+-- nothing was given
+pub gives_none : (given : List Take) → GivesBy true given given
+gives_none given = record { given = []; is = sym (append-nil given); kept = refl }
+
+-- one was
+pub gives_one : (one : Take) (all : Bool) (old new : List Take) → new ≡ old ++ one ∷ [] → all ≡ is_kept one → GivesBy all old new
+gives_one one all old new is kept = record { given = one ∷ []; is = is; kept = kept ∙ sym (and-true (is_kept one)) }
+
+-- more were
+pub gives_more : (all ok : Bool) (old middle new : List Take) → GivesBy all old middle → GivesBy ok middle new → GivesBy (all && ok) old new
+gives_more all ok old middle new first last = record {
+  given = first.given ++ last.given;
+  is = last.is ∙ ap (λ (l : List Take). l ++ last.given) first.is ∙ append_assoc old first.given last.given;
+  kept = ap (λ (b : Bool). b && ok) first.kept ∙ ap (λ (b : Bool). list_all is_kept first.given && b) last.kept ∙ sym (list_all-append is_kept first.given last.given);
+}
