@@ -1,25 +1,33 @@
-//! A file in memory, which can be read.
+//! A file in memory, which can be read and written to.
 
-ghost use Rattle.std.specs.Prelude.{◌≡◌, Some};
+ghost use Rattle.std.specs.Prelude.{◌≡◌, [], Some};
 ghost use Rattle.std.specs.IoError.{error_kind};
+ghost use Rattle.std.specs.Io.{WritesAtMost, KnownBytes.{Keeps, WriteAppends}};
 ghost use Rattle.std.specs.declared.io.ErrorKind.TheVariants.{ReadOnlyFilesystem};
 
+use std::alloc::Global;
 use std::fs::{Metadata, OpenFile};
 use std::io;
 use std::io::{ErrorKind, Read, Write};
 
-/// Bytes in memory as a file, which is read from its beginning to its end. Its other calls fail.
+/// Bytes in memory as a file, which is read from its beginning to its end, and what was written to
+/// it. Its other calls fail.
 #[derive(Drop)]
 pub struct MemoryFile<'a> {
     rest: &'a [u8],
+    written: Vec<u8>,
 }
 
 impl<'a> MemoryFile<'a> {
-    /// Returns a file of these bytes, of which nothing was read yet.
-    pub(crate) fn new(rest: &'a [u8]) -> MemoryFile<'a>
-        ensures { ⟦<MemoryFile<'a> as Read>⟧.remaining result ≡ Some rest.now }
+    /// Returns a file of these bytes, of which nothing was read, and to which nothing was written.
+    pub(crate) fn new(alloc: Global, rest: &'a [u8]) -> MemoryFile<'a>
+        ensures read { ⟦<MemoryFile<'a> as Read>⟧.remaining result ≡ Some rest.now }
+        ensures written { ⟦<MemoryFile<'a> as Write>⟧.contents result ≡ Some [] }
     {
-        MemoryFile { rest }
+        MemoryFile {
+            rest,
+            written: Vec::new(alloc),
+        }
     }
 }
 
@@ -39,11 +47,20 @@ impl<'a> Read for MemoryFile<'a> {
 }
 
 impl<'a> Write for MemoryFile<'a> {
-    fn write(&mut self, _buf: &[u8]) -> io::Result<usize> {
-        Err(read_only())
+    ghost contents = { λ file. Some file.written.items };
+
+    fn write(&mut self, buf: &[u8]) -> io::Result<usize>
+        ensures bound { WritesAtMost result buf.now }
+        ensures bytes { WriteAppends (⟦<MemoryFile<'a> as Write>⟧.contents self.old)
+            (⟦<MemoryFile<'a> as Write>⟧.contents self.new) result buf.now }
+    {
+        self.written.write(buf)
     }
 
-    fn flush(&mut self) -> io::Result<()> {
+    fn flush(&mut self) -> io::Result<()>
+        ensures { Keeps (⟦<MemoryFile<'a> as Write>⟧.contents self.old)
+            (⟦<MemoryFile<'a> as Write>⟧.contents self.new) }
+    {
         Ok(())
     }
 }

@@ -1,6 +1,6 @@
-//! Files in memory, which can be opened and read.
+//! Files in memory, which can be opened and read, and new ones.
 
-ghost use Rattle.std.specs.Prelude.{◌≡◌, ◌∷◌, [], IsErr, true};
+ghost use Rattle.std.specs.Prelude.{◌≡◌, ◌∷◌, [], true};
 ghost use Rattle.std.specs.Option.{option_map};
 ghost use Rattle.uimg_base.specs.Named.{bytes_named};
 ghost use Rattle.uimg_unpacking.specs.Deeds.{Answer, answer_of, deed_of};
@@ -21,8 +21,9 @@ const FAILED: u64 = 2;
 
 /// Files in memory: pairs of a path and its bytes. Of equal paths, the first counts.
 ///
-/// They are honest and complete. Each call that would change them fails, as do those that resolve a
-/// path or wait for names, and no file is found by which it is (`file_at`).
+/// They are honest and complete. What is written to a new file is kept, but no path has it. Each
+/// other call that would change files fails, as do those that resolve a path or wait for names, and
+/// no file is found by which it is (`file_at`).
 #[derive(Drop)]
 pub struct MemoryWorld<'a> {
     pub(crate) alloc: Global,
@@ -53,7 +54,6 @@ impl<'a> MemoryWorld<'a> {
     // Notes a call, and returns that it failed.
     fn refuse<X>(&mut self, call: u64, path: &str, other: &str) -> io::Result<X>
         ensures failed { answer_of result ≡ Answer.Failed }
-        ensures refused { IsErr result }
         ensures noted { self.new.record.deeds
             ≡ deed_of (call ∷ 2 ∷ []) path.now other.now ∷ self.old.record.deeds }
         ensures files { self.new.files ≡ self.old.files }
@@ -118,7 +118,7 @@ impl<'a> World for MemoryWorld<'a> {
         match bytes_at(self.files, path) {
             Some(bytes) => {
                 self.record.note(&[READS, 0], path.as_bytes(), b"");
-                Ok(MemoryFile::new(bytes))
+                Ok(MemoryFile::new(self.alloc, bytes))
             }
             None => self.refuse(READS, path, ""),
         }
@@ -135,7 +135,8 @@ impl<'a> World for MemoryWorld<'a> {
     }
 
     fn create(&mut self, path: &str) -> io::Result<MemoryFile<'a>> {
-        self.refuse(OVERWRITES, path, "")
+        self.record.note(&[OVERWRITES, 0], path.as_bytes(), b"");
+        Ok(MemoryFile::new(self.alloc, &[]))
     }
 
     fn create_new(&mut self, path: &str) -> io::Result<MemoryFile<'a>> {
