@@ -42,7 +42,7 @@ asked_emptied : {F K : Type 0} (contents : F → Option (List ℕ)) (device : K 
 asked_emptied contents device (One it) files status before x y asked_before asked_after left flushed same answers = one contents device it files status before x y (λ fine. same (flushed fine)) answers
 asked_emptied contents device (Check it) files status before x y asked_before asked_after left flushed same answers =
     unless status (λ (z : Option (List ℕ)). (last : Told) × AnswersAll files it (nothing_told before asked_before) last × (last.text ≡ z) × (last.trace ≡ asked_after) × (status ≡ (if last.has_checked || it.allows_none then last.greatest else 2))) x y (λ fine. same (flushed fine)) answers
-asked_emptied contents device (Unpack it) files status before x y asked_before asked_after left flushed same answers = tt
+asked_emptied contents device (Unpack it) files status before x y asked_before asked_after left flushed same answers = answers
 asked_emptied contents device (Map it) files status before x y asked_before asked_after left flushed same answers = λ none.
     unless status (λ (z : Option (List ℕ)). (file : List ℕ) × (files.bytes it.image.now ≡ Some file) × IsMapAnswer file status before z) x y (λ fine. same (flushed none fine)) (answers none)
 asked_emptied contents device (Info it) files status before x y asked_before asked_after left flushed same answers =

@@ -1,5 +1,5 @@
 -- What is changed while an image is unpacked.
-use Rattle.std.proofs.Common.{◌≡◌, ℕ, List, [], ◌∷◌, ◌++◌, Bool, true, false, ◌&&◌, refl, ap, ap₂, sym, ◌∙◌}
+use Rattle.std.proofs.Common.{◌≡◌, ◌⊎◌, inl, inr, ℕ, List, [], ◌∷◌, ◌++◌, Bool, true, false, ◌&&◌, refl, ap, ap₂, sym, subst, ◌∙◌, true≢false, arith}
 use mathlib.Core.List.{append_assoc}
 use Rattle.std.proofs.lemmas.List.Folds.{list_all-append}
 use Rattle.uimg_unpacking.proofs.Placing.{stays_naming}
@@ -7,6 +7,20 @@ use Rattle.uimg_unpacking.specs.Deeds.{Deed, Opens, Identifies, changes, changes
 use Rattle.uimg_unpacking.specs.declared.file_id.FileId.{FileId}
 use Rattle.std.specs.Prelude.{Option}
 use Rattle.uimg_unpacking.specs.Places.{ChangesWithin, may_change, stays_within}
+use Rattle.uimg_base.specs.declared.status.Status.TheVariants.{Done, NotRight}
+use Rattle.uimg_checks.specs.Answers.{answer_status}
+use Rattle.uimg_checks.specs.declared.answer.Answer.{Answer, TheVariants.{Failed, Refused}}
+use Rattle.uimg_engine.specs.Headline.{is_fit}
+use Rattle.uimg_requests.specs.declared.command.Form.TheVariants as form
+use Rattle.uimg_tool.specs.{CheckEnds.AnswersEnding, UnpackEnds.{end_of, end_of_parts}, Unpackings.{IsRight, IsRightIn}}
+use Rattle.uimg_tool.specs.declared.unpack_answers.Ending.{Ending}
+use Rattle.uimg_tool.specs.declared.unpack_answers.Ending.TheVariants as ending
+use Rattle.uimg_unpacking.specs.{Ends.EndsByFile, PartEnds.KeepsRight}
+use Rattle.uimg_unpacking.specs.declared.part_unpacking.PartsEnded.{PartsEnded}
+use Rattle.uimg_unpacking.specs.declared.part_unpacking.PartsEnded.TheVariants as legacy
+use Rattle.uimg_unpacking.specs.declared.unpacking.Ended.{Ended}
+use Rattle.uimg_unpacking.specs.declared.unpacking.Ended.TheVariants as fit
+use Rattle.uimg_unpacking.specs.declared.unpacking.Unpacking.{Unpacking}
 
 both : (a b : Bool) → a ≡ true → b ≡ true → (a && b) ≡ true
 both a b p q = ap₂ (λ (x y : Bool). x && y) p q
@@ -37,3 +51,46 @@ told_after folder old middle new first same = record { made = first.made; is = s
 -- an image that was opened and looked at before
 pub looked_before : (folder path : List ℕ) (file : Option FileId) (old middle new : List Deed) → middle ≡ Identifies path file ∷ Opens path true ∷ old → ChangesWithin folder true middle new → ChangesWithin folder true old new
 looked_before folder path file old middle new looked last = record { made = last.made; is = last.is ∙ ap (λ (t : List Deed). last.made ++ changes t) looked; within = last.within }
+
+abbrev is_done : Ending → Bool
+is_done (ending.Told Done) = true
+is_done end = false
+
+differs : {P : Type 0} (end : Ending) → is_done end ≡ false → end ≡ ending.Told Done → P
+differs end other is = absurd (true≢false (sym (ap is_done is) ∙ other))
+
+-- all that is asked for is right, if all is told as kept
+pub fit_right : (asked : Unpacking) (file : List ℕ) (is : Bool) (ended : Ended) → is ≡ true → is ≡ is_fit form.Guess file → EndsByFile asked file ended → end_of ended ≡ ending.Told Done → IsRight asked file
+fit_right asked file is fit.Kept yes by ends told = subst (λ (b : Bool). IsRightIn b asked file) (sym yes ∙ by) (sym (ends refl))
+fit_right asked file is fit.Refused yes by ends told = differs (ending.Told NotRight) refl told
+fit_right asked file is fit.NoImage yes by ends told = differs ending.NoImage refl told
+fit_right asked file is (fit.Stopped fault) yes by ends told = differs (end_of (fit.Stopped fault)) refl told
+fit_right asked file is (fit.Troubled trouble) yes by ends told = differs (end_of (fit.Troubled trouble)) refl told
+
+pub parts_right : (asked : Unpacking) (file : List ℕ) (is : Bool) (ended : PartsEnded) → is ≡ false → is ≡ is_fit form.Guess file → KeepsRight file ended → end_of_parts ended ≡ ending.Told Done → IsRight asked file
+parts_right asked file is legacy.Kept not by keeps told = subst (λ (b : Bool). IsRightIn b asked file) (sym not ∙ by) keeps
+parts_right asked file is legacy.Weak not by keeps told = differs ending.Weak refl told
+parts_right asked file is (legacy.Stopped fault) not by keeps told = differs (end_of_parts (legacy.Stopped fault)) refl told
+parts_right asked file is (legacy.Troubled trouble) not by keeps told = differs (end_of_parts (legacy.Troubled trouble)) refl told
+
+-- an end that is told as an object is none of status 0
+failed : {P : Type 0} (status : ℕ) → (status ≡ 1) ⊎ (status ≡ 3) → status ≡ 0 → P
+failed status (inl one) zero = absurd (omega arith)
+failed status (inr three) zero = absurd (omega arith)
+
+shown : (end : Ending) (answer : Answer) → AnswersEnding end answer → (answer_status answer ≡ 1) ⊎ (answer_status answer ≡ 3)
+shown (ending.Told status) (Failed stop) is = inr refl
+shown (ending.Told status) (Refused stop) is = inl refl
+shown ending.Unread (Failed stop) is = inr refl
+shown ending.Unread (Refused stop) is = inl refl
+shown ending.Weak answer is = inl (ap answer_status is)
+shown ending.NoImage answer is = inl (ap answer_status is)
+shown (ending.Stopped fault) (Failed stop) is = inr refl
+shown (ending.Stopped fault) (Refused stop) is = inl refl
+shown (ending.Troubled trouble) (Failed stop) is = inr refl
+shown (ending.Troubled trouble) (Refused stop) is = inl refl
+shown end answer is = absurd is
+
+pub object_fails : {P Q : Type 0} (end : Ending) (answer : Answer) (status : ℕ) → AnswersEnding end answer → (status ≡ 3) ⊎ ((status ≡ answer_status answer) × P) → status ≡ 0 → Q
+object_fails end answer status is (inl three) zero = failed status (inr three) zero
+object_fails end answer status is (inr told) zero = failed (answer_status answer) (shown end answer is) (sym told.0 ∙ zero)

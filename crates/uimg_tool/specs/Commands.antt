@@ -8,7 +8,7 @@ use Rattle.uimg_cli.specs.declared.command_line.Request.TheVariants as asked
 use Rattle.uimg_requests.specs.declared.requests.RunRequest.{RunRequest}
 use Rattle.uimg_tool.specs.{Answering.AnswersBy, Extracting.AnswersExtraction, Facts.IsFactsAnswer, Makings.AnswersMaking, MapAnswers.IsMapAnswer}
 use Rattle.uimg_tool.specs.Checking.{AnswersRequest}
-use Rattle.uimg_tool.specs.Running.{AnswersRun, OnlyOverwrites}
+use Rattle.uimg_tool.specs.{Running.{AnswersRun, OnlyOverwrites}, Unpackings.AnswersUnpacking}
 use Rattle.uimg_unpacking.specs.Deeds.{Deed, LendsReader, LendsShelf, changes}
 use Rattle.uimg_unpacking.specs.Places.{ChangesWithin}
 
@@ -24,11 +24,11 @@ AnswersOne contents device (asked.Run it) files status old new = AnswersImage co
 AnswersOne contents device (asked.Make it) files status old new = AnswersMaking device it files status old new
 AnswersOne contents device (asked.Show text) files status old new = (status ≡ 3) ⊎ (status ≡ 0)
 
--- A request. Of an unpacking, and of a map that is drawn, nothing is claimed here.
+-- A request. Of a map that is drawn nothing is claimed here, and of what an unpacking prints.
 abbrev pub AnswersAsked : {F K : Type 0} → (F → Option (List ℕ)) → (K → Device) → Asked → FileMap → ℕ → (old new : Option (List ℕ)) → (before after : List Deed) → Type 0
 AnswersAsked contents device (One it) files status old new before after = AnswersOne contents device it files status old new
 AnswersAsked contents device (Check it) files status old new before after = AnswersRequest files it status old new before after
-AnswersAsked contents device (Unpack it) files status old new before after = ⊤
+AnswersAsked contents device (Unpack it) files status old new before after = AnswersUnpacking files it status
 AnswersAsked contents device (Map it) files status old new before after =
     it.picture ≡ None → AnswersBy files it.image.now IsMapAnswer status old new
 AnswersAsked contents device (Info it) files status old new before after =

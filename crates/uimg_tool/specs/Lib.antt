@@ -26,5 +26,6 @@ pub mod Statuses
 pub mod StrictEnds
 pub mod TreeSizes
 pub mod UnpackEnds
+pub mod Unpackings
 pub mod Verdicts
 pub mod WordAnswers

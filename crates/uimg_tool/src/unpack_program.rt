@@ -1,7 +1,9 @@
 //! Unpacks an image.
 
-ghost use Rattle.std.specs.Prelude.{◌≡◌, ◌⊎◌, false};
+ghost use Rattle.std.specs.Prelude.{◌≡◌, ◌⊎◌, IsTrue, Some, false};
+ghost use Rattle.uimg_base.specs.Honest.{IfHonest};
 ghost use Rattle.uimg_tool.specs.{Complaints.Ends, EndingStatuses.HasEndingStatus, Statuses.{is_of_command, trouble_status}};
+ghost use Rattle.uimg_tool.specs.Unpackings.{AnswersUnpacking, IsRight, RightAt};
 ghost use Rattle.uimg_unpacking.specs.{Deeds.changes, Places.ChangesWithin};
 
 use crate::check_answers::Names;
@@ -31,6 +33,8 @@ pub(crate) fn unpack_image<D: World, W: Write + Drop, V: Write>(
 ) -> u8
     ensures ends { Ends result complaints.old.count complaints.new.count }
     ensures within { ChangesWithin request.now.folder.now true (D.trace world.old) (D.trace world.new) }
+    ensures told { IsTrue (D.map world.old).honest →
+        AnswersUnpacking (D.map world.old) request.now result }
 {
     match (clean_if(world, request, out), request.image) {
         (Err(trouble), _) => tell_trouble(trouble, complaints),
@@ -46,7 +50,8 @@ fn clean_if<D: World, W: Write>(
     request: &UnpackRequest<'_>,
     out: &mut W,
 ) -> Result<(), Trouble>
-    ensures { ChangesWithin request.now.folder.now false (D.trace world.old) (D.trace world.new) }
+    ensures within { ChangesWithin request.now.folder.now false (D.trace world.old) (D.trace world.new) }
+    ensures kept { request.now.cleans ≡ false → D.map world.new ≡ D.map world.old }
 {
     if request.cleans {
         return folder_of(request, None).clean(world, request.image, out);
@@ -65,6 +70,8 @@ fn unpack_and_tell<D: World, W: Write + Drop, V: Write>(
 ) -> u8
     ensures ends { Ends result complaints.old.count complaints.new.count }
     ensures within { ChangesWithin request.now.folder.now true (D.trace world.old) (D.trace world.new) }
+    ensures done { IsTrue (D.map world.old).honest → result ≡ 0 →
+        RightAt (D.map world.old) request.now (Some path.entry) }
 {
     let ending = unpack_at(world, path, request, out);
     tell_ending(world, path, request.as_json, ending, out, complaints)
@@ -95,7 +102,9 @@ fn unpack_at<'a, D: World, W: Write + Drop>(
     request: &UnpackRequest<'a>,
     out: &mut W,
 ) -> Ending
-    ensures { ChangesWithin request.now.folder.now true (D.trace world.old) (D.trace world.new) }
+    ensures within { ChangesWithin request.now.folder.now true (D.trace world.old) (D.trace world.new) }
+    ensures done { IsTrue (D.map world.old).honest → result ≡ Ending.Told Status.Done →
+        RightAt (D.map world.old) request.now (Some path.entry) }
 {
     let Ok(mut source) = world.open(path) else {
         return Ending::Unread;
@@ -126,7 +135,9 @@ fn unpack_source<D: World, S: Source, W: Write + Drop>(
     source: &mut S,
     out: W,
 ) -> Ending
-    ensures { ChangesWithin asked.now.folder.path.now true (D.trace world.old) (D.trace world.new) }
+    ensures within { ChangesWithin asked.now.folder.path.now true (D.trace world.old) (D.trace world.new) }
+    ensures done { IfHonest S.device source (λ file. result ≡ Ending.Told Status.Done →
+        IsRight asked.now file) }
 {
     match is_fit(Form::Guess, source) {
         Ok(true) => Ending::from(unpack(world, asked, source, out)),
@@ -146,6 +157,7 @@ fn tell_ending<D: World, W: Write + Drop, V: Write>(
 ) -> u8
     ensures ends { Ends result complaints.old.count complaints.new.count }
     ensures status { as_json ≡ false → HasEndingStatus ending result }
+    ensures done { result ≡ 0 → ending ≡ Ending.Told Status.Done }
     ensures kept { changes (D.trace world.new) ≡ changes (D.trace world.old) }
 {
     match ending {
@@ -187,6 +199,7 @@ fn tell_object<D: World, W: Write + Drop, V: Write>(
     complaints: &mut Complaints<'_, V>,
 ) -> u8
     ensures ends { Ends result complaints.old.count complaints.new.count }
+    ensures done { result ≡ 0 → ending ≡ Ending.Told Status.Done }
     ensures kept { changes (D.trace world.new) ≡ changes (D.trace world.old) }
 {
     let mut names = Names::new(world.alloc());

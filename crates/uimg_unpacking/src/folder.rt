@@ -1,7 +1,6 @@
 //! The folder for payloads and parts, and the paths of their files.
 
 ghost use Rattle.std.specs.Prelude.{◌≡◌, ◌++◌, codes, IfOk, string_bytes, decimal, false, true, ℕ, List, Bool};
-ghost use Rattle.uimg_base.specs.Named.{SameFiles};
 ghost use Rattle.uimg_unpacking.specs.Allowing.{Allows};
 ghost use Rattle.uimg_unpacking.specs.Cleaning.{MayBeIn, SeeksImage, CleansAt, removal, is_at_or_below, ends_name};
 ghost use Rattle.uimg_unpacking.specs.Deeds.{answer_of};
@@ -111,7 +110,6 @@ impl<'a> Folder<'a> {
         out: &mut O,
     ) -> Result<(), Trouble>
         ensures within { ChangesWithin self.now.path.now false (W.trace world.old) (W.trace world.new) }
-        ensures files { SameFiles (W.map world.old) (W.map world.new) }
     {
         let mut part = world.part();
         let cleaned = self.clean_in(&mut part, world.alloc(), image, out);

@@ -4,7 +4,6 @@ ghost use Rattle.std.specs.Prelude.{◌≡◌, ◌+◌, ◌≤◌, [], true};
 ghost use Rattle.std.specs.Option.{option_map};
 ghost use Rattle.uimg_base.specs.Device.{SameDevice};
 ghost use Rattle.uimg_base.specs.Honest.{IfHonest};
-ghost use Rattle.uimg_base.specs.Named.{SameFiles};
 ghost use Rattle.uimg_fit_checking.specs.Unpacking.{as_bytes, unpack_work};
 ghost use Rattle.uimg_unpacking.specs.Ends.{asked_name, is_whole, end_of_taken, end_of_fault, TellsOverlap, EndsGiven};
 ghost use Rattle.uimg_unpacking.specs.Places.{ChangesWithin, stays_within};
@@ -84,7 +83,6 @@ pub fn unpack<W: World, S: Source, O: Write + Drop>(
     out: O,
 ) -> Ended
     ensures within { ChangesWithin asked.now.folder.path.now true (W.trace world.old) (W.trace world.new) }
-    ensures files { SameFiles (W.map world.old) (W.map world.new) }
     ensures same { SameDevice (S.device source.old) (S.device source.new) }
     ensures asked { IfHonest S.device source (λ file. (S.device source.new).asked
         ≤ (S.device source.old).asked + unpack_work file) }

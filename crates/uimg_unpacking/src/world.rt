@@ -43,8 +43,7 @@ pub trait World: Drop {
 
     /// Notes what a part of the world was asked for.
     fn rejoin(&mut self, part: Self)
-        ensures noted { trace self.new ≡ trace part ++ trace self.old }
-        ensures same { SameFiles (map self.old) (map self.new) };
+        ensures { trace self.new ≡ trace part ++ trace self.old };
 
     /// Opens the file at a path as a source, of which nothing was requested yet.
     ///
