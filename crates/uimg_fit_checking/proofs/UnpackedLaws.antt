@@ -47,11 +47,11 @@ claims_again X Y (of.Fit fault) all old new claimed = claimed
 claims_again X Y of.Read all old new claimed = claimed
 claims_again X Y of.Put all old new claimed = claimed
 
-later : (X : Type 0) (fault : Fault) (all : List Claim) (ts : List Take) (old new : List Claim) → EndsAll ts (Err fault) → new ≡ old ++ all → ClaimsTo {X = X} all (Err fault) old new
-later X (of.Blob fault at) all ts old new ended told = absurd ended
-later X (of.Fit fault) all ts old new ended told = absurd ended
-later X of.Read all ts old new ended told = record { rest = []; is = append-nil new ∙ told }
-later X of.Put all ts old new ended told = record { rest = []; is = append-nil new ∙ told }
+later : (X : Type 0) (fault : Fault) (all : List Claim) (ts : List Take) (a b : Bool) (old new : List Claim) → EndsAll ts (Err fault) a b → new ≡ old ++ all → ClaimsTo {X = X} all (Err fault) old new
+later X (of.Blob fault at) all ts a b old new ended told = absurd ended
+later X (of.Fit fault) all ts a b old new ended told = absurd ended
+later X of.Read all ts a b old new ended told = record { rest = []; is = append-nil new ∙ told }
+later X of.Put all ts a b old new ended told = record { rest = []; is = append-nil new ∙ told }
 
 -- nothing is claimed of a tree that cannot be read
 pub claims_treeless : (X : Type 0) (file : List ℕ) (es : List (List ℕ)) (fault : Fault) (r : Result X Fault) (all old : List Claim) → r ≡ Err fault → GivesTree file (Err fault) es → ClaimsTo all r old old
@@ -65,10 +65,10 @@ claims_by X Y file only found fault r told old new is named claimed =
     (subst (λ (l : List Claim). ClaimsTo {X = Y} l (Err fault) old new) (sym named) (claims_again X Y fault (claims only file (length file) found) old new claimed))
 
 -- all is claimed where a device fails later
-pub claims_before_fault : (X : Type 0) (fault : Fault) (r : Result X Fault) (told all : List Claim) (ts : List Take) (old middle new : List Claim) → r ≡ Err fault → told ≡ all → EndsAll ts (Err fault) → middle ≡ old ++ all → new ≡ middle → ClaimsTo told r old new
-claims_before_fault X fault r told all ts old middle new is named ended claimed same =
+pub claims_before_fault : (X : Type 0) (fault : Fault) (r : Result X Fault) (told all : List Claim) (ts : List Take) (a b : Bool) (old middle new : List Claim) → r ≡ Err fault → told ≡ all → EndsAll ts (Err fault) a b → middle ≡ old ++ all → new ≡ middle → ClaimsTo told r old new
+claims_before_fault X fault r told all ts a b old middle new is named ended claimed same =
     subst (λ (x : Result X Fault). ClaimsTo told x old new) (sym is)
-    (subst (λ (l : List Claim). ClaimsTo {X = X} l (Err fault) old new) (sym named) (later X fault all ts old new ended (same ∙ claimed)))
+    (subst (λ (l : List Claim). ClaimsTo {X = X} l (Err fault) old new) (sym named) (later X fault all ts a b old new ended (same ∙ claimed)))
 
 -- a device failed before anything was given
 stops_none : (r : Result UnpackOutcome Fault) (old new : List Take) → new ≡ old → StopsIn r old new

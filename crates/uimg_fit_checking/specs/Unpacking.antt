@@ -1,7 +1,7 @@
 -- What becomes of the unpacked payloads of a FIT image.
 use Rattle.std.specs.Prelude.{◌≡◌, ⊤, ℕ, ◌+◌, ◌-◌, List, [], ◌∷◌, ◌++◌, length, take, nat_lt, Bool}
 use Rattle.std.specs.Prelude.{true, false, if◌then◌else◌, Option, Some, None, Result, Ok, Err}
-use Rattle.std.specs.Prelude.{IfSome}
+use Rattle.std.specs.Prelude.{IfSome, ◌||◌}
 use Rattle.std.specs.List.{last_or, list_all}
 use Rattle.std.specs.Option.{option_map}
 use Rattle.std.specs.Str.{bytes_eq}
@@ -167,16 +167,24 @@ Unpacks (Err (of.Fit fault)) told old new = (told ≡ Err (of.Fit fault)) × (ne
 Unpacks (Err of.Read) told old new = StopsIn told old new
 Unpacks (Err of.Put) told old new = StopsIn told old new
 
--- What a result says of a file, whatever the taker does with what it is given: the outcome of the
--- definition, unless memory was refused or a device failed.
-abbrev pub EndsAs : Result Unpacked Fault → Result UnpackOutcome Fault → Type 0
-EndsAs (Ok (Taken all)) (Ok (taken ts)) = all ≡ list_all is_kept ts
-EndsAs (Ok (Overlapping name)) (Ok (overlaps its)) = as_bytes name ≡ its
-EndsAs (Ok found) told = ⊥
-EndsAs (Err (of.Blob fault at)) told = refuses_memory fault ≡ false → told ≡ Err (of.Blob fault at)
-EndsAs (Err (of.Fit fault)) told = told ≡ Err (of.Fit fault)
-EndsAs (Err of.Read) told = ⊤
-EndsAs (Err of.Put) told = ⊤
+-- whether any payload is taken
+abbrev pub is_any : List Take → Bool
+is_any [] = false
+is_any (one ∷ more) = true
+
+-- What a result says of a file and of whether a payload was begun, before and after, whatever the
+-- taker does with what it is given: it is the outcome of the definition, unless memory was refused
+-- or a device failed. A refusal comes before anything is begun.
+abbrev pub EndsAs : Result Unpacked Fault → Result UnpackOutcome Fault → Bool → Bool → Type 0
+EndsAs (Ok (Taken all)) (Ok (taken ts)) old new =
+    (all ≡ list_all is_kept ts) × (new ≡ (is_any ts || old))
+EndsAs (Ok (Overlapping name)) (Ok (overlaps its)) old new = (as_bytes name ≡ its) × (new ≡ old)
+EndsAs (Ok found) told old new = ⊥
+EndsAs (Err (of.Blob fault at)) told old new =
+    (refuses_memory fault ≡ false → told ≡ Err (of.Blob fault at)) × (new ≡ old)
+EndsAs (Err (of.Fit fault)) told old new = (told ≡ Err (of.Fit fault)) × (new ≡ old)
+EndsAs (Err of.Read) told old new = ⊤
+EndsAs (Err of.Put) told old new = ⊤
 
 -- What was given in a call: the result says whether each payload of it is kept.
 pub record GivesBy (all : Bool) (old new : List Take) : Type 0 where

@@ -1,6 +1,6 @@
 -- Unpacking the payloads of a FIT image, one after the other.
 use Rattle.std.specs.Prelude.{◌≡◌, ⊤, ℕ, ◌+◌, ◌<◌, ◌≤◌, ◌*◌, List, [], ◌∷◌, ◌++◌, length, Bool}
-use Rattle.std.specs.Prelude.{true, false, if◌then◌else◌, Option, Some, None, Result, Ok, Err, IfOk, IsTrue}
+use Rattle.std.specs.Prelude.{true, false, if◌then◌else◌, ◌||◌, Option, Some, None, Result, Ok, Err, IfOk, IsTrue}
 use Rattle.std.specs.List.{list_all}
 use Rattle.std.specs.Option.{option_map}
 use Rattle.uimg_sums.specs.declared.algo.Algo.{Algo}
@@ -26,7 +26,7 @@ use Rattle.uimg_fit_checking.specs.declared.unpacking.requested.Requested.{Reque
 use Rattle.uimg_fit_checking.specs.Checks.{wrong_in, or_weak}
 use Rattle.uimg_fit_checking.specs.Claiming as Claiming
 use Rattle.uimg_fit_checking.specs.Claiming.{ClaimsTo, claims}
-use Rattle.uimg_fit_checking.specs.Unpacking.{Take, GivenFirst, overlapping, is_asked, is_kept}
+use Rattle.uimg_fit_checking.specs.Unpacking.{Take, GivenFirst, overlapping, is_asked, is_kept, is_any}
 use Rattle.uimg_fit_checking.specs.Unpacking.{told_of, as_bytes, take_of}
 
 -- The refusal of a payload was found, if any; at most 351 bytes were requested for each hash node.
@@ -144,13 +144,16 @@ TakesRequested need image found file result old new =
     as_bytes found.name ≡ image.name → (message : List ℕ) → message ≡ in_span file found.span
     → TakesTo true (take_of need image message) result (Ok message) old new
 
--- What a result says of such an image, whatever the taker does: whether it is kept.
-abbrev pub EndsImage : Bool → Take → Result Bool Fault → Result (List ℕ) FitFault → Type 0
-EndsImage asked one (Ok all) payload = all ≡ (if asked then is_kept one else true)
-EndsImage asked one (Err (of.Fit fault)) payload = (asked ≡ true) × (payload ≡ Err fault)
-EndsImage asked one (Err (of.Blob fault at)) payload = ⊥
-EndsImage asked one (Err of.Read) payload = ⊤
-EndsImage asked one (Err of.Put) payload = ⊤
+-- What a result says of such an image, whatever the taker does: whether it is kept; and whether a
+-- payload was begun, before and after.
+abbrev pub EndsImage : Bool → Take → Result Bool Fault → Result (List ℕ) FitFault → Bool → Bool
+    → Type 0
+EndsImage asked one (Ok all) payload old new =
+    (all ≡ (if asked then is_kept one else true)) × (new ≡ (asked || old))
+EndsImage asked one (Err (of.Fit fault)) payload old new = (asked ≡ true) × (payload ≡ Err fault)
+EndsImage asked one (Err (of.Blob fault at)) payload old new = ⊥
+EndsImage asked one (Err of.Read) payload old new = ⊤
+EndsImage asked one (Err of.Put) payload old new = ⊤
 
 -- how many bytes of a payload are read: none if its image is not requested
 abbrev pub size_if : Bool → Result (List ℕ) FitFault → ℕ
@@ -169,9 +172,10 @@ TakesAll ts (Err (of.Fit fault)) old new = ⊥
 TakesAll ts (Err (of.Blob fault at)) old new = ⊥
 TakesAll ts (Err fault) old new = GivenFirst old new ts
 
--- The result says whether each image is kept; no fault but that of a device is returned.
-abbrev pub EndsAll : List Take → Result Bool Fault → Type 0
-EndsAll ts (Ok all) = all ≡ list_all is_kept ts
-EndsAll ts (Err (of.Fit fault)) = ⊥
-EndsAll ts (Err (of.Blob fault at)) = ⊥
-EndsAll ts (Err fault) = ⊤
+-- The result says whether each image is kept; no fault but that of a device is returned. A payload
+-- was begun if there is one, or before.
+abbrev pub EndsAll : List Take → Result Bool Fault → Bool → Bool → Type 0
+EndsAll ts (Ok all) old new = (all ≡ list_all is_kept ts) × (new ≡ (is_any ts || old))
+EndsAll ts (Err (of.Fit fault)) old new = ⊥
+EndsAll ts (Err (of.Blob fault at)) old new = ⊥
+EndsAll ts (Err fault) old new = ⊤

@@ -69,7 +69,8 @@ pub fn unpack<S: Source, A: Allocator, T: Taker>(
     ensures given { IsTrue T.honest → IfOk result
         (λ found. Gives found (T.takes taker.old) (T.takes taker.new)) }
     ensures ended { IfHonest S.device source (λ file.
-        EndsAs result (unpack_of need (option_map as_bytes only) file)) }
+        EndsAs result (unpack_of need (option_map as_bytes only) file)
+        (T.begun taker.old) (T.begun taker.new)) }
     ensures claimed { IfHonest S.device source (λ file. IsTrue T.notes → ClaimsTo
         (claims_of (option_map as_bytes only) file) result (T.claimed taker.old)
         (T.claimed taker.new)) }

@@ -33,6 +33,7 @@ fn claim_requested<T: Taker>(
     taker: &mut T,
 ) -> Result<Claim, PutFault>
     ensures place { T.place taker.new ≡ T.place taker.old }
+    ensures none_begun { T.begun taker.new ≡ T.begun taker.old }
     ensures none_given { IsTrue T.honest → T.takes taker.new ≡ T.takes taker.old }
     ensures told { IfOk result (Claims left found) }
     ensures claimed { IsTrue T.notes →
@@ -61,6 +62,7 @@ pub(super) fn claim_images<S: Source, A: Allocator, T: Taker>(
     requires { HasNodes (S.device source.old) blob.now room.old first }
     ensures leaves { LeavesImage result S.device source room }
     ensures place { T.place taker.new ≡ T.place taker.old }
+    ensures none_begun { T.begun taker.new ≡ T.begun taker.old }
     ensures none_given { IsTrue T.honest → T.takes taker.new ≡ T.takes taker.old }
     ensures told { OfNodes (S.device source.old) blob.now room.old in_images first
         (λ found. ClaimsImages (option_map as_bytes only) found result S.device source

@@ -1,6 +1,6 @@
 //! The trait of those who are given unpacked payloads.
 
-ghost use Rattle.std.specs.Prelude.{◌≡◌, ℕ, [], ◌∷◌, ◌++◌, List, Bool, false, Some, IfOk, IsTrue};
+ghost use Rattle.std.specs.Prelude.{◌≡◌, ℕ, [], ◌∷◌, ◌++◌, List, Bool, true, false, Some, IfOk, IsTrue, OnOk};
 ghost use Rattle.uimg_fit_checking.specs.Unpacking.{Take, kept, refused, told_of, as_bytes, AddsIf, IsVouched};
 ghost use Rattle.uimg_fit_checking.specs.Claiming.{Claim, claim};
 
@@ -56,10 +56,14 @@ pub trait Taker {
     /// What was claimed so far.
     ghost claimed: { Self → List Claim } = { λ _. [] };
 
+    /// Whether a shelf was returned. A taker that does not say has always returned one.
+    ghost begun: { Self → Bool } = { λ _. true };
+
     /// Announces a payload and its length in bytes, before any is unpacked. Nothing is unpacked if
     /// it refuses.
     fn claim(&mut self, name: &NodeName, length: u64) -> Result<(), PutFault>
         ensures place { place self.new ≡ place self.old }
+        ensures begun { begun self.new ≡ begun self.old }
         ensures told { IsTrue notes → claimed self.new ≡ claimed self.old
             ++ claim (as_bytes name.now) length ∷ [] }
         ensures same { IsTrue honest → takes self.new ≡ takes self.old };
@@ -67,6 +71,7 @@ pub trait Taker {
     /// Returns an empty shelf to write the payload of an image to.
     fn shelf(&mut self, name: &NodeName) -> Result<Self::Shelf, PutFault>
         ensures place { place self.new ≡ place self.old }
+        ensures begun { OnOk result (begun self.new ≡ true) }
         ensures none { IsTrue notes → claimed self.new ≡ claimed self.old }
         ensures same { IsTrue honest → takes self.new ≡ takes self.old }
         ensures empty { IsTrue honest → IfOk result (λ shelf. Self.Shelf.contents shelf ≡ Some []) };
@@ -82,6 +87,7 @@ pub trait Taker {
         requires { IsTrue honest → (bytes : List ℕ) → Self.Shelf.contents shelf ≡ Some bytes →
             IsVouched bytes vouched }
         ensures place { place self.new ≡ place self.old }
+        ensures begun { begun self.new ≡ begun self.old }
         ensures none { IsTrue notes → claimed self.new ≡ claimed self.old }
         ensures given { IsTrue honest → (bytes : List ℕ) → Self.Shelf.contents shelf ≡ Some bytes →
             AddsIf result (takes self.old) (takes self.new)
@@ -95,6 +101,7 @@ pub trait Taker {
         refusal: Refusal,
     ) -> Result<(), PutFault>
         ensures place { place self.new ≡ place self.old }
+        ensures begun { begun self.new ≡ begun self.old }
         ensures none { IsTrue notes → claimed self.new ≡ claimed self.old }
         ensures given { IsTrue honest → AddsIf result (takes self.old) (takes self.new)
             (refused (as_bytes name.now) (told_of (as_bytes name.now) refusal)) };

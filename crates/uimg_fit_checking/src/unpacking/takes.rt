@@ -50,7 +50,8 @@ fn take_requested<S: Source, A: Allocator, T: Taker>(
     ensures ended { OfNode (S.device source.old) blob.now room.old in_images payload.image
         (λ found. EndsImage true
         (take_of need found (in_span (S.device source.old).bytes payload.span))
-        result (Ok (in_span (S.device source.old).bytes payload.span))) }
+        result (Ok (in_span (S.device source.old).bytes payload.span))
+        (T.begun taker.old) (T.begun taker.new)) }
 {
     let shelf = taker.shelf(&payload.name)?;
     let first = first_hash(blob, room, payload.image);
@@ -92,7 +93,8 @@ fn take_image<S: Source, A: Allocator, T: Taker>(
     ensures ended { OfNode (S.device source.old) blob.now room.old in_images image
         (λ found. EndsImage (is_asked (option_map as_bytes request.only) found.name)
         (take_of request.need found (bytes_or_none (payload (S.device source.old).bytes found)))
-        result (payload (S.device source.old).bytes found)) }
+        result (payload (S.device source.old).bytes found)
+        (T.begun taker.old) (T.begun taker.new)) }
 {
     match find_requested(source, blob, room, image, request.only)? {
         Some(payload) => take_requested(source, blob, room, payload, request.need, taker),
@@ -125,7 +127,8 @@ pub(super) fn take_images<S: Source, A: Allocator, T: Taker>(
     ensures ended { OfNodes (S.device source.old) blob.now room.old in_images first
         (λ found. Fitting (option_map as_bytes request.only) (S.device source.old).bytes found
         (EndsAll (takes request.need (option_map as_bytes request.only)
-        (S.device source.old).bytes found) result)) }
+        (S.device source.old).bytes found) result
+        (T.begun taker.old) (T.begun taker.new))) }
 {
     let mut all = true;
     let mut next = first;

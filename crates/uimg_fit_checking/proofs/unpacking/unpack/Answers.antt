@@ -244,9 +244,9 @@ returns-in_err-all-clause-claimed g c = λ honest known.
     let bytes = c.claim_images.ensures.leaves.uses.same.bytes ∙ same.bytes in
     let fault = c.in_err-all.field-0.0 in
     let answer : c.from_residual-in_err-all.result ≡ Err fault = search rules in
-    let ended = subst (λ (xs : List ℕ). Fitting only xs found.found (EndsAll (takes c.args.need only xs found.found) (Err fault))) bytes
+    let ended = subst (λ (xs : List ℕ). Fitting only xs found.found (EndsAll (takes c.args.need only xs found.found) (Err fault) (g.T.Taker.begun c.claim_images.new.taker) (g.T.Taker.begun c.take_images.new.taker))) bytes
     (c.in_err-all.ensures.ended h.nodes there found.found found.from) fits in
-    claims_before_fault _ fault c.from_residual-in_err-all.result _ _ (takes c.args.need only file found.found) _ _ _ answer named ended (claims.claimed known) (c.take_images.ensures.none_claimed known)
+    claims_before_fault _ fault c.from_residual-in_err-all.result _ _ (takes c.args.need only file found.found) _ _ _ _ _ answer named ended (claims.claimed known) (c.take_images.ensures.none_claimed known)
 
 pub returns-clause-claimed : goal.returns-clause-claimed
 returns-clause-claimed g c = λ honest known.
@@ -278,7 +278,7 @@ returns-in_err-name-clause-ended g c = λ honest.
     let is = unpack_is file h.nodes c.args.need only found.found h.read.is found.is in
     let fault = c.in_err-name.field-0.0 in
     let answer : c.from_residual-in_err-name.result ≡ Err fault = search rules in
-    ends_refused _ _ (takes c.args.need only file found.found) fault c.from_residual-in_err-name.result answer is claims.told
+    ends_refused _ _ (takes c.args.need only file found.found) fault c.from_residual-in_err-name.result _ _ answer is claims.told c.claim_images.ensures.none_begun
 
 pub returns-in-Some-clause-ended : goal.returns-in-Some-clause-ended
 returns-in-Some-clause-ended g c = λ honest.
@@ -293,7 +293,7 @@ returns-in-Some-clause-ended g c = λ honest.
     let claims = subst (λ (xs : List ℕ). ClaimsImagesBetween xs only found.found (d c.read_tree.new.source).asked (d c.claim_images.new.source).asked (Ok c.in_ok-name.field-0) g.T.Taker.notes (g.T.Taker.claimed c.args.taker.now) (g.T.Taker.claimed c.claim_images.new.taker)) same.bytes
     (c.in_ok-name.ensures.told h.nodes here found.found found.from) in
     let is = unpack_is file h.nodes c.args.need only found.found h.read.is found.is in
-    ends_overlapping _ _ (takes c.args.need only file found.found) c.in-Some.name c.in_ok-name.field-0 is c.in-Some.is claims.told
+    ends_overlapping _ _ (takes c.args.need only file found.found) c.in-Some.name c.in_ok-name.field-0 _ _ is c.in-Some.is claims.told c.claim_images.ensures.none_begun
 
 pub returns-in_err-all-clause-ended : goal.returns-in_err-all-clause-ended
 returns-in_err-all-clause-ended g c = λ honest.
@@ -313,9 +313,9 @@ returns-in_err-all-clause-ended g c = λ honest.
     let is = unpack_is file h.nodes c.args.need only found.found h.read.is found.is in
     let fault = c.in_err-all.field-0.0 in
     let answer : c.from_residual-in_err-all.result ≡ Err fault = search rules in
-    let ended = subst (λ (xs : List ℕ). Fitting only xs found.found (EndsAll (takes c.args.need only xs found.found) (Err fault))) bytes
+    let ended = subst (λ (xs : List ℕ). Fitting only xs found.found (EndsAll (takes c.args.need only xs found.found) (Err fault) (g.T.Taker.begun c.claim_images.new.taker) (g.T.Taker.begun c.take_images.new.taker))) bytes
     (c.in_err-all.ensures.ended h.nodes there found.found found.from) fits in
-    ends_stopped _ (takes c.args.need only file found.found) fault c.from_residual-in_err-all.result answer ended
+    ends_stopped _ (takes c.args.need only file found.found) fault c.from_residual-in_err-all.result _ _ _ answer ended
 
 pub returns-clause-ended : goal.returns-clause-ended
 returns-clause-ended g c = λ honest.
@@ -333,9 +333,9 @@ returns-clause-ended g c = λ honest.
     let there = still c.claim_images.ensures.leaves.uses.same c.claim_images.ensures.leaves.room here in
     let bytes = c.claim_images.ensures.leaves.uses.same.bytes ∙ same.bytes in
     let is = unpack_is file h.nodes c.args.need only found.found h.read.is found.is in
-    let ended = subst (λ (xs : List ℕ). Fitting only xs found.found (EndsAll (takes c.args.need only xs found.found) (Ok c.in_ok-all.all))) bytes
+    let ended = subst (λ (xs : List ℕ). Fitting only xs found.found (EndsAll (takes c.args.need only xs found.found) (Ok c.in_ok-all.all) (g.T.Taker.begun c.claim_images.new.taker) (g.T.Taker.begun c.take_images.new.taker))) bytes
     (c.in_ok-all.ensures.ended h.nodes there found.found found.from) fits in
-    ends_taken _ _ (takes c.args.need only file found.found) c.in_ok-all.all is fits ended
+    ends_taken _ _ (takes c.args.need only file found.found) c.in_ok-all.all _ _ _ is fits c.claim_images.ensures.none_begun ended
 
 pub returns-in-Some-clause-given : goal.returns-in-Some-clause-given
 returns-in-Some-clause-given g c = λ honest. c.claim_images.ensures.none_given honest

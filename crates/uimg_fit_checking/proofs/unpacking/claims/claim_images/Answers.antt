@@ -21,6 +21,7 @@ loop-next-preserved g c = record {
   room = search rules;
   place = search rules;
   within = search rules;
+  none_begun = search rules;
   none_given = search rules;
   told = λ t o found from.
       let d = g.S.Source.device in

@@ -21,6 +21,7 @@ invariant-loop-next g l =
       room : l.room ≡ l.fn.room;
       place : g.T.Taker.place l.taker ≡ g.T.Taker.place l.fn.taker;
       within : IfSome l.next (λ i. i < length l.fn.room.entries);
+      none_begun : g.T.Taker.begun l.taker ≡ g.T.Taker.begun l.fn.taker;
       none_given : IsTrue g.T.Taker.honest → g.T.Taker.takes l.taker ≡ g.T.Taker.takes l.fn.taker;
       told : (t : Siblings) → Opened (device l.fn.source) l.blob l.fn.room t → (found : List (NodeOf Spot)) → AreFrom t in_images l.fn.first found
           → LeftClaimed t file (option_map as_bytes l.only) found (device l.fn.source).asked (device l.source).asked l.left l.next g.T.Taker.notes (g.T.Taker.claimed l.fn.taker) (g.T.Taker.claimed l.taker);

@@ -54,13 +54,13 @@ returns-in_err-payload-clause-ended g c = λ t o found n.
     let file = (g.S.Source.device c.args.source.now).bytes in
     let fault = c.in_err-payload.field-0.0 in
     let is : c.from_residual.result ≡ Err fault = search rules in
-    ends_lacking file (option_map as_bytes c.args.request.only) _ found fault c.from_residual.result is (c.in_err-payload.ensures.told t o found n)
+    ends_lacking file (option_map as_bytes c.args.request.only) _ found fault c.from_residual.result _ _ is (c.in_err-payload.ensures.told t o found n)
 
 pub returns-in-None-clause-ended : goal.returns-in-None-clause-ended
 returns-in-None-clause-ended g c = λ t o found n.
     let file = (g.S.Source.device c.args.source.now).bytes in
     let only = option_map as_bytes c.args.request.only in
-    ends_skipped file only _ found (subst (λ (x : Option Requested). TellsFound only file found (Ok x)) c.in-None.is (c.in_ok-payload.ensures.told t o found n))
+    ends_skipped file only _ found _ (subst (λ (x : Option Requested). TellsFound only file found (Ok x)) c.in-None.is (c.in_ok-payload.ensures.told t o found n))
 
 pub returns-in-Some-clause-ended : goal.returns-in-Some-clause-ended
 returns-in-Some-clause-ended g c = λ t o found n.
@@ -71,9 +71,9 @@ returns-in-Some-clause-ended g c = λ t o found n.
     let finds = subst (λ (x : Option Requested). TellsFound only file found (Ok x)) c.in-Some.is (c.in_ok-payload.ensures.told t o found n) in
     let node = subst (λ (k : ℕ). IsNode t in_images k found) (sym its.number) n in
     let same = c.find_requested.ensures.uses.same in
-    let ended = subst (λ (xs : List ℕ). EndsImage true (take_of c.args.request.need found (in_span xs it.span)) c.take_requested.result (Ok (in_span xs it.span))) same.bytes
+    let ended = subst (λ (xs : List ℕ). EndsImage true (take_of c.args.request.need found (in_span xs it.span)) c.take_requested.result (Ok (in_span xs it.span)) (g.T.Taker.begun c.args.taker.now) (g.T.Taker.begun c.take_requested.new.taker)) same.bytes
     (c.take_requested.ensures.ended t (still same refl o) found node) in
-    ends_there file only c.args.request.need found (in_span file it.span) c.take_requested.result finds.asked finds.is ended
+    ends_there file only c.args.request.need found (in_span file it.span) c.take_requested.result _ _ finds.asked finds.is ended
 
 pub returns-in-None-clause-given : goal.returns-in-None-clause-given
 returns-in-None-clause-given g c = λ honest. gives_none (g.T.Taker.takes c.args.taker.now)

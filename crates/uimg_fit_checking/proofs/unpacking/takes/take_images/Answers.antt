@@ -26,7 +26,7 @@ loop-next-init g c = record {
   paid = λ t o found from fits. pay_first t _ _ found _ c.args.first from fits;
   told = λ honest t o found from fits. take_first t _ c.args.request.need _ found _ c.args.first from fits;
   given = λ honest. gives_none (g.T.Taker.takes c.args.taker.now);
-  ended = λ t o found from fits. end_first t _ c.args.request.need _ found c.args.first from fits;
+  ended = λ t o found from fits. end_first t _ c.args.request.need _ found _ c.args.first from fits;
 }
 
 pub loop-next-preserved : goal.loop-next-preserved
@@ -76,10 +76,10 @@ loop-next-preserved g c = record {
       let k = c.loop-next.invariant.ended t o found from fits in
       let start = subst (λ (x : Option ℕ). AreFrom t in_images x k.rest) c.in-Some.is k.from in
       let f = front t in_images c.in-Some.image k.rest start in
-      let ended = subst (λ (xs : List ℕ). EndsImage (is_asked only f.image.name) (take_of c.args.request.need f.image (bytes_or_none (payload xs f.image))) (Ok c.in_ok-all.field-0) (payload xs f.image)) same.bytes
+      let ended = subst (λ (xs : List ℕ). EndsImage (is_asked only f.image.name) (take_of c.args.request.need f.image (bytes_or_none (payload xs f.image))) (Ok c.in_ok-all.field-0) (payload xs f.image) (g.T.Taker.begun c.loop-next.taker) (g.T.Taker.begun c.take_image.new.taker)) same.bytes
       (c.in_ok-all.ensures.ended t here f.image f.node) in
       let indexed = (still c.take_image.ensures.leaves.uses.same c.take_image.ensures.leaves.room here).read.indexed in
-      end_more t file c.args.request.need only found c.loop-next.all c.in_ok-all.field-0 c.loop-next.next k f.image f.more f.are _ ended
+      end_more t file c.args.request.need only found c.loop-next.all c.in_ok-all.field-0 _ _ _ c.loop-next.next k f.image f.more f.are _ ended
       (c.next_of-next.ensures.next t indexed in_images f.image f.more (subst (λ (l : List (NodeOf Spot)). AreFrom t in_images (Some c.in-Some.image) l) f.are start));
 }
 
@@ -132,11 +132,11 @@ returns-in_err-all-clause-ended g c = λ t o found from fits.
     let fault = c.in_err-all.field-0.0 in
     let is : c.from_residual.result ≡ Err fault = search rules in
     let f = front t in_images c.in-Some.image k.rest (subst (λ (x : Option ℕ). AreFrom t in_images x k.rest) c.in-Some.is k.from) in
-    let ended = subst (λ (xs : List ℕ). EndsImage (is_asked only f.image.name) (take_of c.args.request.need f.image (bytes_or_none (payload xs f.image))) (Err fault) (payload xs f.image)) same.bytes
+    let ended = subst (λ (xs : List ℕ). EndsImage (is_asked only f.image.name) (take_of c.args.request.need f.image (bytes_or_none (payload xs f.image))) (Err fault) (payload xs f.image) (g.T.Taker.begun c.loop-next.taker) (g.T.Taker.begun c.take_image.new.taker)) same.bytes
     (c.in_err-all.ensures.ended t here f.image f.node) in
-    subst (λ (r : Result Bool Fault). EndsAll (takes c.args.request.need only file found) r) (sym is)
-    (end_cut t file c.args.request.need only found c.loop-next.all c.loop-next.next k f.image f.more f.are fault ended)
+    subst (λ (r : Result Bool Fault). EndsAll (takes c.args.request.need only file found) r (g.T.Taker.begun c.args.taker.now) (g.T.Taker.begun c.take_image.new.taker)) (sym is)
+    (end_cut t file c.args.request.need only found c.loop-next.all _ _ _ c.loop-next.next k f.image f.more f.are fault ended)
 
 pub returns-clause-ended : goal.returns-clause-ended
 returns-clause-ended g c = λ t o found from fits.
-    end_done t _ c.args.request.need _ found c.loop-next.all c.loop-next.next (search rules) (c.loop-next.invariant.ended t o found from fits)
+    end_done t _ c.args.request.need _ found c.loop-next.all _ _ c.loop-next.next (search rules) (c.loop-next.invariant.ended t o found from fits)

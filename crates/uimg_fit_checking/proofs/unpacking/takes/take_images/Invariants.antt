@@ -31,7 +31,7 @@ invariant-loop-next g l =
           → Fitting only file found (LeftToTake t file l.request.need only found l.all (g.T.Taker.takes l.fn.taker) (g.T.Taker.takes l.taker) l.next);
       given : IsTrue g.T.Taker.honest → GivesBy l.all (g.T.Taker.takes l.fn.taker) (g.T.Taker.takes l.taker);
       ended : (t : Siblings) → Opened (device l.fn.source) l.blob l.fn.room t → (found : List (NodeOf Spot)) → AreFrom t in_images l.fn.first found
-          → Fitting only file found (LeftToEnd t file l.request.need only found l.all l.next);
+          → Fitting only file found (LeftToEnd t file l.request.need only found l.all (g.T.Taker.begun l.fn.taker) (g.T.Taker.begun l.taker) l.next);
     }
 
 abbrev pub decreases-loop-next : goal.decreases-loop-next

@@ -94,8 +94,10 @@ returns-in-Some-clause-ended g c = λ t o found n.
     let there = still c.take_payload.ensures.uses.same c.take_payload.ensures.room (still same refl o) in
     let its = c.in_ok-refusal.ensures.told t there found n taken.message taken.digests (taken.set ∙ algos.algos) in
     let whole = subst (λ (xs : List ℕ). taken.message ≡ in_span xs span) same.bytes (taken.right (still same refl o).honest) in
-    let wrong = ap (λ (x : Option Refusal). option_map (told_of found.name) x) (sym c.in-Some.is) ∙ its.told in
-    is_wrong c.args.need found taken.message c.in-Some.refusal wrong ∙ ap (λ (xs : List ℕ). is_kept (take_of c.args.need found xs)) whole
+    let wrong = ap (λ (x : Option Refusal). option_map (told_of found.name) x) (sym c.in-Some.is) ∙ its.told in (
+      is_wrong c.args.need found taken.message c.in-Some.refusal wrong ∙ ap (λ (xs : List ℕ). is_kept (take_of c.args.need found xs)) whole,
+      c.refuse.ensures.begun ∙ c.in_ok-shelf.ensures.begun,
+    )
 
 pub returns-clause-ended : goal.returns-clause-ended
 returns-clause-ended g c = λ t o found n.
@@ -108,8 +110,10 @@ returns-clause-ended g c = λ t o found n.
     let there = still c.take_payload.ensures.uses.same c.take_payload.ensures.room (still same refl o) in
     let its = c.in_ok-refusal.ensures.told t there found n taken.message taken.digests (taken.set ∙ algos.algos) in
     let whole = subst (λ (xs : List ℕ). taken.message ≡ in_span xs span) same.bytes (taken.right (still same refl o).honest) in
-    let right = ap (λ (x : Option Refusal). option_map (told_of found.name) x) (sym c.in_default.is) ∙ its.told in
-    is_right c.args.need found taken.message right ∙ ap (λ (xs : List ℕ). is_kept (take_of c.args.need found xs)) whole
+    let right = ap (λ (x : Option Refusal). option_map (told_of found.name) x) (sym c.in_default.is) ∙ its.told in (
+      is_right c.args.need found taken.message right ∙ ap (λ (xs : List ℕ). is_kept (take_of c.args.need found xs)) whole,
+      c.keep.ensures.begun ∙ c.in_ok-shelf.ensures.begun,
+    )
 
 pub returns-clause-given : goal.returns-clause-given
 returns-clause-given g c = λ honest.
