@@ -109,7 +109,7 @@ impl<'a> Folder<'a> {
         image: Option<&str>,
         out: &mut O,
     ) -> Result<(), Trouble>
-        ensures within { ChangesWithin self.now.path.now false (W.trace world.old) (W.trace world.new) }
+        ensures { ChangesWithin self.now.path.now false (W.trace world.old) (W.trace world.new) }
     {
         let mut part = world.part();
         let cleaned = self.clean_in(&mut part, world.alloc(), image, out);

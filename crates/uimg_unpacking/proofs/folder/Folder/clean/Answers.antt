@@ -3,6 +3,6 @@ use Rattle.uimg_unpacking.specs.Places.{stays_within}
 use Rattle.uimg_unpacking.proofs.PartChanges.{within}
 use Rattle.uimg_unpacking.proofs.folder.Folder.clean.Goals as goal
 
-pub returns-clause-within : goal.returns-clause-within
-returns-clause-within g c =
+pub returns : goal.returns
+returns g c =
     within c.args.self.now.path.now false _ _ _ c.rejoin.ensures (c.clean_in-cleaned.ensures ∙ ap (stays_within c.args.self.now.path.now false) c.part-part.ensures.trace)
