@@ -1,11 +1,13 @@
 -- How the unpacking of a FIT image ends.
-use Rattle.std.specs.Prelude.{◌≡◌, ⊤, ℕ, ◌==◌, ◌&&◌, nat_le, length, List, ◌++◌, codes, Bool, true, false, if◌then◌else◌, is_some, Option, Some, None, Result, Ok, Err}
+use Rattle.std.specs.Prelude.{◌≡◌, ⊤, ℕ, ◌==◌, ◌&&◌, ◌||◌, nat_le, length, List, ◌++◌, codes, Bool, true, false, if◌then◌else◌, is_some, Option, Some, None, Result, Ok, Err}
+use Rattle.std.specs.List.{list_all}
 use Rattle.std.specs.Borrow.{Bor}
 use Rattle.std.specs.Io.KnownBytes.{Appends}
 use Rattle.uimg_fit_base.specs.declared.fault.Fault.{Fault, TheVariants.{Fit, Put}}
 use Rattle.uimg_fit_base.specs.declared.fault.FitFault.TheVariants.{NoSuchImage}
 use Rattle.uimg_printing.specs.Printing.{printed}
-use Rattle.uimg_fit_checking.specs.Unpacking.{as_bytes}
+use Rattle.uimg_fit_base.specs.Faults.{is_read, is_put, is_out_of_memory}
+use Rattle.uimg_fit_checking.specs.Unpacking.{as_bytes, UnpackOutcome, taken, overlaps, unpack_of, is_kept}
 use Rattle.uimg_fit_checking.specs.declared.unpacking.Unpacked.{Unpacked, TheVariants.{Taken, Overlapping}}
 use Rattle.uimg_unpacking.specs.Objects.{told_as, about_payload}
 use Rattle.uimg_unpacking.specs.declared.trouble.Trouble.{Trouble}
@@ -52,3 +54,38 @@ abbrev pub end_of_fault : Fault → Option Trouble → Ended
 end_of_fault Put (Some trouble) = Troubled trouble
 end_of_fault Put None = Troubled of.Put
 end_of_fault fault trouble = Stopped fault
+
+-- the end by what was unpacked or by a fault, after how many payloads and with which trouble
+abbrev pub Ends : Unpacking → Result Unpacked Fault → ℕ → Option Trouble → Ended → Option (List ℕ) → Option (List ℕ) → Type 0
+Ends asked (Ok unpacked) count trouble result old new = EndsGiven asked unpacked count trouble result old new
+Ends asked (Err fault) count trouble result old new = result ≡ end_of_fault fault trouble
+
+-- the end by what the definition says of a file
+abbrev pub end_of : Unpacking → Result UnpackOutcome Fault → Ended
+end_of asked (Ok (taken ts)) = end_of_taken asked (list_all is_kept ts) (length ts)
+end_of asked (Ok (overlaps name)) = Refused
+end_of asked (Err fault) = Stopped fault
+
+-- the same for the requested name, if an image can have it
+abbrev pub end_by_name : Unpacking → Option (Option (List ℕ)) → List ℕ → Ended
+end_by_name asked None file = Stopped (Fit NoSuchImage)
+end_by_name asked (Some only) file = end_of asked (unpack_of asked.need only file)
+
+abbrev pub end_of_file : Unpacking → List ℕ → Ended
+end_of_file asked file = end_by_name asked (asked_name asked.only) file
+
+-- whether a fault is a failed read or refused memory
+abbrev pub is_failure : Result Unpacked Fault → Bool
+is_failure result = is_read result || is_put result || is_out_of_memory result
+
+-- whether an end is a trouble or such a fault
+abbrev pub has_failed : Ended → Bool
+has_failed Kept = false
+has_failed Refused = false
+has_failed NoImage = false
+has_failed (Stopped fault) = is_failure (Err fault)
+has_failed (Troubled trouble) = true
+
+-- It is the end of the file by the definition, unless something failed.
+abbrev pub EndsByFile : Unpacking → List ℕ → Ended → Type 0
+EndsByFile asked file result = has_failed result ≡ false → result ≡ end_of_file asked file

@@ -1,6 +1,6 @@
 //! Writes payloads to a folder, with a line for each.
 
-ghost use Rattle.std.specs.Prelude.{◌≡◌, ◌++◌, ◌&&◌, ◌||◌, [], None, OnOk, not, is_ok, false, true};
+ghost use Rattle.std.specs.Prelude.{◌≡◌, ◌++◌, ◌&&◌, ◌||◌, [], None, OnOk, nat_lt, not, is_ok, false, true};
 ghost use Rattle.uimg_fit_checking.specs.Unpacking.{as_bytes};
 ghost use Rattle.uimg_unpacking.specs.Objects.{told_of, kept_told, refused_told};
 ghost use Rattle.uimg_unpacking.specs.Places.{stays_within};
@@ -54,7 +54,8 @@ impl<'a, 'c, W: World, O: Write + Drop> FolderTaker<'a, 'c, W, O> {
         code: &'c ErrorCode,
     ) -> FolderTaker<'a, 'c, W, O>
         requires { W.trace world ≡ [] }
-        ensures { result.staging.folder ≡ asked.now.folder }
+        ensures folder { result.staging.folder ≡ asked.now.folder }
+        ensures none { result.taken.count ≡ 0 }
     {
         FolderTaker {
             alloc,
@@ -106,7 +107,8 @@ impl<'a, 'c, W: World, O: Write + Drop> FolderTaker<'a, 'c, W, O> {
 
     // Checks, before any payload is written, whether the file of this one may be.
     fn look(&mut self, name: &NodeName, length: u64) -> Result<(), Trouble>
-        ensures { self.new.staging.folder ≡ self.old.staging.folder }
+        ensures folder { self.new.staging.folder ≡ self.old.staging.folder }
+        ensures taken { self.new.taken ≡ self.old.taken }
     {
         self.claimed.claim(length)?;
         match self.looked.next(name)? {
@@ -117,7 +119,8 @@ impl<'a, 'c, W: World, O: Write + Drop> FolderTaker<'a, 'c, W, O> {
 
     // Creates the file of a payload, which gets its name later.
     fn begin(&mut self, name: &NodeName) -> Result<NewFile<'c, W::File>, Trouble>
-        ensures { self.new.staging.folder ≡ self.old.staging.folder }
+        ensures folder { self.new.staging.folder ≡ self.old.staging.folder }
+        ensures counted { OnOk result (nat_lt 0 self.new.taken.count ≡ true) }
     {
         match self.taken.next(name)? {
             Some(name) => self.staging.begin(name),
@@ -133,6 +136,7 @@ impl<'a, 'c, W: World, O: Write + Drop> FolderTaker<'a, 'c, W, O> {
         vouched: Option<Vouched>,
     ) -> Result<(), Trouble>
         ensures folder { self.new.staging.folder ≡ self.old.staging.folder }
+        ensures taken { self.new.taken ≡ self.old.taken }
         ensures files { self.new.staging.files ≡ self.old.staging.files }
         ensures told { OnOk result (self.new.lines.items
             ≡ with_kept (self.old.has_refused && not self.old.keeps_good) self.old.lines.items
@@ -156,6 +160,7 @@ impl<'a, 'c, W: World, O: Write + Drop> FolderTaker<'a, 'c, W, O> {
     // Adds a line.
     fn add(&mut self, line: &Line<'_>) -> Result<(), Trouble>
         ensures staging { self.new.staging ≡ self.old.staging }
+        ensures taken { self.new.taken ≡ self.old.taken }
         ensures refused { self.new.has_refused ≡ self.old.has_refused }
         ensures told { OnOk result
             (self.new.lines.items ≡ self.old.lines.items ++ told_of self.old.json line.now) }
@@ -168,6 +173,7 @@ impl<'a, 'c, W: World, O: Write + Drop> FolderTaker<'a, 'c, W, O> {
     // Removes a refused payload.
     fn throw_away(&mut self, name: &NodeName, refusal: Refusal) -> Result<(), Trouble>
         ensures folder { self.new.staging.folder ≡ self.old.staging.folder }
+        ensures taken { self.new.taken ≡ self.old.taken }
         ensures refused { OnOk result (self.new.has_refused ≡ true) }
         ensures dropped { OnOk result (RefusesLast self.old.keeps_good
             self.old.staging.files.items self.new.staging.files.items
@@ -230,6 +236,8 @@ impl<'a, 'c, W: World, O: Write + Drop> Taker for FolderTaker<'a, 'c, W, O> {
     ghost place = { λ t. t.staging.folder.path.now };
 
     ghost takes = { λ _. [] };
+
+    ghost begun = { λ t. nat_lt 0 t.taken.count };
 
     fn claim(&mut self, name: &NodeName, length: u64) -> Result<(), PutFault> {
         let looked = self.look(name, length);

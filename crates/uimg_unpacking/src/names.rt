@@ -1,6 +1,6 @@
 //! The names of files, each used once.
 
-ghost use Rattle.std.specs.Prelude.{◌≡◌, [], not, IfOk, IfSome, OnOk, string_bytes, true, false};
+ghost use Rattle.std.specs.Prelude.{◌≡◌, [], not, IfOk, IfSome, OnOk, string_bytes, nat_lt, true, false};
 ghost use Rattle.std.specs.Bool.{OnFalse};
 ghost use Rattle.uimg_unpacking.specs.FileNames.{is_file_name};
 ghost use Rattle.uimg_unpacking.specs.Names.{is_used, StayUsed};
@@ -46,6 +46,7 @@ impl Names {
         ensures used { IfOk result (λ it. IfSome it (λ text.
             is_used self.new.given (string_bytes text) ≡ true)) }
         ensures stays { StayUsed self.old.given self.new.given }
+        ensures counted { nat_lt 0 self.new.count ≡ true }
     {
         let number = self.count;
         self.count = self.count.saturating_add(1);

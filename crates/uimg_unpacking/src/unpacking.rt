@@ -5,7 +5,7 @@ ghost use Rattle.std.specs.Option.{option_map};
 ghost use Rattle.uimg_base.specs.Device.{SameDevice};
 ghost use Rattle.uimg_base.specs.Honest.{IfHonest};
 ghost use Rattle.uimg_fit_checking.specs.Unpacking.{as_bytes, unpack_work};
-ghost use Rattle.uimg_unpacking.specs.Ends.{asked_name, is_whole, end_of_taken, end_of_fault, TellsOverlap, EndsGiven};
+ghost use Rattle.uimg_unpacking.specs.Ends.{asked_name, is_whole, end_of_taken, end_of_fault, TellsOverlap, EndsGiven, Ends, EndsByFile};
 ghost use Rattle.uimg_unpacking.specs.Places.{ChangesWithin, stays_within};
 
 use crate::folder::Folder;
@@ -75,6 +75,9 @@ pub enum Ended {
 /// Files get their names once all are written and right. If a payload is refused, only the lines of
 /// refused ones are printed. Unless all files get their names, the folder is unchanged, except that
 /// `keeps_good` keeps the good ones, and removes what refused ones were to replace.
+///
+/// Over an honest source it ends as the definition says of the image's bytes (`end_of_file`), unless
+/// a read fails, memory runs out or it returns a trouble.
 #[tactic(auto, using(crate::proofs::PartChanges::within))]
 pub fn unpack<W: World, S: Source, O: Write + Drop>(
     world: &mut W,
@@ -86,6 +89,7 @@ pub fn unpack<W: World, S: Source, O: Write + Drop>(
     ensures same { SameDevice (S.device source.old) (S.device source.new) }
     ensures asked { IfHonest S.device source (λ file. (S.device source.new).asked
         ≤ (S.device source.old).asked + unpack_work file) }
+    ensures ended { IfHonest S.device source (λ file. EndsByFile asked.now file result) }
 {
     let (part, ended) = unpack_in(world.part(), world.alloc(), asked, source, out);
     world.rejoin(part);
@@ -106,6 +110,7 @@ fn unpack_in<W: World, S: Source, O: Write + Drop>(
     ensures same { SameDevice (S.device source.old) (S.device source.new) }
     ensures asked { IfHonest S.device source (λ file. (S.device source.new).asked
         ≤ (S.device source.old).asked + unpack_work file) }
+    ensures ended { IfHonest S.device source (λ file. EndsByFile asked.now file result.1) }
 {
     let Some(only) = only_of(asked.only) else {
         return (world, Ended::Stopped(Fault::Fit(FitFault::NoSuchImage)));
@@ -115,11 +120,26 @@ fn unpack_in<W: World, S: Source, O: Write + Drop>(
     let mut taker = FolderTaker::new(world, alloc, asked, out, &code);
     let unpacked = uimg_fit_checking::unpack(only, asked.need, source, &mut room, &mut taker);
     let (world, mut out, count, trouble) = taker.end(is_whole(&unpacked));
-    let ended = match unpacked {
-        Ok(unpacked) => given(alloc, asked, unpacked, (count, trouble), &mut out),
-        Err(fault) => stopped(fault, trouble),
-    };
+    let ended = how_ended(alloc, asked, unpacked, (count, trouble), &mut out);
     (world, ended)
+}
+
+// Returns how it ended by what was unpacked or by a fault: after how many payloads, with which
+// trouble.
+fn how_ended<W: Write + Drop>(
+    alloc: Global,
+    asked: &Unpacking<'_>,
+    unpacked: Result<Unpacked, Fault>,
+    after: (usize, Option<Trouble>),
+    out: &mut W,
+) -> Ended
+    ensures { Ends asked.now unpacked after.0 after.1 result
+        (W.contents out.old) (W.contents out.new) }
+{
+    match unpacked {
+        Ok(unpacked) => given(alloc, asked, unpacked, after, out),
+        Err(fault) => stopped(fault, after.1),
+    }
 }
 
 // Returns whether each requested payload was given and is kept.

@@ -1,6 +1,9 @@
-use Rattle.std.proofs.Common.{◌≡◌, ◌∙◌, true, List, ℕ, ap, subst}
+use Rattle.std.proofs.Common.{rules, ◌≡◌, ◌∙◌, true, List, ℕ, ap, sym, subst}
+use Rattle.std.specs.Option.{option_map}
+use Rattle.uimg_fit_checking.specs.Unpacking.{as_bytes}
 use Rattle.uimg_unpacking.specs.declared.folder.Folder.{Folder}
 use Rattle.uimg_unpacking.specs.{Places.stays_within, Plan.gives_names}
+use Rattle.uimg_unpacking.proofs.EndLaws.{ends_by_file}
 use Rattle.uimg_unpacking.proofs.Placing.{stays_naming}
 use Rattle.uimg_unpacking.proofs.unpacking.unpack_in.Goals as goal
 
@@ -9,7 +12,7 @@ pub returns-clause-within : goal.returns-clause-within
 returns-clause-within g c =
     let taker = c.unpack-unpacked.new.taker in
     subst (λ (path : List ℕ). stays_within path true (g.W.World.trace c.end-world.result.0) ≡ true)
-    (c.unpack-unpacked.ensures.place ∙ ap (λ (f : Folder). f.path.now) c.new-taker.ensures)
+    (c.unpack-unpacked.ensures.place ∙ ap (λ (f : Folder). f.path.now) c.new-taker.ensures.folder)
     (stays_naming taker.staging.folder.path.now (gives_names taker.keeps_good _ taker.has_refused)
     (g.W.World.trace c.end-world.result.0) c.end-world.ensures.within)
 
@@ -18,3 +21,8 @@ returns-clause-same g c = c.unpack-unpacked.ensures.takes.uses.same
 
 pub returns-clause-asked : goal.returns-clause-asked
 returns-clause-asked g c = λ honest. c.unpack-unpacked.ensures.takes.uses.asked honest
+
+pub returns-clause-ended : goal.returns-clause-ended
+returns-clause-ended g c = λ honest.
+    ends_by_file c.args.asked.now (g.S.Source.device c.args.source.now).bytes (option_map as_bytes c.in-Some.only) c.unpack-unpacked.result _ _ _ _ c.how_ended-ended.result _ _
+    (sym (ap (option_map (option_map as_bytes)) c.in-Some.is) ∙ c.only_of.ensures) c.new-taker.ensures.none c.end-world.ensures.count (c.unpack-unpacked.ensures.ended honest) c.how_ended-ended.ensures

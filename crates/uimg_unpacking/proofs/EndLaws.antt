@@ -1,0 +1,72 @@
+-- How the unpacking of a FIT image ends by its bytes.
+use Rattle.std.proofs.Common.{◌≡◌, ◌==◌, ◌&&◌, ◌||◌, nat_lt, ℕ, zero, suc, List, [], ◌∷◌, length, Option, Some, None, is_some, Bool, true, false, refl, ap, sym, subst, ◌∙◌, arith}
+use Rattle.std.specs.Prelude.{Result, Ok, Err, if◌then◌else◌}
+use Rattle.std.specs.List.{list_all}
+use Rattle.uimg_fit_base.specs.declared.fault.Fault.{Fault, TheVariants.{Blob, Fit, Read, Put}}
+use Rattle.uimg_fit_base.specs.declared.fault.FitFault.TheVariants.{NoSuchImage}
+use Rattle.uimg_fit_checking.specs.Unpacking.{Take, UnpackOutcome, taken, overlaps, unpack_of, is_any, is_kept, EndsAs}
+use Rattle.uimg_fit_checking.specs.declared.unpacking.Unpacked.{Unpacked, TheVariants.{Taken, Overlapping}}
+use Rattle.uimg_fit_checking.specs.declared.unpacking.node_names.NodeName.{NodeName}
+use Rattle.uimg_unpacking.specs.declared.trouble.Trouble.{Trouble}
+use Rattle.uimg_unpacking.specs.declared.trouble.Trouble.TheVariants as of
+use Rattle.uimg_unpacking.specs.declared.unpacking.Ended.{Ended}
+use Rattle.uimg_unpacking.specs.declared.unpacking.Ended.TheVariants.{Kept, Refused, NoImage, Stopped, Troubled}
+use Rattle.uimg_unpacking.specs.declared.unpacking.Unpacking.{Unpacking}
+use Rattle.uimg_unpacking.specs.Ends.{asked_name, end_of_taken, end_of, end_by_name, has_failed, Ends, EndsByFile}
+
+true_false : true ≡ false → ⊥
+true_false h = grind (arith, h)
+
+-- what failed is not said to have ended well
+failed : (end other by : Ended) → end ≡ other → has_failed other ≡ true → has_failed end ≡ false → end ≡ by
+failed end other by is bad good = absurd (true_false (sym (ap has_failed is ∙ bad) ∙ good))
+
+above : (n : ℕ) → (suc n == 0) ≡ false
+above n = grind arith
+
+-- none was begun just if there is none
+as_many : (count : ℕ) (ts : List Take) → nat_lt 0 count ≡ (is_any ts || false) → (count == 0) ≡ (length ts == 0)
+as_many zero [] is = refl
+as_many zero (one ∷ more) is = absurd (true_false (sym is))
+as_many (suc n) [] is = absurd (grind (arith, is))
+as_many (suc n) (one ∷ more) is = above n ∙ sym (above (length more))
+
+abbrev by_count : Unpacking → Bool → Bool → Ended
+by_count asked all none =
+    if none && is_some asked.only then Stopped (Fit NoSuchImage) else if none && is_some asked.need then NoImage else if all then Kept else Refused
+
+same_end : (asked : Unpacking) (all : Bool) (count : ℕ) (ts : List Take) → all ≡ list_all is_kept ts → nat_lt 0 count ≡ (is_any ts || false) → end_of_taken asked all count ≡ end_of_taken asked (list_all is_kept ts) (length ts)
+same_end asked all count ts kept is = ap (λ (b : Bool). by_count asked b (count == 0)) kept ∙ ap (by_count asked (list_all is_kept ts)) (as_many count ts is)
+
+taken_end : (asked : Unpacking) (told : Result UnpackOutcome Fault) (all : Bool) (count : ℕ) → EndsAs (Ok (Taken all)) told false (nat_lt 0 count) → end_of_taken asked all count ≡ end_of asked told
+taken_end asked (Ok (taken ts)) all count ends = same_end asked all count ts ends.0 ends.1
+taken_end asked (Ok (overlaps name)) all count ends = absurd ends
+taken_end asked (Err fault) all count ends = absurd ends
+
+overlap_end : (asked : Unpacking) (told : Result UnpackOutcome Fault) (name : NodeName) (b : Bool) → EndsAs (Ok (Overlapping name)) told false b → Refused ≡ end_of asked told
+overlap_end asked (Ok (taken ts)) name b ends = absurd ends
+overlap_end asked (Ok (overlaps its)) name b ends = refl
+overlap_end asked (Err fault) name b ends = absurd ends
+
+by_result : (asked : Unpacking) (told : Result UnpackOutcome Fault) (r : Result Unpacked Fault) (count : ℕ) (trouble : Option Trouble) (end : Ended) (old new : Option (List ℕ)) → EndsAs r told false (nat_lt 0 count) → Ends asked r count trouble end old new
+    → has_failed end ≡ false → end ≡ end_of asked told
+by_result asked told (Ok (Taken all)) count (Some trouble) end old new ends is good = failed end (Troubled trouble) _ is refl good
+by_result asked told (Ok (Taken all)) count None end old new ends is good = is ∙ taken_end asked told all count ends
+by_result asked told (Ok (Overlapping name)) count trouble Refused old new ends is good = overlap_end asked told name (nat_lt 0 count) ends
+by_result asked told (Ok (Overlapping name)) count trouble (Troubled bad) old new ends is good = absurd (true_false good)
+by_result asked told (Ok (Overlapping name)) count trouble Kept old new ends is good = absurd is
+by_result asked told (Ok (Overlapping name)) count trouble NoImage old new ends is good = absurd is
+by_result asked told (Ok (Overlapping name)) count trouble (Stopped fault) old new ends is good = absurd is
+by_result asked told (Err (Blob fault at)) count trouble end old new ends is good = is ∙ sym (ap (end_of asked) (ends.0 (sym (ap has_failed is) ∙ good)))
+by_result asked told (Err (Fit fault)) count trouble end old new ends is good = is ∙ sym (ap (end_of asked) ends.0)
+by_result asked told (Err Read) count trouble end old new ends is good = failed end (Stopped Read) _ is refl good
+by_result asked told (Err Put) count (Some trouble) end old new ends is good = failed end (Troubled trouble) _ is refl good
+by_result asked told (Err Put) count None end old new ends is good = failed end (Troubled of.Put) _ is refl good
+
+-- it ends by the bytes of the file
+pub ends_by_file : (asked : Unpacking) (file : List ℕ) (only : Option (List ℕ)) (r : Result Unpacked Fault) (before after count : ℕ) (trouble : Option Trouble) (end : Ended) (old new : Option (List ℕ)) → Some only ≡ asked_name asked.only → before ≡ 0 → count ≡ after
+    → EndsAs r (unpack_of asked.need only file) (nat_lt 0 before) (nat_lt 0 after) → Ends asked r count trouble end old new → EndsByFile asked file end
+ends_by_file asked file only r before after count trouble end old new named none counted ends is good =
+    by_result asked (unpack_of asked.need only file) r count trouble end old new (subst (λ (n : ℕ). EndsAs r (unpack_of asked.need only file) false (nat_lt 0 n)) (sym counted)
+    (subst (λ (n : ℕ). EndsAs r (unpack_of asked.need only file) (nat_lt 0 n) (nat_lt 0 after)) none ends)) is good
+    ∙ ap (λ (o : Option (Option (List ℕ))). end_by_name asked o file) named
