@@ -76,8 +76,38 @@ fn run_as_uimg<R: Files + AllocGlobal, W: Write, V: Write>(
     let Ok(gathered) = BufWriter::new(rt.alloc(), out) else {
         return complaints.tell_no_memory();
     };
+    carry_out_on_disk(rt, line, &asked, gathered, complaints)
+}
+
+// Carries out what the words ask for, over the files of the system.
+fn carry_out_on_disk<R: Files + AllocGlobal, W: Write + Drop, V: Write>(
+    rt: &R,
+    line: CommandLine<'_>,
+    asked: &Asked<'_>,
+    out: BufWriter<W, Global>,
+    complaints: &mut Complaints<'_, V>,
+) -> u8
+    requires read { ReadsWords (epoch_of line) line.time (words_of line) (Ok asked.now) }
+    requires empty { writer_buffer out ≡ [] }
+    ensures { Ends result complaints.old.count complaints.new.count }
+{
+    carry_out_over(rt, line, asked, out, complaints)
+}
+
+// The same, where the system and what is asked for live equally long.
+fn carry_out_over<'a, R: Files + AllocGlobal, W: Write + Drop, V: Write>(
+    rt: &'a R,
+    line: CommandLine<'_>,
+    asked: &'a Asked<'a>,
+    out: BufWriter<W, Global>,
+    complaints: &mut Complaints<'_, V>,
+) -> u8
+    requires read { ReadsWords (epoch_of line) line.time (words_of line) (Ok asked.now) }
+    requires empty { writer_buffer out ≡ [] }
+    ensures { Ends result complaints.old.count complaints.new.count }
+{
     let world = &mut DiskWorld::new(rt);
-    let (status, _) = carry_out_words(world, line, &asked, gathered, complaints);
+    let (status, _) = carry_out_words(world, line, asked, out, complaints);
     status
 }
 

@@ -144,7 +144,7 @@ pub(crate) fn end_written<'a>(
 ) -> Result<Status, RequestFault<'a>>
     requires { MakeEnds request.now made }
     ensures ends { MakeEnds request.now result }
-    ensures status { end_status result ≡ end_status made }
+    ensures status { end_status result ≡ end_status made.entry }
 {
     match (made, code) {
         (Err(RequestFault::Stopped(Fault::Put)), Some(code)) => {

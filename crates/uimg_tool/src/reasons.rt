@@ -32,7 +32,7 @@ impl<'a, W: Write> Watched<'a, W> {
 
     /// Returns the writer.
     pub(crate) fn into_inner(self) -> W
-        ensures { result ≡ self.writer }
+        ensures { result ≡ self.entry.writer }
     {
         let Watched { writer, code: _ } = self;
         writer

@@ -1,6 +1,6 @@
 //! Unpacks an image.
 
-ghost use Rattle.std.specs.Prelude.{◌≡◌, ◌⊎◌, IsTrue, Some, false};
+ghost use Rattle.std.specs.Prelude.{◌≡◌, ◌⊎◌, IsTrue, Some, true, false};
 ghost use Rattle.uimg_base.specs.Honest.{IfHonest};
 ghost use Rattle.uimg_tool.specs.{Complaints.Ends, EndingStatuses.HasEndingStatus, Statuses.{is_of_command, trouble_status}};
 ghost use Rattle.uimg_tool.specs.Unpackings.{AnswersUnpacking, IsRight, RightAt};
