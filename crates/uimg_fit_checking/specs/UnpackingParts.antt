@@ -1,6 +1,7 @@
 -- Unpacking the payloads of a FIT image, one after the other.
 use Rattle.std.specs.Prelude.{◌≡◌, ⊤, ℕ, ◌+◌, ◌<◌, ◌≤◌, ◌*◌, List, [], ◌∷◌, ◌++◌, length, Bool}
-use Rattle.std.specs.Prelude.{true, false, if◌then◌else◌, ◌||◌, Option, Some, None, Result, Ok, Err, IfOk, IsTrue}
+use Rattle.std.specs.Prelude.{true, false, ◌||◌, if◌then◌else◌, IfOk, IsTrue}
+use Rattle.std.specs.Prelude.{Option, Some, None, Result, Ok, Err}
 use Rattle.std.specs.List.{list_all}
 use Rattle.std.specs.Option.{option_map}
 use Rattle.uimg_sums.specs.declared.algo.Algo.{Algo}
@@ -26,8 +27,8 @@ use Rattle.uimg_fit_checking.specs.declared.unpacking.requested.Requested.{Reque
 use Rattle.uimg_fit_checking.specs.Checks.{wrong_in, or_weak}
 use Rattle.uimg_fit_checking.specs.Claiming as Claiming
 use Rattle.uimg_fit_checking.specs.Claiming.{ClaimsTo, claims}
-use Rattle.uimg_fit_checking.specs.Unpacking.{Take, GivenFirst, overlapping, is_asked, is_kept, is_any}
-use Rattle.uimg_fit_checking.specs.Unpacking.{told_of, as_bytes, take_of}
+use Rattle.uimg_fit_checking.specs.Unpacking.{Take, GivenFirst, overlapping, is_asked, is_kept}
+use Rattle.uimg_fit_checking.specs.Unpacking.{is_any, told_of, as_bytes, take_of}
 
 -- The refusal of a payload was found, if any; at most 351 bytes were requested for each hash node.
 pub record FindsRefusalBetween (need : Option Algo) (image : NodeOf Spot) (message : List ℕ)

@@ -3,7 +3,8 @@
 ghost use Rattle.std.specs.Prelude.{◌≡◌, IfOk, IsTrue};
 ghost use Rattle.std.specs.Option.{option_map};
 ghost use Rattle.uimg_base.specs.Honest.{IfHonest};
-ghost use Rattle.uimg_fit_checking.specs.Unpacking.{Unpacks, EndsAs, Gives, unpack_of, unpack_work, as_bytes};
+ghost use Rattle.uimg_fit_checking.specs.Unpacking.{Unpacks, EndsAs, Gives};
+ghost use Rattle.uimg_fit_checking.specs.Unpacking.{unpack_of, unpack_work, as_bytes};
 ghost use Rattle.uimg_fit_checking.specs.Claiming.{ClaimsTo, claims_of};
 ghost use Rattle.uimg_fit_reading.specs.Rooms.{TakesOut};
 
@@ -48,8 +49,8 @@ pub enum Unpacked {
 /// taker keeps has the digest that is given with it, even if the source changes between reads. Over
 /// an honest source at most the file's length is requested beside metadata, and an honest taker is
 /// given exactly what the definition says of each payload. Over an honest source the result is that
-/// of the definition too, for any taker, unless memory was refused or a device failed. Over any
-/// source, an honest taker that was given a refused payload never has `Taken(true)` returned.
+/// of the definition, for any taker, unless memory is refused or a device fails. Over any source,
+/// `Taken(true)` means that an honest taker was given no refused payload in this call.
 ///
 /// Returns the faults of the blob, then `NoImages`, then `NoData` and `DataOutside` of the images
 /// in their order, all before anything is given; nothing is given either if payloads overlap.

@@ -6,7 +6,7 @@ use Rattle.std.specs.Io.KnownBytes.{Appends}
 use Rattle.uimg_fit_base.specs.declared.fault.Fault.{Fault, TheVariants.{Fit, Put}}
 use Rattle.uimg_fit_base.specs.declared.fault.FitFault.TheVariants.{NoSuchImage}
 use Rattle.uimg_printing.specs.Printing.{printed}
-use Rattle.uimg_fit_base.specs.Faults.{is_read, is_put, is_out_of_memory}
+use Rattle.uimg_fit_base.specs.Faults.{is_read, is_out_of_memory}
 use Rattle.uimg_fit_checking.specs.Unpacking.{as_bytes, UnpackOutcome, taken, overlaps, unpack_of, is_kept}
 use Rattle.uimg_fit_checking.specs.declared.unpacking.Unpacked.{Unpacked, TheVariants.{Taken, Overlapping}}
 use Rattle.uimg_unpacking.specs.Objects.{told_as, about_payload}
@@ -76,7 +76,7 @@ end_of_file asked file = end_by_name asked (asked_name asked.only) file
 
 -- whether a fault is a failed read or refused memory
 abbrev pub is_failure : Result Unpacked Fault → Bool
-is_failure result = is_read result || is_put result || is_out_of_memory result
+is_failure result = is_read result || is_out_of_memory result
 
 -- whether an end is a trouble or such a fault
 abbrev pub has_failed : Ended → Bool

@@ -56,7 +56,7 @@ pub trait Taker {
     /// What was claimed so far.
     ghost claimed: { Self → List Claim } = { λ _. [] };
 
-    /// Whether a shelf was returned. A taker that does not say has always returned one.
+    /// Whether a shelf was ever returned; true for a taker that does not say.
     ghost begun: { Self → Bool } = { λ _. true };
 
     /// Announces a payload and its length in bytes, before any is unpacked. Nothing is unpacked if
