@@ -2,7 +2,9 @@ use Rattle.std.proofs.Common.{◌∙◌, ℕ, List, Option, ap, refl, subst}
 use Rattle.std.specs.Io.{Buffered.writer_contents, KnownBytes.Keeps}
 use Rattle.uimg_base.specs.Sink.{Sink}
 use Rattle.uimg_tool.specs.Statuses.{end_status}
-use Rattle.uimg_tool.proofs.{CommandLaws.by_outfile, ExtractLaws, RunLaws}
+use Rattle.uimg_tool.proofs.CommandLaws.{by_outfile}
+use Rattle.uimg_tool.proofs.ExtractLaws
+use Rattle.uimg_tool.proofs.RunLaws
 use Rattle.uimg_tool.proofs.commands.run_image.Goals as goal
 
 pub returns-clause-told : goal.returns-clause-told

@@ -22,5 +22,5 @@ invariant-loop-name g l =
     × (changes (g.D.World.trace l.world) ≡ changes (g.D.World.trace l.fn.world))
     × (split_byte l.name-iterator ≡ names_end l.request)
     × ((names : List (List ℕ)) × (list_all is_name names ≡ true) × Left (names_end l.request) whole known names
-    × AnswersEach files l.request names (after_names l.fn.path.now (told g.W.Write.contents l.fn.self (g.D.World.trace l.fn.world)))
+    × AnswersEach files l.request names (after_names l.fn.path (told g.W.Write.contents l.fn.self (g.D.World.trace l.fn.world)))
     (told g.W.Write.contents l.self (g.D.World.trace l.world)))
