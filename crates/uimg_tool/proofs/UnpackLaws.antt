@@ -61,17 +61,17 @@ differs end other is = absurd (true≢false (sym (ap is_done is) ∙ other))
 
 -- all that is asked for is right, if all is told as kept
 pub fit_right : (asked : Unpacking) (file : List ℕ) (is : Bool) (ended : Ended) → is ≡ true → is ≡ is_fit form.Guess file → EndsByFile asked file ended → end_of ended ≡ ending.Told Done → IsRight asked file
-fit_right asked file is fit.Kept yes by ends told = subst (λ (b : Bool). IsRightIn b asked file) (sym yes ∙ by) (sym (ends refl))
-fit_right asked file is fit.Refused yes by ends told = differs (ending.Told NotRight) refl told
-fit_right asked file is fit.NoImage yes by ends told = differs ending.NoImage refl told
-fit_right asked file is (fit.Stopped fault) yes by ends told = differs (end_of (fit.Stopped fault)) refl told
-fit_right asked file is (fit.Troubled trouble) yes by ends told = differs (end_of (fit.Troubled trouble)) refl told
+fit_right asked file is fit.Kept right by ends told = subst (λ (b : Bool). IsRightIn b asked file) (sym right ∙ by) (sym (ends refl))
+fit_right asked file is fit.Refused right by ends told = differs (ending.Told NotRight) refl told
+fit_right asked file is fit.NoImage right by ends told = differs ending.NoImage refl told
+fit_right asked file is (fit.Stopped fault) right by ends told = differs (end_of (fit.Stopped fault)) refl told
+fit_right asked file is (fit.Troubled trouble) right by ends told = differs (end_of (fit.Troubled trouble)) refl told
 
 pub parts_right : (asked : Unpacking) (file : List ℕ) (is : Bool) (ended : PartsEnded) → is ≡ false → is ≡ is_fit form.Guess file → KeepsRight file ended → end_of_parts ended ≡ ending.Told Done → IsRight asked file
-parts_right asked file is legacy.Kept not by keeps told = subst (λ (b : Bool). IsRightIn b asked file) (sym not ∙ by) keeps
-parts_right asked file is legacy.Weak not by keeps told = differs ending.Weak refl told
-parts_right asked file is (legacy.Stopped fault) not by keeps told = differs (end_of_parts (legacy.Stopped fault)) refl told
-parts_right asked file is (legacy.Troubled trouble) not by keeps told = differs (end_of_parts (legacy.Troubled trouble)) refl told
+parts_right asked file is legacy.Kept other by keeps told = subst (λ (b : Bool). IsRightIn b asked file) (sym other ∙ by) keeps
+parts_right asked file is legacy.Weak other by keeps told = differs ending.Weak refl told
+parts_right asked file is (legacy.Stopped fault) other by keeps told = differs (end_of_parts (legacy.Stopped fault)) refl told
+parts_right asked file is (legacy.Troubled trouble) other by keeps told = differs (end_of_parts (legacy.Troubled trouble)) refl told
 
 -- an end that is told as an object is none of status 0
 failed : {P : Type 0} (status : ℕ) → (status ≡ 1) ⊎ (status ≡ 3) → status ≡ 0 → P

@@ -1,32 +1,33 @@
 -- What a command of `uimg` answers, over the files of a world, and which of them it may change.
-use Rattle.std.specs.Prelude.{◌≡◌, ◌≢◌, ⊤, ◌⊎◌, ℕ, List, [], ◌∷◌, Option, None, is_some, Bool, false, true}
+use Rattle.std.specs.Prelude.{◌≡◌, ◌≢◌, ⊤, ◌⊎◌, ℕ, List, [], ◌∷◌, Option, Some, None, false, true}
+use Rattle.std.specs.Borrow.{Bor}
 use Rattle.uimg_base.specs.{Device.Device, Named.FileMap}
 use Rattle.uimg_cli.specs.declared.command_line.Asked.{Asked}
 use Rattle.uimg_cli.specs.declared.command_line.Asked.TheVariants.{One, Check, Unpack, Map, Info}
 use Rattle.uimg_cli.specs.declared.command_line.Request.{Request}
 use Rattle.uimg_cli.specs.declared.command_line.Request.TheVariants as asked
 use Rattle.uimg_requests.specs.declared.requests.RunRequest.{RunRequest}
-use Rattle.uimg_tool.specs.{Answering.AnswersBy, Extracting.AnswersExtraction, Facts.IsFactsAnswer, Makings.AnswersMaking, MapAnswers.IsMapAnswer}
+use Rattle.uimg_tool.specs.{Answering.AnswersBy, Extracting.{AnswersExtraction, AsksToRun}, Facts.IsFactsAnswer, Makings.AnswersMaking, MapAnswers.IsMapAnswer}
 use Rattle.uimg_tool.specs.Checking.{AnswersRequest}
-use Rattle.uimg_tool.specs.{Running.{AnswersRun, OnlyOverwrites}, Unpackings.AnswersUnpacking}
+use Rattle.uimg_tool.specs.{Running.AnswersRun, Unpackings.AnswersUnpacking}
 use Rattle.uimg_unpacking.specs.Deeds.{Deed, LendsReader, LendsShelf, changes}
 use Rattle.uimg_unpacking.specs.Places.{ChangesWithin}
 
--- a command on one image, which prints, or extracts to a file
-abbrev pub AnswersImage : {F : Type 0} → (F → Option (List ℕ)) → Bool → RunRequest → FileMap → ℕ → (old new : Option (List ℕ)) → Type 0
-AnswersImage contents true it files status old new = AnswersExtraction contents it files status old new
-AnswersImage contents false it files status old new = AnswersRun false it files status old new
+-- a command on one image, which prints, or extracts to the file at a path
+abbrev pub AnswersImage : {F : Type 0} → (F → Option (List ℕ)) → Option (Bor (List ℕ)) → RunRequest → FileMap → ℕ → (old new : Option (List ℕ)) → (before after : List Deed) → Type 0
+AnswersImage contents (Some path) it files status old new before after = AnswersExtraction contents it path.now files status old new before after
+AnswersImage contents None it files status old new before after = AnswersRun false it files status old new
 
 -- A command on one image, the making of one, or a text. F is the type of the world's files, and K that of
 -- what its shelves keep.
-abbrev pub AnswersOne : {F K : Type 0} → (F → Option (List ℕ)) → (K → Device) → Request → FileMap → ℕ → (old new : Option (List ℕ)) → Type 0
-AnswersOne contents device (asked.Run it) files status old new = AnswersImage contents (is_some it.outfile) it files status old new
-AnswersOne contents device (asked.Make it) files status old new = AnswersMaking device it files status old new
-AnswersOne contents device (asked.Show text) files status old new = (status ≡ 3) ⊎ (status ≡ 0)
+abbrev pub AnswersOne : {F K : Type 0} → (F → Option (List ℕ)) → (K → Device) → Request → FileMap → ℕ → (old new : Option (List ℕ)) → (before after : List Deed) → Type 0
+AnswersOne contents device (asked.Run it) files status old new before after = AnswersImage contents it.outfile it files status old new before after
+AnswersOne contents device (asked.Make it) files status old new before after = AnswersMaking device it files status old new
+AnswersOne contents device (asked.Show text) files status old new before after = (status ≡ 3) ⊎ (status ≡ 0)
 
 -- A request. Of a map that is drawn nothing is claimed here, and of what an unpacking prints.
 abbrev pub AnswersAsked : {F K : Type 0} → (F → Option (List ℕ)) → (K → Device) → Asked → FileMap → ℕ → (old new : Option (List ℕ)) → (before after : List Deed) → Type 0
-AnswersAsked contents device (One it) files status old new before after = AnswersOne contents device it files status old new
+AnswersAsked contents device (One it) files status old new before after = AnswersOne contents device it files status old new before after
 AnswersAsked contents device (Check it) files status old new before after = AnswersRequest files it status old new before after
 AnswersAsked contents device (Unpack it) files status old new before after = AnswersUnpacking files it status
 AnswersAsked contents device (Map it) files status old new before after =
@@ -41,11 +42,12 @@ Flushes (Unpack it) status left = ⊤
 Flushes (Map it) status left = it.picture ≡ None → status ≢ 3 → left ≡ []
 Flushes it status left = status ≢ 3 → left ≡ []
 
--- A command on one image changes only the file of an extraction. A making lends a reader, and a shelf
--- in its image's file alone. A check, facts and a map that is not drawn change no file, and an unpacking
--- only what is its own in its folder. What a map that is drawn changes is not said here.
+-- A command on one image opens it and nothing else, and changes only the file of an extraction. A making
+-- lends a reader, and a shelf in its image's file alone. A check, facts and a map that is not drawn change
+-- no file, and an unpacking only files and its temporary folder in its folder. What a map that is drawn
+-- changes is not said here.
 abbrev pub ChangesOne : Request → List Deed → List Deed → Type 0
-ChangesOne (asked.Run it) old new = OnlyOverwrites it.outfile old new
+ChangesOne (asked.Run it) old new = AsksToRun it it.outfile old new
 ChangesOne (asked.Make it) old new = new ≡ LendsShelf it.written.now ∷ LendsReader ∷ old
 ChangesOne (asked.Show text) old new = new ≡ old
 

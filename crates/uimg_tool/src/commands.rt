@@ -1,10 +1,10 @@
 //! Carries out a request of `uimg` over a world of files, and turns its end into a line and an exit
 //! status.
 
-ghost use Rattle.std.specs.Prelude.{◌≡◌, ◌≢◌, ◌∷◌, [], IsTrue, is_some};
+ghost use Rattle.std.specs.Prelude.{◌≡◌, ◌≢◌, ◌∷◌, [], IsTrue};
 ghost use Rattle.std.specs.Io.Buffered.{writer_buffer, writer_contents, writer_inner};
 ghost use Rattle.uimg_tool.specs.{Commands.{AnswersAsked, AnswersImage, AnswersOne, Changes, ChangesOne, Flushes}, Complaints.Ends, Statuses.end_status};
-ghost use Rattle.uimg_tool.specs.{Makings.AnswersMaking, Running.{AnswersShow, OnlyOverwrites}};
+ghost use Rattle.uimg_tool.specs.{Extracting.AsksToRun, Makings.AnswersMaking, Running.AnswersShow};
 ghost use Rattle.uimg_unpacking.specs.Deeds.{Deed};
 
 use crate::check_program::check_images;
@@ -85,7 +85,8 @@ fn carry_out_one<'a, D: MakingWorld<'a>, W: Write + Drop, V: Write>(
 ) -> (u8, BufWriter<W, Global>)
     ensures ends { Ends result.0 complaints.old.count complaints.new.count }
     ensures told { IsTrue (D.map world.old).honest → AnswersOne D.File.contents D.Shelf.Kept.device request.now (D.map world.old) result.0
-        (writer_contents W.contents out) (writer_contents W.contents result.1) }
+        (writer_contents W.contents out) (writer_contents W.contents result.1)
+        (D.trace world.old) (D.trace world.new) }
     ensures flushed { result.0 ≢ 3 → writer_buffer result.1 ≡ [] }
     ensures changed { ChangesOne request.now (D.trace world.old) (D.trace world.new) }
 {
@@ -105,10 +106,12 @@ fn run_image<D: World, W: Write + Drop, V: Write>(
 ) -> (u8, BufWriter<W, Global>)
     ensures ends { Ends result.0 complaints.old.count complaints.new.count }
     ensures told { IsTrue (D.map world.old).honest → AnswersImage D.File.contents
-        (is_some request.now.outfile) request.now (D.map world.old) result.0
-        (writer_contents W.contents out) (writer_contents W.contents result.1) }
+        request.now.outfile request.now (D.map world.old) result.0
+        (writer_contents W.contents out) (writer_contents W.contents result.1)
+        (D.trace world.old) (D.trace world.new) }
     ensures flushed { result.0 ≢ 3 → writer_buffer result.1 ≡ [] }
-    ensures written { OnlyOverwrites request.now.outfile (D.trace world.old) (D.trace world.new) }
+    ensures asks { AsksToRun request.now request.now.outfile (D.trace world.old)
+        (D.trace world.new) }
 {
     let mut out = Out::new(out);
     let end = run_command(world, request, None, &mut out);

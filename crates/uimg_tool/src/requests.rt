@@ -1,10 +1,10 @@
 //! Carries out a request: a command on one image, the making of one, or the printing of a text.
 
-ghost use Rattle.std.specs.Prelude.{◌≡◌, ◌∷◌, [], OnOk, IfErr, IfOk, IfSome, IsTrue, None, Some, is_some, true};
+ghost use Rattle.std.specs.Prelude.{◌≡◌, ◌∷◌, ◌⊎◌, [], OnOk, IfErr, IfOk, IfSome, IsTrue, None, Some, is_some, true};
 ghost use Rattle.std.specs.Io.KnownBytes.{Appends};
 ghost use Rattle.uimg_base.specs.{Honest.IfHonest, Named.SameFiles, Outcome.Tells};
 ghost use Rattle.uimg_tool.specs.RequestEnds.{IsUnwritten, MakeEnds, OverEnds, RunEnds, ShowEnds};
-ghost use Rattle.uimg_tool.specs.Extracting.{ExtractsAt, ExtractsTo};
+ghost use Rattle.uimg_tool.specs.Extracting.{AsksToRun, Overwrites, ExtractsAt, ExtractsTo, IfSame, IsApart, IsSame};
 ghost use Rattle.uimg_tool.specs.Running.{ComparesFiles, IntoEnds, OnlyOverwrites, TellsAt, is_opened, meant_end, outcome_on};
 ghost use Rattle.uimg_unpacking.specs.Deeds.{Deed};
 
@@ -97,6 +97,11 @@ pub(crate) fn run_command<'a, D: World, W: Write>(
     ensures extracted { IsTrue (D.map world.old).honest → is_some request.now.outfile ≡ true →
         file ≡ None → ExtractsAt D.File.contents request.now (D.map world.old) result }
     ensures silent { is_some request.now.outfile ≡ true → out.new ≡ out.old }
+    ensures asks { file ≡ None → AsksToRun request.now request.now.outfile (D.trace world.old)
+        (D.trace world.new) }
+    ensures compared { IfSome request.now.outfile (λ path. IfSame result (IsSame
+        request.now.image.now path.now
+        (Deed.Opens request.now.image.now true ∷ D.trace world.old) (D.trace world.new))) }
     ensures opened { request.now.outfile ≡ None →
         D.trace world.new ≡ Deed.Opens request.now.image.now (is_opened result) ∷ D.trace world.old }
     ensures written { OnlyOverwrites request.now.outfile (D.trace world.old) (D.trace world.new) }
@@ -122,6 +127,11 @@ fn extract_to<'a, D: World, S: Source>(
     ensures ends { IntoEnds path.entry result }
     ensures extracted { IsTrue (D.map world.old).honest → file ≡ None →
         IfHonest S.device source (λ bytes. ExtractsTo D.File.contents request.now bytes result) }
+    ensures asks { file ≡ None → IsSame request.now.image.now path.now (D.trace world.old)
+        (D.trace world.new) ⊎ IsApart request.now.image.now path.now (D.trace world.old)
+        (D.trace world.new) }
+    ensures compared { IfSame result (IsSame request.now.image.now path.now (D.trace world.old)
+        (D.trace world.new)) }
     ensures written { OnlyOverwrites (Some path.entry) (D.trace world.old) (D.trace world.new) }
 {
     if is_same_file(world, path, request.image) {
@@ -169,6 +179,7 @@ fn outfile_at<'a, D: World>(
     ensures empty { IsTrue (D.map world.old).honest → file ≡ None →
         IfOk result (λ it. D.File.contents it ≡ Some []) }
     ensures written { OnlyOverwrites (Some path.entry) (D.trace world.old) (D.trace world.new) }
+    ensures created { file ≡ None → Overwrites path.now (D.trace world.old) (D.trace world.new) }
 {
     match file {
         Some(file) => Ok(file),
@@ -181,7 +192,8 @@ fn outfile_at<'a, D: World>(
 
 /// Returns whether two paths lead to the same file, also by links.
 pub(crate) fn is_same_file<D: World>(world: &mut D, path: &str, other: &str) -> bool
-    ensures compares { ComparesFiles path.now other.now result (D.trace world.old) (D.trace world.new) }
+    ensures compares { ComparesFiles path.now other.now result (D.trace world.old)
+        (D.trace world.new) }
     ensures same { SameFiles (D.map world.old) (D.map world.new) }
 {
     match (world.file_at(path), world.file_at(other)) {

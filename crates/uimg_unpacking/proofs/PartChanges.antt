@@ -1,8 +1,8 @@
 -- What a part of a world was asked for is what the world was asked for since.
-use Rattle.std.proofs.Common.{◌≡◌, ℕ, List, [], ◌∷◌, ◌++◌, Bool, true, false, ◌&&◌, refl, ap, ap₂, ◌∙◌}
+use Rattle.std.proofs.Common.{◌≡◌, ℕ, List, [], ◌∷◌, ◌++◌, Bool, true, ◌&&◌, refl, ap, ap₂, ◌∙◌}
 use Rattle.std.proofs.lemmas.Bool.{and_parts}
-use Rattle.uimg_unpacking.specs.Deeds.{Deed, changes, changes_only, Creates, Links, Renames, Removes, MakesFolder, RemovesFolder, RemovesAll, Syncs, Resolves, Looks, Identifies, Opens, Explains, Reads, Finds, Overwrites, LendsReader, LendsShelf}
-use Rattle.uimg_unpacking.specs.Places.{ChangesWithin, may_change, stays_within}
+use Rattle.uimg_unpacking.specs.Deeds.{Deed, changes, Creates, Links, Renames, Removes, MakesFolder, RemovesFolder, RemovesAll, Syncs, Resolves, Looks, Identifies, Opens, Explains, Reads, Finds, Overwrites, LendsReader, LendsShelf}
+use Rattle.uimg_unpacking.specs.Places.{ChangesWithin, stays_within}
 
 changes_of : (new old : List Deed) → changes (new ++ old) ≡ changes new ++ changes old
 changes_of [] old = refl

@@ -20,7 +20,12 @@ pub struct DiskReader<'a, R: Files + AllocGlobal> {
 impl<'a, R: Files + AllocGlobal> Reader for DiskReader<'a, R> {
     type Opened = FileSource<R::File>;
 
-    ghost map = { λ _. record { bytes = λ _. None; honest = false; complete = false; refusals = 0 } };
+    ghost map = { λ _. record {
+      bytes = λ _. None;
+      honest = false;
+      complete = false;
+      refusals = 0;
+    } };
 
     fn open(&mut self, path: &str) -> Result<FileSource<R::File>, SourceFault> {
         open_source(self.rt, path)

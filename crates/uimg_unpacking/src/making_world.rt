@@ -7,8 +7,8 @@ use uimg_base::{Shelf, Source, SourceFault};
 /// What opens the files of a world, and finds which they are. It changes none, and so is lent to
 /// what makes an image while that is written.
 pub trait Reader: Drop {
-    ghost use Rattle.std.specs.Prelude.{◌≡◌, IfOk, is_err};
-    ghost use Rattle.uimg_base.specs.{Device.RisesIf, Named.{FileMap, SameFiles, Opens}};
+    ghost use Rattle.std.specs.Prelude.{IfOk};
+    ghost use Rattle.uimg_base.specs.Named.{FileMap, SameFiles, Opens};
 
     /// What a file is opened as.
     type Opened: Source;
@@ -52,7 +52,6 @@ pub trait MakingWorld<'p>: World {
     /// world it is honest, and nothing is on it yet.
     fn shelf_at(&mut self, path: &'p str) -> Self::Shelf
         ensures noted { Self.trace self.new ≡ Deed.LendsShelf path.now ∷ Self.trace self.old }
-        ensures same { SameFiles (Self.map self.old) (Self.map self.new) }
         ensures honest { IsTrue (Self.map self.old).honest → IsTrue Self.Shelf.honest }
         ensures empty { IsTrue (Self.map self.old).honest → Self.Shelf.contents result ≡ Some [] };
 }

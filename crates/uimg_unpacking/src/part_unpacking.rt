@@ -56,7 +56,7 @@ pub fn unpack_parts<W: World, S: Source, O: Write + Drop>(
 ) -> PartsEnded
     ensures within { ChangesWithin asked.now.folder.path.now true (W.trace world.old) (W.trace world.new) }
     ensures same { SameDevice (S.device source.old) (S.device source.new) }
-    ensures kept { IfHonest S.device source (λ file. KeepsRight file result) }
+    ensures kept { IfHonest S.device source (λ file. KeepsRight asked.now file result) }
 {
     let (part, ended) = unpack_parts_in(world.part(), world.alloc(), asked, source, out);
     world.rejoin(part);
@@ -75,7 +75,7 @@ fn unpack_parts_in<W: World, S: Source, O: Write + Drop>(
     requires { W.trace world ≡ [] }
     ensures within { stays_within asked.now.folder.path.now true (W.trace result.0) ≡ true }
     ensures same { SameDevice (S.device source.old) (S.device source.new) }
-    ensures kept { IfHonest S.device source (λ file. KeepsRight file result.1) }
+    ensures kept { IfHonest S.device source (λ file. KeepsRight asked.now file result.1) }
 {
     let mut room = Room::new(alloc);
     if !stands_by_crc32(asked.need) {

@@ -39,7 +39,7 @@ fn files_in_memory(rt: HostRuntime) -> Result<(), Fail> {
         assert!(rt; opens_as(&mut world, path, text), "{path}: opened");
         assert!(rt; reads_as(&mut world, path, text), "{path}: read");
     }
-    assert!(rt; world.create("a").is_err());
+    assert!(rt; world.create("a").is_ok());
     assert!(rt; world.remove_file("a").is_err());
     assert!(rt; opens_as(&mut world, "a", "abc"));
     Ok(())

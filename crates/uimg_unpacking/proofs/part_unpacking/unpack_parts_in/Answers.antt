@@ -1,4 +1,4 @@
-use Rattle.std.proofs.Common.{◌≡◌, ◌∙◌, true, List, ℕ, ap, subst}
+use Rattle.std.proofs.Common.{◌≡◌, ◌∙◌, true, List, ℕ, ap, rules, subst}
 use Rattle.uimg_unpacking.specs.declared.folder.Folder.{Folder}
 use Rattle.uimg_unpacking.specs.Places.{stays_within}
 use Rattle.uimg_unpacking.proofs.PartLaws.{kept_right}
@@ -16,4 +16,4 @@ returns-clause-within g c =
 
 pub returns-clause-kept : goal.returns-clause-kept
 returns-clause-kept g c = λ honest.
-    kept_right (g.S.Source.device c.args.source.now) (g.S.Source.device c.excess.new.source) c.map-only.result c.unpack-unpacked.result c.end-world.result.1 c.ended.result c.excess.ensures honest c.ended.ensures c.unpack-unpacked.ensures.ends
+    kept_right c.args.asked.now (g.S.Source.device c.args.source.now) (g.S.Source.device c.excess.new.source) c.map-only.result c.unpack-unpacked.result c.end-world.result.1 c.ended.result c.excess.ensures honest c.ended.ensures (search rules) (search rules) c.unpack-unpacked.ensures.ends

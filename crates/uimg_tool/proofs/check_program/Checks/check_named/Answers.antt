@@ -5,7 +5,7 @@ use Rattle.uimg_tool.proofs.PathLaws.{left_begins, left_next}
 use Rattle.uimg_tool.proofs.check_program.Checks.check_named.Goals as goal
 
 pub loop-name-init : goal.loop-name-init
-loop-name-init g c = (tt, tt, (search rules), (search rules), (search rules), (search rules), (search rules), ([], refl, left_begins _ _, refl))
+loop-name-init g c = (tt, tt, (search rules), (search rules), (search rules), (search rules), (search rules), ([], refl, left_begins _ _, (search rules)))
 
 pub loop-name-preserved : goal.loop-name-preserved
 loop-name-preserved g c =
