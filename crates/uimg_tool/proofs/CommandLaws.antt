@@ -30,7 +30,7 @@ image contents None it files status old x y asked_before asked_after same answer
 
 -- what holds of the path that is given
 pub of_some : {X : Type 0} (outfile : Option X) (path : X) (P : X → Type 0) → outfile ≡ Some path → IfSome outfile P → P path
-of_some outfile path P is holds = subst (λ (o : Option X). IfSome o P) is holds
+of_some {X = X} outfile path P is holds = subst (λ (o : Option X). IfSome o P) is holds
 
 -- by whether there is a file to extract to
 pub by_outfile : {F : Type 0} (outfile : Option (Bor (List ℕ))) (contents : F → Option (List ℕ)) (it : RunRequest) (files : FileMap) (status : ℕ) (old new : Option (List ℕ)) (asked_before asked_after : List Deed)

@@ -67,7 +67,7 @@ fit_right asked file is fit.NoImage right by ends told = differs ending.NoImage 
 fit_right asked file is (fit.Stopped fault) right by ends told = differs (end_of (fit.Stopped fault)) refl told
 fit_right asked file is (fit.Troubled trouble) right by ends told = differs (end_of (fit.Troubled trouble)) refl told
 
-pub parts_right : (asked : Unpacking) (file : List ℕ) (is : Bool) (ended : PartsEnded) → is ≡ false → is ≡ is_fit form.Guess file → KeepsRight file ended → end_of_parts ended ≡ ending.Told Done → IsRight asked file
+pub parts_right : (asked : Unpacking) (file : List ℕ) (is : Bool) (ended : PartsEnded) → is ≡ false → is ≡ is_fit form.Guess file → KeepsRight asked file ended → end_of_parts ended ≡ ending.Told Done → IsRight asked file
 parts_right asked file is legacy.Kept other by keeps told = subst (λ (b : Bool). IsRightIn b asked file) (sym other ∙ by) keeps
 parts_right asked file is legacy.Weak other by keeps told = differs ending.Weak refl told
 parts_right asked file is (legacy.Stopped fault) other by keeps told = differs (end_of_parts (legacy.Stopped fault)) refl told

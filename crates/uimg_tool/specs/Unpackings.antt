@@ -14,7 +14,7 @@ use Rattle.uimg_unpacking.specs.declared.unpacking.Unpacking.{Unpacking}
 -- parts of a legacy image.
 abbrev pub IsRightIn : Bool → Unpacking → List ℕ → Type 0
 IsRightIn true asked file = end_of_file asked file ≡ fit.Kept
-IsRightIn false asked file = KeepsRight file legacy.Kept
+IsRightIn false asked file = KeepsRight asked file legacy.Kept
 
 abbrev pub IsRight : Unpacking → List ℕ → Type 0
 IsRight asked file = IsRightIn (is_fit form.Guess file) asked file
