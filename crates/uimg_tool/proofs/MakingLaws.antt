@@ -1,14 +1,13 @@
 -- The status and the text of a making are those of its result, unless the status is 3.
-use Rattle.std.proofs.Common.{◌≡◌, ◌⊎◌, inl, inr, ℕ, List, Option, Bool, true, false, Result, Ok, Err, refl, ap, sym, subst, ◌∙◌}
-use Rattle.std.specs.Prelude.{⊤}
+use Rattle.std.proofs.Common.{◌≡◌, ◌⊎◌, inl, inr, ℕ, List, Option, Bool, true, false, Result, Ok, Err, refl, ap, sym, subst}
 use Rattle.std.specs.{Io.KnownBytes.Keeps, declared.io.Error.Error}
 use Rattle.uimg_base.specs.{Device.Device, Named.FileMap, Sink.Sink}
-use Rattle.uimg_base.specs.declared.status.Status.{Status, TheVariants.{Done, NotRight}}
+use Rattle.uimg_base.specs.declared.status.Status.{Status}
 use Rattle.uimg_engine.specs.declared.fault.Fault.{Fault}
 use Rattle.uimg_engine.specs.declared.fault.Fault.TheVariants as engine
 use Rattle.uimg_requests.specs.declared.requests.MakeRequest.{MakeRequest}
 use Rattle.uimg_tool.specs.{MadeEnds.end_printed, RequestEnds.{AsMade, StoppedAs}, Statuses.{end_status, fault_status, request_status}}
-use Rattle.uimg_tool.specs.Makings.{AnswersMade, AnswersMaking, IsMadeStatus, MakesAt, MakesRequested}
+use Rattle.uimg_tool.specs.Makings.{AnswersMaking, IsMadeStatus, MakesAt, MakesRequested}
 use Rattle.uimg_tool.specs.declared.request_fault.RequestFault.{RequestFault}
 use Rattle.uimg_tool.specs.declared.request_fault.RequestFault.TheVariants as request
 

@@ -32,7 +32,8 @@ pub(crate) fn carry_out_asked<'a, D: MakingWorld<'a>, W: Write + Drop, V: Write>
 ) -> (u8, W)
     requires { writer_buffer out ≡ [] }
     ensures ends { Ends result.0 complaints.old.count complaints.new.count }
-    ensures told { IsTrue (D.map world.old).honest → AnswersAsked D.File.contents D.Shelf.Kept.device asked.now (D.map world.old) result.0
+    ensures told { IsTrue (D.map world.old).honest → AnswersAsked D.File.contents
+        D.Shelf.Kept.device asked.now (D.map world.old) result.0
         (W.contents (writer_inner out)) (W.contents result.1) (D.trace world.old)
         (D.trace world.new) }
     ensures changed { Changes asked.now (D.trace world.old) (D.trace world.new) }
@@ -52,7 +53,8 @@ fn carry_out_buffered<'a, D: MakingWorld<'a>, W: Write + Drop, V: Write>(
 ) -> (u8, BufWriter<W, Global>)
     requires { writer_buffer out ≡ [] }
     ensures ends { Ends result.0 complaints.old.count complaints.new.count }
-    ensures told { IsTrue (D.map world.old).honest → AnswersAsked D.File.contents D.Shelf.Kept.device asked.now (D.map world.old) result.0
+    ensures told { IsTrue (D.map world.old).honest → AnswersAsked D.File.contents
+        D.Shelf.Kept.device asked.now (D.map world.old) result.0
         (writer_contents W.contents out) (writer_contents W.contents result.1)
         (D.trace world.old) (D.trace world.new) }
     ensures flushed { Flushes asked.now result.0 (writer_buffer result.1) }
@@ -84,7 +86,8 @@ fn carry_out_one<'a, D: MakingWorld<'a>, W: Write + Drop, V: Write>(
     complaints: &mut Complaints<'_, V>,
 ) -> (u8, BufWriter<W, Global>)
     ensures ends { Ends result.0 complaints.old.count complaints.new.count }
-    ensures told { IsTrue (D.map world.old).honest → AnswersOne D.File.contents D.Shelf.Kept.device request.now (D.map world.old) result.0
+    ensures told { IsTrue (D.map world.old).honest → AnswersOne D.File.contents
+        D.Shelf.Kept.device request.now (D.map world.old) result.0
         (writer_contents W.contents out) (writer_contents W.contents result.1)
         (D.trace world.old) (D.trace world.new) }
     ensures flushed { result.0 ≢ 3 → writer_buffer result.1 ≡ [] }

@@ -1,8 +1,8 @@
 //! The files of a folder of a world, opened by their names.
 
-ghost use Rattle.std.specs.Prelude.{◌≡◌, IfOk, IsTrue, false};
+ghost use Rattle.std.specs.Prelude.{◌≡◌, IfOk, false};
 ghost use Rattle.std.specs.Path.{path_buf_bytes, path_join};
-ghost use Rattle.uimg_base.specs.{Device.IsFresh, Named.{Opens, SameFiles}};
+ghost use Rattle.uimg_base.specs.Named.{Opens, SameFiles};
 ghost use Rattle.uimg_tool.specs.Makings.{in_folder};
 
 use std::alloc::Global;

@@ -115,8 +115,8 @@ fn carry_out_over<'a, R: Files + AllocGlobal, W: Write + Drop, V: Write>(
 /// and what `out` buffers for. The line is here for the contract alone, which says that its words
 /// were read to what is asked for.
 ///
-/// Over an honest world, unless the status is 3, exactly what the definition tells of the bytes at
-/// the paths of the words is written, and the status is the definition's.
+/// Over an honest world, what is told and made and the status are those of the definition for the
+/// bytes at the paths of the words, as far as `AnswersWords` says.
 pub(crate) fn carry_out_words<'a, D: MakingWorld<'a>, W: Write + Drop, V: Write>(
     world: &mut D,
     _line: CommandLine<'_>,
@@ -127,7 +127,8 @@ pub(crate) fn carry_out_words<'a, D: MakingWorld<'a>, W: Write + Drop, V: Write>
     requires read { ReadsWords (epoch_of _line) _line.time (words_of _line) (Ok asked.now) }
     requires empty { writer_buffer out ≡ [] }
     ensures ends { Ends result.0 complaints.old.count complaints.new.count }
-    ensures told { AnswersWords D.File.contents D.Shelf.Kept.device _line.entry (D.map world.old) result.0
+    ensures told { AnswersWords D.File.contents D.Shelf.Kept.device _line.entry (D.map world.old)
+        result.0
         (W.contents (writer_inner out)) (W.contents result.1) (D.trace world.old)
         (D.trace world.new) }
 {

@@ -32,7 +32,8 @@ pub(crate) fn unpack_image<D: World, W: Write + Drop, V: Write>(
     complaints: &mut Complaints<'_, V>,
 ) -> u8
     ensures ends { Ends result complaints.old.count complaints.new.count }
-    ensures within { ChangesWithin request.now.folder.now true (D.trace world.old) (D.trace world.new) }
+    ensures within { ChangesWithin request.now.folder.now true (D.trace world.old)
+        (D.trace world.new) }
     ensures told { IsTrue (D.map world.old).honest →
         AnswersUnpacking (D.map world.old) request.now result }
 {
@@ -50,7 +51,8 @@ fn clean_if<D: World, W: Write>(
     request: &UnpackRequest<'_>,
     out: &mut W,
 ) -> Result<(), Trouble>
-    ensures within { ChangesWithin request.now.folder.now false (D.trace world.old) (D.trace world.new) }
+    ensures within { ChangesWithin request.now.folder.now false (D.trace world.old)
+        (D.trace world.new) }
     ensures kept { request.now.cleans ≡ false → D.map world.new ≡ D.map world.old }
 {
     if request.cleans {
@@ -69,7 +71,8 @@ fn unpack_and_tell<D: World, W: Write + Drop, V: Write>(
     complaints: &mut Complaints<'_, V>,
 ) -> u8
     ensures ends { Ends result complaints.old.count complaints.new.count }
-    ensures within { ChangesWithin request.now.folder.now true (D.trace world.old) (D.trace world.new) }
+    ensures within { ChangesWithin request.now.folder.now true (D.trace world.old)
+        (D.trace world.new) }
     ensures done { IsTrue (D.map world.old).honest → result ≡ 0 →
         RightAt (D.map world.old) request.now (Some path.entry) }
 {
@@ -102,7 +105,8 @@ fn unpack_at<'a, D: World, W: Write + Drop>(
     request: &UnpackRequest<'a>,
     out: &mut W,
 ) -> Ending
-    ensures within { ChangesWithin request.now.folder.now true (D.trace world.old) (D.trace world.new) }
+    ensures within { ChangesWithin request.now.folder.now true (D.trace world.old)
+        (D.trace world.new) }
     ensures done { IsTrue (D.map world.old).honest → result ≡ Ending.Told Status.Done →
         RightAt (D.map world.old) request.now (Some path.entry) }
 {
@@ -135,7 +139,8 @@ fn unpack_source<D: World, S: Source, W: Write + Drop>(
     source: &mut S,
     out: W,
 ) -> Ending
-    ensures within { ChangesWithin asked.now.folder.path.now true (D.trace world.old) (D.trace world.new) }
+    ensures within { ChangesWithin asked.now.folder.path.now true (D.trace world.old)
+        (D.trace world.new) }
     ensures done { IfHonest S.device source (λ file. result ≡ Ending.Told Status.Done →
         IsRight asked.now file) }
 {
