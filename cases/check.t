@@ -80,6 +80,12 @@ An image without a hash node is reported, and is not wrong unless an algorithm i
   k.itb: weak b
   [1]
 
+The longest name of an image, of 255 bytes, is told whole:
+
+  $ fit "$(printf 'a%.0s' $(seq 255)) { data = \"abc\"; hash-1 { algo = \"crc32\"; }; };"
+  $ uimg check --need sha256 k.itb | wc -c
+  268
+
 The needed algorithm, or a stronger one, is enough:
 
   $ fit 'a { data = "abc"; hash-1 { algo = "crc32"; }; hash-2 { algo = "sha256"; }; }; b { data = "de"; hash-1 { algo = "sha512"; }; };'
