@@ -12,6 +12,7 @@ pub mod Indexed
 pub mod Standing
 pub mod Texts
 pub mod Faults
+pub mod FaultTexts
 pub mod Extents
 pub mod Labels
 pub mod ReadTokens

@@ -1,4 +1,5 @@
 pub mod Faults
+pub mod FaultTexts
 pub mod Files
 pub mod Places
 pub mod Report

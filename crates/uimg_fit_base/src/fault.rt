@@ -1,62 +1,116 @@
 //! What is wrong with a FIT image, and why a command on one stopped.
 
-use thiserror::Error;
+ghost use Rattle.std.specs.Prelude.{◌≡◌, Some};
+ghost use Rattle.uimg_fit_base.specs.FaultTexts.{fault_text, fault_code, text_of};
+
+use std::error::Error;
+use std::fmt;
+use std::fmt::{Display, Formatter, Write};
 use uimg_base::{MoveFault, PutFault, SourceFault};
 use uimg_blob_reading::{BlobFault, IndexFault};
 
 /// What is wrong with a FIT image's images, or with a tree to build one from. Its text is the line
 /// that the program prints, a letter and the variant's number first.
-#[derive(Clone, Copy, Debug, PartialEq, Eq, Error)]
+#[derive(Clone, Copy, Debug, PartialEq, Eq)]
 pub enum FitFault {
     /// The root has no child `images`.
-    #[error("F1 no images")]
     NoImages = 1,
     /// An image has no payload.
-    #[error("F2 no data")]
     NoData = 2,
     /// A payload ends after the file.
-    #[error("F3 data outside")]
     DataOutside = 3,
     /// There is no image at the position.
-    #[error("F4 no such image")]
     NoSuchImage = 4,
     /// A hash node names no known algorithm.
-    #[error("F5 unknown algorithm")]
     UnknownAlgo = 5,
     /// The payloads would begin before the blob's end.
-    #[error("F6 position too low")]
     PositionTooLow = 6,
     /// The file would have more than 4294967295 bytes.
-    #[error("F7 too large")]
     TooLarge = 7,
     /// Memory was refused.
-    #[error("F8 out of memory")]
     OutOfMemory = 8,
     /// A payload's file could not be opened.
-    #[error("F9 no file")]
     NoFile = 9,
     /// A read of a payload's file failed, or the file has another size than the tree keeps.
-    #[error("F10 read failed")]
     ReadFailed = 10,
 }
 
+impl FitFault {
+    /// Returns the line of the fault.
+    pub fn text(self) -> &'static str
+        ensures { result.now ≡ fault_text self }
+    {
+        match self {
+            FitFault::NoImages => "F1 no images",
+            FitFault::NoData => "F2 no data",
+            FitFault::DataOutside => "F3 data outside",
+            FitFault::NoSuchImage => "F4 no such image",
+            FitFault::UnknownAlgo => "F5 unknown algorithm",
+            FitFault::PositionTooLow => "F6 position too low",
+            FitFault::TooLarge => "F7 too large",
+            FitFault::OutOfMemory => "F8 out of memory",
+            FitFault::NoFile => "F9 no file",
+            FitFault::ReadFailed => "F10 read failed",
+        }
+    }
+
+    /// Returns the letter and number of the fault, the first word of its line.
+    pub fn code(self) -> &'static str
+        ensures { result.now ≡ fault_code self }
+    {
+        match self {
+            FitFault::NoImages => "F1",
+            FitFault::NoData => "F2",
+            FitFault::DataOutside => "F3",
+            FitFault::NoSuchImage => "F4",
+            FitFault::UnknownAlgo => "F5",
+            FitFault::PositionTooLow => "F6",
+            FitFault::TooLarge => "F7",
+            FitFault::OutOfMemory => "F8",
+            FitFault::NoFile => "F9",
+            FitFault::ReadFailed => "F10",
+        }
+    }
+}
+
+impl Display for FitFault {
+    ghost output = { λ fault. Some (fault_text fault) };
+
+    fn fmt<W: Write>(&self, f: &mut Formatter<W>) -> fmt::Result {
+        f.write_str(self.text())
+    }
+}
+
+impl Error for FitFault {}
+
 /// Why a command stopped.
-#[derive(Clone, Copy, Debug, PartialEq, Eq, Error)]
+#[derive(Clone, Copy, Debug, PartialEq, Eq)]
 pub enum Fault {
     /// The blob is refused, or memory for its table of nodes; the offset counts from the file's
     /// start. A bad name of a tree to be built is at offset 0.
-    #[error("{0} at {1}")]
     Blob(BlobFault, u64),
     /// The images are refused.
-    #[error("{0}")]
     Fit(FitFault),
     /// A read failed, or a payload's file has another size than the tree keeps.
-    #[error("read failed")]
     Read,
     /// A write failed.
-    #[error("write failed")]
     Put,
 }
+
+impl Display for Fault {
+    ghost output = { λ fault. Some (text_of fault) };
+
+    fn fmt<W: Write>(&self, f: &mut Formatter<W>) -> fmt::Result {
+        match *self {
+            Fault::Blob(fault, offset) => write!(f, "{fault} at {offset}"),
+            Fault::Fit(fault) => f.write_str(fault.text()),
+            Fault::Read => f.write_str("read failed"),
+            Fault::Put => f.write_str("write failed"),
+        }
+    }
+}
+
+impl Error for Fault {}
 
 impl From<IndexFault> for Fault {
     ghost use Rattle.std.specs.Prelude.{◌≡◌};

@@ -9,6 +9,7 @@ pub mod Extraction
 pub mod Work
 pub mod Listing
 pub mod Faults
+pub mod FaultTexts
 pub mod Reading
 pub mod Commands
 pub mod Counting
