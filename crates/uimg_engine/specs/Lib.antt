@@ -1,4 +1,5 @@
 pub mod Faults
+pub mod FaultTexts
 pub mod Headline
 pub mod Locating
 pub mod Making

@@ -7,6 +7,7 @@ pub mod FdtHeader
 pub mod Reservations
 pub mod Blocks
 pub mod Faults
+pub mod FaultTexts
 pub mod Found
 pub mod Contents
 pub mod FitContents

@@ -1,29 +1,45 @@
 //! Why an image has no map, or what is wrong with an image that has one.
 
+ghost use Rattle.std.specs.Prelude.{Some};
+ghost use Rattle.uimg_map.specs.FaultTexts.{text_of};
+
 use std::alloc::{AllocError, AllocFailed};
-use thiserror::Error;
+use std::error::Error;
+use std::fmt;
+use std::fmt::{Display, Formatter, Write};
 use uimg_base::SourceFault;
 
 /// Why an image has no map, or what is wrong with an image that has one. Its text is the line that
 /// the program prints.
-#[derive(Clone, Copy, Debug, PartialEq, Eq, Error)]
+#[derive(Clone, Copy, Debug, PartialEq, Eq)]
 pub enum MapFault {
     /// The legacy image is refused.
-    #[error("{0}")]
     Legacy(uimg_legacy::Fault),
 
     /// The FIT image is refused, or memory for the table of its nodes was refused.
-    #[error("{0}")]
     Fit(uimg_fit_base::Fault),
 
     /// A read failed.
-    #[error("read failed")]
     Read,
 
     /// Memory for the map was refused.
-    #[error("out of memory")]
     OutOfMemory,
 }
+
+impl Display for MapFault {
+    ghost output = { λ fault. Some (text_of fault) };
+
+    fn fmt<W: Write>(&self, f: &mut Formatter<W>) -> fmt::Result {
+        match *self {
+            MapFault::Legacy(fault) => write!(f, "{fault}"),
+            MapFault::Fit(fault) => write!(f, "{fault}"),
+            MapFault::Read => f.write_str("read failed"),
+            MapFault::OutOfMemory => f.write_str("out of memory"),
+        }
+    }
+}
+
+impl Error for MapFault {}
 
 impl From<SourceFault> for MapFault {
     ghost use Rattle.std.specs.Prelude.{◌≡◌};
