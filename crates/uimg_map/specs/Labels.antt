@@ -1,10 +1,11 @@
--- The texts of a map's rows. What a fault says is not stated.
+-- The texts of a map's rows.
 use Rattle.std.specs.Prelude.{◌≡◌, ℕ, min, nat_lt, List, [], ◌++◌, codes, decimal, if◌then◌else◌}
-use Rattle.std.specs.Prelude.{Option, Some, None, ⊤, ◌+◌, ◌≤◌, Result, OnOk, true}
+use Rattle.std.specs.Prelude.{Option, Some, None, ◌+◌, ◌≤◌, Result, OnOk, true}
 use Rattle.std.specs.List.{slice_get}
 use Rattle.uimg_base.specs.{declared.spans.Span.Span, Device.{Device, SameDevice}}
 use Rattle.uimg_printing.specs.Printing.{printed}
 use Rattle.uimg_texts.specs.Slices.{slice}
+use Rattle.uimg_map.specs.FaultTexts.{text_of}
 use Rattle.uimg_map.specs.declared.{contents.Label.Label, map.{Map.Map, Standing.Standing}}
 use Rattle.uimg_map.specs.declared.contents.Label.TheVariants as of
 use Rattle.uimg_map.specs.declared.map.Standing.TheVariants.{Alone, Nested, Overlapping}
@@ -37,12 +38,12 @@ abbrev pub payload_text : List ℕ → Span → List ℕ
 payload_text file name =
     codes "payload of " ++ printed true (slice file name.place (min name.length 255))
 
--- The text is the name of what has this label in a file; that of a fault may be any.
+-- The text is the name of what has this label in a file.
 abbrev pub Names : List ℕ → Option Label → List ℕ → Type 0
 Names file (Some (of.Payload name)) text = text ≡ payload_text file name
 Names file (Some (of.Embedded name)) text = text ≡ payload_text file name
 Names file (Some (of.Part number)) text = text ≡ codes "part " ++ decimal number
-Names file (Some (of.Fault fault)) text = ⊤
+Names file (Some (of.Fault fault)) text = text ≡ codes "fault " ++ text_of fault
 Names file (Some label) text = text ≡ word_of label
 Names file None text = text ≡ []
 
