@@ -1,6 +1,6 @@
 -- What is answered of a file by its facts.
-use Rattle.std.proofs.Common.{◌≡◌, ℕ, List, length, Bool, true, false, if◌then◌else◌, Option, Some, Result, Ok, Err, Vec, inl, inr, refl, ap, sym, subst, ◌∙◌, arith, true≢false}
-use Rattle.std.specs.{Prelude.{◌⊎◌, ◌≢◌, IfOk, IsTrue}, Io.KnownBytes.Appends}
+use Rattle.std.proofs.Common.{◌≡◌, ℕ, List, ◌++◌, length, codes, Bool, true, false, if◌then◌else◌, Option, Some, None, Result, Ok, Err, Vec, inl, inr, refl, ap, sym, subst, ◌∙◌, arith, true≢false}
+use Rattle.std.specs.{Borrow.Bor, Prelude.{◌⊎◌, ◌≢◌, IfOk, IsTrue}, Io.KnownBytes.Appends}
 use Rattle.json.specs.{Json.Json}
 use Rattle.uimg_base.specs.{Device.{Device, SameDevice}, Named.FileMap, Results.◌>>=◌, declared.spans.Span.Span}
 use Rattle.uimg_blob_reading.specs.Faults.{refuses_memory}
@@ -20,13 +20,16 @@ use Rattle.uimg_info.specs.{Fit.info_of, Legacy.legacy_json, Steps.Informs}
 use Rattle.uimg_engine.specs.Faults.{of_fit, of_legacy}
 use Rattle.uimg_engine.specs.declared.fault.Fault.{Fault}
 use Rattle.uimg_engine.specs.declared.fault.Fault.TheVariants as engine
-use Rattle.uimg_checks.specs.{Answers.answer_status, Objects.check_json}
+use Rattle.uimg_engine.specs.FaultTexts.{code_of, text_of}
+use Rattle.uimg_checks.specs.{Answers.answer_status, Objects.{check_json, format_if, string_if}}
+use Rattle.uimg_checks.specs.declared.answer.{Format.Format, Stop.Stop}
 use Rattle.uimg_checks.specs.declared.answer.Answer.{Answer}
 use Rattle.uimg_checks.specs.declared.answer.Answer.TheVariants as answer
-use Rattle.uimg_tool.specs.{Answering.AnswersBy, CheckEnds.{AnswersFault, AnswersLine}, JsonLines.shown_line, Statuses.fault_status}
+use Rattle.uimg_printing.specs.Members.{Member, object_of, number_if, number_member, string_member, text_members}
+use Rattle.uimg_tool.specs.{Answering.AnswersBy, CheckEnds.{AnswersFault, AnswersLine, TellsFault, format_of, told_name}, JsonLines.shown_line, Statuses.fault_status}
 use Rattle.uimg_tool.specs.{InfoEnds.{stop_of_parts, stop_of_survey}, declared.info_program.Stop.Stop as NoFacts}
 use Rattle.uimg_tool.specs.declared.info_program.Stop.TheVariants as stop
-use Rattle.uimg_tool.specs.Facts.{GivesFacts, IsFactsAnswer, IsObjectOf, IsTextOf, StopsBy, TellsFacts, facts_in, facts_of, facts_with, fault_as, legacy_facts}
+use Rattle.uimg_tool.specs.Facts.{GivesFacts, IsFactsAnswer, IsObjectOf, IsTextOf, StopsBy, TellsFacts, code_member, facts_in, facts_of, facts_with, fault_as, legacy_facts, refusal_json}
 
 as_blob : (path file : List ℕ) → true ≡ begins_as_blob file → facts_of path file ≡ fault_as of_fit (info_of path file)
 as_blob path file blob = ap (λ (b : Bool). facts_in b path file) (sym blob)
@@ -112,11 +115,25 @@ legacy_given path d e f size header shown spans text same next is placed all are
 pub facts_told : {Z : Type 0} (path : List ℕ) (facts : Result Json Fault) (text : Vec ℕ Z) → GivesFacts facts (Ok text) → TellsFacts path facts 0 text.items
 facts_told path facts text gives = subst (λ (it : Result Json Fault). TellsFacts path it 0 text.items) (sym gives.1) (refl, gives.2)
 
+same_code : (code : Option (Bor (List ℕ))) → string_if (codes "fault") code ≡ code_member (told_name code)
+same_code None = refl
+same_code (Some code) = refl
+
+-- what is told of a fault makes its object
+refusal_object : (path : List ℕ) (fault : Fault) (why : Stop) → TellsFault fault 1 why → check_json path (answer.Refused why) ≡ refusal_json path fault
+refusal_object path fault why told =
+    let head = λ (format : Option Format). text_members (codes "path") path ++ (number_member (codes "status") 1 ++ (string_member (codes "verdict") (codes "refused") ++ format_if format)) in
+    let object = λ (format : Option Format) (code : List Member) (message : List ℕ) (offset : Option ℕ). object_of (head format ++ (code ++ (string_member (codes "message") message ++ number_if (codes "offset") offset))) in
+    ap (λ (format : Option Format). object format (string_if (codes "fault") why.code) why.message.now why.offset) told.format
+    ∙ ap (λ (code : List Member). object (format_of fault) code why.message.now why.offset) (same_code why.code ∙ ap code_member told.code)
+    ∙ ap (λ (message : List ℕ). object (format_of fault) (code_member (code_of fault)) message why.offset) told.message
+    ∙ ap (λ (offset : Option ℕ). object (format_of fault) (code_member (code_of fault)) (text_of fault) offset) told.offset
+
 refusal_told : (path : List ℕ) (facts : Result Json Fault) (fault : Fault) (told : Answer) (status : ℕ) (text : List ℕ) → AnswersFault fault told
     → (fault_status fault ≡ 3) ⊎ (facts ≡ Err fault) → status ≡ answer_status told → IsTextOf (check_json path told) text → (status ≡ 3) ⊎ TellsFacts path facts status text
 refusal_told path facts fault (answer.Refused why) status text told (inl failed) is spells = absurd (omega (arith, sym told.status ∙ failed))
 refusal_told path facts fault (answer.Refused why) status text told (inr same) is spells =
-    inr (subst (λ (it : Result Json Fault). TellsFacts path it status text) (sym same) (is, (why, told, spells)))
+    inr (subst (λ (it : Result Json Fault). TellsFacts path it status text) (sym same) (is, (told.status, subst (λ (object : Json). IsTextOf object text) (refusal_object path fault why told) spells)))
 refusal_told path facts fault (answer.Failed why) status text told given is spells = inl is
 refusal_told path facts fault (answer.Found found more) status text told given is spells = absurd told
 refusal_told path facts fault (answer.Missing _ property name) status text told given is spells = absurd told

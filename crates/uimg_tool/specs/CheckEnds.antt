@@ -1,5 +1,5 @@
 -- What a check answers at its end.
-use Rattle.std.specs.Prelude.{◌≡◌, ◌≢◌, ⊤, ℕ, ◌==◌, min, take, List, codes, Option, Some, None, Result, Ok, Err}
+use Rattle.std.specs.Prelude.{◌≡◌, ◌⊎◌, ⊤, ℕ, ◌==◌, min, take, List, codes, Option, Some, None, Result, Ok, Err}
 use Rattle.std.specs.{Borrow.Bor, Option.option_map, Prelude.{Bool, true, false, IsTrue, is_some}}
 use Rattle.uimg_base.specs.declared.spans.Span.{Span}
 use Rattle.uimg_checks.specs.declared.answer.Format.{Format}
@@ -14,6 +14,7 @@ use Rattle.uimg_checks.specs.Properties.{property_name}
 use Rattle.uimg_checks.specs.declared.references.missing.Missing.{Missing}
 use Rattle.uimg_fit_checking.specs.declared.checking.Finding.{Finding}
 use Rattle.uimg_fit_checking.specs.declared.checking.Finding.TheVariants as fit
+use Rattle.uimg_engine.specs.FaultTexts.{code_of, text_of}
 use Rattle.uimg_engine.specs.declared.fault.Fault.{Fault}
 use Rattle.uimg_engine.specs.declared.fault.Fault.TheVariants as engine
 use Rattle.uimg_tool.specs.declared.unpack_answers.Ending.{Ending}
@@ -33,18 +34,30 @@ abbrev pub offset_of : Fault → Option ℕ
 offset_of (engine.Blob fault offset) = Some offset
 offset_of fault = None
 
--- what is told of a fault beside its line
+-- a name or a code that may be told
+abbrev pub told_name : Option (Bor (List ℕ)) → Option (List ℕ)
+told_name name = option_map (λ told. told.now) name
+
+-- what is told of a fault
 pub record TellsFault (fault : Fault) (number : ℕ) (stop : Stop) : Type 0 where
   pub status : fault_status fault ≡ number
+  pub message : stop.message.now ≡ text_of fault
+  pub code : told_name stop.code ≡ code_of fault
   pub format : stop.format ≡ format_of fault
   pub offset : stop.offset ≡ offset_of fault
+
+-- what is told where memory for the line was refused
+pub record TellsNoMemory (stop : Stop) : Type 0 where
+  pub message : stop.message.now ≡ codes "out of memory"
+  pub code : stop.code ≡ None
+  pub format : stop.format ≡ None
+  pub offset : stop.offset ≡ None
 
 -- The image is refused exactly by a fault of status 1. Another failed, or there was no memory for the
 -- line.
 abbrev pub AnswersFault : Fault → Answer → Type 0
 AnswersFault fault (Refused stop) = TellsFault fault 1 stop
-AnswersFault fault (Failed stop) =
-    stop.message.now ≢ codes "out of memory" → TellsFault fault 3 stop
+AnswersFault fault (Failed stop) = TellsFault fault 3 stop ⊎ TellsNoMemory stop
 AnswersFault fault answer = ⊥
 
 -- a finding without its names
@@ -114,10 +127,6 @@ kept_names images hashes (fit.Weak image) = fit.Weak (take (min image.length 255
 kept_names images hashes (fit.Overlapping image) =
     fit.Overlapping (take (min image.length 255) images)
 kept_names images hashes fit.NoImage = fit.NoImage
-
--- a name that may be told
-abbrev pub told_name : Option (Bor (List ℕ)) → Option (List ℕ)
-told_name name = option_map (λ told. told.now) name
 
 -- The answer is this verdict.
 abbrev pub IsVerdict : Answer → Verdict → Type 0

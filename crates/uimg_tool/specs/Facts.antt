@@ -1,5 +1,5 @@
 -- The facts of an image, and what is answered of a file by them.
-use Rattle.std.specs.Prelude.{◌≡◌, ◌⊎◌, ⊤, ℕ, List, length, Option, Some, Bool, true, false, Vec, Result, Ok, Err}
+use Rattle.std.specs.Prelude.{◌≡◌, ◌⊎◌, ⊤, ℕ, List, [], ◌++◌, codes, length, Option, Some, None, Bool, true, false, Vec, Result, Ok, Err}
 use Rattle.std.specs.Io.KnownBytes.{Appends}
 use Rattle.json.specs.{Json.Json, Print.print, Tree.json_tokens}
 use Rattle.uimg_base.specs.{Named.FileMap, Results.◌>>=◌}
@@ -7,12 +7,11 @@ use Rattle.uimg_fit_base.specs.Files.{begins_as_blob}
 use Rattle.uimg_legacy.specs.declared.{fault.LegacyFault.LegacyFault, header.Header.Header}
 use Rattle.uimg_legacy.specs.{Header.header as header_of, Placing.spans_of_parts}
 use Rattle.uimg_info.specs.{Fit.info_of, Legacy.legacy_json}
-use Rattle.uimg_engine.specs.Faults.{of_fit}
+use Rattle.uimg_engine.specs.{Faults.of_fit, FaultTexts.{code_of, text_of}}
 use Rattle.uimg_engine.specs.declared.fault.Fault.{Fault, TheVariants.Legacy}
-use Rattle.uimg_checks.specs.declared.answer.Answer.TheVariants.{Refused}
-use Rattle.uimg_checks.specs.declared.answer.Stop.{Stop}
-use Rattle.uimg_checks.specs.Objects.{check_json}
-use Rattle.uimg_tool.specs.{CheckEnds.TellsFault, JsonLines.shown_line, Statuses.fault_status}
+use Rattle.uimg_checks.specs.Objects.{format_if}
+use Rattle.uimg_printing.specs.Members.{Member, object_of, number_if, number_member, string_member, text_members}
+use Rattle.uimg_tool.specs.{CheckEnds.{format_of, offset_of}, JsonLines.shown_line, Statuses.fault_status}
 use Rattle.uimg_tool.specs.declared.info_program.Stop.{Stop as NoFacts}
 use Rattle.uimg_tool.specs.declared.info_program.Stop.TheVariants as stop
 
@@ -56,10 +55,22 @@ abbrev pub GivesFacts : {Z : Type 0} → Result Json Fault → Result (Vec ℕ Z
 GivesFacts facts (Ok text) = (told : Json) × (facts ≡ Ok told) × IsTextOf told text.items
 GivesFacts facts (Err why) = StopsBy facts why
 
--- The text is that of a refusal with this fault.
+-- the member of a fault's code, if it has one
+abbrev pub code_member : Option (List ℕ) → List Member
+code_member None = []
+code_member (Some code) = string_member (codes "fault") code
+
+-- the object of an image at a path that this fault refuses (docs/JSON.md)
+abbrev pub refusal_json : List ℕ → Fault → Json
+refusal_json path fault = object_of (text_members (codes "path") path
+    ++ (number_member (codes "status") 1
+    ++ (string_member (codes "verdict") (codes "refused") ++ format_if (format_of fault)))
+    ++ (code_member (code_of fault) ++ (string_member (codes "message") (text_of fault)
+    ++ number_if (codes "offset") (offset_of fault))))
+
+-- The fault is a refusal, and the text is that of its object.
 abbrev pub IsRefusal : List ℕ → Fault → List ℕ → Type 0
-IsRefusal path fault text =
-    (why : Stop) × TellsFault fault 1 why × IsTextOf (check_json path (Refused why)) text
+IsRefusal path fault text = (fault_status fault ≡ 1) × IsTextOf (refusal_json path fault) text
 
 -- A status and a text are those of facts at a path: 0 and their object, or 1 and a refusal.
 abbrev pub TellsFacts : List ℕ → Result Json Fault → ℕ → List ℕ → Type 0

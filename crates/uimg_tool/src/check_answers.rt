@@ -231,10 +231,9 @@ pub(crate) fn answer_of_fault<'a>(fault: Fault, names: &'a mut Names) -> Answer<
         return NO_MEMORY;
     };
     names.message = message;
-    let message = names.message.as_str();
     let stop = Stop {
-        message,
-        code: code_of(fault, message),
+        message: names.message.as_str(),
+        code: fault.code(),
         format: format_of(fault),
         offset: offset_of(fault),
     };
@@ -242,16 +241,6 @@ pub(crate) fn answer_of_fault<'a>(fault: Fault, names: &'a mut Names) -> Answer<
         Answer::Refused(stop)
     } else {
         Answer::Failed(stop)
-    }
-}
-
-// Returns the letter and number at the beginning of a fault's line, if it has them.
-fn code_of(fault: Fault, message: &str) -> Option<&str> {
-    match fault {
-        Fault::Legacy(_) | Fault::Blob(_, _) | Fault::Fit(_) | Fault::Its(_) => {
-            message.split_ascii_whitespace().next()
-        }
-        _ => None,
     }
 }
 
