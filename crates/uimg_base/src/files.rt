@@ -1,6 +1,6 @@
 //! Files that are opened by name.
 
-ghost use Rattle.std.specs.Prelude.{◌≡◌, ◌≤◌, ◌+◌, None, OnErr, IfOk, IsTrue, is_err};
+ghost use Rattle.std.specs.Prelude.{◌≡◌, ◌≤◌, ◌+◌, ◌∷◌, None, OnErr, IfOk, IsTrue, is_err};
 ghost use Rattle.uimg_base.specs.{Device.RisesIf, Named.{FileMap, SameFiles, Opens}};
 
 use crate::source::{Source, SourceFault};
@@ -8,9 +8,9 @@ use crate::source::{Source, SourceFault};
 /// Named files, each opened as a source.
 ///
 /// Contracts see them as a `FileMap`: the bytes at each name, whether they are honest and complete,
-/// and the count of refused opens. Honest files open honest sources of those bytes; complete files
-/// refuse no name that has bytes. No call changes any of these, so a name opened twice has the same
-/// bytes.
+/// the count of refused opens, and the names that were requested, the newest first. Honest files
+/// open honest sources of those bytes; complete files refuse no name that has bytes. No call changes
+/// any of these, so a name opened twice has the same bytes.
 pub trait Files {
     /// The source that an open returns.
     type Opened: Source;
@@ -28,6 +28,7 @@ pub trait Files {
             OnErr result ((map self.old).bytes name.now ≡ None) }
         ensures refusals { RisesIf (is_err result) (map self.old).refusals (map self.new).refusals }
         ensures counted { (map self.new).refusals ≤ (map self.old).refusals + 1 }
+        ensures noted { (map self.new).opened ≡ name.now ∷ (map self.old).opened }
         ensures opened { IfOk result (λ opened.
             Opens (map self.old) name.now (Self.Opened.device opened)) };
 }

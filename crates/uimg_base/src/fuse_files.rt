@@ -1,9 +1,10 @@
 //! Files that refuse an open, or open a failing source, for tests.
 
-ghost use Rattle.std.specs.Prelude.{◌≡◌, false};
+ghost use Rattle.std.specs.Prelude.{◌≡◌, [], false};
 
 use crate::files::Files;
 use crate::fuse_source::FuseSource;
+use crate::opened_names::OpenedNames;
 use crate::source::SourceFault;
 
 /// Files that can be opened a given number of times; one open gives a source that fails after some
@@ -16,6 +17,7 @@ pub struct FuseFiles<F: Files> {
     calls: u64,
     opens: u64,
     refusals: u64,
+    opened: OpenedNames,
 }
 
 impl<F: Files> FuseFiles<F> {
@@ -23,11 +25,11 @@ impl<F: Files> FuseFiles<F> {
     ///
     /// Open number `from` and all later ones are refused. Open number `turn` gives a source that
     /// lets `calls` calls through; any other gives one that lets 2^64 - 1 through. The fuse counts
-    /// refused opens itself, from 0. No clause says which opens are refused or how many calls pass;
+    /// refused opens itself, from 0, and notes the names that were requested of it. No clause says which opens are refused or how many calls pass;
     /// tests show it.
     pub fn new(files: F, from: u64, turn: u64, calls: u64) -> FuseFiles<F>
         ensures { ⟦<FuseFiles<F> as Files>⟧.map result
-            ≡ record (F.map files) { complete = false; refusals = 0 } }
+            ≡ record (F.map files) { complete = false; refusals = 0; opened = [] } }
     {
         FuseFiles {
             files,
@@ -36,6 +38,7 @@ impl<F: Files> FuseFiles<F> {
             calls,
             opens: 0,
             refusals: 0,
+            opened: OpenedNames::new(),
         }
     }
 }
@@ -43,9 +46,14 @@ impl<F: Files> FuseFiles<F> {
 impl<F: Files> Files for FuseFiles<F> {
     type Opened = FuseSource<F::Opened>;
 
-    ghost map = { λ s. record (F.map s.files) { complete = false; refusals = s.refusals } };
+    ghost map = { λ s. record (F.map s.files) {
+      complete = false;
+      refusals = s.refusals;
+      opened = s.opened.names;
+    } };
 
     fn open(&mut self, name: &[u8]) -> Result<FuseSource<F::Opened>, SourceFault> {
+        self.opened.note(name);
         let number = self.opens;
         self.opens = self.opens.saturating_add(1);
         if number < self.from

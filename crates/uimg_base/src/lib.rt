@@ -10,6 +10,7 @@ mod fuse_source;
 mod fuse_writer;
 mod mem_files;
 mod mem_shelf;
+mod opened_names;
 mod output;
 mod piece;
 mod ranges;
@@ -32,6 +33,7 @@ pub use fuse_source::FuseSource;
 pub use fuse_writer::FuseWriter;
 pub use mem_files::MemFiles;
 pub use mem_shelf::{MemKept, MemShelf};
+pub use opened_names::OpenedNames;
 pub use output::{Out, PutFault};
 pub use ranges::{
     MoveFault, copy_range, copy_through, crc_range, feed_through, sum_range, take_through,

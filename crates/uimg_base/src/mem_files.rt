@@ -1,9 +1,10 @@
 //! Files in memory.
 
-ghost use Rattle.std.specs.Prelude.{◌≡◌, true};
+ghost use Rattle.std.specs.Prelude.{◌≡◌, [], true};
 ghost use Rattle.uimg_base.specs.Named.{bytes_named};
 
 use crate::files::Files;
+use crate::opened_names::OpenedNames;
 use crate::source::{MemSource, Source, SourceFault};
 
 /// Files in memory: pairs of a name and its bytes. Of equal names, the first counts.
@@ -13,6 +14,7 @@ use crate::source::{MemSource, Source, SourceFault};
 pub struct MemFiles<'a> {
     files: &'a [(&'a [u8], &'a [u8])],
     refusals: u64,
+    opened: OpenedNames,
 }
 
 impl<'a> MemFiles<'a> {
@@ -23,9 +25,14 @@ impl<'a> MemFiles<'a> {
           honest = true;
           complete = true;
           refusals = 0;
+          opened = [];
         } }
     {
-        MemFiles { files, refusals: 0 }
+        MemFiles {
+            files,
+            refusals: 0,
+            opened: OpenedNames::new(),
+        }
     }
 }
 
@@ -37,10 +44,12 @@ impl<'a> Files for MemFiles<'a> {
       honest = true;
       complete = true;
       refusals = s.refusals;
+      opened = s.opened.names;
     } };
 
     /// Opens the first file with this name. Returns `SourceFault` only if there is none.
     fn open(&mut self, name: &[u8]) -> Result<MemSource<'a>, SourceFault> {
+        self.opened.note(name);
         for (known, bytes) in self.files {
             if *known == name {
                 return Ok(MemSource::new(bytes));

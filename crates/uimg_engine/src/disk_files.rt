@@ -1,6 +1,6 @@
 //! The files of a folder.
 
-ghost use Rattle.std.specs.{Prelude.{◌≡◌, ◌||◌, Some, None, true, false, IfOk, IsErr}, Option.option_map};
+ghost use Rattle.std.specs.{Prelude.{◌≡◌, ◌||◌, [], Some, None, true, false, IfOk, IsErr}, Option.option_map};
 ghost use Rattle.std.specs.Path.{path_buf_bytes, path_join};
 ghost use Rattle.uimg_base.specs.Device.{IsFresh};
 
@@ -8,7 +8,7 @@ use crate::same_files::is_same_file;
 use std::alloc::Allocator;
 use std::path::{Path, PathBuf};
 use std::rt;
-use uimg_base::{FileSource, Files, Source, SourceFault};
+use uimg_base::{FileSource, Files, OpenedNames, Source, SourceFault};
 
 /// The files of a folder, opened by their paths.
 ///
@@ -22,13 +22,15 @@ pub struct DiskFiles<'a, R: rt::Files + AllocGlobal> {
     left_out: Option<&'a str>,
     has_met_left_out: bool,
     refusals: u64,
+    opened: OpenedNames,
 }
 
 impl<'a, R: rt::Files + AllocGlobal> DiskFiles<'a, R> {
-    /// Returns the files of a folder, with no refused open yet. An empty text is the current
+    /// Returns the files of a folder, none of them requested yet. An empty text is the current
     /// folder.
     pub fn new(rt: &'a R, folder: &'a str) -> DiskFiles<'a, R>
         ensures refusals { (⟦<DiskFiles<'a, R> as Files>⟧.map result).refusals ≡ 0 }
+        ensures opened { (⟦<DiskFiles<'a, R> as Files>⟧.map result).opened ≡ [] }
         ensures folder { result.folder.now ≡ folder.entry.now }
         ensures left_out { result.left_out ≡ None }
         ensures unmet { result.has_met_left_out ≡ false }
@@ -39,12 +41,14 @@ impl<'a, R: rt::Files + AllocGlobal> DiskFiles<'a, R> {
             left_out: None,
             has_met_left_out: false,
             refusals: 0,
+            opened: OpenedNames::new(),
         }
     }
 
     /// Returns the files of a folder without the file at a path, whose open is refused.
     pub fn without(rt: &'a R, folder: &'a str, path: &'a str) -> DiskFiles<'a, R>
         ensures refusals { (⟦<DiskFiles<'a, R> as Files>⟧.map result).refusals ≡ 0 }
+        ensures opened { (⟦<DiskFiles<'a, R> as Files>⟧.map result).opened ≡ [] }
         ensures folder { result.folder.now ≡ folder.entry.now }
         ensures left_out { option_map (λ text. text.now) result.left_out ≡ Some path.entry.now }
         ensures unmet { result.has_met_left_out ≡ false }
@@ -71,6 +75,7 @@ impl<'a, R: rt::Files + AllocGlobal> Files for DiskFiles<'a, R> {
       honest = false;
       complete = false;
       refusals = s.refusals;
+      opened = s.opened.names;
     } };
 
     /// Opens the file of this name.
@@ -78,6 +83,7 @@ impl<'a, R: rt::Files + AllocGlobal> Files for DiskFiles<'a, R> {
     /// Returns `SourceFault` if the name is not UTF-8, if memory for the path was refused, if the
     /// file is the one that is left out, or if `FileSource::open` does.
     fn open(&mut self, name: &[u8]) -> Result<FileSource<R::File>, SourceFault> {
+        self.opened.note(name);
         let opened = match path_in(self.rt.alloc(), self.folder, name) {
             Ok(path) => {
                 let is_left_out = is_left_out(self.rt, path.as_str(), self.left_out);

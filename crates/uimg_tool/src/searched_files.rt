@@ -6,7 +6,7 @@ ghost use Rattle.uimg_base.specs.Device.{IsFresh};
 use std::alloc::Global;
 use std::path::Path;
 use std::rt;
-use uimg_base::{FileSource, Files, Source, SourceFault};
+use uimg_base::{FileSource, Files, OpenedNames, Source, SourceFault};
 use uimg_engine::DiskFiles;
 use uimg_unpacking::FileId;
 
@@ -33,6 +33,7 @@ pub(crate) struct SearchedFiles<'a, R: rt::Files + AllocGlobal> {
     // The name of the last file that was not opened.
     missing: Option<Vec<u8>>,
     refusals: u64,
+    opened: OpenedNames,
 }
 
 impl<'a, R: rt::Files + AllocGlobal> SearchedFiles<'a, R> {
@@ -55,6 +56,7 @@ impl<'a, R: rt::Files + AllocGlobal> SearchedFiles<'a, R> {
             is_ambiguous: false,
             missing: None,
             refusals: 0,
+            opened: OpenedNames::new(),
         }
     }
 
@@ -136,11 +138,13 @@ impl<'a, R: rt::Files + AllocGlobal> Files for SearchedFiles<'a, R> {
       honest = false;
       complete = false;
       refusals = s.refusals;
+      opened = s.opened.names;
     } };
 
     /// Opens the file of this name in the first folder that has one. Returns `SourceFault` if none
     /// has, or as `DiskFiles::open` does.
     fn open(&mut self, name: &[u8]) -> Result<FileSource<R::File>, SourceFault> {
+        self.opened.note(name);
         let own = own_name(name);
         let is_by_searched = self.has_searched(folder_before(name, own));
         if is_by_searched && is_in_several(self.rt, self.folder, self.others, name, own) {

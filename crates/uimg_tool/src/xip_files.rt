@@ -5,7 +5,7 @@ ghost use Rattle.uimg_base.specs.Device.{IsFresh};
 
 use crate::body_source::BodySource;
 use std::rt;
-use uimg_base::{FileSource, Files, Source, SourceFault};
+use uimg_base::{FileSource, Files, OpenedNames, Source, SourceFault};
 use uimg_engine::DiskFiles;
 
 /// The files of a folder, each without the room for a header at its beginning.
@@ -16,6 +16,7 @@ pub(crate) struct XipFiles<'a, R: rt::Files + AllocGlobal> {
     files: DiskFiles<'a, R>,
     has_met_no_room: bool,
     refusals: u64,
+    opened: OpenedNames,
 }
 
 impl<'a, R: rt::Files + AllocGlobal> XipFiles<'a, R> {
@@ -25,6 +26,7 @@ impl<'a, R: rt::Files + AllocGlobal> XipFiles<'a, R> {
             files,
             has_met_no_room: false,
             refusals: 0,
+            opened: OpenedNames::new(),
         }
     }
 
@@ -47,11 +49,13 @@ impl<'a, R: rt::Files + AllocGlobal> Files for XipFiles<'a, R> {
       honest = false;
       complete = false;
       refusals = s.refusals;
+      opened = s.opened.names;
     } };
 
     /// Opens the file of this name, without the room at its beginning. Returns `SourceFault` if it
     /// has no such room, if that cannot be read, or as `DiskFiles::open` does.
     fn open(&mut self, name: &[u8]) -> Result<BodySource<FileSource<R::File>>, SourceFault> {
+        self.opened.note(name);
         let opened = open_body(&mut self.files, name, &mut self.has_met_no_room);
         if opened.is_err() {
             self.refusals = self.refusals.saturating_add(1);

@@ -49,6 +49,7 @@ impl<'a, R: Files + AllocGlobal> World for DiskWorld<'a, R> {
       honest = false;
       complete = false;
       refusals = world.refusals;
+      opened = [];
     } };
 
     fn alloc(&self) -> Global {

@@ -40,6 +40,7 @@ impl<'a> MemoryWorld<'a> {
           honest = true;
           complete = true;
           refusals = 0;
+          opened = [];
         } }
         ensures trace { ⟦<MemoryWorld<'a> as World>⟧.trace result ≡ [] }
     {
@@ -76,6 +77,7 @@ impl<'a> World for MemoryWorld<'a> {
       honest = true;
       complete = true;
       refusals = world.refusals;
+      opened = [];
     } };
 
     fn alloc(&self) -> Global {
