@@ -7,3 +7,4 @@ pub mod StreamLaws
 pub mod DeviceLaws
 pub mod AheadLaws
 pub mod RangeLaws
+pub mod OpeningLaws

@@ -14,3 +14,4 @@ pub mod Honest
 pub mod Streams
 pub mod Ahead
 pub mod Shelves
+pub mod Opening
