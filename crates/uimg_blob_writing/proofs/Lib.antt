@@ -5,6 +5,7 @@ pub mod GrammarLaws
 pub mod TokenLaws
 pub mod NameLaws
 pub mod ReadsBackLaw
+pub mod OpenedLaws
 pub mod WritesLaws
 pub mod PaddingLaws
 pub mod NodeLaws

@@ -2,7 +2,7 @@
 use Rattle.std.proofs.Common.{◌≡◌, ◌+◌, ◌++◌, ℕ, List, [], ◌∷◌, length, map, Option, refl, ap, sym, ◌∙◌, append_assoc, append-nil, length-append, arith}
 use Rattle.std.specs.List.{flat_map, AllByRecursion}
 use Rattle.uimg_blob_reading.specs.Plain.{NamedOf, no_node, a_node, with_value, with_values, AllValues}
-use Rattle.uimg_blob_writing.specs.Content.{Content, Unread, bytes, size_of, content_bytes, in_full, IsKept, AreKept}
+use Rattle.uimg_blob_writing.specs.Content.{Content, Unread, bytes, size_of, content_bytes, file_of, files_in, in_full, IsKept, AreKept}
 use Rattle.uimg_blob_writing.specs.{Alignment.padding_by, Layouts.{nodes_size, plan_with, plan_end}}
 use Rattle.uimg_blob_writing.specs.declared.reservation.Reservation.{Reservation}
 use Rattle.uimg_blob_writing.specs.Encoding.{word, padded, reserved, structure_offset, header, strings, blob_size, blob, encode_with, with_nul, names_of, name_offset, property_bytes, nodes_bytes}
@@ -50,6 +50,29 @@ module _ (P : Content → Type 0) (of-bytes : (b : List ℕ) → P (bytes b)) (a
   pub blob-held : AllByRecursion P (blob_pieces (plan_with align rs t) t) → AllValues P t
   unfolding blob_pieces
   blob-held h = all-values P of-bytes (names_of t) t (all-first P (nodes_pieces (names_of t) t) _ h.1.1)
+
+-- the files among the pieces are those of the tree
+own-files : (names : List (List ℕ)) (own : List (NamedOf Content)) → flat_map file_of (flat_map (property_pieces names) own) ≡ flat_map (λ p. file_of p.value) own
+unfolding property_pieces
+own-files names [] = refl
+own-files names (p ∷ own) = ap (λ (l : List (List ℕ)). file_of p.value ++ l) (own-files names own)
+
+nodes-files : (names : List (List ℕ)) (t : Unread) → flat_map file_of (nodes_pieces names t) ≡ files_in t
+unfolding nodes_pieces
+nodes-files names no_node = refl
+nodes-files names (a_node name own below after) =
+    let end : List Content = bytes (word 2) ∷ nodes_pieces names after in
+    flat_map-both file_of (flat_map (property_pieces names) own) (nodes_pieces names below ++ end)
+    ∙ ap (λ (l : List (List ℕ)). l ++ flat_map file_of (nodes_pieces names below ++ end)) (own-files names own)
+    ∙ ap (λ (l : List (List ℕ)). flat_map (λ p. file_of p.value) own ++ l)
+    (flat_map-both file_of (nodes_pieces names below) end
+    ∙ ap (λ (l : List (List ℕ)). l ++ flat_map file_of end) (nodes-files names below)
+    ∙ ap (λ (l : List (List ℕ)). files_in below ++ l) (nodes-files names after))
+
+pub blob-files : (align : ℕ) (rs : List Reservation) (t : Unread) → flat_map file_of (blob_pieces (plan_with align rs t) t) ≡ files_in t
+unfolding blob_pieces
+blob-files align rs t =
+    flat_map-both file_of (nodes_pieces (names_of t) t) _ ∙ append-nil (flat_map file_of (nodes_pieces (names_of t) t)) ∙ nodes-files (names_of t) t
 
 module _ (files : List ℕ → Option (List ℕ)) where
   abbrev joined : List Content → List ℕ

@@ -3,11 +3,13 @@ use Rattle.std.proofs.Common.{◌≡◌, ◌≤◌, ◌<◌, ◌+◌, ℕ, zero,
 use Rattle.std.{specs.{Bool.OnFalse, List.{flat_map, AllByRecursion}}, proofs.lemmas.List.take_all}
 use Rattle.std.specs.Result.{IsErrAnd, OnOk}
 use Rattle.uimg_base.specs.{Device.RisesIf, Sink.Sink, Named.{FileMap, SameFiles}}
-use Rattle.uimg_base.{specs.Writing.{Writes, Written}, proofs.SinkLaws.prefix_first}
+use Rattle.uimg_base.{specs.Writing.{Writes, Written}, proofs.SinkLaws.{Appends-none, prefix_first, prefix_none}}
 use Rattle.uimg_base.proofs.WritingLaws.{written_then}
 use Rattle.uimg_blob_writing.specs.declared.fault.TreeFault.{TreeFault, TheVariants.Put}
-use Rattle.uimg_blob_writing.specs.Content.{Content, bytes, content_bytes, IsKept, IsBytes}
+use Rattle.uimg_blob_writing.specs.Content.{Content, bytes, content_bytes, file_of, IsKept, IsBytes}
 use Rattle.uimg_blob_writing.specs.{Faults.{is_put, is_no_file, is_read}, Pieces.WritesPieces}
+use Rattle.uimg_blob_writing.specs.UsingFiles.{OpensEach}
+use Rattle.uimg_blob_writing.proofs.OpenedLaws.{each_none, each_then, each_stops}
 
 -- the answer of a call that writes
 abbrev pub Answer : Type 0
@@ -52,6 +54,9 @@ module _ (steady : Bool) (r : Answer) (m n k : FileMap) (s t u : Sink) (xs ys : 
       let same = p.files.same in
       record {
         files = record { same = same-files m n k same q.files.same; refusals = rises-then (is_no_file r) m.refusals n.refusals k.refusals p.files.refusals q.files.refusals };
+        opened =
+            subst (λ (l : List (List ℕ)). OpensEach (is_err r) l m k) (sym (flat_map-both file_of xs ys))
+            (each_then (is_err r) (flat_map file_of xs) (flat_map file_of ys) m n k p.opened q.opened);
         faults = rises-then (is_put r) s.faults t.faults u.faults p.faults q.faults;
         found = λ complete kept.
             let later = subst (λ (f : List ℕ → Option (List ℕ)). AllByRecursion (IsKept f) ys) (sym same.bytes) (all-second (IsKept m.bytes) xs ys kept) in
@@ -77,6 +82,9 @@ module _ (steady : Bool) (r : Answer) (m n k : FileMap) (s t u : Sink) (xs ys : 
 pub stops : (steady : Bool) (f : TreeFault) (m n : FileMap) (s t : Sink) (xs ys : List Content) → WritesPieces steady (failed f) m n s t xs → WritesPieces steady (failed f) m n s t (xs ++ ys)
 stops steady f m n s t xs ys p = record {
   files = p.files;
+  opened =
+      subst (λ (l : List (List ℕ)). OpensEach true l m n) (sym (flat_map-both file_of xs ys))
+      (each_stops (flat_map file_of xs) (flat_map file_of ys) m n p.opened);
   faults = p.faults;
   found = λ complete kept. p.found complete (all-first (IsKept m.bytes) xs ys kept);
   reads = λ always honest kept. p.reads always honest (all-first (IsKept m.bytes) xs ys kept);
@@ -88,9 +96,23 @@ stops steady f m n s t xs ys p = record {
   });
 }
 
+-- no piece is written yet
+pub none-yet : (steady : Bool) (m : FileMap) (s : Sink) → WritesPieces steady went_well m m s s []
+none-yet steady m s = record {
+  files = record { same = record { bytes = refl; honest = refl; complete = refl }; refusals = refl };
+  opened = each_none false m;
+  faults = refl;
+  found = λ complete kept. refl;
+  reads = λ always honest kept. refl;
+  in_memory = λ embedded. refl;
+  kept = λ honest. tt;
+  written = λ honest. record { all = record { appended = Appends-none s.contents }; prefix = prefix_none s [] };
+}
+
 -- bytes that are put are a piece
 pub puts-all : (steady : Bool) (m : FileMap) (s t : Sink) (b : List ℕ) → Writes false s t b → WritesPieces steady went_well m m s t (bytes b ∷ [])
 puts-all steady m s t b p = record {
+  opened = each_none false m;
   files = record { same = record { bytes = refl; honest = refl; complete = refl }; refusals = refl };
   faults = p.faults;
   found = λ complete kept. refl;
@@ -102,6 +124,7 @@ puts-all steady m s t b p = record {
 
 pub puts-prefix : (steady : Bool) (m : FileMap) (s t : Sink) (b : List ℕ) → Writes true s t b → WritesPieces steady (failed Put) m m s t (bytes b ∷ [])
 puts-prefix steady m s t b p = record {
+  opened = each_none true m;
   files = record { same = record { bytes = refl; honest = refl; complete = refl }; refusals = refl };
   faults = p.faults;
   found = λ complete kept. refl;
@@ -162,6 +185,7 @@ together steady e r m s t a b c errs put opened read p =
     let text : a ++ b ++ c ≡ a ++ (b ++ (c ++ [])) = append_assoc a b c ∙ ap (λ (w : List ℕ). a ++ (b ++ w)) (sym (append-nil c)) in
     let same : Written e s t (a ++ b ++ c) = record { all = p.all; prefix = p.prefix } in
     record {
+      opened = each_none (is_err r) m;
       files = record { same = record { bytes = refl; honest = refl; complete = refl }; refusals = subst (λ (q : Bool). RisesIf q m.refusals m.refusals) (sym opened) refl };
       faults = subst (λ (q : Bool). RisesIf q s.faults t.faults) (sym put) p.faults;
       found = λ complete kept. opened;

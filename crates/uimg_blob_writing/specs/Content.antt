@@ -1,6 +1,6 @@
 -- Trees whose files are not read yet.
-use Rattle.std.specs.Prelude.{◌≡◌, ℕ, suc, ◌+◌, List, [], length, Option, Some, unwrap_or, ⊤, codes}
-use Rattle.std.specs.List.{AllByRecursion}
+use Rattle.std.specs.Prelude.{◌≡◌, ℕ, suc, ◌+◌, List, [], ◌∷◌, ◌++◌, length, Option, Some, unwrap_or, ⊤, codes}
+use Rattle.std.specs.List.{AllByRecursion, flat_map}
 use Rattle.uimg_blob_reading.specs.Plain.{NodesOf, Nodes, no_node, a_node, with_values, AllValues}
 
 -- The value of a property: bytes, or the bytes of a file with this name and size.
@@ -34,6 +34,18 @@ IsKept files (file name size) = (b : List ℕ) × (files name ≡ Some b) × (le
 -- All files of the nodes exist and have their stored sizes.
 abbrev pub AreKept : (List ℕ → Option (List ℕ)) → Unread → Type 0
 AreKept files t = AllValues (IsKept files) t
+
+-- the name of a value that is a file
+abbrev pub file_of : Content → List (List ℕ)
+file_of (bytes b) = []
+file_of (file name size) = name ∷ []
+
+-- the names of the files of nodes, in the order of writing: those of a node's properties, those of
+-- its children, and those of the nodes after it
+abbrev pub files_in : Unread → List (List ℕ)
+files_in no_node = []
+files_in (a_node name own below after) =
+    flat_map (λ p. file_of p.value) own ++ (files_in below ++ files_in after)
 
 -- The value is bytes, not a file.
 abbrev pub IsBytes : Content → Type 0

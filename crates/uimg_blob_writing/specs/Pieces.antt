@@ -6,11 +6,11 @@ use Rattle.uimg_texts.specs.Numbers.{up4}
 use Rattle.uimg_base.specs.{Device.RisesIf, Sink.Sink, Named.FileMap, Writing.Written}
 use Rattle.uimg_blob_reading.specs.Plain.{NamedOf, no_node, a_node}
 use Rattle.uimg_blob_writing.specs.{declared.fault.TreeFault.TreeFault, Content.IsBytes}
-use Rattle.uimg_blob_writing.specs.Content.{Content, Unread, bytes, size_of, content_bytes, IsKept}
+use Rattle.uimg_blob_writing.specs.Content.{Content, Unread, bytes, size_of, content_bytes, file_of, IsKept}
 use Rattle.uimg_blob_writing.specs.Encoding.{word, padded, with_nul, name_offset, strings, header}
 use Rattle.uimg_blob_writing.specs.Encoding.{reserved, structure_offset}
 use Rattle.uimg_blob_writing.specs.{Alignment.padding_by, Layouts.{Plan, plan_end, totalsize}}
-use Rattle.uimg_blob_writing.specs.{Faults.{is_put, is_no_file, is_read}, UsingFiles.UsesFiles}
+use Rattle.uimg_blob_writing.specs.{Faults.{is_put, is_no_file, is_read}, UsingFiles.{UsesFiles, OpensEach}}
 
 -- the zeros that pad n bytes to a multiple of 4
 abbrev pub padding : ℕ → List ℕ
@@ -53,6 +53,8 @@ pub record WritesPieces {X : Type 0} (steady : Bool) (answer : Result X TreeFaul
     (old new : FileMap) (s t : Sink) (pieces : List Content) : Type 0 where
   -- no call changes them; `NoFile` is returned if and only if their refusals rose
   pub files : UsesFiles (is_no_file answer) old new
+  -- exactly the files among the pieces are opened, in order; at a fault the first ones
+  pub opened : OpensEach (is_err answer) (flat_map file_of pieces) old new
   -- `Put` is returned if and only if the faults of the output rose
   pub faults : RisesIf (is_put answer) s.faults t.faults
   -- complete files refuse none that exists with its stored size

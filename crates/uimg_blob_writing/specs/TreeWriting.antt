@@ -2,9 +2,9 @@
 use Rattle.std.specs.{Prelude.{◌≡◌, ℕ, List, Bool, IsTrue, Result, is_err, false}, Result.OnOk}
 use Rattle.uimg_base.specs.{Device.RisesIf, Lent.Lent, Named.FileMap, Sink.Sink, Writing.Written}
 use Rattle.uimg_blob_reading.specs.Plain.{AllValues, AreNamed}
-use Rattle.uimg_blob_writing.specs.{declared.fault.TreeFault.TreeFault, UsingFiles.UsesFiles}
+use Rattle.uimg_blob_writing.specs.{declared.fault.TreeFault.TreeFault, UsingFiles.{UsesFiles, OpensEach}}
 use Rattle.uimg_blob_writing.specs.declared.reservation.Reservation.{Reservation}
-use Rattle.uimg_blob_writing.specs.Content.{Unread, in_full, AreKept, IsBytes}
+use Rattle.uimg_blob_writing.specs.Content.{Unread, files_in, in_full, AreKept, IsBytes}
 use Rattle.uimg_blob_writing.specs.Encoding.{encode_with}
 use Rattle.uimg_blob_writing.specs.{Faults.{is_put, is_no_file, is_read}, ReadsBack.ReadsBack}
 
@@ -13,6 +13,8 @@ pub record WritesTreeBetween {X : Type 0} (always : Bool) (align : ℕ) (rs : Li
     (t : Unread) (answer : Result X TreeFault) (old new : FileMap) (s u : Sink) : Type 0 where
   -- no call changes the files; `NoFile` is returned if and only if their refusals rose
   pub files : UsesFiles (is_no_file answer) old new
+  -- exactly the files of the tree are opened, in the order of writing; at a fault the first ones
+  pub opened : OpensEach (is_err answer) (files_in t) old new
   -- `Put` is returned if and only if the faults of the output rose
   pub faults : RisesIf (is_put answer) s.faults u.faults
   -- complete files of the stored sizes refuse no open

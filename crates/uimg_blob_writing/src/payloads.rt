@@ -13,6 +13,7 @@ use std::io::Write;
 use uimg_base::{Files, Out, WINDOW};
 
 // Writes a value.
+#[tactic(auto, using(crate::proofs::OpenedLaws::each_none))]
 fn put_value<F: Files, W: Write, A: Allocator>(
     value: &Value<A>,
     files: &mut F,

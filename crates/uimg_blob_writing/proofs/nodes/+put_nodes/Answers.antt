@@ -7,7 +7,7 @@ use Rattle.uimg_blob_writing.specs.{Content.{Content, Unread, bytes, size_of, co
 use Rattle.uimg_blob_writing.specs.{Names.name_texts, Trees.{siblings, node_of}}
 use Rattle.uimg_blob_writing.specs.Pieces.{begin_bytes, property_pieces, nodes_pieces, WritesPieces}
 use Rattle.uimg_blob_writing.proofs.NodeLaws.{siblings-pieces, values-at, count-at}
-use Rattle.uimg_blob_writing.proofs.WritesLaws.{went_well, failed, refused, ◌▶◌, before, all-put, prefix-put, each-goes, each-stops, each-all}
+use Rattle.uimg_blob_writing.proofs.WritesLaws.{none-yet, went_well, failed, refused, ◌▶◌, before, all-put, prefix-put, each-goes, each-stops, each-all}
 use Rattle.uimg_blob_writing.proofs.nodes.+put_nodes.Goals as goal
 
 pub put_node-returns-in_err-put_begin_node : goal.put_node-returns-in_err-put_begin_node
@@ -95,3 +95,6 @@ put_nodes-returns g t c =
     let whole = each-all g.F.Opened.Source.steady f items c.loop-node.node-index c.loop-node-test.false m n c.args.out.now c.loop-node.out c.loop-node.invariant in
     subst (λ (ps : List Content). WritesPieces g.F.Opened.Source.steady went_well m n c.args.out.now c.loop-node.out ps)
     (siblings-pieces names items ∙ ap (λ (l : Unread). nodes_pieces names l) c.items-node-items.ensures) whole
+
+pub put_nodes-loop-node-init : goal.put_nodes-loop-node-init
+put_nodes-loop-node-init g t c = none-yet g.F.Opened.Source.steady (g.F.Files.map c.args.files.now) c.args.out.now

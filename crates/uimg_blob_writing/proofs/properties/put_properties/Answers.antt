@@ -4,7 +4,7 @@ use Rattle.uimg_blob_reading.specs.Plain.{NamedOf}
 use Rattle.uimg_blob_writing.specs.{declared.props.Prop.Prop, Content.{Content, size_of}}
 use Rattle.uimg_blob_writing.specs.{Names.name_texts, Properties.{content, property}}
 use Rattle.uimg_blob_writing.specs.Pieces.{property_pieces, WritesPieces}
-use Rattle.uimg_blob_writing.proofs.WritesLaws.{went_well, failed, refused, each-goes, each-stops, each-all, all-at}
+use Rattle.uimg_blob_writing.proofs.WritesLaws.{none-yet, went_well, failed, refused, each-goes, each-stops, each-all, all-at}
 use Rattle.uimg_blob_writing.proofs.properties.put_properties.Goals as goal
 
 pub put_property-requires-clause-fits : goal.put_property-requires-clause-fits
@@ -52,3 +52,6 @@ returns g c =
     let whole = each-all g.F.Opened.Source.steady f items c.loop-prop.prop-index c.loop-prop-test.false m n c.args.out.now c.loop-prop.out c.loop-prop.invariant in
     subst (λ (ps : List Content). WritesPieces g.F.Opened.Source.steady went_well m n c.args.out.now c.loop-prop.out ps)
     (sym (flat_map-map (property_pieces names) property items) ∙ ap (λ (l : List (NamedOf Content)). flat_map (property_pieces names) l) c.items-prop-items.ensures) whole
+
+pub loop-prop-init : goal.loop-prop-init
+loop-prop-init g c = none-yet g.F.Opened.Source.steady (g.F.Files.map c.args.files.now) c.args.out.now

@@ -1,9 +1,10 @@
 use Rattle.std.proofs.Common.{◌<◌, ◌^◌, List, ℕ, is_err, subst}
 use Rattle.uimg_base.specs.Writing.{Written}
+use Rattle.uimg_blob_writing.specs.UsingFiles.{OpensEach}
 use Rattle.uimg_blob_writing.specs.{Content.{IsKept, IsBytes}, Layouts.{Plan, totalsize}}
 use Rattle.uimg_blob_writing.specs.{Trees.node_of, Pieces.{blob_pieces, WritesPieces}}
 use Rattle.uimg_blob_writing.proofs.{WritesLaws.on-ok, TotalLaws.root-reads_back}
-use Rattle.uimg_blob_writing.proofs.PieceLaws.{blob-holds, blob-held, blob-joined}
+use Rattle.uimg_blob_writing.proofs.PieceLaws.{blob-files, blob-holds, blob-held, blob-joined}
 use Rattle.uimg_blob_writing.proofs.writing.write_tree.Goals as goal
 
 pub returns : goal.returns
@@ -19,6 +20,7 @@ returns g c =
     let w = subst (λ (p : Plan). WritesPieces g.F.Opened.Source.steady r m (g.F.Files.map c.put_blob.new.files) s u (blob_pieces p t)) c.requires c.put_blob.ensures.writes in
     record {
       files = w.files;
+      opened = subst (λ (l : List (List ℕ)). OpensEach (is_err r) l m (g.F.Files.map c.put_blob.new.files)) (blob-files align rs t) w.opened;
       faults = w.faults;
       found = λ complete kept. w.found complete (blob-holds (IsKept m.bytes) (λ b. tt) align rs t kept);
       steady = λ always honest kept. w.reads always honest (blob-holds (IsKept m.bytes) (λ b. tt) align rs t kept);
