@@ -1,5 +1,5 @@
 -- What a shelf in a file holds.
-use Rattle.std.specs.Prelude.{ℕ, List, take, Option, Some, None, Result, IfOk, ⊤}
+use Rattle.std.specs.Prelude.{ℕ, List, ◌∷◌, take, Option, Some, None, Result, IfOk, ⊤}
 use Rattle.std.specs.Io.KnownBytes.{Appends}
 
 -- the contents of its file with the buffered bytes, if known; unknown before there is a file
@@ -18,3 +18,8 @@ abbrev pub BeginsFirst : {F E : Type 0} → (F → Option (List ℕ)) → Option
     → Option (List ℕ) → List ℕ → Type 0
 BeginsFirst contents None result new bytes = IfOk result (λ n. Begins contents new (take n bytes))
 BeginsFirst contents (Some file) result new bytes = ⊤
+
+-- The first write creates a file at the path of the shelf, and no other write creates one.
+abbrev pub created_paths : {F : Type 0} → List ℕ → Option F → List (List ℕ) → List (List ℕ)
+created_paths path None created = path ∷ created
+created_paths path (Some file) created = created

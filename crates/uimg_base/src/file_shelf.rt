@@ -1,14 +1,15 @@
 //! A shelf in a file on disk, created at the first write.
 
-ghost use Rattle.std.specs.Prelude.{◌≡◌, [], false, IfSome, IsSome, OnOk};
+ghost use Rattle.std.specs.Prelude.{◌≡◌, [], ◌∷◌, None, false, IfOk, IfSome, IsSome, OnOk};
 ghost use Rattle.std.specs.Io.{WritesAtMost};
 ghost use Rattle.std.specs.Io.Buffered.{writer_buffer, writer_contents};
 ghost use Rattle.std.specs.Io.KnownBytes.{Keeps, WriteAppends};
-ghost use Rattle.uimg_base.specs.Shelves.{shelf_contents, BeginsFirst};
+ghost use Rattle.uimg_base.specs.{Device.IsFresh, Shelves.{shelf_contents, BeginsFirst, created_paths}};
 
 use crate::file_source::FileSource;
+use crate::opened_names::OpenedNames;
 use crate::shelves::Shelf;
-use crate::source::SourceFault;
+use crate::source::{Source, SourceFault};
 use std::alloc::Global;
 use std::io::{BufWriter, Write};
 use std::rt::Files;
@@ -25,16 +26,40 @@ pub struct FileShelf<'a, R: Files + AllocGlobal> {
     rt: &'a R,
     path: &'a str,
     file: Option<BufWriter<R::File, Global>>,
+    // The paths at which a file was to be created, for clauses.
+    created: OpenedNames,
 }
 
 impl<'a, R: Files + AllocGlobal> FileShelf<'a, R> {
     /// Creates a shelf for this path. Touches no file yet.
-    pub fn new(rt: &'a R, path: &'a str) -> FileShelf<'a, R> {
+    pub fn new(rt: &'a R, path: &'a str) -> FileShelf<'a, R>
+        ensures path { result.path ≡ path.entry }
+        ensures file { result.file ≡ None }
+        ensures created { result.created.names ≡ [] }
+    {
         FileShelf {
             rt,
             path,
             file: None,
+            created: OpenedNames::new(),
         }
+    }
+
+    // Writes the buffered bytes, closes the file and reopens it at the shelf's path.
+    fn reopen(self) -> Result<FileSource<R::File>, SourceFault>
+        ensures fresh { IfOk result (λ kept.
+            IsFresh (⟦<FileSource<R::File> as Source>⟧.device kept)) }
+        ensures path { IfOk result (λ kept. kept.paths.names ≡ self.entry.path.now ∷ []) }
+    {
+        let FileShelf { rt, path, file, .. } = self;
+        let Some(mut file) = file else {
+            return Err(SourceFault);
+        };
+        if file.flush().is_err() {
+            return Err(SourceFault);
+        }
+        drop(file);
+        FileSource::open(rt, path)
     }
 }
 
@@ -50,10 +75,16 @@ impl<'a, R: Files + AllocGlobal> Write for FileShelf<'a, R> {
         ensures made { OnOk result (IsSome self.new.file) }
         ensures first { BeginsFirst (writer_contents R.File.contents) self.old.file result
             (shelf_contents (writer_contents R.File.contents) self.new.file) buf.now }
+        ensures path { self.new.path ≡ self.old.path }
+        ensures created { self.new.created.names
+            ≡ created_paths self.old.path.now self.old.file self.old.created.names }
     {
         let mut file = match self.file.take() {
             Some(file) => file,
-            None => BufWriter::new(self.rt.alloc(), fs::create(self.rt, self.path)?)?,
+            None => BufWriter::new(
+                self.rt.alloc(),
+                create(self.rt, self.path, &mut self.created)?,
+            )?,
         };
         let count = file.write(buf);
         self.file = Some(file);
@@ -83,14 +114,14 @@ impl<'a, R: Files + AllocGlobal> Shelf for FileShelf<'a, R> {
     /// Returns `SourceFault` if nothing was written (then there is no file), if the last piece
     /// cannot be written, or as `FileSource::open` does.
     fn keep(self) -> Result<FileSource<R::File>, SourceFault> {
-        let FileShelf { rt, path, file } = self;
-        let Some(mut file) = file else {
-            return Err(SourceFault);
-        };
-        if file.flush().is_err() {
-            return Err(SourceFault);
-        }
-        drop(file);
-        FileSource::open(rt, path)
+        self.reopen()
     }
+}
+
+// Creates the file at a path, or empties it, and notes the path.
+fn create<R: Files>(rt: &R, path: &str, created: &mut OpenedNames) -> io::Result<R::File>
+    ensures { created.new.names ≡ path.now ∷ created.old.names }
+{
+    created.note(path.as_bytes());
+    fs::create(rt, path)
 }

@@ -1,6 +1,6 @@
 //! A file on a disk as a source.
 
-ghost use Rattle.std.specs.Prelude.{IfOk};
+ghost use Rattle.std.specs.Prelude.{◌≡◌, [], ◌∷◌, IfOk};
 ghost use Rattle.uimg_base.specs.Device.{IsFresh};
 
 use crate::seek_read::DiskFile;
@@ -27,7 +27,8 @@ impl<F: Read + Seek + OpenFile + Drop> SeekSource<DiskFile<F>> {
         rt: &R,
         path: &str,
     ) -> Result<SeekSource<DiskFile<F>>, SourceFault>
-        ensures { IfOk result (λ s. IsFresh (⟦<SeekSource<DiskFile<F>> as Source>⟧.device s)) }
+        ensures fresh { IfOk result (λ s. IsFresh (⟦<SeekSource<DiskFile<F>> as Source>⟧.device s)) }
+        ensures path { IfOk result (λ s. s.paths.names ≡ path.now ∷ []) }
     {
         let Ok(file) = fs::open(rt, path) else {
             return Err(SourceFault);
@@ -36,6 +37,8 @@ impl<F: Read + Seek + OpenFile + Drop> SeekSource<DiskFile<F>> {
             Ok(metadata) if !metadata.is_dir() => {}
             _ => return Err(SourceFault),
         }
-        SeekSource::new(rt.alloc(), DiskFile { file })
+        let mut source = SeekSource::new(rt.alloc(), DiskFile { file })?;
+        source.paths.note(path.as_bytes());
+        Ok(source)
     }
 }

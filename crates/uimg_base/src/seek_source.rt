@@ -1,12 +1,13 @@
 //! Open files, which can be read and moved, as sources.
 
-ghost use Rattle.std.specs.Prelude.{◌≡◌, ◌^◌, ◌<◌, true, IfOk, IfSome, is_some};
+ghost use Rattle.std.specs.Prelude.{◌≡◌, [], ◌^◌, ◌<◌, true, IfOk, IfSome, is_some};
 ghost use Rattle.std.proofs.Common.{rules};
 ghost use Rattle.std.proofs.Props.{props};
 ghost use Rattle.uimg_base.specs.Device.{IsFresh};
 ghost use Rattle.uimg_base.specs.Ahead.{IsAhead, IsPieceAhead};
 ghost use Rattle.uimg_base.specs.Streams.{StandsAt, HasLength, stream_bytes_of, short_bytes};
 
+use crate::opened_names::OpenedNames;
 use crate::output::Out;
 use crate::ranges::{MoveFault, put_fed, put_some_fed};
 use crate::reading::Reading;
@@ -30,6 +31,8 @@ use uimg_sums::Sums;
 pub struct SeekSource<F: SeekRead> {
     file: F,
     reading: Reading,
+    /// The path at which the file was opened, if by its path.
+    pub paths: OpenedNames,
     ghost short: { reading.length < 2 ^ 64 },
     ghost stands: { StandsAt reading.position (F.stream file) } by { Prim.hlevel props },
     ghost first_ahead: { IsAhead reading.windows.first (F.stream file) } by { Prim.hlevel props },
@@ -44,6 +47,7 @@ impl<F: SeekRead> SeekSource<F> {
     /// Returns `SourceFault` if the file has no known length (a pipe).
     pub fn new(alloc: Global, mut file: F) -> Result<SeekSource<F>, SourceFault>
         ensures fresh { IfOk result (λ s. IsFresh (⟦<SeekSource<F> as Source>⟧.device s)) }
+        ensures paths { IfOk result (λ s. s.paths.names ≡ []) }
         ensures known { IfSome (F.stream file) (λ stream.
             IfOk result (λ s. ⟦<SeekSource<F> as Source>⟧.device s ≡ record {
               bytes = stream.bytes;
@@ -53,7 +57,11 @@ impl<F: SeekRead> SeekSource<F> {
             })) }
     {
         let reading = Reading::of(alloc, &mut file)?;
-        Ok(SeekSource { file, reading })
+        Ok(SeekSource {
+            file,
+            reading,
+            paths: OpenedNames::new(),
+        })
     }
 }
 

@@ -7,7 +7,7 @@ ghost use Rattle.uimg_tool.specs.Makings.{in_folder};
 
 use std::alloc::Global;
 use std::path::{Path, PathBuf};
-use uimg_base::{Files, Source, SourceFault};
+use uimg_base::{Files, OpenedNames, Source, SourceFault};
 use uimg_unpacking::Reader;
 
 /// The files of a folder, opened by their paths. A name that begins with `/` is a path of its own;
@@ -21,6 +21,7 @@ pub(crate) struct FolderFiles<'a, R: Reader> {
     left_out: &'a str,
     has_met_left_out: bool,
     refusals: u64,
+    opened: OpenedNames,
 }
 
 impl<'a, R: Reader> FolderFiles<'a, R> {
@@ -43,6 +44,7 @@ impl<'a, R: Reader> FolderFiles<'a, R> {
             left_out,
             has_met_left_out: false,
             refusals: 0,
+            opened: OpenedNames::new(),
         }
     }
 
@@ -60,6 +62,7 @@ impl<'a, R: Reader> Files for FolderFiles<'a, R> {
       honest = (R.map files.reader).honest;
       complete = false;
       refusals = files.refusals;
+      opened = files.opened.names;
     } };
 
     /// Opens the file of this name.
@@ -67,6 +70,7 @@ impl<'a, R: Reader> Files for FolderFiles<'a, R> {
     /// Returns `SourceFault` if the name is not UTF-8, if memory for the path was refused, if the
     /// file is the one that is left out, or if the reader does.
     fn open(&mut self, name: &[u8]) -> Result<R::Opened, SourceFault> {
+        self.opened.note(name);
         let opened = match path_in(self.alloc, self.folder, name) {
             Ok(path) => open_other(
                 &mut self.reader,

@@ -1,6 +1,6 @@
 //! What the files of the operating system lend for the making of an image.
 
-ghost use Rattle.std.specs.Prelude.{None, false};
+ghost use Rattle.std.specs.Prelude.{[], None, false};
 
 use crate::call_codes::*;
 use crate::disk_looks::open_source;
@@ -25,6 +25,7 @@ impl<'a, R: Files + AllocGlobal> Reader for DiskReader<'a, R> {
       honest = false;
       complete = false;
       refusals = 0;
+      opened = [];
     } };
 
     fn open(&mut self, path: &str) -> Result<FileSource<R::File>, SourceFault> {

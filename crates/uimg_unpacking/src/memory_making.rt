@@ -1,6 +1,6 @@
 //! What files in memory lend for the making of an image.
 
-ghost use Rattle.std.specs.Prelude.{true};
+ghost use Rattle.std.specs.Prelude.{[], true};
 ghost use Rattle.uimg_base.specs.Named.{bytes_named};
 
 use crate::call_codes::*;
@@ -24,6 +24,7 @@ impl<'a> Reader for MemoryReader<'a> {
       honest = true;
       complete = true;
       refusals = 0;
+      opened = [];
     } };
 
     fn open(&mut self, path: &str) -> Result<MemSource<'a>, SourceFault> {
