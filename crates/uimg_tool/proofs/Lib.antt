@@ -2,6 +2,7 @@ pub mod BesideLaws
 pub mod BufferLaws
 pub mod CheckLaws
 pub mod CommandLaws
+pub mod ComplainLaws
 pub mod ExtractLaws
 pub mod InfoLaws
 pub mod MakingLaws

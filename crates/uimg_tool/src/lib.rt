@@ -12,6 +12,7 @@ mod complaints;
 mod dts_program;
 mod fit_program;
 mod folder_files;
+mod in_memory;
 mod info_program;
 mod json_lines;
 mod known_sources;
@@ -39,6 +40,7 @@ mod update_program;
 mod watched_files;
 mod xip_files;
 
+pub use in_memory::{Answered, answer_in_memory};
 pub use main_program::program;
 pub use moments::{can_erase, epoch, now};
 pub use progress::{Cleared, Meter};
