@@ -52,7 +52,7 @@ value_same a b n c same s = subst (λ (h : Bool). IsSoundValue h a.bytes n c) sa
 props_same : (a b : FileMap) (ps : List (NamedOf Content)) → SameFiles a b → AreSound b ps → AreSound a ps
 props_same a b ps same all = all_weaker (λ (p : NamedOf Content). IsSoundValue b.honest b.bytes p.name p.value) (λ (p : NamedOf Content). IsSoundValue a.honest a.bytes p.name p.value) (λ p s. value_same a b p.name p.value same s) ps all
 
-tree_same : (a b : FileMap) (t : Unread) → SameFiles a b → IsSoundTree b t → IsSoundTree a t
+pub tree_same : (a b : FileMap) (t : Unread) → SameFiles a b → IsSoundTree b t → IsSoundTree a t
 tree_same a b no_node same s = tt
 tree_same a b (a_node name own below after) same s = (props_same a b own same s.0, tree_same a b below same s.1, tree_same a b after same s.2)
 

@@ -10,7 +10,7 @@ use Rattle.uimg_cli.specs.declared.command_line.Request.TheVariants.{Run}
 use Rattle.uimg_cli.specs.declared.command_line.words_fault.WordsFault.{WordsFault}
 use Rattle.uimg_cli.specs.declared.command_line.words_fault.WordsFault.TheVariants.{NoCommand}
 use Rattle.uimg_requests.specs.declared.requests.RunRequest.{RunRequest}
-use Rattle.uimg_tool.specs.{Complaints.{AddsText, Complains}, FaultTexts.{request_text, told_of_outcome}}
+use Rattle.uimg_tool.specs.{Complaints.{AddsText, Complains, ComplainsBetween}, FaultTexts.{request_text, told_of_outcome}}
 use Rattle.uimg_tool.specs.{Programs.{epoch_of, words_of}, Running.outcome_on}
 use Rattle.uimg_tool.specs.declared.command_line.CommandLine.{CommandLine}
 use Rattle.uimg_tool.specs.declared.complaints.Complaints.{Complaints}
@@ -36,13 +36,13 @@ ComplainsAsked contents (One it) files status err = ComplainsOne contents it fil
 ComplainsAsked contents other files status err = ⊤
 
 -- What is wrong with words is told in a line; of words that are no command, a text that says why.
-abbrev pub ComplainsWords : {V : Type 0} → (V → Option (List ℕ)) → WordsFault → Lent (Complaints V) → Type 0
-ComplainsWords contents (NoCommand text) err = AddsText contents (words.text_of (NoCommand text)) err
-ComplainsWords contents fault err = Complains contents (Some (Some (words.text_of fault))) err
+abbrev pub ComplainsWords : {V : Type 0} → (V → Option (List ℕ)) → WordsFault → (old new : Complaints V) → Type 0
+ComplainsWords contents (NoCommand text) old new = AddsText contents (words.text_of (NoCommand text)) old new
+ComplainsWords contents fault old new = ComplainsBetween contents (Some (Some (words.text_of fault))) old new
 
 -- What is wrong with the words of a command line, by their definition, is told.
 pub record RefusesWords {V : Type 0} (contents : V → Option (List ℕ)) (line : CommandLine)
-    (err : Lent (Complaints V)) : Type 0 where
+    (old new : Complaints V) : Type 0 where
   pub fault : WordsFault
   pub reads : ReadsWords (epoch_of line) line.time (words_of line) (Err fault)
-  pub told : ComplainsWords contents fault err
+  pub told : ComplainsWords contents fault old new

@@ -29,14 +29,16 @@ AddsLine (Some text) name is_lost old new =
     OnFalse is_lost (IfSome text (λ known. Appends old new (fault_line name known)))
 
 -- The same of standard error. A write that failed is not forgotten.
-pub record Complains {V : Type 0} (contents : V → Option (List ℕ)) (told : Option (Option (List ℕ)))
-    (err : Lent (Complaints V)) : Type 0 where
-  pub name : err.exit.now.name ≡ err.entry.now.name
-  pub lost : err.entry.now.is_lost ≡ true → err.exit.now.is_lost ≡ true
-  pub adds : AddsLine told err.entry.now.name.now err.exit.now.is_lost
-      (contents err.entry.now.err.now) (contents err.exit.now.err.now)
+pub record ComplainsBetween {V : Type 0} (contents : V → Option (List ℕ)) (told : Option (Option (List ℕ)))
+    (old new : Complaints V) : Type 0 where
+  pub name : new.name ≡ old.name
+  pub lost : old.is_lost ≡ true → new.is_lost ≡ true
+  pub adds : AddsLine told old.name.now new.is_lost (contents old.err.now) (contents new.err.now)
+
+abbrev pub Complains : {V : Type 0} → (V → Option (List ℕ)) → Option (Option (List ℕ)) → Lent (Complaints V) → Type 0
+Complains contents told err = ComplainsBetween contents told err.entry.now err.exit.now
 
 -- A text was written, all of it if no write failed.
-abbrev pub AddsText : {V : Type 0} → (V → Option (List ℕ)) → List ℕ → Lent (Complaints V) → Type 0
-AddsText contents text err = OnFalse err.exit.now.is_lost
-    (Appends (contents err.entry.now.err.now) (contents err.exit.now.err.now) text)
+abbrev pub AddsText : {V : Type 0} → (V → Option (List ℕ)) → List ℕ → (old new : Complaints V) → Type 0
+AddsText contents text old new =
+    OnFalse new.is_lost (Appends (contents old.err.now) (contents new.err.now) text)

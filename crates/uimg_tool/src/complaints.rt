@@ -57,7 +57,7 @@ impl<'a, V: Write> Complaints<'a, V> {
     /// Writes a text that is more than the line of a fault.
     pub(crate) fn put_text(&mut self, text: &str)
         ensures count { self.new.count ≡ self.old.count }
-        ensures text { AddsText V.contents text.now self }
+        ensures text { AddsText V.contents text.now self.old self.new }
     {
         if write!(self.err, "{text}").is_err() {
             self.is_lost = true;

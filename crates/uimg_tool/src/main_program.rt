@@ -70,7 +70,7 @@ fn run_as_uimg<R: Files + AllocGlobal, W: Write, V: Write>(
     ensures unprinted { AsksNothing (epoch_of line.entry) line.entry.time (words_of line.entry)
         → out.new ≡ out.old }
     ensures told { AsksNothing (epoch_of line.entry) line.entry.time (words_of line.entry)
-        → RefusesWords V.contents line.entry complaints }
+        → RefusesWords V.contents line.entry complaints.old complaints.new }
 {
     let asked = match asked_by(rt.alloc(), line) {
         Ok(asked) => asked,
@@ -156,7 +156,7 @@ pub(crate) fn tell_words_fault<V: Write>(
 ) -> u8
     ensures status { result ≡ words_status fault.now }
     ensures ends { Ends result complaints.old.count complaints.new.count }
-    ensures line { ComplainsWords V.contents fault.now complaints }
+    ensures line { ComplainsWords V.contents fault.now complaints.old complaints.new }
 {
     match fault {
         WordsFault::NoCommand(text) => {

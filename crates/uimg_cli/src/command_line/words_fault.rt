@@ -1,7 +1,7 @@
 //! Why the words of a command line request nothing.
 
 ghost use Rattle.std.specs.Prelude.{Some};
-ghost use Rattle.uimg_cli.specs.FaultTexts.{text_of};
+ghost use Rattle.uimg_cli.specs.FaultTexts.{not_number, text_of};
 
 use std::alloc::AllocError;
 use std::error::Error;
@@ -61,6 +61,18 @@ pub enum WordsFault {
     OutOfMemory,
 }
 
+// A word that is no number, and what it should be.
+#[derive(Drop)]
+struct NotNumber<'a>(&'a str);
+
+impl<'a> Display for NotNumber<'a> {
+    ghost output = { λ word. Some (not_number word.0.now) };
+
+    fn fmt<W: Write>(&self, f: &mut Formatter<W>) -> fmt::Result {
+        write!(f, "'{}' is not a decimal number below 2^64", self.0)
+    }
+}
+
 impl Display for WordsFault {
     ghost output = { λ fault. Some (text_of fault) };
 
@@ -76,10 +88,9 @@ impl Display for WordsFault {
                 f,
                 "--need: unknown algorithm '{name}'; use crc32, md5, sha1, sha256, sha384 or sha512"
             ),
-            WordsFault::NotNumber(option, text) => write!(
-                f,
-                "--{option}: '{text}' is not a decimal number below 2^64"
-            ),
+            WordsFault::NotNumber(option, text) => {
+                write!(f, "--{option}: {}", NotNumber(text.as_str()))
+            }
             WordsFault::PictureToOutput => f.write_str(
                 "--svg -: standard output is not supported; for a file of that name use ./-",
             ),
