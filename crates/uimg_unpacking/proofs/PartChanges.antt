@@ -1,7 +1,7 @@
 -- What a part of a world was asked for is what the world was asked for since.
 use Rattle.std.proofs.Common.{◌≡◌, ℕ, List, [], ◌∷◌, ◌++◌, Bool, true, ◌&&◌, refl, ap, ap₂, ◌∙◌}
 use Rattle.std.proofs.lemmas.Bool.{and_parts}
-use Rattle.uimg_unpacking.specs.Deeds.{Deed, changes, Creates, Links, Renames, Removes, MakesFolder, RemovesFolder, RemovesAll, Syncs, Resolves, Looks, Identifies, Opens, Explains, Reads, Finds, Overwrites, LendsReader, LendsShelf}
+use Rattle.uimg_unpacking.specs.Deeds.{Deed, Follows, changes, Creates, Links, Renames, Removes, MakesFolder, RemovesFolder, RemovesAll, Syncs, Resolves, Looks, Identifies, Opens, Explains, Reads, Finds, Overwrites, LendsReader, LendsShelf}
 use Rattle.uimg_unpacking.specs.Places.{ChangesWithin, stays_within}
 
 changes_of : (new old : List Deed) → changes (new ++ old) ≡ changes new ++ changes old
@@ -56,3 +56,6 @@ within folder is_naming trace old new is ok = record {
   is = ap changes is ∙ changes_of trace old;
   within = changes_stay folder is_naming trace ok;
 }
+
+pub follows : (trace old new : List Deed) → new ≡ trace ++ old → Follows old new
+follows trace old new is = record { later = trace; is = is }

@@ -1,5 +1,5 @@
 -- What was asked of a world of files, and what it answered.
-use Rattle.std.specs.Prelude.{◌≡◌, ℕ, List, [], ◌∷◌, ◌==◌, if◌then◌else◌, slice_index, Option, Some, None, Result, Ok, Err, Bool, true, ◌&&◌}
+use Rattle.std.specs.Prelude.{◌≡◌, ℕ, List, [], ◌∷◌, ◌++◌, ◌==◌, if◌then◌else◌, slice_index, Option, Some, None, Result, Ok, Err, Bool, true, ◌&&◌}
 use Rattle.std.specs.Fs.{IsDir, IsSymlink, file_type}
 use Rattle.std.specs.declared.fs.attrs.Metadata.{Metadata}
 use Rattle.std.specs.declared.io.Error.{Error}
@@ -134,3 +134,8 @@ changes (Looks path kind ∷ before) = changes before
 changes (Resolves path answer ∷ before) = changes before
 changes (LendsReader ∷ before) = changes before
 changes (deed ∷ before) = deed ∷ changes before
+
+-- these calls, and then others
+pub record Follows (old new : List Deed) : Type 0 where
+  pub later : List Deed
+  pub is : new ≡ later ++ old

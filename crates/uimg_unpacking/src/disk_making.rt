@@ -28,6 +28,8 @@ impl<'a, R: Files + AllocGlobal> Reader for DiskReader<'a, R> {
       opened = [];
     } };
 
+    ghost identities = { λ _ _. None };
+
     fn open(&mut self, path: &str) -> Result<FileSource<R::File>, SourceFault> {
         open_source(self.rt, path)
     }
@@ -41,6 +43,8 @@ impl<'a, R: Files + AllocGlobal> MakingWorld<'a> for DiskWorld<'a, R> {
     type Reader = DiskReader<'a, R>;
 
     type Shelf = FileShelf<'a, R>;
+
+    ghost identities = { λ _ _. None };
 
     fn reader(&mut self) -> DiskReader<'a, R> {
         self.record.note(&[LENDS_READER], b"", b"");

@@ -7,8 +7,9 @@ use uimg_base::{Shelf, Source, SourceFault};
 /// What opens the files of a world, and finds which they are. It changes none, and so is lent to
 /// what makes an image while that is written.
 pub trait Reader: Drop {
-    ghost use Rattle.std.specs.Prelude.{IfOk};
+    ghost use Rattle.std.specs.Prelude.{◌≡◌, ℕ, List, IfOk, IsTrue, Option};
     ghost use Rattle.uimg_base.specs.Named.{FileMap, SameFiles, Opens};
+    ghost use Rattle.uimg_unpacking.specs.declared.file_id.FileId.{FileId};
 
     /// What a file is opened as.
     type Opened: Source;
@@ -16,25 +17,33 @@ pub trait Reader: Drop {
     /// The bytes at each path.
     ghost map: { Self → FileMap };
 
+    /// The file at each path; links are followed.
+    ghost identities: { Self → List ℕ → Option FileId };
+
     /// Opens the file at a path as a source, of which nothing was requested yet.
     ///
     /// Returns `SourceFault` if the file cannot be opened, is a folder, or has no known length, as a
     /// pipe.
     fn open(&mut self, path: &str) -> Result<Self::Opened, SourceFault>
         ensures same { SameFiles (map self.old) (map self.new) }
+        ensures kept { identities self.new ≡ identities self.old }
         ensures opened { IfOk result (λ opened.
             Opens (map self.old) path.now (Self.Opened.device opened)) };
 
-    /// Returns the file at a path, if there is one; links are followed.
+    /// Returns the file at a path, if there is one; links are followed. In an honest world it is the
+    /// one that contracts know.
     fn file_at(&mut self, path: &str) -> Option<FileId>
-        ensures { SameFiles (map self.old) (map self.new) };
+        ensures same { SameFiles (map self.old) (map self.new) }
+        ensures kept { identities self.new ≡ identities self.old }
+        ensures found { IsTrue (map self.old).honest → result ≡ identities self.old path.now };
 }
 
 /// A world in which images are made. It lends a reader of its files, and shelves for new ones.
 pub trait MakingWorld<'p>: World {
-    ghost use Rattle.std.specs.Prelude.{◌≡◌, ◌∷◌, [], Some, IsTrue};
+    ghost use Rattle.std.specs.Prelude.{◌≡◌, ◌∷◌, ℕ, List, [], Option, Some, IsTrue};
     ghost use Rattle.uimg_base.specs.Named.{SameFiles};
     ghost use Rattle.uimg_unpacking.specs.Deeds.{Deed};
+    ghost use Rattle.uimg_unpacking.specs.declared.file_id.FileId.{FileId};
 
     /// What opens its files.
     type Reader: Reader;
@@ -42,11 +51,15 @@ pub trait MakingWorld<'p>: World {
     /// What an image is written to.
     type Shelf: Shelf;
 
+    /// The file at each path, as its readers find it; links are followed.
+    ghost identities: { Self → List ℕ → Option FileId };
+
     /// Lends a reader of its files.
     fn reader(&mut self) -> Self::Reader
         ensures noted { Self.trace self.new ≡ Deed.LendsReader ∷ Self.trace self.old }
         ensures same { SameFiles (Self.map self.old) (Self.map self.new) }
-        ensures map { SameFiles (Self.map self.old) (Self.Reader.map result) };
+        ensures map { SameFiles (Self.map self.old) (Self.Reader.map result) }
+        ensures identities { Self.Reader.identities result ≡ identities self.old };
 
     /// Lends a shelf in the file at a path, which the first write creates or empties. In an honest
     /// world it is honest, and nothing is on it yet.

@@ -1,6 +1,6 @@
 //! What files in memory lend for the making of an image.
 
-ghost use Rattle.std.specs.Prelude.{[], true};
+ghost use Rattle.std.specs.Prelude.{[], None, true};
 ghost use Rattle.uimg_base.specs.Named.{bytes_named};
 
 use crate::call_codes::*;
@@ -27,6 +27,8 @@ impl<'a> Reader for MemoryReader<'a> {
       opened = [];
     } };
 
+    ghost identities = { λ _ _. None };
+
     fn open(&mut self, path: &str) -> Result<MemSource<'a>, SourceFault> {
         match bytes_at(self.files, path) {
             Some(bytes) => Ok(MemSource::new(bytes)),
@@ -44,6 +46,8 @@ impl<'a> MakingWorld<'a> for MemoryWorld<'a> {
     type Reader = MemoryReader<'a>;
 
     type Shelf = MemShelf<Global>;
+
+    ghost identities = { λ _ _. None };
 
     fn reader(&mut self) -> MemoryReader<'a> {
         self.record.note(&[LENDS_READER], b"", b"");

@@ -8,7 +8,7 @@ ghost use Rattle.uimg_base.specs.Honest.{HonestSource, IfHonest};
 ghost use Rattle.uimg_base.specs.Using.{Asks};
 ghost use Rattle.uimg_legacy.specs.Unpacking.{is_part_asked};
 ghost use Rattle.uimg_unpacking.specs.PartEnds.{KeepsRight, end_of_parts, has_leading_zero, is_number, stands_by_crc32, size_at, EndsUnlessRefused};
-ghost use Rattle.uimg_unpacking.specs.Places.{ChangesWithin, stays_within};
+ghost use Rattle.uimg_unpacking.specs.{Deeds.Follows, Places.{ChangesWithin, stays_within}};
 
 use crate::new_file::ErrorCode;
 use crate::part_folder::PartFolder;
@@ -47,7 +47,7 @@ pub enum PartsEnded {
 /// requested alone. Nothing is written if something exists at one of these paths, unless files are
 /// replaced, if one leads to the image, or if there are more files or bytes than the limits allow.
 /// Files get their names once all are written; unless all get them, the folder is unchanged.
-#[tactic(auto, using(crate::proofs::PartChanges::within))]
+#[tactic(auto, using(crate::proofs::PartChanges::within, crate::proofs::PartChanges::follows))]
 pub fn unpack_parts<W: World, S: Source, O: Write + Drop>(
     world: &mut W,
     asked: &Unpacking<'_>,
@@ -55,6 +55,7 @@ pub fn unpack_parts<W: World, S: Source, O: Write + Drop>(
     out: O,
 ) -> PartsEnded
     ensures within { ChangesWithin asked.now.folder.path.now true (W.trace world.old) (W.trace world.new) }
+    ensures later { Follows (W.trace world.old) (W.trace world.new) }
     ensures same { SameDevice (S.device source.old) (S.device source.new) }
     ensures kept { IfHonest S.device source (λ file. KeepsRight asked.now file result) }
 {

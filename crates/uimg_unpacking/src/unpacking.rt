@@ -6,7 +6,7 @@ ghost use Rattle.uimg_base.specs.Device.{SameDevice};
 ghost use Rattle.uimg_base.specs.Honest.{IfHonest};
 ghost use Rattle.uimg_fit_checking.specs.Unpacking.{as_bytes, unpack_work};
 ghost use Rattle.uimg_unpacking.specs.Ends.{asked_name, is_whole, end_of_taken, end_of_fault, TellsOverlap, EndsGiven, Ends, EndsByFile};
-ghost use Rattle.uimg_unpacking.specs.Places.{ChangesWithin, stays_within};
+ghost use Rattle.uimg_unpacking.specs.{Deeds.Follows, Places.{ChangesWithin, stays_within}};
 
 use crate::folder::Folder;
 use crate::folder_taker::FolderTaker;
@@ -78,7 +78,7 @@ pub enum Ended {
 ///
 /// Over an honest source it ends as the definition says of the image's bytes (`end_of_file`), unless
 /// a read fails, memory runs out or it returns a trouble.
-#[tactic(auto, using(crate::proofs::PartChanges::within))]
+#[tactic(auto, using(crate::proofs::PartChanges::within, crate::proofs::PartChanges::follows))]
 pub fn unpack<W: World, S: Source, O: Write + Drop>(
     world: &mut W,
     asked: &Unpacking<'_>,
@@ -86,6 +86,7 @@ pub fn unpack<W: World, S: Source, O: Write + Drop>(
     out: O,
 ) -> Ended
     ensures within { ChangesWithin asked.now.folder.path.now true (W.trace world.old) (W.trace world.new) }
+    ensures later { Follows (W.trace world.old) (W.trace world.new) }
     ensures same { SameDevice (S.device source.old) (S.device source.new) }
     ensures asked { IfHonest S.device source (λ file. (S.device source.new).asked
         ≤ (S.device source.old).asked + unpack_work file) }
