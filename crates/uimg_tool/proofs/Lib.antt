@@ -4,6 +4,7 @@ pub mod CheckLaws
 pub mod CommandLaws
 pub mod ComplainLaws
 pub mod ExtractLaws
+pub mod FolderLaws
 pub mod InfoLaws
 pub mod MakingLaws
 pub mod MapLaws
@@ -13,3 +14,4 @@ pub mod RunLaws
 pub mod StrictLaws
 pub mod UnpackLaws
 pub mod VerdictLaws
+pub mod WritingLaws

@@ -16,6 +16,7 @@ pub mod InMemory
 pub mod InfoEnds
 pub mod JsonLines
 pub mod KnownSources
+pub mod LeavingOut
 pub mod MadeEnds
 pub mod Makings
 pub mod MapAnswers
@@ -32,3 +33,4 @@ pub mod UnpackEnds
 pub mod Unpackings
 pub mod Verdicts
 pub mod WordAnswers
+pub mod Writings

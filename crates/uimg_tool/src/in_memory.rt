@@ -1,7 +1,7 @@
 //! The commands of `uimg` over files in memory, which are honest, so that the contract needs no
 //! premise on the world.
 
-ghost use Rattle.std.specs.Prelude.{◌≡◌, ◌≤◌, ◌⊎◌, [], List, Ok, Some, map, option_map};
+ghost use Rattle.std.specs.Prelude.{◌≡◌, ◌≤◌, ◌⊎◌, [], List, None, Ok, Some, map, option_map};
 ghost use Rattle.std.specs.Io.Buffered.{writer_buffer, writer_inner};
 ghost use Rattle.uimg_cli.specs.Reading.{AsksNothing, ReadsWords};
 ghost use Rattle.uimg_tool.specs.{InMemory.files_in, Programs.{epoch_of, words_of}, WordAnswers.AnswersWords};
@@ -46,7 +46,7 @@ pub fn answer_in_memory<'f, V: Write>(
         ⊎ AsksNothing (option_map (λ text. text.now) epoch.entry) now
         (map (λ word. word.now) words.entry.now)
         ⊎ ((trace : List Deed) × AnswersWords ⟦<MemoryFile<'f> as Write>⟧.contents
-        ⟦<MemKept<Global> as Source>⟧.device
+        ⟦<MemKept<Global> as Source>⟧.device (λ _. None)
         (record { words = words.entry; epoch = epoch.entry; time = now })
         (files_in files.entry.now) result.status (Some []) (Some result.printed.items)
         [] trace) }
@@ -89,7 +89,7 @@ fn carry_out<'f, V: Write>(
     requires read { ReadsWords (epoch_of line) line.time (words_of line) (Ok asked.now) }
     requires empty { writer_buffer out ≡ [] }
     ensures { (trace : List Deed) × AnswersWords ⟦<MemoryFile<'f> as Write>⟧.contents
-        ⟦<MemKept<Global> as Source>⟧.device line.entry (files_in files.entry.now) result.status
+        ⟦<MemKept<Global> as Source>⟧.device (λ _. None) line.entry (files_in files.entry.now) result.status
         (Some (writer_inner out).items) (Some result.printed.items) [] trace }
 {
     carry_out_over(alloc, line, asked, files, out, complaints)
@@ -107,7 +107,7 @@ fn carry_out_over<'a, V: Write>(
     requires read { ReadsWords (epoch_of line) line.time (words_of line) (Ok asked.now) }
     requires empty { writer_buffer out ≡ [] }
     ensures { (trace : List Deed) × AnswersWords ⟦<MemoryFile<'a> as Write>⟧.contents
-        ⟦<MemKept<Global> as Source>⟧.device line.entry (files_in files.entry.now) result.status
+        ⟦<MemKept<Global> as Source>⟧.device (λ _. None) line.entry (files_in files.entry.now) result.status
         (Some (writer_inner out).items) (Some result.printed.items) [] trace }
 {
     let world = &mut MemoryWorld::new(alloc, files);

@@ -38,6 +38,7 @@ mod unpack_answers;
 mod unpack_program;
 mod update_program;
 mod watched_files;
+mod writing;
 mod xip_files;
 
 pub use in_memory::{Answered, answer_in_memory};
