@@ -75,7 +75,6 @@ fn statements<F: Files, A: Allocator + Copy>(
 }
 
 // Compiles the words of a source.
-#[tactic(auto, using(crate::proofs::SoundLaws::node_same))]
 fn compile_words<F: Files, A: Allocator + Copy>(
     alloc: A,
     files: &mut F,
