@@ -7,7 +7,7 @@ use std::alloc::Global;
 use std::test::Fail;
 use uimg_base::{FuseWriter, MemFiles, MemSource, PutFault, Room};
 use uimg_fit::Fault;
-use uimg_fit_checking::{NodeName, Refusal, Taker, Unpacked, Vouched, unpack};
+use uimg_fit_checking::{MemTake, MemTaker, NodeName, Refusal, Taker, Unpacked, Vouched, unpack};
 
 // A taker that answers some calls, and whose shelves accept some bytes each. It counts its shelves,
 // the payloads that it is given or that are refused, and the calls after the first one that failed.
@@ -149,5 +149,34 @@ fn shelves_that_fail(rt: HostRuntime) -> Result<(), Fail> {
         );
     }
     assert!(rt; ends(alloc, &image, 99, 3, true, (3, 3)));
+    Ok(())
+}
+
+// In memory each payload is there: the empty one, the right one, and that the last is refused.
+#[test]
+fn payloads_in_memory(rt: HostRuntime) -> Result<(), Fail> {
+    let alloc = rt.alloc();
+    let image = image(alloc)?;
+    let mut taker = MemTaker::new(alloc);
+    let mut source = MemSource::new(&image);
+    let answer = unpack(None, None, &mut source, &mut Room::new(alloc), &mut taker);
+    assert!(rt; matches!(answer, Ok(Unpacked::Taken(false))));
+    let is_same = match taker.takes() {
+        [
+            MemTake::Kept {
+                payload: none,
+                vouched: None,
+                ..
+            },
+            MemTake::Kept {
+                payload,
+                vouched: Some(_),
+                ..
+            },
+            MemTake::Refused { .. },
+        ] => none.is_empty() && payload.as_slice() == b"abc".as_slice(),
+        _ => false,
+    };
+    assert!(rt; is_same);
     Ok(())
 }
