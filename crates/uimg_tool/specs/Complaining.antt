@@ -2,7 +2,8 @@
 use Rattle.std.specs.Prelude.{◌≡◌, ⊤, ◌⊎◌, ℕ, List, Option, Some, Err, Result}
 use Rattle.std.specs.Borrow.{Bor}
 use Rattle.uimg_base.specs.{Lent.Lent, Named.FileMap}
-use Rattle.uimg_cli.specs.{FaultTexts as words, Reading.ReadsWords}
+use Rattle.uimg_cli.specs.FaultTexts as words
+use Rattle.uimg_cli.specs.Reading.{ReadsWords}
 use Rattle.uimg_cli.specs.declared.command_line.Asked.{Asked}
 use Rattle.uimg_cli.specs.declared.command_line.Asked.TheVariants.{One}
 use Rattle.uimg_cli.specs.declared.command_line.Request.{Request}

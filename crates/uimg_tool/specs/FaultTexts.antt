@@ -1,5 +1,5 @@
 -- What is told of a request that was not carried out, and of one that was.
-use Rattle.std.specs.Prelude.{ℕ, List, ◌++◌, codes, Option, Some, None, Result, Ok, Err}
+use Rattle.std.specs.Prelude.{ℕ, List, ◌++◌, codes, Option, Some, None, Result, Ok, Err, false}
 use Rattle.uimg_base.specs.Outcome.{End, done, not_right, refused}
 use Rattle.uimg_base.specs.declared.status.Status.{Status}
 use Rattle.uimg_engine.specs.FaultTexts.{text_of}
