@@ -10,6 +10,7 @@ use Rattle.uimg_tool.specs.{Facts.IsFactsAnswer, Makings.AnswersMade, MapAnswers
 use Rattle.uimg_requests.specs.declared.requests.RunRequest.{RunRequest}
 use Rattle.std.specs.Borrow.{Bor}
 use Rattle.uimg_unpacking.specs.Deeds.{Deed, Opens}
+use Rattle.uimg_unpacking.specs.declared.file_id.FileId.{FileId}
 use Rattle.uimg_tool.specs.{Commands.{AnswersAsked, AnswersImage, AnswersOne, Flushes}, Extracting.{AnswersExtraction, Extracted, IsSame}}
 
 -- unless the status is 3
@@ -39,24 +40,24 @@ pub by_outfile : {F : Type 0} (outfile : Option (Bor (List ℕ))) (contents : F 
 by_outfile None contents it files status old new asked_before asked_after runs extracts = runs refl
 by_outfile (Some path) contents it files status old new asked_before asked_after runs extracts = extracts path refl
 
-one : {F K : Type 0} (contents : F → Option (List ℕ)) (device : K → Device) (it : Request) (files : FileMap) (status : ℕ) (old x y : Option (List ℕ)) (asked_before asked_after : List Deed) → (status ≢ 3 → x ≡ y) → AnswersOne contents device it files status old x asked_before asked_after
-    → AnswersOne contents device it files status old y asked_before asked_after
-one contents device (asked.Run it) files status old x y asked_before asked_after same answers = image contents it.outfile it files status old x y asked_before asked_after same answers
-one contents device (asked.Make it) files status old x y asked_before asked_after same answers = unless status (λ (z : Option (List ℕ)). AnswersMade device it files status old z) x y same answers
-one contents device (asked.Show text) files status old x y asked_before asked_after same answers = answers
+one : {F K : Type 0} (contents : F → Option (List ℕ)) (device : K → Device) (identities : List ℕ → Option FileId) (it : Request) (files : FileMap) (status : ℕ) (old x y : Option (List ℕ)) (asked_before asked_after : List Deed) → (status ≢ 3 → x ≡ y) → AnswersOne contents device identities it files status old x asked_before asked_after
+    → AnswersOne contents device identities it files status old y asked_before asked_after
+one contents device identities (asked.Run it) files status old x y asked_before asked_after same answers = image contents it.outfile it files status old x y asked_before asked_after same answers
+one contents device identities (asked.Make it) files status old x y asked_before asked_after same answers = unless status (λ (z : Option (List ℕ)). AnswersMade device identities it files status old z) x y same answers
+one contents device identities (asked.Show text) files status old x y asked_before asked_after same answers = answers
 
-asked_emptied : {F K : Type 0} (contents : F → Option (List ℕ)) (device : K → Device) (it : Asked) (files : FileMap) (status : ℕ) (before x y : Option (List ℕ)) (asked_before asked_after : List Deed) (left : List ℕ) → Flushes it status left → (left ≡ [] → x ≡ y)
-    → AnswersAsked contents device it files status before x asked_before asked_after → AnswersAsked contents device it files status before y asked_before asked_after
-asked_emptied contents device (One it) files status before x y asked_before asked_after left flushed same answers = one contents device it files status before x y asked_before asked_after (λ fine. same (flushed fine)) answers
-asked_emptied contents device (Check it) files status before x y asked_before asked_after left flushed same answers =
+asked_emptied : {F K : Type 0} (contents : F → Option (List ℕ)) (device : K → Device) (identities : List ℕ → Option FileId) (it : Asked) (files : FileMap) (status : ℕ) (before x y : Option (List ℕ)) (asked_before asked_after : List Deed) (left : List ℕ) → Flushes it status left → (left ≡ [] → x ≡ y)
+    → AnswersAsked contents device identities it files status before x asked_before asked_after → AnswersAsked contents device identities it files status before y asked_before asked_after
+asked_emptied contents device identities (One it) files status before x y asked_before asked_after left flushed same answers = one contents device identities it files status before x y asked_before asked_after (λ fine. same (flushed fine)) answers
+asked_emptied contents device identities (Check it) files status before x y asked_before asked_after left flushed same answers =
     unless status (λ (z : Option (List ℕ)). (last : Told) × AnswersAll files it (nothing_told before asked_before) last × (last.text ≡ z) × (last.trace ≡ asked_after) × (status ≡ (if last.has_checked || it.allows_none then last.greatest else 2))) x y (λ fine. same (flushed fine)) answers
-asked_emptied contents device (Unpack it) files status before x y asked_before asked_after left flushed same answers = answers
-asked_emptied contents device (Map it) files status before x y asked_before asked_after left flushed same answers = λ none.
+asked_emptied contents device identities (Unpack it) files status before x y asked_before asked_after left flushed same answers = answers
+asked_emptied contents device identities (Map it) files status before x y asked_before asked_after left flushed same answers = λ none.
     unless status (λ (z : Option (List ℕ)). (file : List ℕ) × (files.bytes it.image.now ≡ Some file) × IsMapAnswer file status before z) x y (λ fine. same (flushed none fine)) (answers none)
-asked_emptied contents device (Info it) files status before x y asked_before asked_after left flushed same answers =
+asked_emptied contents device identities (Info it) files status before x y asked_before asked_after left flushed same answers =
     unless status (λ (z : Option (List ℕ)). (file : List ℕ) × (files.bytes it.image.now ≡ Some file) × IsFactsAnswer it.image.now file status before z) x y (λ fine. same (flushed fine)) answers
 
-pub emptied : {F K : Type 0} (contents : F → Option (List ℕ)) (device : K → Device) (it : Asked) (files : FileMap) (status : ℕ) (before old x y new : Option (List ℕ)) (asked_before asked_after : List Deed) (left : List ℕ) → Flushes it status left → (left ≡ [] → x ≡ y) → before ≡ old → y ≡ new
-    → AnswersAsked contents device it files status before x asked_before asked_after → AnswersAsked contents device it files status old new asked_before asked_after
-emptied contents device it files status before old x y new asked_before asked_after left flushed same is gives answers =
-    subst (λ (z : Option (List ℕ)). AnswersAsked contents device it files status z new asked_before asked_after) is (subst (λ (z : Option (List ℕ)). AnswersAsked contents device it files status before z asked_before asked_after) gives (asked_emptied contents device it files status before x y asked_before asked_after left flushed same answers))
+pub emptied : {F K : Type 0} (contents : F → Option (List ℕ)) (device : K → Device) (identities : List ℕ → Option FileId) (it : Asked) (files : FileMap) (status : ℕ) (before old x y new : Option (List ℕ)) (asked_before asked_after : List Deed) (left : List ℕ) → Flushes it status left → (left ≡ [] → x ≡ y) → before ≡ old → y ≡ new
+    → AnswersAsked contents device identities it files status before x asked_before asked_after → AnswersAsked contents device identities it files status old new asked_before asked_after
+emptied contents device identities it files status before old x y new asked_before asked_after left flushed same is gives answers =
+    subst (λ (z : Option (List ℕ)). AnswersAsked contents device identities it files status z new asked_before asked_after) is (subst (λ (z : Option (List ℕ)). AnswersAsked contents device identities it files status before z asked_before asked_after) gives (asked_emptied contents device identities it files status before x y asked_before asked_after left flushed same answers))

@@ -12,6 +12,7 @@ use Rattle.uimg_tool.specs.Checking.{AnswersRequest}
 use Rattle.uimg_tool.specs.{Running.AnswersRun, Unpackings.AnswersUnpacking}
 use Rattle.uimg_unpacking.specs.Deeds.{Deed, LendsReader, LendsShelf, changes}
 use Rattle.uimg_unpacking.specs.Places.{ChangesWithin}
+use Rattle.uimg_unpacking.specs.declared.file_id.FileId.{FileId}
 
 -- a command on one image, which prints, or extracts to the file at a path
 abbrev pub AnswersImage : {F : Type 0} → (F → Option (List ℕ)) → Option (Bor (List ℕ)) → RunRequest → FileMap → ℕ → (old new : Option (List ℕ)) → (before after : List Deed) → Type 0
@@ -19,20 +20,20 @@ AnswersImage contents (Some path) it files status old new before after = Answers
 AnswersImage contents None it files status old new before after = AnswersRun false it files status old new
 
 -- A command on one image, the making of one, or a text. F is the type of the world's files, and K that of
--- what its shelves keep.
-abbrev pub AnswersOne : {F K : Type 0} → (F → Option (List ℕ)) → (K → Device) → Request → FileMap → ℕ → (old new : Option (List ℕ)) → (before after : List Deed) → Type 0
-AnswersOne contents device (asked.Run it) files status old new before after = AnswersImage contents it.outfile it files status old new before after
-AnswersOne contents device (asked.Make it) files status old new before after = AnswersMaking device it files status old new
-AnswersOne contents device (asked.Show text) files status old new before after = (status ≡ 3) ⊎ (status ≡ 0)
+-- what its shelves keep. IDENTITIES says which file is at each path.
+abbrev pub AnswersOne : {F K : Type 0} → (F → Option (List ℕ)) → (K → Device) → (List ℕ → Option FileId) → Request → FileMap → ℕ → (old new : Option (List ℕ)) → (before after : List Deed) → Type 0
+AnswersOne contents device identities (asked.Run it) files status old new before after = AnswersImage contents it.outfile it files status old new before after
+AnswersOne contents device identities (asked.Make it) files status old new before after = AnswersMaking device identities it files status old new
+AnswersOne contents device identities (asked.Show text) files status old new before after = (status ≡ 3) ⊎ (status ≡ 0)
 
 -- A request. Of a map that is drawn nothing is claimed here, and of what an unpacking prints.
-abbrev pub AnswersAsked : {F K : Type 0} → (F → Option (List ℕ)) → (K → Device) → Asked → FileMap → ℕ → (old new : Option (List ℕ)) → (before after : List Deed) → Type 0
-AnswersAsked contents device (One it) files status old new before after = AnswersOne contents device it files status old new before after
-AnswersAsked contents device (Check it) files status old new before after = AnswersRequest files it status old new before after
-AnswersAsked contents device (Unpack it) files status old new before after = AnswersUnpacking files it status
-AnswersAsked contents device (Map it) files status old new before after =
+abbrev pub AnswersAsked : {F K : Type 0} → (F → Option (List ℕ)) → (K → Device) → (List ℕ → Option FileId) → Asked → FileMap → ℕ → (old new : Option (List ℕ)) → (before after : List Deed) → Type 0
+AnswersAsked contents device identities (One it) files status old new before after = AnswersOne contents device identities it files status old new before after
+AnswersAsked contents device identities (Check it) files status old new before after = AnswersRequest files it status old new before after
+AnswersAsked contents device identities (Unpack it) files status old new before after = AnswersUnpacking files it status
+AnswersAsked contents device identities (Map it) files status old new before after =
     it.picture ≡ None → AnswersBy files it.image.now IsMapAnswer status old new
-AnswersAsked contents device (Info it) files status old new before after =
+AnswersAsked contents device identities (Info it) files status old new before after =
     AnswersBy files it.image.now (IsFactsAnswer it.image.now) status old new
 
 -- What a request leaves in a buffer that was empty: nothing, unless it failed. Of an unpacking, and of a

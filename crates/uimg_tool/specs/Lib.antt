@@ -13,6 +13,7 @@ pub mod Finishing
 pub mod InfoEnds
 pub mod JsonLines
 pub mod KnownSources
+pub mod LeavingOut
 pub mod MadeEnds
 pub mod Makings
 pub mod MapAnswers

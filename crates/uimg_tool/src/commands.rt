@@ -33,7 +33,7 @@ pub(crate) fn carry_out_asked<'a, D: MakingWorld<'a>, W: Write + Drop, V: Write>
     requires { writer_buffer out ≡ [] }
     ensures ends { Ends result.0 complaints.old.count complaints.new.count }
     ensures told { IsTrue (D.map world.old).honest → AnswersAsked D.File.contents
-        D.Shelf.Kept.device asked.now (D.map world.old) result.0
+        D.Shelf.Kept.device (D.identities world.old) asked.now (D.map world.old) result.0
         (W.contents (writer_inner out)) (W.contents result.1) (D.trace world.old)
         (D.trace world.new) }
     ensures changed { Changes asked.now (D.trace world.old) (D.trace world.new) }
@@ -54,7 +54,7 @@ fn carry_out_buffered<'a, D: MakingWorld<'a>, W: Write + Drop, V: Write>(
     requires { writer_buffer out ≡ [] }
     ensures ends { Ends result.0 complaints.old.count complaints.new.count }
     ensures told { IsTrue (D.map world.old).honest → AnswersAsked D.File.contents
-        D.Shelf.Kept.device asked.now (D.map world.old) result.0
+        D.Shelf.Kept.device (D.identities world.old) asked.now (D.map world.old) result.0
         (writer_contents W.contents out) (writer_contents W.contents result.1)
         (D.trace world.old) (D.trace world.new) }
     ensures flushed { Flushes asked.now result.0 (writer_buffer result.1) }
@@ -87,7 +87,7 @@ fn carry_out_one<'a, D: MakingWorld<'a>, W: Write + Drop, V: Write>(
 ) -> (u8, BufWriter<W, Global>)
     ensures ends { Ends result.0 complaints.old.count complaints.new.count }
     ensures told { IsTrue (D.map world.old).honest → AnswersOne D.File.contents
-        D.Shelf.Kept.device request.now (D.map world.old) result.0
+        D.Shelf.Kept.device (D.identities world.old) request.now (D.map world.old) result.0
         (writer_contents W.contents out) (writer_contents W.contents result.1)
         (D.trace world.old) (D.trace world.new) }
     ensures flushed { result.0 ≢ 3 → writer_buffer result.1 ≡ [] }
@@ -134,9 +134,9 @@ fn make_one<'a, D: MakingWorld<'a>, W: Write + Drop, V: Write>(
     complaints: &mut Complaints<'_, V>,
 ) -> (u8, BufWriter<W, Global>)
     ensures ends { Ends result.0 complaints.old.count complaints.new.count }
-    ensures told { IsTrue (D.map world.old).honest → AnswersMaking D.Shelf.Kept.device request.now
-        (D.map world.old) result.0 (writer_contents W.contents out)
-        (writer_contents W.contents result.1) }
+    ensures told { IsTrue (D.map world.old).honest → AnswersMaking D.Shelf.Kept.device
+        (D.identities world.old) request.now (D.map world.old) result.0
+        (writer_contents W.contents out) (writer_contents W.contents result.1) }
     ensures flushed { result.0 ≢ 3 → writer_buffer result.1 ≡ [] }
     ensures lent { D.trace world.new
         ≡ Deed.LendsShelf request.now.written.now ∷ Deed.LendsReader ∷ D.trace world.old }

@@ -1,20 +1,32 @@
 //! The files of a folder of a world, opened by their names.
 
-ghost use Rattle.std.specs.Prelude.{◌≡◌, IfOk, false};
-ghost use Rattle.std.specs.Path.{path_buf_bytes, path_join};
+ghost use Rattle.std.specs.Prelude.{◌≡◌, ◌||◌, ℕ, List, [], Bool, IfOk, IsTrue, is_err, true, false};
+ghost use Rattle.std.specs.{List.list_any, Path.{path_buf_bytes, path_join}};
 ghost use Rattle.uimg_base.specs.Named.{Opens, SameFiles};
-ghost use Rattle.uimg_tool.specs.Makings.{in_folder};
+ghost use Rattle.uimg_tool.specs.LeavingOut.{NotesMet, in_folder, leads_to};
+ghost use Rattle.uimg_unpacking.specs.Allowing.{is_image};
 
 use std::alloc::Global;
+use std::marker::{Brand, PhantomData};
 use std::path::{Path, PathBuf};
 use uimg_base::{Files, OpenedNames, Source, SourceFault};
 use uimg_unpacking::Reader;
+
+/// The file that is left out of a folder, for contracts alone.
+pub(crate) trait LeftOut {
+    /// Whether a name leads to it.
+    ghost leads: { List ℕ → Bool };
+}
+
+impl LeftOut for Brand {
+    ghost leads = { λ _. false };
+}
 
 /// The files of a folder, opened by their paths. A name that begins with `/` is a path of its own;
 /// any other name is a path in the folder. One file is left out: one that is written while the
 /// others are read.
 #[derive(Drop)]
-pub(crate) struct FolderFiles<'a, R: Reader> {
+pub(crate) struct FolderFiles<'a, R: Reader, L: LeftOut> {
     reader: R,
     alloc: Global,
     folder: &'a str,
@@ -22,9 +34,12 @@ pub(crate) struct FolderFiles<'a, R: Reader> {
     has_met_left_out: bool,
     refusals: u64,
     opened: OpenedNames,
+    marker: PhantomData<L>,
+    ghost leads: { leads_to (R.identities reader) folder.now left_out.now ≡ L.leads },
+    ghost met: { IsTrue (R.map reader).honest → has_met_left_out ≡ true → list_any L.leads opened.names ≡ true },
 }
 
-impl<'a, R: Reader> FolderFiles<'a, R> {
+impl<'a, R: Reader, L: LeftOut> FolderFiles<'a, R, L> {
     /// Returns the files of a folder, none of them opened, without the file at a path, whose open is
     /// refused.
     pub(crate) fn new(
@@ -32,10 +47,19 @@ impl<'a, R: Reader> FolderFiles<'a, R> {
         alloc: Global,
         folder: &'a str,
         left_out: &'a str,
-    ) -> FolderFiles<'a, R>
+    ) -> FolderFiles<'a, R, L>
+        requires { leads_to (R.identities reader) folder.now left_out.now ≡ L.leads }
         ensures reader { result.reader ≡ reader }
         ensures folder { result.folder ≡ folder.entry }
         ensures left_out { result.left_out ≡ left_out.entry }
+        ensures unmet { result.has_met_left_out ≡ false }
+        ensures map { ⟦<FolderFiles<'a, R, L> as Files>⟧.map result ≡ record {
+          bytes = in_folder folder.now (R.map reader).bytes;
+          honest = (R.map reader).honest;
+          complete = false;
+          refusals = 0;
+          opened = [];
+        } }
     {
         FolderFiles {
             reader,
@@ -45,16 +69,21 @@ impl<'a, R: Reader> FolderFiles<'a, R> {
             has_met_left_out: false,
             refusals: 0,
             opened: OpenedNames::new(),
+            marker: PhantomData,
         }
     }
 
     /// Returns whether the file that is left out was requested, and so refused.
-    pub(crate) fn has_met_left_out(&self) -> bool {
+    pub(crate) fn has_met_left_out(&self) -> bool
+        ensures noted { result ≡ self.now.has_met_left_out }
+        ensures met { IsTrue (R.map self.now.reader).honest → result ≡ true →
+            list_any L.leads self.now.opened.names ≡ true }
+    {
         self.has_met_left_out
     }
 }
 
-impl<'a, R: Reader> Files for FolderFiles<'a, R> {
+impl<'a, R: Reader, L: LeftOut> Files for FolderFiles<'a, R, L> {
     type Opened = R::Opened;
 
     ghost map = { λ files. record {
@@ -71,19 +100,42 @@ impl<'a, R: Reader> Files for FolderFiles<'a, R> {
     /// file is the one that is left out, or if the reader does.
     fn open(&mut self, name: &[u8]) -> Result<R::Opened, SourceFault> {
         self.opened.note(name);
-        let opened = match path_in(self.alloc, self.folder, name) {
-            Ok(path) => open_other(
-                &mut self.reader,
-                path.as_str(),
-                self.left_out,
-                &mut self.has_met_left_out,
-            ),
-            Err(fault) => Err(fault),
-        };
+        let opened = open_in(
+            &mut self.reader,
+            self.alloc,
+            self.folder,
+            name,
+            self.left_out,
+            &mut self.has_met_left_out,
+        );
         if opened.is_err() {
             self.refusals = self.refusals.saturating_add(1);
         }
         opened
+    }
+}
+
+// Opens the file of a name in a folder, unless it is the one that is left out. Notes whether it is,
+// if there is a path of this name and memory for it.
+fn open_in<R: Reader>(
+    reader: &mut R,
+    alloc: Global,
+    folder: &str,
+    name: &[u8],
+    left_out: &str,
+    has_met_left_out: &mut bool,
+) -> Result<R::Opened, SourceFault>
+    ensures same { SameFiles (R.map reader.old) (R.map reader.new) }
+    ensures kept { R.identities reader.new ≡ R.identities reader.old }
+    ensures met { IsTrue (R.map reader.old).honest → NotesMet
+        (leads_to (R.identities reader.old) folder.now left_out.now name.now)
+        (is_err result) has_met_left_out.old has_met_left_out.new }
+    ensures opened { IfOk result (λ opened.
+        Opens (R.map reader.old) (path_join folder.now name.now) (R.Opened.device opened)) }
+{
+    match path_in(alloc, folder, name) {
+        Ok(path) => open_other(reader, path.as_str(), left_out, has_met_left_out),
+        Err(fault) => Err(fault),
     }
 }
 
@@ -95,6 +147,12 @@ fn open_other<R: Reader>(
     has_met_left_out: &mut bool,
 ) -> Result<R::Opened, SourceFault>
     ensures same { SameFiles (R.map reader.old) (R.map reader.new) }
+    ensures kept { R.identities reader.new ≡ R.identities reader.old }
+    ensures met { IsTrue (R.map reader.old).honest → has_met_left_out.new
+        ≡ (has_met_left_out.old || is_image (R.identities reader.old path.now)
+        (R.identities reader.old left_out.now)) }
+    ensures refused { IsTrue (R.map reader.old).honest → is_image (R.identities reader.old path.now)
+        (R.identities reader.old left_out.now) ≡ true → is_err result ≡ true }
     ensures opened { IfOk result
         (λ opened. Opens (R.map reader.old) path.now (R.Opened.device opened)) }
 {
@@ -107,7 +165,10 @@ fn open_other<R: Reader>(
 
 // Returns whether two paths lead to the same file, also by links.
 fn is_same_file<R: Reader>(reader: &mut R, path: &str, other: &str) -> bool
-    ensures { SameFiles (R.map reader.old) (R.map reader.new) }
+    ensures same { SameFiles (R.map reader.old) (R.map reader.new) }
+    ensures kept { R.identities reader.new ≡ R.identities reader.old }
+    ensures is { IsTrue (R.map reader.old).honest → result
+        ≡ is_image (R.identities reader.old path.now) (R.identities reader.old other.now) }
 {
     match (reader.file_at(path), reader.file_at(other)) {
         (Some(one), Some(two)) => one == two,

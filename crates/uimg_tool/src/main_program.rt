@@ -127,10 +127,9 @@ pub(crate) fn carry_out_words<'a, D: MakingWorld<'a>, W: Write + Drop, V: Write>
     requires read { ReadsWords (epoch_of _line) _line.time (words_of _line) (Ok asked.now) }
     requires empty { writer_buffer out ≡ [] }
     ensures ends { Ends result.0 complaints.old.count complaints.new.count }
-    ensures told { AnswersWords D.File.contents D.Shelf.Kept.device _line.entry (D.map world.old)
-        result.0
-        (W.contents (writer_inner out)) (W.contents result.1) (D.trace world.old)
-        (D.trace world.new) }
+    ensures told { AnswersWords D.File.contents D.Shelf.Kept.device (D.identities world.old)
+        _line.entry (D.map world.old) result.0 (W.contents (writer_inner out)) (W.contents result.1)
+        (D.trace world.old) (D.trace world.new) }
 {
     carry_out_asked(world, asked, out, complaints)
 }

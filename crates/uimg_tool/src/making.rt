@@ -1,12 +1,12 @@
 //! Makes an image, over a world of files or on a disk.
 
 ghost use Rattle.std.specs.Prelude.{◌≡◌, ◌∷◌, ◌⊎◌, [], Some, IsTrue, true};
-ghost use Rattle.uimg_engine.specs.Commands.{HonestFiles, MakesCommand};
-ghost use Rattle.uimg_tool.specs.{Makings.MakesAt, Statuses.end_status};
+ghost use Rattle.uimg_engine.specs.Commands.{HonestFiles, MakesCommand, OpensToBuild};
+ghost use Rattle.uimg_tool.specs.{LeavingOut.leads_to, Makings.MakesAt, Statuses.end_status};
 ghost use Rattle.uimg_tool.specs.RequestEnds.{AsMade, IsFileAt, MakeEnds, StoppedAs};
 ghost use Rattle.uimg_unpacking.specs.Deeds.{Deed};
 
-use crate::folder_files::FolderFiles;
+use crate::folder_files::{FolderFiles, LeftOut};
 use crate::reasons::Watched;
 use crate::request_fault::RequestFault;
 use crate::searched_files::SearchedFiles;
@@ -14,34 +14,54 @@ use crate::xip_files::XipFiles;
 use std::alloc::Global;
 use std::cell::Cell;
 use std::io::Write;
+use std::marker::Brand;
 use std::{io, rt};
 use uimg_base::{Files, Out, Room, Shelf, Status};
 use uimg_engine::{DiskFiles, Fault, make_by};
 use uimg_requests::{MakeCommand, MakeRequest};
-use uimg_unpacking::MakingWorld;
+use uimg_unpacking::{MakingWorld, Reader};
 
 /// Makes the requested image over a world: on a shelf of the image's path, of the files in the
 /// folder of the request.
-#[tactic(auto, using(crate::proofs::MakingLaws::made_end))]
 pub(crate) fn make_in<'a, D: MakingWorld<'a>, W: Write>(
     world: &mut D,
     request: &'a MakeRequest<'a>,
     out: &mut Out<W>,
 ) -> Result<Status, RequestFault<'a>>
     ensures ends { MakeEnds request.now result }
-    ensures told { IsTrue (D.map world.old).honest → MakesAt D.Shelf.Kept.device request.now
-        (D.map world.old) result out.old out.new }
+    ensures told { IsTrue (D.map world.old).honest → MakesAt D.Shelf.Kept.device
+        (D.identities world.old) request.now (D.map world.old) result out.old out.new }
     ensures lent { D.trace world.new
         ≡ Deed.LendsShelf request.now.written.now ∷ Deed.LendsReader ∷ D.trace world.old }
 {
     let alloc = world.alloc();
     let reader = world.reader();
-    let mut files = FolderFiles::new(reader, alloc, request.folder, request.outfile);
     let code = Cell::new(None);
     let shelf = Watched::new(world.shelf_at(request.written), &code);
-    let made = make_over(alloc, request, &mut files, shelf, out);
-    let end = end_of(request, made, files.has_met_left_out());
+    let end = make_among::<_, _, _, Brand>(alloc, request, reader, shelf, out);
     end_written(request, end, code.get())
+}
+
+// Makes the requested image on a shelf, of the files in the folder of the request, which are opened
+// by a reader. The file that is written is left out.
+fn make_among<'a, R: Reader, H: Shelf, W: Write, L: LeftOut>(
+    alloc: Global,
+    request: &'a MakeRequest<'a>,
+    reader: R,
+    shelf: H,
+    out: &mut Out<W>,
+) -> Result<Status, RequestFault<'a>>
+    requires { leads_to (R.identities reader) request.now.folder.now request.now.outfile.now
+        ≡ L.leads }
+    ensures ends { MakeEnds request.now result }
+    ensures told { IsTrue (R.map reader).honest → IsTrue H.honest → H.contents shelf ≡ Some [] →
+        MakesAt H.Kept.device (R.identities reader) request.now (R.map reader) result out.old
+        out.new }
+{
+    let mut files = FolderFiles::<R, L>::new(reader, alloc, request.folder, request.outfile);
+    let made = make_over(alloc, request, &mut files, shelf, out);
+    let has_met_outfile = files.has_met_left_out();
+    end_of(request, made, has_met_outfile)
 }
 
 /// Makes the requested image on a shelf. Files that are not in the folder of the request are looked
@@ -104,9 +124,10 @@ fn make_over<F: Files, H: Shelf, W: Write>(
     shelf: H,
     out: &mut Out<W>,
 ) -> Result<H::Kept, Fault>
-    ensures { HonestFiles F.map files → IsTrue H.honest → H.contents shelf ≡ Some [] →
+    ensures made { HonestFiles F.map files → IsTrue H.honest → H.contents shelf ≡ Some [] →
         MakesCommand H.Kept.device request.now.manner.naming request.now.command
         request.now.manner.time request.now.manner.align (F.map files.old).bytes result out }
+    ensures opens { OpensToBuild request.now.command result (F.map files.old) (F.map files.new) }
 {
     let mut room = Room::new(alloc);
     make_by(

@@ -7,7 +7,7 @@ use Rattle.uimg_tool.proofs.commands.make_one.Goals as goal
 
 pub returns-clause-told : goal.returns-clause-told
 returns-clause-told g c = λ honest.
-    answers _ c.args.request.now _ c.make_in-end.result c.flush.result c.tell_end.result c.new-out.result c.make_in-end.new.out _ _
+    answers _ _ c.args.request.now _ c.make_in-end.result c.flush.result c.tell_end.result c.new-out.result c.make_in-end.new.out _ _
     (c.make_in-end.ensures.told honest) (c.tell_end.ensures.status ∙ ap end_status c.told.ensures)
     (ap (λ (s : Sink). s.contents) c.new-out.ensures)
     (subst (λ (known : Option (List ℕ)). Keeps known (writer_contents g.W.Write.contents c.flush.new.self)) c.into_inner-out.ensures c.flush.ensures.bytes)
