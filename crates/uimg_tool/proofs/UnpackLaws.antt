@@ -3,16 +3,19 @@ use Rattle.std.proofs.Common.{◌≡◌, ◌⊎◌, inl, inr, ℕ, List, [], ◌
 use mathlib.Core.List.{append_assoc}
 use Rattle.std.proofs.lemmas.List.Folds.{list_all-append}
 use Rattle.uimg_unpacking.proofs.Placing.{stays_naming}
-use Rattle.uimg_unpacking.specs.Deeds.{Deed, Opens, Identifies, changes, changes_only}
+use Rattle.uimg_unpacking.specs.Deeds.{Deed, Follows, Opens, Identifies, changes, changes_only}
 use Rattle.uimg_unpacking.specs.declared.file_id.FileId.{FileId}
-use Rattle.std.specs.Prelude.{Option}
+use Rattle.std.specs.Prelude.{Option, Some}
+use Rattle.std.specs.Borrow.{Bor}
+use Rattle.uimg_base.specs.Named.{FileMap}
+use Rattle.uimg_cli.specs.declared.command_line.unpack.UnpackRequest.{UnpackRequest}
 use Rattle.uimg_unpacking.specs.Places.{ChangesWithin, may_change, stays_within}
 use Rattle.uimg_base.specs.declared.status.Status.TheVariants.{Done, NotRight}
 use Rattle.uimg_checks.specs.Answers.{answer_status}
 use Rattle.uimg_checks.specs.declared.answer.Answer.{Answer, TheVariants.{Failed, Refused}}
 use Rattle.uimg_engine.specs.Headline.{is_fit}
 use Rattle.uimg_requests.specs.declared.command.Form.TheVariants as form
-use Rattle.uimg_tool.specs.{CheckEnds.AnswersEnding, UnpackEnds.{end_of, end_of_parts}, Unpackings.{IsRight, IsRightIn}}
+use Rattle.uimg_tool.specs.{CheckEnds.AnswersEnding, UnpackEnds.{end_of, end_of_parts}, Unpackings.{IsRight, IsRightIn, RightAt, UnpacksRight, unpacking_of}}
 use Rattle.uimg_tool.specs.declared.unpack_answers.Ending.{Ending}
 use Rattle.uimg_tool.specs.declared.unpack_answers.Ending.TheVariants as ending
 use Rattle.uimg_unpacking.specs.{Ends.EndsByFile, PartEnds.KeepsRight}
@@ -94,3 +97,17 @@ shown end answer is = absurd is
 pub object_fails : {P Q : Type 0} (end : Ending) (answer : Answer) (status : ℕ) → AnswersEnding end answer → (status ≡ 3) ⊎ ((status ≡ answer_status answer) × P) → status ≡ 0 → Q
 object_fails end answer status is (inl three) zero = failed status (inr three) zero
 object_fails end answer status is (inr told) zero = failed (answer_status answer) (shown end answer is) (sym told.0 ∙ zero)
+
+-- nothing was asked for
+pub nothing_later : (old new : List Deed) → new ≡ old → Follows old new
+nothing_later old new same = record { later = []; is = same }
+
+-- an image that was opened and looked at before
+pub right_at : (asked : UnpackRequest) (path : Bor (List ℕ)) (image : Option FileId) (file : List ℕ) (old middle new : List Deed) → middle ≡ Identifies path.now image ∷ Opens path.now true ∷ old → Follows middle new
+    → IsRight (unpacking_of asked image path) file → UnpacksRight asked path file old new
+right_at asked path image file old middle new looked follows right =
+    record { image = image; follows = subst (λ (t : List Deed). Follows t new) looked follows; right = right }
+
+-- the same after it was told
+pub right_told : (files : FileMap) (asked : UnpackRequest) (path : Bor (List ℕ)) (old middle new : List Deed) → RightAt files asked (Some path) old middle → new ≡ middle → RightAt files asked (Some path) old new
+right_told files asked path old middle new right same = subst (λ (t : List Deed). RightAt files asked (Some path) old t) (sym same) right

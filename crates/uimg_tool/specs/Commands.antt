@@ -30,7 +30,7 @@ AnswersOne contents device identities (asked.Show text) files status old new bef
 abbrev pub AnswersAsked : {F K : Type 0} → (F → Option (List ℕ)) → (K → Device) → (List ℕ → Option FileId) → Asked → FileMap → ℕ → (old new : Option (List ℕ)) → (before after : List Deed) → Type 0
 AnswersAsked contents device identities (One it) files status old new before after = AnswersOne contents device identities it files status old new before after
 AnswersAsked contents device identities (Check it) files status old new before after = AnswersRequest files it status old new before after
-AnswersAsked contents device identities (Unpack it) files status old new before after = AnswersUnpacking files it status
+AnswersAsked contents device identities (Unpack it) files status old new before after = AnswersUnpacking files it status before after
 AnswersAsked contents device identities (Map it) files status old new before after =
     it.picture ≡ None → AnswersBy files it.image.now IsMapAnswer status old new
 AnswersAsked contents device identities (Info it) files status old new before after =

@@ -1,11 +1,12 @@
 -- What an unpacking that ends well says of its image.
-use Rattle.std.specs.Prelude.{◌≡◌, ⊤, ℕ, List, Option, Some, None, Bool, true, false}
+use Rattle.std.specs.Prelude.{◌≡◌, ⊤, ℕ, List, ◌∷◌, Option, Some, None, Bool, true, false, if◌then◌else◌}
 use Rattle.std.specs.Borrow.{Bor}
 use Rattle.uimg_base.specs.Named.{FileMap}
 use Rattle.uimg_cli.specs.declared.command_line.unpack.UnpackRequest.{UnpackRequest}
 use Rattle.uimg_engine.specs.Headline.{is_fit}
 use Rattle.uimg_requests.specs.declared.command.Form.TheVariants as form
-use Rattle.uimg_unpacking.specs.{Ends.end_of_file, PartEnds.KeepsRight}
+use Rattle.uimg_unpacking.specs.{Deeds.{Deed, Follows, Identifies, Opens}, Ends.end_of_file, PartEnds.KeepsRight}
+use Rattle.uimg_unpacking.specs.declared.file_id.FileId.{FileId}
 use Rattle.uimg_unpacking.specs.declared.part_unpacking.PartsEnded.TheVariants as legacy
 use Rattle.uimg_unpacking.specs.declared.unpacking.Ended.TheVariants as fit
 use Rattle.uimg_unpacking.specs.declared.unpacking.Unpacking.{Unpacking}
@@ -19,19 +20,36 @@ IsRightIn false asked file = KeepsRight asked file legacy.Kept
 abbrev pub IsRight : Unpacking → List ℕ → Type 0
 IsRight asked file = IsRightIn (is_fit form.Guess file) asked file
 
--- the same of a request, by the name and the strength that it asks for
-pub record UnpacksRight (asked : UnpackRequest) (file : List ℕ) : Type 0 where
-  pub told : Unpacking
-  pub only : told.only ≡ asked.only
-  pub need : told.need ≡ asked.need
-  pub right : IsRight told file
+-- what a request asks of the image at a path, which is this file
+abbrev pub unpacking_of : UnpackRequest → Option FileId → Bor (List ℕ) → Unpacking
+unpacking_of asked image path = record {
+  folder = record {
+    path = asked.folder;
+    image = image;
+    is_forced = asked.is_forced;
+    is_synced = asked.is_synced;
+  };
+  only = asked.only;
+  need = asked.need;
+  limits = record { files = asked.most_files; bytes = asked.most_bytes };
+  keeps_good = asked.keeps_good;
+  json = if asked.as_json then Some path else None;
+}
 
-abbrev pub RightAt : FileMap → UnpackRequest → Option (Bor (List ℕ)) → Type 0
-RightAt files asked None = ⊤
-RightAt files asked (Some path) =
-    (file : List ℕ) × (files.bytes path.now ≡ Some file) × UnpacksRight asked file
+-- The image at a path was opened, and it was looked for which file it is. Then it was unpacked as
+-- requested, and all that is asked for is right.
+pub record UnpacksRight (asked : UnpackRequest) (path : Bor (List ℕ)) (file : List ℕ) (before after : List Deed) : Type 0 where
+  pub image : Option FileId
+  pub follows : Follows (Identifies path.now image ∷ Opens path.now true ∷ before) after
+  pub right : IsRight (unpacking_of asked image path) file
+
+abbrev pub RightAt : FileMap → UnpackRequest → Option (Bor (List ℕ)) → (before after : List Deed) → Type 0
+RightAt files asked None before after = ⊤
+RightAt files asked (Some path) before after =
+    (file : List ℕ) × (files.bytes path.now ≡ Some file) × UnpacksRight asked path file before after
 
 -- The status is 0 only if all that is asked for is right. Where the folder is cleaned before, this is
 -- not said.
-abbrev pub AnswersUnpacking : FileMap → UnpackRequest → ℕ → Type 0
-AnswersUnpacking files asked status = asked.cleans ≡ false → status ≡ 0 → RightAt files asked asked.image
+abbrev pub AnswersUnpacking : FileMap → UnpackRequest → ℕ → (before after : List Deed) → Type 0
+AnswersUnpacking files asked status before after =
+    asked.cleans ≡ false → status ≡ 0 → RightAt files asked asked.image before after

@@ -3,8 +3,8 @@
 ghost use Rattle.std.specs.Prelude.{◌≡◌, ◌⊎◌, IsTrue, Some, true, false};
 ghost use Rattle.uimg_base.specs.Honest.{IfHonest};
 ghost use Rattle.uimg_tool.specs.{Complaints.Ends, EndingStatuses.HasEndingStatus, Statuses.{is_of_command, trouble_status}};
-ghost use Rattle.uimg_tool.specs.Unpackings.{AnswersUnpacking, IsRight, RightAt};
-ghost use Rattle.uimg_unpacking.specs.{Deeds.changes, Places.ChangesWithin};
+ghost use Rattle.uimg_tool.specs.Unpackings.{AnswersUnpacking, IsRight, RightAt, unpacking_of};
+ghost use Rattle.uimg_unpacking.specs.{Deeds.{Follows, changes}, Places.ChangesWithin};
 
 use crate::check_answers::Names;
 use crate::complaints::Complaints;
@@ -35,7 +35,8 @@ pub(crate) fn unpack_image<D: World, W: Write + Drop, V: Write>(
     ensures within { ChangesWithin request.now.folder.now true (D.trace world.old)
         (D.trace world.new) }
     ensures told { IsTrue (D.map world.old).honest →
-        AnswersUnpacking (D.map world.old) request.now result }
+        AnswersUnpacking (D.map world.old) request.now result (D.trace world.old)
+        (D.trace world.new) }
 {
     match (clean_if(world, request, out), request.image) {
         (Err(trouble), _) => tell_trouble(trouble, complaints),
@@ -54,6 +55,7 @@ fn clean_if<D: World, W: Write>(
     ensures within { ChangesWithin request.now.folder.now false (D.trace world.old)
         (D.trace world.new) }
     ensures kept { request.now.cleans ≡ false → D.map world.new ≡ D.map world.old }
+    ensures unasked { request.now.cleans ≡ false → D.trace world.new ≡ D.trace world.old }
 {
     if request.cleans {
         return folder_of(request, None).clean(world, request.image, out);
@@ -62,7 +64,7 @@ fn clean_if<D: World, W: Write>(
 }
 
 // Unpacks the image at a path, and reports how that ended.
-#[tactic(auto, using(crate::proofs::UnpackLaws::told_after))]
+#[tactic(auto, using(crate::proofs::UnpackLaws::told_after, crate::proofs::UnpackLaws::right_told))]
 fn unpack_and_tell<D: World, W: Write + Drop, V: Write>(
     world: &mut D,
     path: &str,
@@ -73,8 +75,8 @@ fn unpack_and_tell<D: World, W: Write + Drop, V: Write>(
     ensures ends { Ends result complaints.old.count complaints.new.count }
     ensures within { ChangesWithin request.now.folder.now true (D.trace world.old)
         (D.trace world.new) }
-    ensures done { IsTrue (D.map world.old).honest → result ≡ 0 →
-        RightAt (D.map world.old) request.now (Some path.entry) }
+    ensures done { IsTrue (D.map world.old).honest → result ≡ 0 → RightAt (D.map world.old)
+        request.now (Some path.entry) (D.trace world.old) (D.trace world.new) }
 {
     let ending = unpack_at(world, path, request, out);
     tell_ending(world, path, request.as_json, ending, out, complaints)
@@ -97,8 +99,29 @@ fn folder_of<'a>(request: &UnpackRequest<'a>, image: Option<FileId>) -> Folder<'
     }
 }
 
+// Returns what a request asks of the image at a path, which is this file.
+fn unpacking_of<'a>(
+    request: &UnpackRequest<'a>,
+    image: Option<FileId>,
+    path: &'a str,
+) -> Unpacking<'a>
+    ensures { result ≡ unpacking_of request.now image path.entry }
+{
+    Unpacking {
+        folder: folder_of(request, image),
+        only: request.only,
+        need: request.need,
+        limits: Limits {
+            files: request.most_files,
+            bytes: request.most_bytes,
+        },
+        keeps_good: request.keeps_good,
+        json: if request.as_json { Some(path) } else { None },
+    }
+}
+
 // Unpacks the image at a path.
-#[tactic(auto, using(crate::proofs::UnpackLaws::unchanged, crate::proofs::UnpackLaws::looked_before))]
+#[tactic(auto, using(crate::proofs::UnpackLaws::unchanged, crate::proofs::UnpackLaws::looked_before, crate::proofs::UnpackLaws::right_at))]
 fn unpack_at<'a, D: World, W: Write + Drop>(
     world: &mut D,
     path: &'a str,
@@ -108,22 +131,13 @@ fn unpack_at<'a, D: World, W: Write + Drop>(
     ensures within { ChangesWithin request.now.folder.now true (D.trace world.old)
         (D.trace world.new) }
     ensures done { IsTrue (D.map world.old).honest → result ≡ Ending.Told Status.Done →
-        RightAt (D.map world.old) request.now (Some path.entry) }
+        RightAt (D.map world.old) request.now (Some path.entry) (D.trace world.old)
+        (D.trace world.new) }
 {
     let Ok(mut source) = world.open(path) else {
         return Ending::Unread;
     };
-    let asked = Unpacking {
-        folder: folder_of(request, world.file_at(path)),
-        only: request.only,
-        need: request.need,
-        limits: Limits {
-            files: request.most_files,
-            bytes: request.most_bytes,
-        },
-        keeps_good: request.keeps_good,
-        json: if request.as_json { Some(path) } else { None },
-    };
+    let asked = unpacking_of(request, world.file_at(path), path);
     if request.as_json {
         unpack_source(world, &asked, &mut source, JsonOut::new(out))
     } else {
@@ -132,7 +146,7 @@ fn unpack_at<'a, D: World, W: Write + Drop>(
 }
 
 // Unpacks an image. The first four bytes decide its format.
-#[tactic(auto, using(crate::proofs::UnpackLaws::unchanged))]
+#[tactic(auto, using(crate::proofs::UnpackLaws::unchanged, crate::proofs::UnpackLaws::nothing_later))]
 fn unpack_source<D: World, S: Source, W: Write + Drop>(
     world: &mut D,
     asked: &Unpacking<'_>,
@@ -141,6 +155,7 @@ fn unpack_source<D: World, S: Source, W: Write + Drop>(
 ) -> Ending
     ensures within { ChangesWithin asked.now.folder.path.now true (D.trace world.old)
         (D.trace world.new) }
+    ensures later { Follows (D.trace world.old) (D.trace world.new) }
     ensures done { IfHonest S.device source (λ file. result ≡ Ending.Told Status.Done →
         IsRight asked.now file) }
 {
@@ -163,6 +178,7 @@ fn tell_ending<D: World, W: Write + Drop, V: Write>(
     ensures ends { Ends result complaints.old.count complaints.new.count }
     ensures status { as_json ≡ false → HasEndingStatus ending result }
     ensures done { result ≡ 0 → ending ≡ Ending.Told Status.Done }
+    ensures unasked { result ≡ 0 → D.trace world.new ≡ D.trace world.old }
     ensures kept { changes (D.trace world.new) ≡ changes (D.trace world.old) }
 {
     match ending {
@@ -205,6 +221,7 @@ fn tell_object<D: World, W: Write + Drop, V: Write>(
 ) -> u8
     ensures ends { Ends result complaints.old.count complaints.new.count }
     ensures done { result ≡ 0 → ending ≡ Ending.Told Status.Done }
+    ensures unasked { result ≡ 0 → D.trace world.new ≡ D.trace world.old }
     ensures kept { changes (D.trace world.new) ≡ changes (D.trace world.old) }
 {
     let mut names = Names::new(world.alloc());
