@@ -13,3 +13,4 @@ pub mod RunLaws
 pub mod StrictLaws
 pub mod UnpackLaws
 pub mod VerdictLaws
+pub mod WritingLaws

@@ -1,17 +1,13 @@
 -- Files that are written beside their names.
 use Rattle.std.specs.Prelude.{◌≡◌, ℕ, List, ◌∷◌, ◌++◌, codes, Bool, true, false}
 use Rattle.std.specs.{List.list_all, Option.option_map_or}
-use Rattle.uimg_unpacking.specs.Deeds.{Answer, Done, Deed, Removes, Renames, changes_only}
+use Rattle.uimg_unpacking.specs.Deeds.{Answer, Done, Deed, Removes, Renames}
 use Rattle.uimg_unpacking.specs.Naming.{is_done}
 use Rattle.uimg_unpacking.specs.Places.{behind, is_digit}
 
 -- PATH.uimg-new, and any digits
 unfoldable pub is_beside : List ℕ → List ℕ → Bool
 is_beside path new = option_map_or (list_all is_digit) (behind (path ++ codes ".uimg-new") new) false
-
--- Only files beside a path were made.
-abbrev pub stays_beside : List ℕ → List Deed → Bool
-stays_beside path deeds = list_all (changes_only (is_beside path)) deeds
 
 -- A file at NEW gets the path WHOLE if it is complete. If it is not, or cannot get that path, it is
 -- removed.

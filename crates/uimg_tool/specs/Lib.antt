@@ -30,3 +30,4 @@ pub mod UnpackEnds
 pub mod Unpackings
 pub mod Verdicts
 pub mod WordAnswers
+pub mod Writings

@@ -37,6 +37,7 @@ mod unpack_answers;
 mod unpack_program;
 mod update_program;
 mod watched_files;
+mod writing;
 mod xip_files;
 
 pub use main_program::program;

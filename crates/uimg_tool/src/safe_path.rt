@@ -1,16 +1,11 @@
-//! Where a file is written before it gets its name.
+//! What is written for a path, and how a file gets its name.
 
-ghost use Rattle.std.specs.Prelude.{◌≡◌, ◌++◌, codes, decimal, true, IfOk, string_bytes};
-ghost use Rattle.uimg_tool.specs.BesidePaths.{Finishes, is_beside, stays_beside};
+ghost use Rattle.std.specs.Prelude.{◌≡◌, true, string_bytes};
+ghost use Rattle.uimg_tool.specs.BesidePaths.{Finishes, is_beside};
 ghost use Rattle.uimg_unpacking.specs.Deeds.{answer_of};
 
-use std::alloc::{AllocError, Global};
 use std::io;
-use std::io::ErrorKind;
-use uimg_unpacking::{Kind, Target, World};
-
-/// How many names are tried beside a path. Commands that were stopped left those that exist.
-const TRIED: u32 = 10_000;
+use uimg_unpacking::World;
 
 /// Where the file for a path is written.
 #[derive(Drop)]
@@ -66,58 +61,4 @@ impl SafePath {
 pub(crate) struct NewBeside<F: Drop> {
     pub(crate) file: F,
     pub(crate) path: String,
-}
-
-/// Returns where the file for a path is written, which is created if it is a new one. Fails if
-/// memory for the paths is refused.
-pub(crate) fn writing_of<D: World>(
-    world: &mut D,
-    alloc: Global,
-    path: &str,
-) -> Result<Writing<D::File>, AllocError> {
-    let whole = match world.target_of(path) {
-        Target::Pipe => return Ok(Writing::Pipe),
-        Target::Other => return Ok(Writing::InPlace),
-        Target::File => match world.canonicalize(path) {
-            Ok(canonical) => String::from_str(alloc, canonical.as_str())?,
-            Err(_) if matches!(world.kind_at(path), Kind::Link) => return Ok(Writing::InPlace),
-            Err(_) => String::from_str(alloc, path)?,
-        },
-        Target::Nothing if world.kind_at(path).is_something() => return Ok(Writing::InPlace),
-        Target::Nothing => String::from_str(alloc, path)?,
-    };
-    match new_beside(world, alloc, whole.as_str())? {
-        Ok(NewBeside { file, path: new }) => Ok(Writing::Beside(file, SafePath { new, whole })),
-        Err(error) => Ok(Writing::Nowhere(error)),
-    }
-}
-
-/// Creates a file beside a path, under the first free name. Returns why it cannot be created; fails
-/// if memory for its path is refused.
-pub(crate) fn new_beside<W: World>(
-    world: &mut W,
-    alloc: Global,
-    path: &str,
-) -> Result<io::Result<NewBeside<W::File>>, AllocError>
-    ensures made { IfOk result (λ tried. IfOk tried (λ new.
-        is_beside path.now (string_bytes new.path) ≡ true)) }
-    ensures within { stays_beside path.now (W.trace world.new)
-        ≡ stays_beside path.now (W.trace world.old) }
-{
-    for number in 1..=TRIED {
-        let path = path_beside(alloc, path, number)?;
-        match world.create_new(path.as_str()) {
-            Ok(file) => return Ok(Ok(NewBeside { file, path })),
-            Err(error) if error.kind() == ErrorKind::AlreadyExists => {}
-            Err(error) => return Ok(Err(error)),
-        }
-    }
-    Ok(Err(io::Error::from(ErrorKind::AlreadyExists)))
-}
-
-fn path_beside(alloc: Global, path: &str, number: u32) -> Result<String, AllocError>
-    ensures { IfOk result (λ new. string_bytes new
-        ≡ path.now ++ codes ".uimg-new" ++ decimal number) }
-{
-    format!(in alloc; "{path}.uimg-new{number}")
 }

@@ -1,0 +1,114 @@
+//! Where the file for a path is written.
+
+ghost use Rattle.std.specs.Prelude.{◌≡◌, ◌++◌, codes, decimal, true, IfOk, string_bytes};
+ghost use Rattle.uimg_tool.specs.{BesidePaths.is_beside, Writings.{CreatesBeside, IsFile, LeadsTo, WritesFor}};
+
+use crate::safe_path::{NewBeside, SafePath, Writing};
+use std::alloc::{AllocError, Global};
+use std::io;
+use std::io::ErrorKind;
+use uimg_unpacking::{Kind, Target, World};
+
+/// How many names are tried beside a path. Commands that were stopped left those that exist.
+const TRIED: u32 = 10_000;
+
+/// What a path leads to, to be written.
+#[derive(Drop)]
+pub(crate) enum Lead {
+    /// A pipe.
+    Pipe,
+
+    /// What is written in place.
+    InPlace,
+
+    /// A file at this path, or nothing.
+    File(String),
+}
+
+/// Returns where the file for a path is written, which is created if it is a new one. Fails if
+/// memory for the paths is refused.
+pub(crate) fn writing_of<D: World>(
+    world: &mut D,
+    alloc: Global,
+    path: &str,
+) -> Result<Writing<D::File>, AllocError>
+    ensures { WritesFor path.now result (D.trace world.old) (D.trace world.new) }
+{
+    match lead_of(world, alloc, path) {
+        Ok(Lead::Pipe) => Ok(Writing::Pipe),
+        Ok(Lead::InPlace) => Ok(Writing::InPlace),
+        Ok(Lead::File(whole)) => match new_beside(world, alloc, whole.as_str()) {
+            Ok(Ok(NewBeside { file, path: new })) => {
+                Ok(Writing::Beside(file, SafePath { new, whole }))
+            }
+            Ok(Err(error)) => Ok(Writing::Nowhere(error)),
+            Err(error) => Err(error),
+        },
+        Err(error) => Err(error),
+    }
+}
+
+// Returns what a path leads to. Symbolic links are followed to a file. Fails if memory for its path
+// is refused.
+fn lead_of<D: World>(world: &mut D, alloc: Global, path: &str) -> Result<Lead, AllocError>
+    ensures { LeadsTo path.now result (D.trace world.old) (D.trace world.new) }
+{
+    match world.target_of(path) {
+        Target::Pipe => Ok(Lead::Pipe),
+        Target::Other => Ok(Lead::InPlace),
+        Target::File => match world.canonicalize(path) {
+            Ok(canonical) => file(alloc, canonical.as_str()),
+            Err(_) => match world.kind_at(path) {
+                Kind::Link => Ok(Lead::InPlace),
+                Kind::Nothing => file(alloc, path),
+                Kind::File => file(alloc, path),
+                Kind::Folder => file(alloc, path),
+            },
+        },
+        Target::Nothing => match world.kind_at(path) {
+            Kind::Nothing => file(alloc, path),
+            Kind::File => Ok(Lead::InPlace),
+            Kind::Folder => Ok(Lead::InPlace),
+            Kind::Link => Ok(Lead::InPlace),
+        },
+    }
+}
+
+// Returns a path as that of a file. Fails if memory for it is refused.
+fn file(alloc: Global, path: &str) -> Result<Lead, AllocError>
+    ensures { IsFile path.now result }
+{
+    match String::from_str(alloc, path) {
+        Ok(path) => Ok(Lead::File(path)),
+        Err(error) => Err(error),
+    }
+}
+
+/// Creates a file beside a path, under the first free name. Returns why it cannot be created; fails
+/// if memory for its path is refused.
+pub(crate) fn new_beside<W: World>(
+    world: &mut W,
+    alloc: Global,
+    path: &str,
+) -> Result<io::Result<NewBeside<W::File>>, AllocError>
+    ensures made { IfOk result (λ tried. IfOk tried (λ new.
+        is_beside path.now (string_bytes new.path) ≡ true)) }
+    ensures tries { CreatesBeside path.now result (W.trace world.old) (W.trace world.new) }
+{
+    for number in 0..TRIED {
+        let path = path_beside(alloc, path, number + 1)?;
+        match world.create_new(path.as_str()) {
+            Ok(file) => return Ok(Ok(NewBeside { file, path })),
+            Err(error) if error.kind() == ErrorKind::AlreadyExists => {}
+            Err(error) => return Ok(Err(error)),
+        }
+    }
+    Ok(Err(io::Error::from(ErrorKind::AlreadyExists)))
+}
+
+fn path_beside(alloc: Global, path: &str, number: u32) -> Result<String, AllocError>
+    ensures { IfOk result (λ new. string_bytes new
+        ≡ path.now ++ codes ".uimg-new" ++ decimal number) }
+{
+    format!(in alloc; "{path}.uimg-new{number}")
+}
