@@ -6,6 +6,7 @@ pub mod Checking
 pub mod Checks
 pub mod Commands
 pub mod Complaints
+pub mod Drawing
 pub mod EndingStatuses
 pub mod Extracting
 pub mod Facts
