@@ -272,6 +272,31 @@ A folder that cannot be read cannot be synced either: that is an error, and what
   $ chmod 700 blind && ls -A blind
   a
 
+Nor does a file get its name that cannot be synced: where the call fails, as it does under `fail-sync`, unless nothing is to
+be synced:
+
+  $ cat > fail-sync <<'END'
+  > #!/usr/bin/env python3
+  > import ctypes, os, struct, sys
+  > # a seccomp filter: fsync (74) and fdatasync (75) answer EIO
+  > rules = [(0x20, 0, 0, 0), (0x15, 2, 0, 74), (0x15, 1, 0, 75), (0x06, 0, 0, 0x7FFF0000), (0x06, 0, 0, 0x00050005)]
+  > code = ctypes.create_string_buffer(b"".join(struct.pack("HBBI", *rule) for rule in rules))
+  > class Program(ctypes.Structure):
+  >     _fields_ = [("length", ctypes.c_ushort), ("code", ctypes.c_void_p)]
+  > libc = ctypes.CDLL(None)
+  > assert not libc.prctl(38, 1, 0, 0, 0)
+  > assert not libc.prctl(22, 2, ctypes.byref(Program(len(rules), ctypes.addressof(code))))
+  > os.execvp(sys.argv[1], sys.argv[1:])
+  > END
+  $ chmod +x fail-sync && rm -r out && mkdir out && ./fail-sync uimg unpack -C out k.itb
+  uimg: cannot write out/a: Input/output error (os error 5)
+  [3]
+  $ ./fail-sync uimg unpack -C out abc-kernel.img
+  uimg: cannot write out/image-0: Input/output error (os error 5)
+  [3]
+  $ ls -A out && ./fail-sync uimg unpack --no-sync -C out k.itb
+  a: 3 bytes, unhashed
+
 As JSON objects: of kept payloads, with the digest of FIPS 180-2, of refused ones, of images that are refused, and of folders
 and files:
 

@@ -1,6 +1,7 @@
 pub mod Check
 pub mod CommandLines
 pub mod Dumpimage
+pub mod FaultTexts
 pub mod Info
 pub mod Makings
 pub mod Map

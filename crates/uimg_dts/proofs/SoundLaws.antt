@@ -1,5 +1,5 @@
 -- Files stand where they may.
-use Rattle.std.proofs.Common.{ℕ, List, [], ◌∷◌, ◌++◌, Bool, IsTrue, Option, None, Some, subst}
+use Rattle.std.proofs.Common.{ℕ, List, [], ◌∷◌, ◌++◌, Bool, IsTrue, Option, None, Some, Result, Ok, Err, IfOk, subst}
 use Rattle.std.specs.List.{AllByRecursion}
 use Rattle.uimg_base.specs.Named.{FileMap, SameFiles}
 use Rattle.uimg_blob_reading.specs.Plain.{NamedOf, no_node, a_node}
@@ -52,7 +52,7 @@ value_same a b n c same s = subst (λ (h : Bool). IsSoundValue h a.bytes n c) sa
 props_same : (a b : FileMap) (ps : List (NamedOf Content)) → SameFiles a b → AreSound b ps → AreSound a ps
 props_same a b ps same all = all_weaker (λ (p : NamedOf Content). IsSoundValue b.honest b.bytes p.name p.value) (λ (p : NamedOf Content). IsSoundValue a.honest a.bytes p.name p.value) (λ p s. value_same a b p.name p.value same s) ps all
 
-tree_same : (a b : FileMap) (t : Unread) → SameFiles a b → IsSoundTree b t → IsSoundTree a t
+pub tree_same : (a b : FileMap) (t : Unread) → SameFiles a b → IsSoundTree b t → IsSoundTree a t
 tree_same a b no_node same s = tt
 tree_same a b (a_node name own below after) same s = (props_same a b own same s.0, tree_same a b below same s.1, tree_same a b after same s.2)
 
@@ -65,3 +65,8 @@ nodes_same {A = A} a b ns same all = all_weaker (λ (n : Node A). IsSoundNode b 
 pub found_same : {A : Type 0} (a b : FileMap) (found : Option (Node A)) → SameFiles a b → IsSoundIfFound b found → IsSoundIfFound a found
 found_same a b None same s = s
 found_same a b (Some n) same s = node_same a b n same s
+
+-- the root of an answer
+pub answer_same : {A X E : Type 0} (root : X → Node A) (a b : FileMap) (answer : Result X E) → SameFiles a b → IfOk answer (λ x. IsSoundNode b (root x)) → IfOk answer (λ x. IsSoundNode a (root x))
+answer_same root a b (Ok x) same s = node_same a b (root x) same s
+answer_same root a b (Err e) same s = tt

@@ -250,6 +250,7 @@ fn children<F: Files, A: Allocator + Copy>(
 
 // Returns a node with all below it, of at most `levels` levels.
 #[cycle(planting)]
+#[tactic(auto, using(crate::proofs::SoundLaws::tree_same))]
 fn plant<F: Files, A: Allocator + Copy>(
     files: &mut F,
     table: &Table<'_, A>,

@@ -3,7 +3,8 @@ use Rattle.std.proofs.Common.{◌≡◌, ◌≤◌, max, ◌∙◌, ℕ, List, [
 use Rattle.std.specs.{Bool.⊤, Io.KnownBytes.Appends}
 use Rattle.std.specs.Io.KnownBytes as Io
 use Rattle.uimg_base.specs.{Device.{Device, SameDevice, RisesIf}, Held.{Held, held_bytes}}
-use Rattle.uimg_base.specs.{Named.FileMap, Sink.Sink, Outcome.Tells, declared.status.Status.Status}
+use Rattle.uimg_base.specs.{Named.FileMap, Sink.{Sink, AppendsAll}, Outcome.Tells, declared.status.Status.Status}
+use Rattle.uimg_base.proofs.SinkLaws.{prefix_none, appended_to_nothing}
 use Rattle.uimg_blob_reading.specs.Counts.{nodes_met}
 use Rattle.uimg_fit_base.specs.{Faults.of_making, Placements.aligned_by}
 use Rattle.uimg_fit_base.specs.declared.fault.FitFault.{FitFault}
@@ -52,6 +53,20 @@ written_out (Some a) (Some b) bytes known keeps whole = cc
 pub keeping_command : {X : Type 0} (command : MakeCommand) (time align : ℕ) (files : List ℕ → Option (List ℕ)) (x : X) (image now : Sink) (held : Option (List ℕ)) (kept : Device) → BuildsCommand command time align files (Ok x) image now → image.contents ≡ Some [] → Io.Keeps now.contents held → held ≡ Some kept.bytes → IsTrue kept.honest → KeepsCommand command time align files kept
 keeping_command command time align files x image now held kept builds empty out whole honest =
     keeping_written command time align files x image now kept builds empty (written_out now.contents held kept.bytes (known_built command time align files x image now builds empty) out whole) honest
+
+-- an image that was built and not written out, where nothing is listed
+pub writing_stops_command : {X K : Type 0} (device : K → Device) (naming : Naming) (command : MakeCommand) (time align : ℕ) (files : List ℕ → Option (List ℕ)) (x : X) (image now s : Sink) → BuildsCommand command time align files (Ok x) image now → MakesCommandBetween device naming command time align files (Err Put) s s
+writing_stops_command device naming (Parts options names) time align files x image now s builds = (
+  record { parts = builds.parts; have = builds.have; accepted = builds.builds.accepted },
+  record { parts = builds.parts; have = builds.have; prefix = prefix_none s _ },
+)
+writing_stops_command device naming (Tree source placement) time align files x image now s builds =
+    record { tree = builds.tree; accepts = builds.accepts; prefix = prefix_none s _ }
+
+-- bytes that were written on an empty shelf, and kept
+pub keeping_bytes : (image now : Sink) (text : List ℕ) (held : Option (List ℕ)) (kept : Device) → AppendsAll image now text → image.contents ≡ Some [] → Io.Keeps now.contents held → held ≡ Some kept.bytes → kept.bytes ≡ text
+keeping_bytes image now text held kept all empty out whole =
+    appended_to_nothing image now kept.bytes text empty (written_out now.contents held kept.bytes (known_after _ _ _ empty all.appended) out whole) all
 
 -- what is kept, and then listed
 pub listing_makes_command : {K : Type 0} (device : K → Device) (k : K) (naming : Naming) (command : MakeCommand) (time align : ℕ) (files : List ℕ → Option (List ℕ)) (kept : Device) (status : Status) (s t : Sink) → KeepsCommand command time align files kept → SameDevice kept (device k) → Tells (end_of (Ok status)) (listing_of naming command kept.bytes) s t → MakesCommandBetween device naming command time align files (Ok k) s t

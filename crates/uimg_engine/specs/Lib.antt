@@ -5,4 +5,5 @@ pub mod Locating
 pub mod Making
 pub mod MakingTrees
 pub mod MakingOfTrees
+pub mod OpenedFiles
 pub mod Commands

@@ -1,10 +1,11 @@
 //! The making of an image.
 
-ghost use Rattle.std.specs.Prelude.{◌≡◌, false, Some, [], IsTrue, IsOk, IfOk, IfErr};
+ghost use Rattle.std.specs.Prelude.{◌≡◌, false, Some, [], is_err, IsTrue, IsOk, IfOk, IfErr};
 ghost use Rattle.std.specs.Io.KnownBytes.{Keeps};
 ghost use Rattle.uimg_base.specs.Device.{IsFresh};
 ghost use Rattle.uimg_engine.specs.Faults.{is_unread, is_lost_payload, is_put, is_keep, is_of_making};
 ghost use Rattle.uimg_engine.specs.{Headline.NoWriteFails, Making.{KeepsBytes, WritesImage}};
+ghost use Rattle.uimg_engine.specs.OpenedFiles.{OpensCommand};
 ghost use Rattle.uimg_requests.specs.Commands.{HasFitNames};
 ghost use Rattle.uimg_engine.specs.Commands.{HonestFiles, KeepsSizes, OpensToBuild, BuildsCommand, MakesCommand, ListsKept, LeavesRoom, HoldsCommand, Makes};
 
@@ -50,6 +51,8 @@ pub fn build_image<F: Files, W: Write, A: Allocator + Copy>(
     ensures built { HonestFiles F.map files →
         BuildsCommand command.now time align (F.map files.old).bytes result image.old image.new }
     ensures files { OpensToBuild command.now result (F.map files.old) (F.map files.new) }
+    ensures opened { OpensCommand command.now time align (is_err result)
+        (F.map files.old) (F.map files.new) }
     ensures image { WritesImage result image }
     ensures reads { IsTrue F.Opened.steady → KeepsSizes command.now (F.map files.old) →
         is_unread result ≡ false }
@@ -142,6 +145,8 @@ pub fn make<F: Files, H: Shelf, W: Write, A: Allocator + Copy, B: Allocator>(
         MakesCommand H.Kept.device Naming.Profile command.now time 4 (F.map files.old).bytes
         result out }
     ensures files { OpensToBuild command.now result (F.map files.old) (F.map files.new) }
+    ensures opened { OpensCommand command.now time 4 (is_err result)
+        (F.map files.old) (F.map files.new) }
     ensures quiet { IsTrue (is_of_making result) → out.new ≡ out.old }
     ensures puts { is_put result ≡ false → out.new.faults ≡ out.old.faults }
     ensures put { IsTrue (is_put result) → NoWriteFails out → out.new ≡ out.old }
@@ -181,6 +186,8 @@ pub fn make_by<F: Files, H: Shelf, W: Write, A: Allocator + Copy, B: Allocator>(
         (F.map files.old).bytes result out }
     ensures makes { Makes H.Kept.device F.map manner.naming command.now F.Opened.steady H.steady
         H.Kept.steady result files room out }
+    ensures opened { OpensCommand command.now manner.time manner.align (is_err result)
+        (F.map files.old) (F.map files.new) }
     ensures peak { HonestFiles F.map files → IsTrue H.honest → H.contents shelf ≡ Some [] →
         HoldsCommand command.now manner.time manner.align (F.map files.old).bytes room }
 {

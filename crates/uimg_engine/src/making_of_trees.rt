@@ -2,6 +2,7 @@
 
 ghost use Rattle.std.specs.Prelude.{◌≡◌, Some, [], IsTrue, IfOk};
 ghost use Rattle.uimg_blob_writing.specs.{LentFiles.IfInFull, Trees.node_of};
+ghost use Rattle.uimg_fit_building.specs.OpenedFiles.{OpensNamed, built_files};
 ghost use Rattle.uimg_engine.specs.MakingOfTrees.{MakesOfTree, ListsTree};
 
 use crate::engine::run_by;
@@ -49,6 +50,8 @@ pub fn make_tree<F: Files, H: Shelf, W: Write, A: Allocator + Copy, B: Allocator
         IfInFull F.map files (node_of tree.now.root) (λ t.
         IfOk result (λ kept. MakesOfTree manner.entry.reservations.now t manner.entry.placement
         (H.Kept.device kept))) }
+    ensures opened { OpensNamed F.map
+        (built_files (node_of tree.now.root) manner.entry.placement) result files }
     ensures listed { IfOk result (ListsTree H.Kept.device manner.entry.naming out) }
     ensures kept_reads { IfOk result (λ kept. (H.Kept.device kept).failures ≡ 0) }
 {

@@ -1,6 +1,7 @@
 //! Legacy images that are made from files.
-ghost use Rattle.std.specs.Prelude.{◌≡◌, ◌≢◌, false, length, map, IsTrue, IfOk};
+ghost use Rattle.std.specs.Prelude.{◌≡◌, ◌≢◌, false, length, map, is_err, IsTrue, IfOk};
 ghost use Rattle.uimg_legacy.specs.{Parts.has_parts, Devices.{bytes_of, AreHonest}};
+ghost use Rattle.uimg_blob_writing.specs.UsingFiles.{OpensEach};
 ghost use Rattle.uimg_engine.specs.Faults.{is_unread, is_put, is_keep, is_no_file};
 ghost use Rattle.uimg_engine.specs.Commands.{HonestFiles};
 ghost use Rattle.uimg_requests.specs.Commands.{FitNames};
@@ -19,6 +20,8 @@ fn open_all<F: Files, A: Allocator>(
     files: &mut F,
 ) -> Result<Vec<F::Opened, A>, Fault>
     ensures files { OpensNames (texts names.now) result (F.map files.old) (F.map files.new) }
+    ensures in_order { OpensEach (is_err result) (texts names.now)
+        (F.map files.old) (F.map files.new) }
     ensures count { IfOk result (λ opened. length opened.items ≡ length names.now) }
     ensures only_opens { (is_unread result ≡ false) × (is_put result ≡ false)
         × (is_keep result ≡ false) }
@@ -68,6 +71,8 @@ pub(crate) fn build_parts<F: Files, W: Write, A: Allocator>(
     ensures built { HonestFiles F.map files → BuildsNames options.now (F.map files.old).bytes
         (texts names.now) result image.old image.new }
     ensures files { OpensNames (texts names.now) result (F.map files.old) (F.map files.new) }
+    ensures in_order { OpensEach (is_err result) (texts names.now)
+        (F.map files.old) (F.map files.new) }
     ensures image { WritesImage result image }
     ensures reads { IsTrue F.Opened.steady → is_unread result ≡ false }
 {

@@ -1,10 +1,10 @@
 //! FIT images that are made from image-tree source.
-ghost use Rattle.std.specs.Prelude.{◌≡◌, false, Some, IsTrue, IfErr};
+ghost use Rattle.std.specs.Prelude.{◌≡◌, ◌∷◌, false, Some, is_err, IsTrue, IfErr};
 ghost use Rattle.uimg_base.specs.Honest.{HonestSource};
 ghost use Rattle.uimg_blob_writing.specs.{Trees.node_of, UsingFiles.UsesFiles};
 ghost use Rattle.uimg_engine.specs.Faults.{LosesNothing, is_unread, is_lost_payload, is_put, is_keep, is_no_file, is_no_text, is_no_payload};
 ghost use Rattle.uimg_engine.specs.Commands.{HonestFiles, LacksSource, OpensSource};
-ghost use Rattle.uimg_engine.specs.Making.{WritesImage};
+ghost use Rattle.uimg_engine.specs.{Making.WritesImage, OpenedFiles.{made, OpensToFill, OpensFrom}};
 ghost use Rattle.uimg_engine.specs.MakingTrees.{ReadsSourceText, ReadsTree, BuildsSource};
 
 use crate::fault::Fault;
@@ -42,6 +42,7 @@ fn read_text<F: Files, A: Allocator>(
     files: &mut F,
 ) -> Result<Vec<u8, A>, Fault>
     ensures files { UsesFiles (is_no_file result) (F.map files.old) (F.map files.new) }
+    ensures noted { (F.map files.new).opened ≡ name.now ∷ (F.map files.old).opened }
     ensures missing { IsTrue (F.map files.old).complete →
         IfErr result (LacksSource (F.map files.old).bytes name.now) }
     ensures text { HonestFiles F.map files →
@@ -65,6 +66,8 @@ fn filled_tree<F: Files, A: Allocator + Copy>(
     files: &mut F,
 ) -> Result<Tree<A>, Fault>
     ensures files { OpensSource name.now result (F.map files.old) (F.map files.new) }
+    ensures opened { OpensToFill name.now time (made (λ tree. node_of tree.root) result)
+        (is_err result) (F.map files.old) (F.map files.new) }
     ensures tree { HonestFiles F.map files →
         ReadsTree (λ tree. node_of tree.root) (F.map files.old).bytes name.now time result }
     ensures steady { IsTrue F.Opened.steady → is_unread result ≡ false }
@@ -91,6 +94,8 @@ pub(crate) fn build_tree<F: Files, W: Write, A: Allocator + Copy>(
     ensures built { HonestFiles F.map files →
         BuildsSource (F.map files.old).bytes name.now time placement result image.old image.new }
     ensures files { OpensSource name.now result (F.map files.old) (F.map files.new) }
+    ensures opened { OpensFrom name.now time placement (is_err result)
+        (F.map files.old) (F.map files.new) }
     ensures image { WritesImage result image }
     ensures steady { IsTrue F.Opened.steady → HonestFiles F.map files → LosesNothing result }
 {

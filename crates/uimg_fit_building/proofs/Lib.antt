@@ -26,3 +26,4 @@ pub mod InMemoryLaws
 pub mod FillTreeLaws
 pub mod FillOrderLaws
 pub mod DigestBytesLaws
+pub mod OpenedFilesLaws

@@ -16,3 +16,4 @@ pub mod SettingSteps
 pub mod HashSteps
 pub mod PayloadSteps
 pub mod ImageSteps
+pub mod OpenedFiles

@@ -6,6 +6,7 @@ ghost use Rattle.uimg_blob_writing.specs.{Trees.node_of, LentFiles.{OfHonest, If
 ghost use Rattle.uimg_fit_building.specs.BuildSteps.{of_measure, of_writing, MeasuresTree, WritesText, BuildsWith, Builds};
 ghost use Rattle.uimg_fit_building.specs.{Building.{built, built_with}, Filling.IsFilled, ReadsBack.ReadsBack};
 ghost use Rattle.uimg_fit_building.specs.{Refusing.is_low, UnreadTrees.moved_unread};
+ghost use Rattle.uimg_fit_building.specs.OpenedFiles.{OpensNamed, built_files};
 ghost use Rattle.uimg_fit_base.specs.Placements.{align_of, aligned_by};
 
 mod behind;
@@ -81,6 +82,8 @@ fn write_file<F: Files, W: Write, A: Allocator>(
         ≡ plan_with (align_of placement) layout.now.reservations (node_of placed.now.root) }
     requires placed { node_of placed.now.root ≡ moved_unread (node_of tree.now.root) placement }
     requires high { is_low (totalsize layout.now) placement ≡ false }
+    ensures opened { OpensNamed F.map (built_files (node_of tree.now.root) placement)
+        result files }
     ensures kept { OfHonest F.map files (λ there.
         OnOk result (AreKept there (node_of tree.now.root))) }
     ensures sent { WritesText F.Opened.steady F.map (node_of tree.now.root) result files out
@@ -102,7 +105,9 @@ fn build_placed<F: Files, W: Write, A: Allocator>(
 ) -> Result<(), Fault>
     requires { node_of placed.now.root
         ≡ moved_unread (node_of tree.now.root) frame.placement }
-    ensures { BuildsWith F.Opened.steady F.map frame.entry.reservations.now
+    ensures opened { OpensNamed F.map (built_files (node_of tree.now.root) frame.entry.placement)
+        result files }
+    ensures builds { BuildsWith F.Opened.steady F.map frame.entry.reservations.now
         (node_of tree.now.root) frame.entry.placement result files out }
 {
     let placement = frame.placement;
@@ -115,6 +120,7 @@ fn build_placed<F: Files, W: Write, A: Allocator>(
 }
 
 // Places the payloads of a tree, and builds its file.
+#[tactic(auto, using(uimg_blob_writing::proofs::OpenedLaws::each_unopened))]
 fn place_and_build<F: Files, W: Write, A: Allocator + Copy>(
     alloc: A,
     tree: &Tree<A>,
@@ -122,7 +128,9 @@ fn place_and_build<F: Files, W: Write, A: Allocator + Copy>(
     files: &mut F,
     out: &mut Out<W>,
 ) -> Result<(), Fault>
-    ensures { BuildsWith F.Opened.steady F.map frame.entry.reservations.now
+    ensures opened { OpensNamed F.map (built_files (node_of tree.now.root) frame.entry.placement)
+        result files }
+    ensures builds { BuildsWith F.Opened.steady F.map frame.entry.reservations.now
         (node_of tree.now.root) frame.entry.placement result files out }
 {
     match frame.placement {
@@ -171,6 +179,10 @@ pub fn build<F: Files, W: Write, A: Allocator + Copy>(
 ) -> Result<(), Fault>
     ensures builds { Builds F.Opened.steady F.map (node_of tree.now.root) (aligned_by placement 4)
         result files out }
+    // Exactly the files that stay in the blob, and then the payloads after it, are opened, in the
+    // order of writing; at a fault the first ones.
+    ensures opened { OpensNamed F.map
+        (built_files (node_of tree.now.root) (aligned_by placement 4)) result files }
     // Here `t` is the tree with the bytes of its files.
     ensures reads_back { IfInFull F.map files (node_of tree.now.root) (λ t.
         IsFilled t → OnOk result (ReadsBack (built t (aligned_by placement 4)) t)) }
@@ -195,6 +207,8 @@ pub fn build_by<F: Files, W: Write, A: Allocator + Copy>(
 ) -> Result<(), Fault>
     ensures builds { Builds F.Opened.steady F.map (node_of tree.now.root) placement result
         files out }
+    ensures opened { OpensNamed F.map (built_files (node_of tree.now.root) placement)
+        result files }
     // Here `t` is the tree with the bytes of its files.
     ensures reads_back { IfInFull F.map files (node_of tree.now.root) (λ t.
         IsFilled t → OnOk result (ReadsBack (built t placement) t)) }
@@ -217,6 +231,8 @@ pub fn build_with<F: Files, W: Write, A: Allocator + Copy>(
 ) -> Result<(), Fault>
     ensures builds { BuildsWith F.Opened.steady F.map frame.entry.reservations.now
         (node_of tree.now.root) frame.entry.placement result files out }
+    ensures opened { OpensNamed F.map (built_files (node_of tree.now.root) frame.entry.placement)
+        result files }
     // Here `t` is the tree with the bytes of its files.
     ensures reads_back { IfInFull F.map files (node_of tree.now.root) (λ t.
         IsFilled t → OnOk result (ReadsBack

@@ -12,6 +12,7 @@ ghost use Rattle.uimg_fit_building.specs.FillAnswers.{FillsAnswer, FillsAnswerBy
 ghost use Rattle.uimg_names.specs.declared.naming.Naming.TheVariants.{Profile};
 ghost use Rattle.uimg_fit_building.specs.ImageSteps.{OpensImages, AnswersInOrder};
 ghost use Rattle.uimg_fit_building.specs.SettingSteps.{MakesUnlessMemory};
+ghost use Rattle.uimg_fit_building.specs.OpenedFiles.{OpensNamed, summed_files};
 ghost use Rattle.uimg_fit_building.specs.UnreadTrees.{filled_unread};
 ghost use Rattle.uimg_fit_building.specs.DigestBytes.{zeroed_parent, zeroed_below, zeroed_tree};
 ghost use Rattle.uimg_fit_building.specs.ImageFillings.{filled_over, FillsParent, FillsBelow, images_among};
@@ -59,6 +60,8 @@ fn fill_parent<F: Files, A: Allocator + Copy>(
 ) -> Result<(), FitFault>
     ensures opens { OpensImages F.Opened.steady F.map (Some (listed parent.old.children))
         result files }
+    ensures opened { OpensNamed F.map (summed_files (Some (listed parent.old.children)))
+        result files }
     ensures filled { OfHonest F.map files (λ there.
         FillsParent naming there parent.old parent.new result) }
     ensures order { AnswersInOrder naming F.Opened.steady F.map (Some (listed parent.old.children))
@@ -83,6 +86,8 @@ fn fill_below<F: Files, A: Allocator + Copy>(
     files: &mut F,
 ) -> Result<(), FitFault>
     ensures opens { OpensImages F.Opened.steady F.map (images_among (siblings nodes.old))
+        result files }
+    ensures opened { OpensNamed F.map (summed_files (images_among (siblings nodes.old)))
         result files }
     ensures filled { OfHonest F.map files (λ there.
         FillsBelow naming there (siblings nodes.old) (siblings nodes.new) result) }
@@ -125,6 +130,8 @@ pub fn fill<F: Files, A: Allocator + Copy>(
     requires { FilesAtData (node_of tree.root) }
     // The files are unchanged, and `NoFile` is returned exactly if they refused an open.
     ensures files { UsesFiles (opens_no_file result) (F.map files.old) (F.map files.new) }
+    // Exactly the files of the images with hash nodes are opened, in order; at a fault the first ones.
+    ensures opened { OpensNamed F.map (summed_files (images (node_of tree.root))) result files }
     ensures found { IfComplete F.map files (node_of tree.root) (opens_no_file result ≡ false) }
     ensures steady { IfSteady F.Opened.steady F.map files (node_of tree.root)
         (fails_to_read result ≡ false) }
@@ -155,6 +162,7 @@ pub fn fill_by<F: Files, A: Allocator + Copy>(
 ) -> Result<Tree<A>, FitFault>
     requires { FilesAtData (node_of tree.root) }
     ensures files { UsesFiles (opens_no_file result) (F.map files.old) (F.map files.new) }
+    ensures opened { OpensNamed F.map (summed_files (images (node_of tree.root))) result files }
     ensures found { IfComplete F.map files (node_of tree.root) (opens_no_file result ≡ false) }
     ensures steady { IfSteady F.Opened.steady F.map files (node_of tree.root)
         (fails_to_read result ≡ false) }

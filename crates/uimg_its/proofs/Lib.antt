@@ -10,6 +10,8 @@ mod ValuesAreSpelled
 mod ReadIsSpelled
 mod LoneFile
 mod FilesLaws
+mod PassingLaws
+mod IncludedLaws
 mod SoundLaws
 mod CompileLaws
 mod Examples

@@ -15,7 +15,7 @@ incbin_is w e = absurd (cc)
 pair_first : {X : Type 0} → (x y : X) (ws after : List Word) → ◌≡◌ {A = Option (X × List Word)} (Some (x, ws)) (Some (y, after)) → x ≡ y
 pair_first {X = X} x y ws after e = ap (λ (p : X × List Word). p.0) (some_is _ _ e)
 
-lone_is : (ws after : List Word) (n : List ℕ) → lone_file ws ≡ Some (n, after) → ws ≡ directive (codes "incbin") ∷ mark ParenOpen ∷ text n ∷ mark ParenClose ∷ mark Semicolon ∷ after
+pub lone_is : (ws after : List Word) (n : List ℕ) → lone_file ws ≡ Some (n, after) → ws ≡ directive (codes "incbin") ∷ mark ParenOpen ∷ text n ∷ mark ParenClose ∷ mark Semicolon ∷ after
 unfolding lone_file
 lone_is ws after n e =
     let w = bind_some (take_word ws) _ (n, after) e in

@@ -21,7 +21,7 @@ labelled_shrinks ws after x e =
     let b = next_shrinks first.0.1 second.0.1 second.0.0 second.1 in
     omega (arith, a, b, ap length same)
 
-found_leads : (o : Option Item) (i : Item) (ws after : List Word) → elim o as (λ _. Option (Item × List Word)) [ None ↦ None | Some i ↦ Some (i, ws) ] ≡ Some (i, after) → ws ≡ after
+pub found_leads : (o : Option Item) (i : Item) (ws after : List Word) → elim o as (λ _. Option (Item × List Word)) [ None ↦ None | Some i ↦ Some (i, ws) ] ≡ Some (i, after) → ws ≡ after
 found_leads None i ws after e = absurd (cc)
 found_leads (Some j) i ws after e = pair_leads j i ws after e
 

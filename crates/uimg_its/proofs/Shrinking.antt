@@ -26,7 +26,7 @@ next_shrinks (w' ∷ ws) after w e = let same : ws ≡ after = ap (λ (x : Word 
 pub leads_to : {X : Type 0} → (b c : Bool) (xs ys : List X) (ws after : List Word) → ◌≡◌ {A = Step X} (Some (b, xs, ws)) (Some (c, ys, after)) → ws ≡ after
 leads_to {X = X} b c xs ys ws after e = ap (λ (x : Bool × List X × List Word). x.2) (some_is _ _ e)
 
-element_leads_by : (l : Listed) (e : Option (List ℕ)) (b : Bool) (ws after : List Word) (xs : List ℕ)
+pub element_leads_by : (l : Listed) (e : Option (List ℕ)) (b : Bool) (ws after : List Word) (xs : List ℕ)
     → elim e as (λ _. Step ℕ) [ None ↦ Some (true, [], ws) | Some n ↦ element l n >>= λ b. Some (false, b, ws) ] ≡ Some (b, xs, after) → ws ≡ after
 element_leads_by l None b ws after xs e = leads_to true b [] xs ws after e
 element_leads_by l (Some n) b ws after xs e = let p = bind_some (element l n) (λ b. Some (false, b, ws)) (b, xs, after) e in leads_to false b p.0 xs ws after p.2
@@ -51,7 +51,7 @@ Within {X = X} read = (ws after : List Word) (x : X) → read ws ≡ Some (x, af
 abbrev pub LastWithin : {X : Type 0} → Steps X → Type 0
 LastWithin {X = X} step = (ws after : List Word) (xs : List X) → step ws ≡ Some (true, xs, after) → length after ≤ length ws
 
-front_leads : {X : Type 0} → (front xs : List X) (r : Option (List X × List Word)) (after : List Word) → with_front front r ≡ Some (xs, after) → (ys : List X) × (r ≡ Some (ys, after))
+pub front_leads : {X : Type 0} → (front xs : List X) (r : Option (List X × List Word)) (after : List Word) → with_front front r ≡ Some (xs, after) → (ys : List X) × (r ≡ Some (ys, after))
 front_leads {X = X} front xs None after e = absurd (cc)
 front_leads {X = X} front xs (Some x) after e = (x.0, ap (λ (l : List Word). Some (x.0, l)) (ap (λ (y : List X × List Word). y.1) (some_is _ _ e)))
 

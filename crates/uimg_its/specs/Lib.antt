@@ -4,6 +4,7 @@ pub mod Strings
 pub mod Words
 pub mod Cells
 pub mod Answers
+pub mod Included
 pub mod FaultTexts
 pub mod Steps
 pub mod Parts

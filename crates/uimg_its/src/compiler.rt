@@ -1,12 +1,13 @@
 //! The whole source text: `compile`.
 
-ghost use Rattle.std.specs.Prelude.{◌≡◌, ◌<◌, List, IfOk, IsTrue, false};
+ghost use Rattle.std.specs.Prelude.{◌≡◌, ◌<◌, List, [], IfOk, IsTrue, is_err, false};
 ghost use Rattle.uimg_blob_reading.specs.Plain.{Nodes};
 ghost use Rattle.uimg_blob_writing.specs.{Content.{AreKept, FilesAtData, in_full}, Trees.node_of};
-ghost use Rattle.uimg_blob_writing.specs.{UsingFiles.UsesFiles, LentFiles.OfHonest};
+ghost use Rattle.uimg_blob_writing.specs.{UsingFiles.{UsesFiles, OpensEach}, LentFiles.OfHonest};
 ghost use Rattle.uimg_its.specs.{Words.{Word, words}, Reading.ReadsText, FileValues.IsSoundNode};
 ghost use Rattle.uimg_its.specs.Answers.{Gives, NeverInFile, IsInText, OpensFiles};
 ghost use Rattle.uimg_its.specs.{Parts.{FileBytes, parts_of}, Seen.seen_word};
+ghost use Rattle.uimg_its.specs.Included.{included, OpensIncluded};
 ghost use Rattle.uimg_its.specs.{Compiled.{Accepts, finds_no_file, is_file_unread}, Grammar.Spells};
 ghost use Rattle.uimg_its.specs.Reader.{version, is_version, alone, source};
 
@@ -80,6 +81,7 @@ fn source<F: Files, A: Allocator + Copy>(
     text: &[u8],
 ) -> Result<Node<A>, Stop>
     ensures opens { OpensFiles F.Opened.steady F.map result files }
+    ensures included { OpensIncluded F.map (λ root. []) result files (words text.now) }
     ensures gives { OfHonest F.map files (λ there.
         Gives (parts_of there) result (source there (words text.now))) }
     ensures sound { IfOk result (λ root. IsSoundNode (F.map files.old) root) }
@@ -120,6 +122,9 @@ pub fn compile<F: Files, A: Allocator + Copy>(
 ) -> Result<Tree<A>, ItsFault>
     // The files are unchanged, and `NoFile` is returned if and only if they refused an open.
     ensures files { UsesFiles (finds_no_file result) (F.map files.old) (F.map files.new) }
+    // Exactly the files that the text includes are opened, in order; at a fault the first ones.
+    ensures opened { OpensEach (is_err result) (included (words text.now))
+        (F.map files.old) (F.map files.new) }
     // If opened files never fail, `ReadFailed` is never returned.
     ensures steady { IsTrue F.Opened.steady → is_file_unread result ≡ false }
     // Only properties named `data` are files.

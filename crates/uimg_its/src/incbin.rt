@@ -1,10 +1,11 @@
 //! The files that values name, read whole or kept as name and size.
 
-ghost use Rattle.std.specs.Prelude.{◌≡◌, ◌<◌, Some, IfOk, IsTrue, length, codes, false};
+ghost use Rattle.std.specs.Prelude.{◌≡◌, ◌<◌, ◌∷◌, Some, IfOk, IsTrue, length, codes, false};
 ghost use Rattle.uimg_base.specs.Honest.{HonestSource};
 ghost use Rattle.uimg_blob_writing.specs.{Content.content_bytes, Properties.content};
 ghost use Rattle.uimg_blob_writing.specs.LentFiles.{OfHonest};
-ghost use Rattle.uimg_its.specs.{Strings.string_bytes, Words.words, FileValues.IsSoundIn};
+ghost use Rattle.uimg_its.specs.{Strings.string_bytes, Words.{words, directive}, FileValues.IsSoundIn};
+ghost use Rattle.uimg_its.specs.Included.{OpensIncluded};
 ghost use Rattle.uimg_its.specs.{Reading.{ReadsText, ReadsFront, PassesMark}, Steps.with_front};
 ghost use Rattle.uimg_its.specs.Reader.{string, string_in, file, expect, is_incbin, lone_file};
 ghost use Rattle.uimg_its.specs.{Seen.seen_word, declared.tokens.Mark.TheVariants.ParenClose};
@@ -57,6 +58,7 @@ fn read_file<F: Files, A: Allocator>(
     left: usize,
 ) -> Result<Vec<u8, A>, Stop>
     ensures opens { OpensFiles F.Opened.steady F.map result files }
+    ensures noted { (F.map files.new).opened ≡ name.now ∷ (F.map files.old).opened }
     ensures gives { OfHonest F.map files (λ there. Gives (λ v. v.items) result (there name.now)) }
 {
     match files.open(name) {
@@ -124,6 +126,8 @@ pub(crate) fn file<'a, F: Files, A: Allocator + Copy>(
     text: &'a [u8],
 ) -> Result<&'a [u8], Stop>
     ensures opens { OpensFiles F.Opened.steady F.map result files }
+    ensures included { OpensIncluded F.map (λ rest. words rest.now) result files
+        (directive (codes "incbin") ∷ words text.now) }
     ensures gives { OfHonest F.map files (λ there. Gives (λ rest. (out.new.items, words rest.now))
         result (with_front out.old.items (file there (words text.now)))) }
     ensures shorter { IfOk result (λ rest. length rest.now < length text.now) }
@@ -191,6 +195,7 @@ pub(crate) fn kept<F: Files, A: Allocator>(
     left: usize,
 ) -> Result<Value<A>, Stop>
     ensures opens { OpensFiles F.Opened.steady F.map result files }
+    ensures noted { (F.map files.new).opened ≡ name.items ∷ (F.map files.old).opened }
     ensures outside { IsOutside result }
     ensures there { OfHonest F.map files (λ there.
         IfOk result (λ v. there name.items ≡ Some (content_bytes there (content v)))) }

@@ -5,6 +5,7 @@ ghost use Rattle.uimg_base.specs.Named.{FileMap};
 ghost use Rattle.uimg_blob_writing.specs.LentFiles.{OfHonest};
 ghost use Rattle.uimg_its.specs.{Words.words, Answers.{Gives, IsInText, OnlyMemory, OpensFiles}};
 ghost use Rattle.uimg_its.specs.FileValues.{AreSound, IsSoundNode, AreSoundNodes};
+ghost use Rattle.uimg_its.specs.Included.{OpensIncluded};
 ghost use Rattle.uimg_its.specs.Reader.{inside, child_step, children, node_within};
 ghost use Rattle.uimg_its.specs.Parts.{FileBytes, props_in_full, parts_of, all_parts_of, chain, child_found};
 
@@ -76,6 +77,7 @@ fn inside<'a, F: Files, A: Allocator + Copy>(
     text: &'a [u8],
 ) -> Result<(Node<A>, &'a [u8]), Stop>
     ensures opens { OpensFiles F.Opened.steady F.map result files }
+    ensures included { OpensIncluded F.map (λ x. words x.1.now) result files (words text.now) }
     ensures gives { OfHonest F.map files (λ there. Gives (λ x. (parts_of there x.0, words x.1.now))
         result (inside there (children levels there) name (words text.now))) }
     ensures sound { IfOk result (λ x. IsSoundNode (F.map files.old) x.0) }
@@ -98,6 +100,7 @@ pub(crate) fn node<'a, F: Files, A: Allocator + Copy>(
     text: &'a [u8],
 ) -> Result<(Node<A>, &'a [u8]), Stop>
     ensures opens { OpensFiles F.Opened.steady F.map result files }
+    ensures included { OpensIncluded F.map (λ x. words x.1.now) result files (words text.now) }
     ensures gives { OfHonest F.map files (λ there. Gives (λ x. (parts_of there x.0, words x.1.now))
         result (node_within levels there name.now (words text.now))) }
     ensures sound { IfOk result (λ x. IsSoundNode (F.map files.old) x.0) }
@@ -120,6 +123,7 @@ fn child<'a, F: Files, A: Allocator + Copy>(
     text: &'a [u8],
 ) -> Result<(Option<Node<A>>, &'a [u8]), Stop>
     ensures opens { OpensFiles F.Opened.steady F.map result files }
+    ensures included { OpensIncluded F.map (λ x. words x.1.now) result files (words text.now) }
     ensures gives { OfHonest F.map files (λ there.
         Gives (λ x. child_found there x.0 (words x.1.now)) result
         (child_step (node_within levels there) (words text.now))) }
@@ -147,6 +151,7 @@ fn children<'a, F: Files, A: Allocator + Copy>(
     text: &'a [u8],
 ) -> Result<(Vec<Node<A>, A>, &'a [u8]), Stop>
     ensures opens { OpensFiles F.Opened.steady F.map result files }
+    ensures included { OpensIncluded F.map (λ x. words x.1.now) result files (words text.now) }
     ensures gives { OfHonest F.map files (λ there.
         Gives (λ x. (all_parts_of there x.0.items, words x.1.now)) result
         (children levels there (words text.now))) }

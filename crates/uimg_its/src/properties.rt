@@ -5,7 +5,7 @@ ghost use Rattle.uimg_base.specs.Named.{FileMap};
 ghost use Rattle.uimg_blob_writing.specs.{Properties.{property, content}, LentFiles.OfHonest};
 ghost use Rattle.uimg_its.specs.{Words.words, Steps.step_front, Reader.{property_step, properties}};
 ghost use Rattle.uimg_its.specs.{Answers.{Gives, OnlyMemory, OpensFiles}, Parts.props_in_full};
-ghost use Rattle.uimg_its.specs.FileValues.{IsSoundIn, AreSound};
+ghost use Rattle.uimg_its.specs.{FileValues.{IsSoundIn, AreSound}, Included.OpensIncluded};
 
 use crate::growth::{copied, out_of_memory};
 use crate::items::{Item, read_item};
@@ -45,6 +45,7 @@ fn property_step<'a, F: Files, A: Allocator + Copy>(
     text: &'a [u8],
 ) -> Result<(bool, &'a [u8]), Stop>
     ensures opens { OpensFiles F.Opened.steady F.map result files }
+    ensures included { OpensIncluded F.map (λ x. words x.1.now) result files (words text.now) }
     ensures gives { OfHonest F.map files (λ there.
         Gives (λ x. (x.0, props_in_full there (map property props.new.items), words x.1.now)) result
         (step_front (props_in_full there (map property props.old.items))
@@ -77,6 +78,7 @@ pub(crate) fn properties<'a, F: Files, A: Allocator + Copy>(
     text: &'a [u8],
 ) -> Result<(Props<A>, &'a [u8]), Stop>
     ensures opens { OpensFiles F.Opened.steady F.map result files }
+    ensures included { OpensIncluded F.map (λ x. words x.1.now) result files (words text.now) }
     ensures gives { OfHonest F.map files (λ there.
         Gives (λ x. (props_in_full there x.0, words x.1.now)) result
         (properties there (words text.now))) }

@@ -1,12 +1,13 @@
 //! Values, some of which stay files.
 
-ghost use Rattle.std.specs.Prelude.{◌≡◌, ◌<◌, ◌≤◌, Some, IfSome, IfOk, length, codes, false};
+ghost use Rattle.std.specs.Prelude.{◌≡◌, ◌<◌, ◌≤◌, ◌∷◌, Some, IfSome, IfOk, length, codes, false};
+ghost use Rattle.std.specs.Option.{option_map_or};
 ghost use Rattle.uimg_blob_writing.specs.{Content.content_bytes, Properties.content};
 ghost use Rattle.uimg_blob_writing.specs.LentFiles.{OfHonest};
 ghost use Rattle.uimg_its.specs.{Words.words, Answers.{Gives, IsOutside, OpensFiles}};
 ghost use Rattle.uimg_its.specs.{Reading.ReadsText, Steps.{with_front, step_front}, Seen.seen_word};
 ghost use Rattle.uimg_its.specs.Reader.{is_last_value, spelled_value, value_step, values};
-ghost use Rattle.uimg_its.specs.FileValues.{IsSoundIn};
+ghost use Rattle.uimg_its.specs.{FileValues.IsSoundIn, Included.OpensIncluded};
 
 use crate::growth::{append, append_string};
 use crate::incbin::{file, kept, lone_file};
@@ -39,6 +40,8 @@ fn value_of<'a, F: Files, A: Allocator + Copy>(
     text: &'a [u8],
 ) -> Result<&'a [u8], Stop>
     ensures opens { OpensFiles F.Opened.steady F.map result files }
+    ensures included { OpensIncluded F.map (λ rest. words rest.now) result files
+        (seen_word token.entry.word ∷ words text.now) }
     ensures gives { OfHonest F.map files (λ there.
         Gives (λ rest. (out.new.items, words rest.now)) result (with_front out.old.items
         (spelled_value there (seen_word token.entry.word) (words text.now)))) }
@@ -68,6 +71,7 @@ fn value_step<'a, F: Files, A: Allocator + Copy>(
     text: &'a [u8],
 ) -> Result<(bool, &'a [u8]), Stop>
     ensures opens { OpensFiles F.Opened.steady F.map result files }
+    ensures included { OpensIncluded F.map (λ x. words x.1.now) result files (words text.now) }
     ensures gives { OfHonest F.map files (λ there. Gives (λ x. (x.0, out.new.items, words x.1.now))
         result (step_front out.old.items (value_step there (words text.now)))) }
     ensures shorter { IfOk result (λ x. length x.1.now < length text.now) }
@@ -87,6 +91,7 @@ fn values<'a, F: Files, A: Allocator + Copy>(
     text: &'a [u8],
 ) -> Result<&'a [u8], Stop>
     ensures opens { OpensFiles F.Opened.steady F.map result files }
+    ensures included { OpensIncluded F.map (λ rest. words rest.now) result files (words text.now) }
     ensures gives { OfHonest F.map files (λ there. Gives (λ rest. (out.new.items, words rest.now))
         result (with_front out.old.items (values there (words text.now)))) }
     ensures shorter { IfOk result (λ rest. length rest.now < length text.now) }
@@ -109,6 +114,9 @@ fn data_file<'a, F: Files, A: Allocator>(
     text: &'a [u8],
 ) -> Result<Option<(Value<A>, &'a [u8])>, Stop>
     ensures opens { OpensFiles F.Opened.steady F.map result files }
+    ensures included { OpensIncluded F.map
+        (λ found. option_map_or (λ x. words x.1.now) found (words text.now))
+        result files (words text.now) }
     ensures gives { OfHonest F.map files (λ there. IfOk result (λ found. IfSome found (λ x.
         values there (words text.now) ≡ Some (content_bytes there (content x.0), words x.1.now)))) }
     ensures outside { IsOutside result }
@@ -134,6 +142,7 @@ pub(crate) fn assigned<'a, F: Files, A: Allocator + Copy>(
     text: &'a [u8],
 ) -> Result<(Value<A>, &'a [u8]), Stop>
     ensures opens { OpensFiles F.Opened.steady F.map result files }
+    ensures included { OpensIncluded F.map (λ x. words x.1.now) result files (words text.now) }
     ensures gives { OfHonest F.map files (λ there.
         Gives (λ x. (content_bytes there (content x.0), words x.1.now)) result
         (values there (words text.now))) }

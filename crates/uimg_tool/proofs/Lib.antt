@@ -2,6 +2,7 @@ pub mod BesideLaws
 pub mod BufferLaws
 pub mod CheckLaws
 pub mod CommandLaws
+pub mod ComplainLaws
 pub mod DrawingLaws
 pub mod ExtractLaws
 pub mod FolderLaws

@@ -5,12 +5,15 @@ pub mod CheckEnds
 pub mod Checking
 pub mod Checks
 pub mod Commands
+pub mod Complaining
 pub mod Complaints
 pub mod Drawing
 pub mod EndingStatuses
 pub mod Extracting
+pub mod FaultTexts
 pub mod Facts
 pub mod Finishing
+pub mod InMemory
 pub mod InfoEnds
 pub mod JsonLines
 pub mod KnownSources

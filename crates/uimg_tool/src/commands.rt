@@ -3,7 +3,8 @@
 
 ghost use Rattle.std.specs.Prelude.{◌≡◌, ◌≢◌, ◌∷◌, [], IsTrue};
 ghost use Rattle.std.specs.Io.Buffered.{writer_buffer, writer_contents, writer_inner};
-ghost use Rattle.uimg_tool.specs.{Commands.{AnswersAsked, AnswersImage, AnswersOne, Changes, ChangesOne, Flushes}, Complaints.Ends, Statuses.end_status};
+ghost use Rattle.uimg_tool.specs.Complaining.{ComplainsAsked, ComplainsOne, ComplainsRun};
+ghost use Rattle.uimg_tool.specs.{Commands.{AnswersAsked, AnswersImage, AnswersOne, Changes, ChangesOne, Flushes}, Complaints.{Complains, Ends}, FaultTexts.told_of_end, Statuses.end_status};
 ghost use Rattle.uimg_tool.specs.{Extracting.AsksToRun, Makings.AnswersMaking, Running.AnswersShow};
 ghost use Rattle.uimg_unpacking.specs.Deeds.{Deed};
 
@@ -37,6 +38,8 @@ pub(crate) fn carry_out_asked<'a, D: MakingWorld<'a>, W: Write + Drop, V: Write>
         (W.contents (writer_inner out)) (W.contents result.1) (D.trace world.old)
         (D.trace world.new) }
     ensures changed { Changes asked.now (D.trace world.old) (D.trace world.new) }
+    ensures line { IsTrue (D.map world.old).honest →
+        ComplainsAsked V.contents asked.now (D.map world.old) result.0 complaints }
 {
     let (status, out) = carry_out_buffered(world, asked, out, complaints);
     // A failed write leaves text in the buffer, which its drop would try to write again.
@@ -59,6 +62,8 @@ fn carry_out_buffered<'a, D: MakingWorld<'a>, W: Write + Drop, V: Write>(
         (D.trace world.old) (D.trace world.new) }
     ensures flushed { Flushes asked.now result.0 (writer_buffer result.1) }
     ensures changed { Changes asked.now (D.trace world.old) (D.trace world.new) }
+    ensures line { IsTrue (D.map world.old).honest →
+        ComplainsAsked V.contents asked.now (D.map world.old) result.0 complaints }
 {
     match asked {
         Asked::One(request) => carry_out_one(world, request, out, complaints),
@@ -92,6 +97,8 @@ fn carry_out_one<'a, D: MakingWorld<'a>, W: Write + Drop, V: Write>(
         (D.trace world.old) (D.trace world.new) }
     ensures flushed { result.0 ≢ 3 → writer_buffer result.1 ≡ [] }
     ensures changed { ChangesOne request.now (D.trace world.old) (D.trace world.new) }
+    ensures line { IsTrue (D.map world.old).honest →
+        ComplainsOne V.contents request.now (D.map world.old) result.0 complaints }
 {
     match request {
         Request::Run(request) => run_image(world, request, out, complaints),
@@ -115,6 +122,8 @@ fn run_image<D: World, W: Write + Drop, V: Write>(
     ensures flushed { result.0 ≢ 3 → writer_buffer result.1 ≡ [] }
     ensures asks { AsksToRun request.now request.now.outfile (D.trace world.old)
         (D.trace world.new) }
+    ensures line { IsTrue (D.map world.old).honest →
+        ComplainsRun V.contents request.now (D.map world.old) result.0 complaints }
 {
     let mut out = Out::new(out);
     let end = run_command(world, request, None, &mut out);
@@ -189,6 +198,7 @@ fn tell_end<V: Write>(
 ) -> u8
     ensures status { result ≡ end_status end.now }
     ensures ends { Ends result complaints.old.count complaints.new.count }
+    ensures line { Complains V.contents (told_of_end end.now) complaints }
 {
     match end {
         Ok(Status::Done) => DONE,

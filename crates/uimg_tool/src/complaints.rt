@@ -1,7 +1,7 @@
 //! Standard error, where a fault is told in one line.
 
-ghost use Rattle.std.specs.{Prelude.{◌≡◌, ◌∷◌, ◌+◌, ◌-◌, ◌^◌, ◌≤◌, min}, IoError.error_kind};
-ghost use Rattle.uimg_tool.specs.Complaints.{is_closed_pipe};
+ghost use Rattle.std.specs.{Prelude.{◌≡◌, ◌∷◌, ◌+◌, ◌-◌, ◌^◌, ◌≤◌, Some, false, min}, IoError.error_kind};
+ghost use Rattle.uimg_tool.specs.Complaints.{AddsText, Complains, is_closed_pipe};
 ghost use Rattle.uimg_unpacking.specs.Deeds.{Deed};
 
 use crate::request_fault::{FAILED, RequestFault};
@@ -21,17 +21,23 @@ pub(crate) struct Complaints<'a, V: Write> {
 
     /// How many faults were told.
     pub(crate) count: u64,
+
+    /// Whether a write failed, so that a line may be missing.
+    pub(crate) is_lost: bool,
 }
 
 impl<'a, V: Write> Complaints<'a, V> {
     /// Returns standard error of the program of this name, to which no fault was told.
     pub(crate) fn new(name: &'a str, err: &'a mut V) -> Complaints<'a, V>
-        ensures { result.count ≡ 0 }
+        ensures count { result.count ≡ 0 }
+        ensures lost { result.is_lost ≡ false }
+        ensures name { result.name ≡ name.entry }
     {
         Complaints {
             name,
             err,
             count: 0,
+            is_lost: false,
         }
     }
 
@@ -39,10 +45,23 @@ impl<'a, V: Write> Complaints<'a, V> {
     pub(crate) fn tell<D: Display>(&mut self, fault: &D, status: u8) -> u8
         ensures status { result ≡ status }
         ensures counted { self.new.count ≡ min (self.old.count + 1) (2 ^ 64 - 1) }
+        ensures line { Complains V.contents (Some (D.output fault.now)) self }
     {
         self.count = self.count.saturating_add(1);
-        let _ = writeln!(self.err, "{}: {fault}", self.name);
+        if writeln!(self.err, "{}: {fault}", self.name).is_err() {
+            self.is_lost = true;
+        }
         status
+    }
+
+    /// Writes a text that is more than the line of a fault.
+    pub(crate) fn put_text(&mut self, text: &str)
+        ensures count { self.new.count ≡ self.old.count }
+        ensures text { AddsText V.contents text.now self.old self.new }
+    {
+        if write!(self.err, "{text}").is_err() {
+            self.is_lost = true;
+        }
     }
 
     /// Tells that memory was refused, and returns the status.

@@ -1,9 +1,10 @@
 //! The function `program`, the whole program: reads the words of a command line, and carries out
 //! their request.
 
-ghost use Rattle.std.specs.Prelude.{◌≡◌, ◌≤◌, [], Ok, map, option_map};
+ghost use Rattle.std.specs.Prelude.{◌≡◌, ◌≤◌, [], IsTrue, Ok, map, option_map};
 ghost use Rattle.std.specs.Io.Buffered.{writer_buffer, writer_inner};
 ghost use Rattle.uimg_cli.specs.Reading.{AsksNothing, ReadsWords};
+ghost use Rattle.uimg_tool.specs.Complaining.{ComplainsAsked, ComplainsWords, RefusesWords};
 ghost use Rattle.uimg_tool.specs.{Complaints.Ends, Programs.{AskNothing, epoch_of, words_of}, Statuses.words_status};
 ghost use Rattle.uimg_tool.specs.WordAnswers.{AnswersWords};
 
@@ -68,6 +69,8 @@ fn run_as_uimg<R: Files + AllocGlobal, W: Write, V: Write>(
         → 2 ≤ result }
     ensures unprinted { AsksNothing (epoch_of line.entry) line.entry.time (words_of line.entry)
         → out.new ≡ out.old }
+    ensures told { AsksNothing (epoch_of line.entry) line.entry.time (words_of line.entry)
+        → RefusesWords V.contents line.entry complaints.old complaints.new }
 {
     let asked = match asked_by(rt.alloc(), line) {
         Ok(asked) => asked,
@@ -130,6 +133,8 @@ pub(crate) fn carry_out_words<'a, D: MakingWorld<'a>, W: Write + Drop, V: Write>
     ensures told { AnswersWords D.File.contents D.Shelf.Kept.device (D.identities world.old)
         _line.entry (D.map world.old) result.0 (W.contents (writer_inner out)) (W.contents result.1)
         (D.trace world.old) (D.trace world.new) }
+    ensures complained { IsTrue (D.map world.old).honest →
+        ComplainsAsked V.contents asked.now (D.map world.old) result.0 complaints }
 {
     carry_out_asked(world, asked, out, complaints)
 }
@@ -137,19 +142,24 @@ pub(crate) fn carry_out_words<'a, D: MakingWorld<'a>, W: Write + Drop, V: Write>
 // Reads the words. Not inlined, so that what this takes of the stack is free when the request is
 // carried out.
 #[inline(never)]
-fn asked_by<'a>(alloc: Global, line: CommandLine<'a>) -> Result<Asked<'a>, WordsFault>
+pub(crate) fn asked_by<'a>(alloc: Global, line: CommandLine<'a>) -> Result<Asked<'a>, WordsFault>
     ensures { ReadsWords (epoch_of line.entry) line.entry.time (words_of line.entry) result }
 {
     read_words(alloc, line.words, line.epoch, line.time)
 }
 
-fn tell_words_fault<V: Write>(fault: &WordsFault, complaints: &mut Complaints<'_, V>) -> u8
+/// Reports what is wrong with the words of a command line. Returns the status.
+pub(crate) fn tell_words_fault<V: Write>(
+    fault: &WordsFault,
+    complaints: &mut Complaints<'_, V>,
+) -> u8
     ensures status { result ≡ words_status fault.now }
     ensures ends { Ends result complaints.old.count complaints.new.count }
+    ensures line { ComplainsWords V.contents fault.now complaints.old complaints.new }
 {
     match fault {
         WordsFault::NoCommand(text) => {
-            let _ = write!(complaints.err, "{text}");
+            complaints.put_text(text);
             WRONG_LINE
         }
         WordsFault::OutOfMemory => complaints.tell(fault, FAILED),

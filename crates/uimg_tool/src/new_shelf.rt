@@ -1,15 +1,16 @@
 //! A shelf in a file that was created for it.
 
-ghost use Rattle.std.specs.Prelude.{◌≡◌, [], false, OnOk};
+ghost use Rattle.std.specs.Prelude.{◌≡◌, [], ◌∷◌, false, IfOk, OnOk};
 ghost use Rattle.std.specs.Io.{WritesAtMost};
 ghost use Rattle.std.specs.Io.Buffered.{writer_buffer, writer_contents};
 ghost use Rattle.std.specs.Io.KnownBytes.{Keeps, WriteAppends};
+ghost use Rattle.uimg_base.specs.Device.{IsFresh};
 
 use std::alloc::{AllocError, Global};
 use std::io;
 use std::io::{BufWriter, Write};
 use std::rt::Files;
-use uimg_base::{FileSource, Shelf, SourceFault};
+use uimg_base::{FileSource, Shelf, Source, SourceFault};
 
 /// A shelf in a new file, which is open already, so that nothing that gets its path meanwhile is
 /// written to. It is like a `FileShelf` otherwise.
@@ -27,11 +28,27 @@ impl<'a, R: Files + AllocGlobal> NewShelf<'a, R> {
         rt: &'a R,
         path: &'a str,
         file: R::File,
-    ) -> Result<NewShelf<'a, R>, AllocError> {
+    ) -> Result<NewShelf<'a, R>, AllocError>
+        ensures { IfOk result (λ shelf. shelf.path ≡ path.entry) }
+    {
         match BufWriter::new(rt.alloc(), file) {
             Ok(file) => Ok(NewShelf { rt, path, file }),
             Err(_) => Err(AllocError),
         }
+    }
+
+    // Writes the buffered bytes, closes the file and reopens it at the shelf's path.
+    fn reopen(self) -> Result<FileSource<R::File>, SourceFault>
+        ensures fresh { IfOk result (λ kept.
+            IsFresh (⟦<FileSource<R::File> as Source>⟧.device kept)) }
+        ensures path { IfOk result (λ kept. kept.paths.names ≡ self.entry.path.now ∷ []) }
+    {
+        let NewShelf { rt, path, mut file } = self;
+        if file.flush().is_err() {
+            return Err(SourceFault);
+        }
+        drop(file);
+        FileSource::open(rt, path)
     }
 }
 
@@ -64,11 +81,6 @@ impl<'a, R: Files + AllocGlobal> Shelf for NewShelf<'a, R> {
     ///
     /// Returns `SourceFault` if the last piece cannot be written, or as `FileSource::open` does.
     fn keep(self) -> Result<FileSource<R::File>, SourceFault> {
-        let NewShelf { rt, path, mut file } = self;
-        if file.flush().is_err() {
-            return Err(SourceFault);
-        }
-        drop(file);
-        FileSource::open(rt, path)
+        self.reopen()
     }
 }

@@ -1,10 +1,11 @@
 //! Why a request was not carried out, and the exit status of that.
 
 ghost use Rattle.std.specs.Prelude.{◌≡◌};
-ghost use Rattle.uimg_tool.specs.Statuses.{fault_status, fit_status, request_status, source_status};
+ghost use Rattle.uimg_tool.specs.{FaultTexts.request_text, Statuses.{fault_status, fit_status, request_status, source_status}};
 
-use std::io;
-use thiserror::Error;
+use std::error::Error;
+use std::fmt::{Display, Formatter, Write};
+use std::{fmt, io};
 use uimg_blob_reading::BlobFault;
 use uimg_engine::Fault;
 use uimg_fit_base::FitFault;
@@ -24,45 +25,63 @@ pub(crate) const WRONG_LINE: u8 = 2;
 pub(crate) const FAILED: u8 = 3;
 
 /// Why a request was not carried out. Its text is the line after `uimg: `.
-#[derive(Debug, Drop, Error)]
+#[derive(Debug, Drop)]
 pub(crate) enum RequestFault<'a> {
-    #[error("cannot read {0}")]
     CannotRead(&'a str),
 
     // The same, by the new commands.
-    #[error("cannot read {0}: {1}")]
     Unread(Printed<'a>, io::Error),
 
-    #[error("cannot write {0}")]
     CannotWrite(&'a str, io::Error),
 
     // Bytes of the outfile, at this path.
-    #[error("write failed")]
     NotPut(&'a str, io::Error),
 
     // Text for standard output.
-    #[error("write failed")]
     NotPrinted(io::Error),
 
-    #[error("{0} exists; use --force to replace it")]
     Exists(Printed<'a>),
 
-    #[error("{0} would be written while it is read")]
     WritesWhatIsRead(&'a str),
 
     // The same, by the new commands.
-    #[error("{0} would be written while it is read")]
     DrawsOverWhatIsRead(Printed<'a>),
 
-    #[error("-x: {0} does not begin with 64 bytes 0xff, which the header replaces")]
     NoRoom(&'a str),
 
-    #[error("out of memory")]
     OutOfMemory,
 
-    #[error("{0}")]
     Stopped(Fault),
 }
+
+impl<'a> Display for RequestFault<'a> {
+    ghost output = { λ fault. request_text fault };
+
+    fn fmt<W: Write>(&self, f: &mut Formatter<W>) -> fmt::Result {
+        match self {
+            RequestFault::CannotRead(path) => write!(f, "cannot read {path}"),
+            RequestFault::Unread(path, reason) => write!(f, "cannot read {path}: {reason}"),
+            RequestFault::CannotWrite(path, _) => write!(f, "cannot write {path}"),
+            RequestFault::NotPut(_, _) => f.write_str("write failed"),
+            RequestFault::NotPrinted(_) => f.write_str("write failed"),
+            RequestFault::Exists(path) => write!(f, "{path} exists; use --force to replace it"),
+            RequestFault::WritesWhatIsRead(path) => {
+                write!(f, "{path} would be written while it is read")
+            }
+            RequestFault::DrawsOverWhatIsRead(path) => {
+                write!(f, "{path} would be written while it is read")
+            }
+            RequestFault::NoRoom(path) => write!(
+                f,
+                "-x: {path} does not begin with 64 bytes 0xff, which the header replaces"
+            ),
+            RequestFault::OutOfMemory => f.write_str("out of memory"),
+            RequestFault::Stopped(fault) => write!(f, "{fault}"),
+        }
+    }
+}
+
+impl<'a> Error for RequestFault<'a> {}
 
 impl<'a> From<Fault> for RequestFault<'a> {
     fn from(fault: Fault) -> RequestFault<'a> {

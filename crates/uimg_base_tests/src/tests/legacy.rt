@@ -5,6 +5,7 @@ mod building;
 mod case_rows;
 mod cases;
 mod commands;
+mod failing_takers;
 mod headers;
 mod images;
 mod large_parts;

@@ -1,80 +1,116 @@
 //! Why the words of a command line request nothing.
 
-ghost use Rattle.std.specs.Prelude.{◌≡◌};
-ghost use Rattle.uimg_cli.specs.declared.command_line.words_fault.WordsFault.TheVariants.{OutOfMemory};
+ghost use Rattle.std.specs.Prelude.{Some};
+ghost use Rattle.uimg_cli.specs.FaultTexts.{not_number, text_of};
 
 use std::alloc::AllocError;
-use thiserror::Error;
+use std::error::Error;
+use std::fmt;
+use std::fmt::{Display, Formatter, Write};
 
-/// Why the words of a command line request nothing.
-#[derive(Debug, Drop, Error)]
+/// Why the words of a command line request nothing. Its text is the line that the program prints
+/// after `uimg: `, except for `NoCommand`, whose text is all that it prints.
+#[derive(Debug, Drop)]
 pub enum WordsFault {
     /// The words are not those of a command; this text says why.
-    #[error("{0}")]
     NoCommand(String),
 
     /// There is no subcommand. The command line library reports this itself.
-    #[error("no command")]
     NoSubcommand,
 
     /// dumpimage was given neither -l nor -o.
-    #[error("no -l or -o")]
     NoListOrOutfile,
 
     /// mkimage was given none of -l, -d and -f.
-    #[error("no -d or -f")]
     NoDataOrSource,
 
     /// No image to check or to unpack is named.
-    #[error("no image")]
     NoImages,
 
     /// The name of a folder is empty.
-    #[error("-C: no folder")]
     NoFolder,
 
     /// The word of --need is not the name of an algorithm.
-    #[error("--need: unknown algorithm '{0}'; use crc32, md5, sha1, sha256, sha384 or sha512")]
     UnknownAlgo(String),
 
     /// The word of this option is not a decimal number of 64 bits.
-    #[error("--{0}: '{1}' is not a decimal number below 2^64")]
     NotNumber(&'static str, String),
 
     /// A picture would be written to standard output.
-    #[error("--svg -: standard output is not supported; for a file of that name use ./-")]
     PictureToOutput,
 
     /// The lines of --clean are no JSON.
-    #[error("--clean with --json")]
     CleansWithJson,
 
     /// Both data and a source are named.
-    #[error("-d with -f")]
     DataWithSource,
 
     /// The word of -A, -O, -T or -C is not a known short name.
-    #[error("unknown name")]
     UnknownName,
 
     /// -d was given with the type of FIT images.
-    #[error("flat_dt needs -f")]
     FlatDtNeedsSource,
 
     /// A position is not a decimal number of 32 bits, or an address not a hexadecimal one.
-    #[error("bad number")]
     BadNumber,
 
     /// SOURCE_DATE_EPOCH is set, but not to a decimal number of 32 bits.
-    #[error("bad SOURCE_DATE_EPOCH")]
     BadEpoch,
 
     /// Memory ran out.
-    #[error("out of memory")]
     OutOfMemory,
 }
 
+// A word that is no number, and what it should be.
+#[derive(Drop)]
+struct NotNumber<'a>(&'a str);
+
+impl<'a> Display for NotNumber<'a> {
+    ghost output = { λ word. Some (not_number word.0.now) };
+
+    fn fmt<W: Write>(&self, f: &mut Formatter<W>) -> fmt::Result {
+        write!(f, "'{}' is not a decimal number below 2^64", self.0)
+    }
+}
+
+impl Display for WordsFault {
+    ghost output = { λ fault. Some (text_of fault) };
+
+    fn fmt<W: Write>(&self, f: &mut Formatter<W>) -> fmt::Result {
+        match self {
+            WordsFault::NoCommand(text) => write!(f, "{text}"),
+            WordsFault::NoSubcommand => f.write_str("no command"),
+            WordsFault::NoListOrOutfile => f.write_str("no -l or -o"),
+            WordsFault::NoDataOrSource => f.write_str("no -d or -f"),
+            WordsFault::NoImages => f.write_str("no image"),
+            WordsFault::NoFolder => f.write_str("-C: no folder"),
+            WordsFault::UnknownAlgo(name) => write!(
+                f,
+                "--need: unknown algorithm '{name}'; use crc32, md5, sha1, sha256, sha384 or sha512"
+            ),
+            WordsFault::NotNumber(option, text) => {
+                write!(f, "--{option}: {}", NotNumber(text.as_str()))
+            }
+            WordsFault::PictureToOutput => f.write_str(
+                "--svg -: standard output is not supported; for a file of that name use ./-",
+            ),
+            WordsFault::CleansWithJson => f.write_str("--clean with --json"),
+            WordsFault::DataWithSource => f.write_str("-d with -f"),
+            WordsFault::UnknownName => f.write_str("unknown name"),
+            WordsFault::FlatDtNeedsSource => f.write_str("flat_dt needs -f"),
+            WordsFault::BadNumber => f.write_str("bad number"),
+            WordsFault::BadEpoch => f.write_str("bad SOURCE_DATE_EPOCH"),
+            WordsFault::OutOfMemory => f.write_str("out of memory"),
+        }
+    }
+}
+
+impl Error for WordsFault {}
+
 impl From<AllocError> for WordsFault {
+    ghost use Rattle.std.specs.Prelude.{◌≡◌};
+    ghost use Rattle.uimg_cli.specs.declared.command_line.words_fault.WordsFault.TheVariants.{OutOfMemory};
+
     ghost from_gives = { λ _ fault. fault ≡ OutOfMemory };
 
     fn from(_error: AllocError) -> WordsFault {

@@ -7,6 +7,7 @@ ghost use Rattle.uimg_blob_writing.specs.LentFiles.{OfHonest};
 ghost use Rattle.uimg_fit_building.specs.{FillAnswers.OpensKept, Behind.entry, Filling.each};
 ghost use Rattle.uimg_fit_building.specs.{FillOrder.FillsNext, PayloadSums.no_files};
 ghost use Rattle.uimg_fit_building.specs.ImageSteps.{OpensImages, AnswersInOrder};
+ghost use Rattle.uimg_fit_building.specs.OpenedFiles.{OpensNamed, file_if_hashed, summed_file, summed_files};
 ghost use Rattle.uimg_fit_building.specs.DigestBytes.{zeroed_child, zeroed_image};
 ghost use Rattle.uimg_fit_building.specs.ImageFillings.{hashed_in, filled_over, FillsHashes, FillsImage, FillsImages, IsKeptImage};
 
@@ -30,6 +31,9 @@ fn fill_hashes<F: Files, A: Allocator + Copy>(
     files: &mut F,
 ) -> Result<(), FitFault>
     ensures opens { OpensKept F.Opened.steady F.map (λ there. IsKept there (content payload.now))
+        result files }
+    ensures opened { OpensNamed F.map (file_if_hashed
+        (filter (λ h. is_hash h.name) (listed (siblings nodes.old))) (Some (content payload.now)))
         result files }
     ensures filled { OfHonest F.map files (λ there.
         FillsHashes naming (λ u. siblings nodes.new) there
@@ -62,6 +66,7 @@ fn fill_image<F: Files, A: Allocator + Copy>(
 ) -> Result<(), FitFault>
     ensures opens { OpensKept F.Opened.steady F.map (λ there. IsKeptImage there (entry image.old))
         result files }
+    ensures opened { OpensNamed F.map (summed_file (entry image.old)) result files }
     ensures filled { OfHonest F.map files (λ there.
         FillsImage naming there (entry image.old) (entry image.new) result) }
     ensures order { IsTrue (F.map files.old).honest →
@@ -90,6 +95,7 @@ pub(crate) fn fill_images<F: Files, A: Allocator + Copy>(
     files: &mut F,
 ) -> Result<(), FitFault>
     ensures opens { OpensImages F.Opened.steady F.map (Some (map entry images.old)) result files }
+    ensures opened { OpensNamed F.map (summed_files (Some (map entry images.old))) result files }
     ensures filled { OfHonest F.map files (λ there.
         FillsImages naming there (map entry images.old) (map entry images.new) result) }
     ensures order { AnswersInOrder naming F.Opened.steady F.map (Some (map entry images.old))

@@ -2,6 +2,7 @@
 
 mod build_rows;
 mod device_rows;
+mod failing_takers;
 mod fill_rows;
 mod images;
 mod making;

@@ -79,3 +79,20 @@ fn rooms(rt: HostRuntime) -> Result<(), Fail> {
     }
     Ok(())
 }
+
+// A cleared room keeps its memory: of a heap for three entries another room gets fewer.
+#[test]
+fn a_cleared_room_keeps_its_memory(rt: HostRuntime) -> Result<(), Fail> {
+    let heap = LocalHeap::new(rt.alloc(), 1024)?;
+    let mut room = Room::new(&heap);
+    let mut other = Room::new(&heap);
+    for value in 0..3u64 {
+        assert!(rt; room.add([value; 16]).is_ok());
+    }
+    room.clear();
+    for value in 0..2u64 {
+        assert!(rt; other.add([value; 16]).is_ok());
+    }
+    assert!(rt; other.add([2; 16]).is_err());
+    Ok(())
+}

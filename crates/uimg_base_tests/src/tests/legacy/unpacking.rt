@@ -8,8 +8,8 @@ use crate::samples::legacy::THREE_PART_MULTI;
 use linked_list_allocator::LocalHeap;
 use std::alloc::{Allocator, Global};
 use std::test::Fail;
-use uimg_base::{FuseSource, MemSource, Room, Source, SourceFault};
-use uimg_legacy::{Fault, LegacyFault, MemPart, MemParts, unpack};
+use uimg_base::{FuseSource, MemSource, Room, Source, SourceFault, crc_of};
+use uimg_legacy::{Fault, Header, LegacyFault, MemPart, MemParts, header_bytes, unpack};
 
 const NO_DATA: &str = "abc-kernel to=64 4=94 5=0c 6=1c 7=8d 15=00 24=00 25=00 26=00 27=00";
 
@@ -248,4 +248,30 @@ fn parts_where_memory_is_refused(rt: HostRuntime) -> Result<(), Fail> {
     }
     assert!(rt; whole);
     Ok(())
+}
+
+// The parts of one image are kept, also if it has none: then no other part is taken.
+#[test]
+fn no_parts_are_kept(rt: HostRuntime) {
+    let alloc = rt.alloc();
+    let header = Header {
+        time: 0,
+        size: 4,
+        load: 0,
+        ep: 0,
+        dcrc: crc_of(&[0; 4]),
+        os: 5,
+        arch: 7,
+        kind: 4,
+        comp: 0,
+        name: [0; 32],
+    };
+    let mut image = [0; 68];
+    image[..64].copy_from_slice(&header_bytes(&header));
+    let mut room = Room::new(alloc);
+    let mut taker = MemParts::new(alloc);
+    let first = unpack(None, &mut MemSource::new(&image), &mut room, &mut taker);
+    let mut source = MemSource::new(&THREE_PART_MULTI);
+    let second = unpack(None, &mut source, &mut room, &mut taker);
+    assert!(rt; first == Ok(true) && second == Err(Fault::Put) && taker.kept().is_empty());
 }

@@ -1,8 +1,9 @@
-use Rattle.std.proofs.Common.{rules, ◌≡◌, Some, [], ℕ, List, Ok, Bool, IsTrue, subst, sym}
+use Rattle.std.proofs.Common.{rules, true, is_err, ◌≡◌, Some, [], ℕ, List, Ok, Bool, IsTrue, subst, sym}
 use Rattle.std.{specs.Bool.⊤, proofs.lemmas.Result.err_from_is_err_and}
 use Rattle.uimg_base.specs.{Outcome.Tells, declared.status.Status.Status}
 use Rattle.uimg_engine.specs.{Faults.end_of, Commands.listing_of}
-use Rattle.uimg_engine.proofs.CommandLaws.{building_stops_command, keeping_command, listing_makes_command, listing_stops_command, listing_loses_none, room_stays, holds_nothing, holds_listed}
+use Rattle.uimg_engine.proofs.CommandLaws.{building_stops_command, writing_stops_command, keeping_command, listing_makes_command, listing_stops_command, listing_loses_none, room_stays, holds_nothing, holds_listed}
+use Rattle.uimg_engine.proofs.OpenedLaws.{command_fails}
 use Rattle.uimg_engine.proofs.making.make_by.Goals as goal
 
 pub returns-in_err-build_image-clause-made : goal.returns-in_err-build_image-clause-made
@@ -87,3 +88,31 @@ returns-clause-makes g c = record {
   kept_reads = search rules;
   room = search rules;
 }
+
+pub returns-in_err-build_image-clause-opened : goal.returns-in_err-build_image-clause-opened
+returns-in_err-build_image-clause-opened g c =
+    let failed : is_err c.from_residual.result ≡ true = search rules in
+    rw failed c.in_err-build_image.ensures.opened
+
+pub returns-in_err-shelf-clause-opened : goal.returns-in_err-shelf-clause-opened
+returns-in_err-shelf-clause-opened g c =
+    let failed : is_err c.from_residual-in_err-shelf.result ≡ true = search rules in
+    rw failed (command_fails c.args.command.now c.args.manner.time c.args.manner.align _ _ c.in_ok-build_image.ensures.opened)
+
+pub returns-in_err-kept-clause-opened : goal.returns-in_err-kept-clause-opened
+returns-in_err-kept-clause-opened g c =
+    let failed : is_err c.from_residual-in_err-kept.result ≡ true = search rules in
+    rw failed (command_fails c.args.command.now c.args.manner.time c.args.manner.align _ _ c.in_ok-build_image.ensures.opened)
+
+pub returns-in_err-list_kept-clause-opened : goal.returns-in_err-list_kept-clause-opened
+returns-in_err-list_kept-clause-opened g c =
+    let failed : is_err c.from_residual-in_err-list_kept.result ≡ true = search rules in
+    rw failed (command_fails c.args.command.now c.args.manner.time c.args.manner.align _ _ c.in_ok-build_image.ensures.opened)
+
+pub returns-clause-opened : goal.returns-clause-opened
+returns-clause-opened g c = c.in_ok-build_image.ensures.opened
+
+pub returns-in_err-shelf-clause-made : goal.returns-in_err-shelf-clause-made
+returns-in_err-shelf-clause-made g c = λ files shelf empty.
+    let p = err_from_is_err_and c.from_residual-in_err-shelf.result c.from_residual-in_err-shelf.ensures.1 in
+    rw (p.1, p.2, c.in_err-shelf.ensures.fault) (writing_stops_command g.H.Kept.Source.device c.args.manner.naming c.args.command.now c.args.manner.time c.args.manner.align _ _ _ _ c.args.out.now (c.in_ok-build_image.ensures.built files))

@@ -1,6 +1,7 @@
-use Rattle.std.{specs.Bool.⊤, proofs.lemmas.Result.err_from_is_err_and}
+use Rattle.std.{specs.Bool.⊤, proofs.{Common.{rules, ◌≡◌, true, false, is_err}, lemmas.Result.err_from_is_err_and}}
 use Rattle.uimg_blob_writing.specs.Trees.{node_of}
 use Rattle.uimg_engine.proofs.TreeLaws.{still_honest, still_complete, kept_by, built_source, unbuilt_source, payload_of_building, text_of_building, lacks_of_building, read_of_building, lost_of_building, opens_last}
+use Rattle.uimg_engine.proofs.OpenedLaws.{opens_unfilled, opens_filled}
 use Rattle.uimg_engine.proofs.making_trees.build_tree.Goals as goal
 
 pub returns-clause-built : goal.returns-clause-built
@@ -28,3 +29,17 @@ returns-in_err-build_by-clause-steady g c = λ steady honest.
       reads = read_of_building ⊤ ⊤ c.in_err-build_by.field-0.0 (c.in_err-build_by.ensures.builds.reads steady (still_honest same honest) kept);
       payloads = lost_of_building ⊤ _ c.args.placement c.in_err-build_by.field-0.0 _ _ (c.in_err-build_by.ensures.builds.told (still_honest same honest) kept);
     }
+
+pub returns-in_err-tree-clause-opened : goal.returns-in_err-tree-clause-opened
+returns-in_err-tree-clause-opened g c =
+    let failed : is_err c.from_residual.result ≡ true = search rules in
+    rw failed (opens_unfilled c.args.name.now c.args.time c.args.placement _ _ c.in_err-tree.ensures.opened)
+
+pub returns-in_err-build_by-clause-opened : goal.returns-in_err-build_by-clause-opened
+returns-in_err-build_by-clause-opened g c =
+    let failed : is_err c.from_residual-in_err-build_by.result ≡ true = search rules in
+    rw failed (opens_filled true c.args.name.now c.args.time c.args.placement (node_of c.in_ok-tree.tree.root) _ _ _ c.in_ok-tree.ensures.opened c.in_err-build_by.ensures.opened)
+
+pub returns-clause-opened : goal.returns-clause-opened
+returns-clause-opened g c =
+    opens_filled false c.args.name.now c.args.time c.args.placement (node_of c.in_ok-tree.tree.root) _ _ _ c.in_ok-tree.ensures.opened c.in_ok-build_by.ensures.opened

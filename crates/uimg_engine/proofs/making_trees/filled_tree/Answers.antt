@@ -1,8 +1,12 @@
-use Rattle.std.proofs.Common.{ℕ, List, Option, ◌∙◌, subst, refl}
+use Rattle.std.proofs.Common.{◌≡◌, ℕ, List, [], Option, IsTrue, ◌∙◌, subst, refl}
+use Rattle.std.specs.Prelude.{unwrap_or}
+use Rattle.uimg_its.specs.{Grammar.Spells, Words.words}
+use Rattle.uimg_blob_writing.specs.Content.{in_full}
 use Rattle.std.proofs.lemmas.Result.{err_from_is_err_and}
 use Rattle.uimg_blob_writing.specs.{Content.AreKept, Trees.node_of, declared.tree.Tree.Tree}
 use Rattle.uimg_engine.specs.declared.fault.Fault.TheVariants.{Fit}
 use Rattle.uimg_engine.proofs.TreeLaws.{same_twice, still_honest, still_complete, kept_by, refused_text, spelled_tree, filled_source_of, unfilled_source, payload_of_filling, lost_of_filling, opens_last}
+use Rattle.uimg_engine.proofs.OpenedLaws.{text_read, unread_source, refused_source, unfilled_opens, filled_opens}
 use Rattle.uimg_engine.proofs.making_trees.filled_tree.Goals as goal
 
 pub returns-in_err-tree-clause-tree : goal.returns-in_err-tree-clause-tree
@@ -42,3 +46,36 @@ returns-in_err-filled-clause-payloads g c = λ steady honest.
     let again = same_twice same c.in_ok-tree.ensures.files.same in
     let kept = kept_by (node_of c.in_ok-tree.tree.root) c.in_ok-tree.ensures.files.same (c.in_ok-tree.ensures.kept (still_honest same honest)) in
     rw (p.1, p.2) (lost_of_filling (Tree g.row.A.Denot) c.in_err-filled.field-0.0 ∙ c.in_err-filled.ensures.steady steady (still_honest again honest) kept)
+
+pub returns-in_err-text-clause-opened : goal.returns-in_err-text-clause-opened
+returns-in_err-text-clause-opened g c =
+    let p = err_from_is_err_and c.from_residual.result c.from_residual.ensures.1 in
+    rw p.1 (unread_source c.args.name.now c.args.time _ _ c.in_err-text.ensures.noted)
+
+pub returns-in_err-tree-clause-opened : goal.returns-in_err-tree-clause-opened
+returns-in_err-tree-clause-opened g c =
+    let p = err_from_is_err_and c.from_residual-in_err-tree.result c.from_residual-in_err-tree.ensures.1 in
+    let a = g.F.Files.map c.args.files.now in
+    let is : IsTrue a.honest → c.deref.result.now ≡ unwrap_or (a.bytes c.args.name.now) [] = λ honest. c.deref.ensures.value ∙ text_read _ _ (c.in_ok-text.ensures.text honest) in
+    rw p.1 (refused_source c.args.name.now c.deref.result.now c.args.time a _ _ c.in_ok-text.ensures.noted is c.in_err-tree.ensures.opened)
+
+pub returns-in_err-filled-clause-opened : goal.returns-in_err-filled-clause-opened
+returns-in_err-filled-clause-opened g c =
+    let p = err_from_is_err_and c.from_residual-in_err-filled.result c.from_residual-in_err-filled.ensures.1 in
+    let a = g.F.Files.map c.args.files.now in
+    let t = node_of c.in_ok-tree.tree.root in
+    let same = c.in_ok-text.ensures.files.same in
+    let is : IsTrue a.honest → c.deref.result.now ≡ unwrap_or (a.bytes c.args.name.now) [] = λ honest. c.deref.ensures.value ∙ text_read _ _ (c.in_ok-text.ensures.text honest) in
+    let spelled : IsTrue a.honest → Spells (words c.deref.result.now) a.bytes (in_full a.bytes t) =
+    λ honest. subst (λ (files : List ℕ → Option (List ℕ)). Spells (words c.deref.result.now) files (in_full files t)) same.bytes (c.in_ok-tree.ensures.only (still_honest same honest)) in
+    rw p.1 (unfilled_opens c.args.name.now c.deref.result.now c.args.time a _ _ c.in_ok-text.ensures.noted is t _ spelled c.in_ok-tree.ensures.opened c.in_err-filled.ensures.opened)
+
+pub returns-clause-opened : goal.returns-clause-opened
+returns-clause-opened g c =
+    let a = g.F.Files.map c.args.files.now in
+    let t = node_of c.in_ok-tree.tree.root in
+    let same = c.in_ok-text.ensures.files.same in
+    let is : IsTrue a.honest → c.deref.result.now ≡ unwrap_or (a.bytes c.args.name.now) [] = λ honest. c.deref.ensures.value ∙ text_read _ _ (c.in_ok-text.ensures.text honest) in
+    let spelled : IsTrue a.honest → Spells (words c.deref.result.now) a.bytes (in_full a.bytes t) =
+    λ honest. subst (λ (files : List ℕ → Option (List ℕ)). Spells (words c.deref.result.now) files (in_full files t)) same.bytes (c.in_ok-tree.ensures.only (still_honest same honest)) in
+    filled_opens c.args.name.now c.deref.result.now c.args.time a _ _ c.in_ok-text.ensures.noted is t _ spelled c.in_ok-tree.ensures.opened (node_of c.in_ok-filled.filled.root) c.in_ok-filled.ensures.rest c.in_ok-filled.ensures.opened

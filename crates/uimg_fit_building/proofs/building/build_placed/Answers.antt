@@ -1,4 +1,4 @@
-use Rattle.std.proofs.Common.{◌≡◌, ◌≤◌, ℕ, Bool, List, Some, None, Result, Ok, Err, ap, sym, subst, ◌∙◌, arith}
+use Rattle.std.proofs.Common.{rules, true, is_err, ◌≡◌, ◌≤◌, ℕ, Bool, List, Some, None, Result, Ok, Err, ap, sym, subst, ◌∙◌, arith}
 use Rattle.uimg_blob_writing.specs.declared.reservation.Reservation.{Reservation}
 use Rattle.uimg_blob_writing.specs.{Content.{Unread, in_full}, Trees.node_of}
 use Rattle.uimg_blob_writing.specs.{declared.fault.TreeFault.TreeFault, Layouts.{Plan, plan_with, totalsize}}
@@ -9,14 +9,15 @@ use Rattle.uimg_base.specs.{Named.FileMap, Sink.Sink}
 use Rattle.uimg_fit_building.specs.BuildSteps.{of_writing, MeasuresTree, WritesTextBetween}
 use Rattle.uimg_fit_building.specs.Building.{built_with}
 use Rattle.uimg_fit_building.proofs.BuildLaws.{refused, unmeasured, no_room, all-sent, not-sent, no-low}
+use Rattle.uimg_blob_writing.proofs.OpenedLaws.{each_unopened}
 use Rattle.uimg_fit_building.proofs.building.build_placed.Goals as goal
 
 -- what measuring by an alignment tells of a tree that is placed
 by-placement : (r : Result Plan Fault) (rs : List Reservation) {a b : ℕ} {t u : Unread} → a ≡ b → t ≡ u → MeasuresTree a rs r t → MeasuresTree b rs r u
 by-placement r rs {b = b} {t = t} same is told = subst (λ (x : Unread). MeasuresTree b rs r x) is (subst (λ (n : ℕ). MeasuresTree n rs r t) same told)
 
-pub returns-in_err-layout : goal.returns-in_err-layout
-returns-in_err-layout g c =
+pub returns-in_err-layout-clause-builds : goal.returns-in_err-layout-clause-builds
+returns-in_err-layout-clause-builds g c =
     let steady = g.F.Opened.Source.steady in
     let rs = c.args.frame.reservations.now in
     let t = node_of c.args.tree.now.root in
@@ -26,8 +27,8 @@ returns-in_err-layout g c =
     refused steady rs t c.args.frame.placement c.from_residual.result e m m s s c.from_residual.ensures.1
     (unmeasured steady rs t c.args.frame.placement m s e (by-placement (Err e) rs c.align.ensures c.requires c.in_err-layout.ensures))
 
-pub returns-in_err-check_payloads : goal.returns-in_err-check_payloads
-returns-in_err-check_payloads g c =
+pub returns-in_err-check_payloads-clause-builds : goal.returns-in_err-check_payloads-clause-builds
+returns-in_err-check_payloads-clause-builds g c =
     let steady = g.F.Opened.Source.steady in
     let rs = c.args.frame.reservations.now in
     let t = node_of c.args.tree.now.root in
@@ -65,8 +66,8 @@ write_file-requires-clause-high g c =
     let room = padded_sizes (align_of c.args.frame.placement) (images_in (node_of c.args.tree.now.root)) in
     no-low (totalsize c.in_ok-layout.layout) room c.args.frame.placement (ap (λ (n : ℕ). end_fault n room c.args.frame.placement) (sym c.totalsize.ensures) ∙ sym c.in_ok-check_payloads.ensures)
 
-pub returns : goal.returns
-returns g c =
+pub returns-clause-builds : goal.returns-clause-builds
+returns-clause-builds g c =
     let steady = g.F.Opened.Source.steady in
     let rs = c.args.frame.reservations.now in
     let t = node_of c.args.tree.now.root in
@@ -83,8 +84,8 @@ returns g c =
     refused steady rs t c.args.frame.placement (Err c.of_writing.result) (of_writing e) m n s u c.of_writing.ensures
     (not-sent steady rs t c.args.frame.placement m s p is small good n u e (sent-by steady t c.args.frame.placement (Err e) m n s u rs p.reservations (reserves rs _ _ p c.in_ok-layout.ensures.1) c.in-Err.ensures.sent))
 
-pub returns-in-Ok : goal.returns-in-Ok
-returns-in-Ok g c =
+pub returns-in-Ok-clause-builds : goal.returns-in-Ok-clause-builds
+returns-in-Ok-clause-builds g c =
     let steady = g.F.Opened.Source.steady in
     let rs = c.args.frame.reservations.now in
     let t = node_of c.args.tree.now.root in
@@ -97,3 +98,19 @@ returns-in-Ok g c =
     ap (λ (k : ℕ). end_fault k (padded_sizes (align_of c.args.frame.placement) (images_in t)) c.args.frame.placement) (sym c.totalsize.ensures) ∙ sym c.in_ok-check_payloads.ensures in
     all-sent steady rs t c.args.frame.placement m c.args.out.now p is small good n c.write_file.new.out c.in-Ok.ensures.kept
     (sent-by steady t c.args.frame.placement (Ok tt) m n c.args.out.now c.write_file.new.out rs p.reservations (reserves rs _ _ p c.in_ok-layout.ensures.1) c.in-Ok.ensures.sent)
+
+pub returns-in_err-layout-clause-opened : goal.returns-in_err-layout-clause-opened
+returns-in_err-layout-clause-opened g c =
+    let failed : is_err c.from_residual.result ≡ true = search rules in
+    rw failed (each_unopened _ _)
+
+pub returns-in_err-check_payloads-clause-opened : goal.returns-in_err-check_payloads-clause-opened
+returns-in_err-check_payloads-clause-opened g c =
+    let failed : is_err c.from_residual-in_err-check_payloads.result ≡ true = search rules in
+    rw failed (each_unopened _ _)
+
+pub returns-clause-opened : goal.returns-clause-opened
+returns-clause-opened g c = c.in-Err.ensures.opened
+
+pub returns-in-Ok-clause-opened : goal.returns-in-Ok-clause-opened
+returns-in-Ok-clause-opened g c = c.in-Ok.ensures.opened

@@ -10,4 +10,4 @@ returns-clause-reads_back g c = λ honest kept filled.
     let node = c.args.tree.now.root in
     let read = content_bytes (g.F.Files.map c.args.files.now).bytes in
     on-built c.args.frame.reservations.now node.name (map (with_value read) node.props) (with_values read node.children) c.args.frame.placement c.place_and_build.result c.args.out.now c.place_and_build.new.out
-    (c.place_and_build.ensures.told honest kept) filled
+    (c.place_and_build.ensures.builds.told honest kept) filled

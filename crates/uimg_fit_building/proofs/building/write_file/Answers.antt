@@ -1,8 +1,8 @@
-use Rattle.std.proofs.Common.{◌≡◌, ℕ, List, Option, Bool, true, false, IsTrue, is_err, ap, sym, subst, ◌∙◌}
+use Rattle.std.proofs.Common.{rules, ◌≡◌, ℕ, List, Option, Bool, true, false, IsTrue, is_err, ap, sym, subst, ◌∙◌}
 use Rattle.std.specs.{Bool.OnFalse, List.AllByRecursion}
 use Rattle.uimg_base.specs.{Sink.Sink, Writing.Written}
 use Rattle.uimg_blob_reading.specs.Plain.{Nodes}
-use Rattle.uimg_blob_writing.specs.{Content.{Unread, AreKept, IsKept, in_full}, Encoding.encode_with}
+use Rattle.uimg_blob_writing.specs.{Content.{Unread, AreKept, IsKept, files_in, in_full}, Encoding.encode_with}
 use Rattle.uimg_blob_writing.specs.declared.reservation.Reservation.{Reservation}
 use Rattle.uimg_blob_writing.specs.{Layouts.{Plan, plan_with, totalsize}, Trees.node_of}
 use Rattle.uimg_fit_base.specs.Placements.{align_of}
@@ -10,6 +10,8 @@ use Rattle.uimg_fit_building.specs.{Behind.behind_pieces, Building.{placed_with,
 use Rattle.uimg_fit_building.specs.UnreadTrees.{moved_unread}
 use Rattle.uimg_fit_building.proofs.KeptLaws.{kept-then}
 use Rattle.uimg_fit_building.proofs.SendLaws.{Text, went_well, failed, goes, stops, refused, blob-sent, behind-sent}
+use Rattle.uimg_fit_building.proofs.OpenedFilesLaws.{behind-files}
+use Rattle.uimg_blob_writing.{specs.UsingFiles.OpensEach, proofs.OpenedLaws.{each_then, each_stops}}
 use Rattle.uimg_fit_building.proofs.building.write_file.Goals as goal
 
 -- the blob of a layout is that of its alignment
@@ -72,3 +74,19 @@ returns-clause-sent g c =
     goes steady t r m n k s u v a b (blob-sent steady t rs placement went_well m n s u (node_of c.args.placed.now.root) c.requires.placed w.files w.faults w.found w.steady
     (λ honest kept. blob-by false s u rs _ _ _ (ap (λ (p : Plan). p.align) c.requires.plan) (w.written honest kept)))
     (behind-sent steady t rs placement r n k u v c.totalsize.result size c.put_behind.ensures)
+
+pub returns-in_err-write_tree-clause-opened : goal.returns-in_err-write_tree-clause-opened
+returns-in_err-write_tree-clause-opened g c =
+    let m = g.F.Files.map c.args.files.now in
+    let n = g.F.Files.map c.write_tree.new.files in
+    let failed : is_err c.from_residual.result ≡ true = search rules in
+    rw failed (each_stops _ _ m n (subst (λ (u : Unread). OpensEach true (files_in u) m n) c.requires.placed c.in_err-write_tree.ensures.opened))
+
+pub returns-clause-opened : goal.returns-clause-opened
+returns-clause-opened g c =
+    let m = g.F.Files.map c.args.files.now in
+    let n = g.F.Files.map c.write_tree.new.files in
+    let k = g.F.Files.map c.put_behind.new.files in
+    let e = is_err c.put_behind.result in
+    each_then e _ _ m n k (subst (λ (u : Unread). OpensEach false (files_in u) m n) c.requires.placed c.in_ok-write_tree.ensures.opened)
+    (subst (λ (l : List (List ℕ)). OpensEach e l n k) (behind-files c.totalsize.result (node_of c.args.tree.now.root) c.args.placement) c.put_behind.ensures.opened)

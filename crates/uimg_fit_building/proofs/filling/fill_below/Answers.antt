@@ -1,4 +1,4 @@
-use Rattle.std.proofs.Common.{rules, ◌≡◌, ◌∙◌, ◌<◌, ◌≤◌, ℕ, List, Option, Some, length, get_or, set, ap, sym, subst, arith}
+use Rattle.std.proofs.Common.{rules, is_err, ◌≡◌, ◌∙◌, ◌<◌, ◌≤◌, ℕ, List, Option, Some, length, get_or, set, ap, sym, subst, arith}
 use Rattle.std.specs.{List.AllByRecursion, Bool.⊤}
 use Rattle.uimg_blob_reading.specs.LookUps.{NodeOf, listed}
 use Rattle.uimg_blob_writing.specs.{Content.Content, Trees.siblings, declared.tree.Node.Node}
@@ -7,6 +7,8 @@ use Rattle.uimg_fit_building.specs.ImageFillings.{filled_over, IsKeptImage, Fill
 use Rattle.uimg_fit_building.specs.DigestBytes.{zeroed_parent, zeroed_below}
 use Rattle.uimg_fit_building.proofs.{FilledHashLaws.on-ok, DigestBytesLaws.below-zeroed}
 use Rattle.uimg_fit_building.proofs.FillTreeLaws.{before, with_children, none-among, no-images, among-found, root-told, images-kept}
+use Rattle.uimg_blob_writing.{specs.UsingFiles.OpensEach, proofs.OpenedLaws.each_unopened}
+use Rattle.uimg_fit_building.specs.OpenedFiles.{summed_files}
 use Rattle.uimg_fit_building.proofs.filling.fill_below.Goals as goal
 
 pub returns-then-at-nodes-clause-filled : goal.returns-then-at-nodes-clause-filled
@@ -69,3 +71,18 @@ returns-clause-rest g c =
     (λ same. ap (λ (k : ℕ). zeroed_below c.args.naming (siblings (set ns k new))) c.before_images-at.ensures
     ∙ below-zeroed c.args.naming (each (filled_over c.args.naming no_files)) ns d new within (same ∙ ap (λ (n : Node _). zeroed_parent c.args.naming (with_children (each (filled_over c.args.naming no_files)) n)) is))
     c.fill_parent.ensures.rest
+
+pub returns-then-at-nodes-clause-opened : goal.returns-then-at-nodes-clause-opened
+returns-then-at-nodes-clause-opened g c = each_unopened _ _
+
+pub returns-clause-opened : goal.returns-clause-opened
+returns-clause-opened g c =
+    let ns = c.args.nodes.now in
+    let d = c.index-nodes-at.result in
+    let m = g.F.Files.map c.args.files.now in
+    let n = g.F.Files.map c.fill_parent.new.files in
+    let e = is_err c.fill_parent.result in
+    let within : before ns < length ns = omega (arith, c.if-at-nodes.false, c.before_images-at.ensures) in
+    let is : get_or ns c.before_images-at.result d ≡ get_or ns (before ns) d = ap (λ (k : ℕ). get_or ns k d) c.before_images-at.ensures in
+    subst (λ (o : Option (List (NodeOf Content))). OpensEach e (summed_files o) m n) (sym (among-found ns d within))
+    (subst (λ (p : Node _). OpensEach e (summed_files (Some (listed p.children))) m n) is c.fill_parent.ensures.opened)

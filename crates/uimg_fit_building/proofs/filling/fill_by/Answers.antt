@@ -1,4 +1,4 @@
-use Rattle.std.proofs.Common.{◌≡◌, ◌∙◌, List, length, ap, sym, subst, arith, false, Err, codes}
+use Rattle.std.proofs.Common.{rules, ◌≡◌, ◌∙◌, true, is_err, List, length, ap, sym, subst, arith, false, Err, codes}
 use Rattle.std.specs.{List.AllByRecursion, Option.{IfSome, IsSomeAnd}, Bool.⊤}
 use Rattle.uimg_blob_reading.specs.{LookUps.images, Plain.{NamedOf, no_node, a_node}}
 use Rattle.uimg_blob_writing.specs.{Content.{Content, Unread, bytes}, Encoding.word}
@@ -10,6 +10,9 @@ use Rattle.uimg_fit_building.specs.ImageFillings.{IsKeptImage, images_among, Fil
 use Rattle.uimg_fit_building.proofs.EachLaws.{written-back}
 use Rattle.uimg_fit_building.proofs.FillOrderLaws.{by-refusal, order-passed}
 use Rattle.uimg_fit_building.proofs.FillTreeLaws.{kept-below, told-filled, told-refused}
+use Rattle.uimg_blob_writing.specs.UsingFiles.{OpensEach}
+use Rattle.uimg_fit_building.specs.OpenedFiles.{summed_files}
+use Rattle.uimg_fit_building.proofs.OpenedFilesLaws.{each_fails}
 use Rattle.uimg_fit_building.proofs.filling.fill_by.Goals as goal
 
 pub returns-in_err-fill_below-clause-found : goal.returns-in_err-fill_below-clause-found
@@ -82,3 +85,23 @@ returns-clause-rest g c =
     ∙ ap (λ (t : Unread). zeroed_below c.args.naming (in_first (codes "images") (each (filled_over c.args.naming no_files)) t)) below in
     ap (λ (l : List (NamedOf Content)). a_node root.name l (zeroed_below c.args.naming c.of-children.result) no_node) c.in_ok-props.ensures.made
     ∙ ap (λ (t : Unread). a_node root.name (with (codes "timestamp") (bytes (word c.args.time)) root.props) t no_node) told
+
+pub returns-in_err-fill_below-clause-opened : goal.returns-in_err-fill_below-clause-opened
+returns-in_err-fill_below-clause-opened g c =
+    let root = c.args.tree.root in
+    let failed : is_err c.from_residual.result ≡ true = search rules in
+    let below : siblings c.as_mut_slice.result.now ≡ root.children = ap siblings c.as_mut_slice.ensures.value ∙ c.into_vec-nodes.ensures in
+    rw failed (subst (λ (t : Unread). OpensEach true (summed_files (images_among t)) (g.F.Files.map c.args.files.now) (g.F.Files.map c.fill_below.new.files)) below c.in_err-fill_below.ensures.opened)
+
+pub returns-in_err-props-clause-opened : goal.returns-in_err-props-clause-opened
+returns-in_err-props-clause-opened g c =
+    let root = c.args.tree.root in
+    let failed : is_err c.from_residual-in_err-props.result ≡ true = search rules in
+    let below : siblings c.as_mut_slice.result.now ≡ root.children = ap siblings c.as_mut_slice.ensures.value ∙ c.into_vec-nodes.ensures in
+    rw failed (each_fails (subst (λ (t : Unread). OpensEach false (summed_files (images_among t)) (g.F.Files.map c.args.files.now) (g.F.Files.map c.fill_below.new.files)) below c.in_ok-fill_below.ensures.opened))
+
+pub returns-clause-opened : goal.returns-clause-opened
+returns-clause-opened g c =
+    let root = c.args.tree.root in
+    let below : siblings c.as_mut_slice.result.now ≡ root.children = ap siblings c.as_mut_slice.ensures.value ∙ c.into_vec-nodes.ensures in
+    subst (λ (t : Unread). OpensEach false (summed_files (images_among t)) (g.F.Files.map c.args.files.now) (g.F.Files.map c.fill_below.new.files)) below c.in_ok-fill_below.ensures.opened

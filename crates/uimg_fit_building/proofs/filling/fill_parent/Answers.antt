@@ -1,4 +1,4 @@
-use Rattle.std.proofs.Common.{rules, ◌≡◌, ◌∙◌, List, Some, length, map, ap, sym, subst, arith}
+use Rattle.std.proofs.Common.{rules, is_err, ◌≡◌, ◌∙◌, List, Some, length, map, ap, sym, subst, arith}
 use Rattle.std.specs.{List.AllByRecursion, Bool.⊤}
 use Rattle.uimg_blob_reading.specs.LookUps.{NodeOf, listed}
 use Rattle.uimg_blob_writing.specs.{Content.{Content, Unread}, Trees.siblings}
@@ -9,6 +9,8 @@ use Rattle.uimg_fit_building.specs.DigestBytes.{zeroed_image}
 use Rattle.uimg_fit_building.proofs.{EachLaws.written-back, FilledHashLaws.on-ok}
 use Rattle.uimg_fit_building.proofs.ImageFillLaws.{listed-siblings, siblings-each}
 use Rattle.uimg_fit_building.proofs.FillTreeLaws.{parent-told}
+use Rattle.uimg_blob_writing.specs.UsingFiles.{OpensEach}
+use Rattle.uimg_fit_building.specs.OpenedFiles.{summed_files}
 use Rattle.uimg_fit_building.proofs.filling.fill_parent.Goals as goal
 
 pub returns-clause-opens : goal.returns-clause-opens
@@ -58,3 +60,9 @@ returns-clause-rest g c =
     on-ok c.fill_images-answer.result
     (λ same. ap made (ap (each (zeroed_image c.args.naming)) (c.of-2.ensures ∙ ap siblings back) ∙ same ∙ ap (λ (t : Unread). each (zeroed_image c.args.naming) (each (filled_over c.args.naming no_files) t)) below))
     c.fill_images-answer.ensures.rest
+
+pub returns-clause-opened : goal.returns-clause-opened
+returns-clause-opened g c =
+    let below : siblings c.as_mut_slice.result.now ≡ c.args.parent.now.children = ap siblings c.as_mut_slice.ensures.value ∙ c.into_vec-images.ensures ∙ c.replace-nodes.ensures.value in
+    let are : map entry c.as_mut_slice.result.now ≡ listed c.args.parent.now.children = sym (listed-siblings c.as_mut_slice.result.now) ∙ ap (λ (t : Unread). listed t) below in
+    subst (λ (l : List (NodeOf Content)). OpensEach (is_err c.fill_images-answer.result) (summed_files (Some l)) (g.F.Files.map c.args.files.now) (g.F.Files.map c.fill_images-answer.new.files)) are c.fill_images-answer.ensures.opened

@@ -23,7 +23,7 @@ fn answered(alloc: Global, text: &[u8]) -> Result<String, AllocError> {
 }
 
 // Sources and their results.
-const ROWS: [(&str, &str); 70] = [
+const ROWS: [(&str, &str); 72] = [
     // The case refused-sources.
     ("", "I2 bad syntax at line 1"),
     ("/* open", "I1 bad token at line 1"),
@@ -135,6 +135,14 @@ const ROWS: [(&str, &str); 70] = [
     // is reported at its place, before a later fault.
     (
         "/dts-v1/; / { v = /incbin/(\"none\")\n]; };",
+        "I5 no file at line 1",
+    ),
+    (
+        "/dts-v1/; / { v = /incbin/(\n\"none\"\n); };",
+        "I5 no file at line 1",
+    ),
+    (
+        "/dts-v1/; / { data = /incbin/(\n\"none\"\n); };",
         "I5 no file at line 1",
     ),
     (

@@ -1,10 +1,13 @@
-use Rattle.std.proofs.Common.{rules, ◌∷◌, [], List, Some, arith, IsTrue, ap, sym, ◌∙◌}
+use Rattle.std.proofs.Common.{rules, refl, ◌≡◌, ◌∷◌, [], List, Some, true, is_err, arith, IsTrue, ap, sym, ◌∙◌}
 use Rattle.std.proofs.lemmas.Result.{err_from_is_err_and}
 use Rattle.uimg_its.specs.{Words.{Word, words}, Reader.{child_step, node_within, children}}
 use Rattle.uimg_its.specs.Parts.{NodeParts, props_in_full, parts_of, all_parts_of}
 use Rattle.uimg_its.proofs.StepLaws.{goes_past, is_end, is_refused_at, refused}
 use Rattle.uimg_its.proofs.NodeLaws.{node_is, node_too_deep, child_shrinks, inside_is}
 use Rattle.uimg_its.proofs.{FilesLaws.files_then, SoundLaws.{node_same, nodes_same}}
+use Rattle.uimg_its.proofs.IncludedLaws.{passed, followed, follows, stops, stops_in, unopened, ◌▷◌}
+use Rattle.uimg_its.specs.declared.tokens.Mark.TheVariants.{Semicolon}
+use Rattle.uimg_its.proofs.PassingLaws.{item_passes, expect_passes}
 use Rattle.uimg_its.proofs.nodes.+tree.Goals as goal
 
 pub children-returns-in_err-found-clause-opens : goal.children-returns-in_err-found-clause-opens
@@ -37,6 +40,7 @@ children-returns-in-None-clause-gives g t c = λ honest.
 pub children-loop-nodes-preserved : goal.children-loop-nodes-preserved
 children-loop-nodes-preserved g t c = record {
   files = files_then c.loop-nodes.invariant.files c.in_ok-found.ensures.opens.files;
+  opened = c.loop-nodes.invariant.opened ▷ followed c.in_ok-found.ensures.included;
   read = λ honest.
       let files = (g.F.Files.map c.args.files.now).bytes in
       let now : IsTrue (g.F.Files.map c.loop-nodes.files).honest = rw c.loop-nodes.invariant.files.same.honest honest in
@@ -94,3 +98,52 @@ inside-returns-clause-opens g t c = record {
   files = search rules;
   steady = search rules;
 }
+
+pub children-returns-in_err-found-clause-included : goal.children-returns-in_err-found-clause-included
+children-returns-in_err-found-clause-included g t c =
+    let failed : is_err c.from_residual.result ≡ true = search rules in
+    stops_in _ _ failed c.loop-nodes.invariant.opened c.in_err-found.ensures.included
+
+pub children-returns-in-None-clause-included : goal.children-returns-in-None-clause-included
+children-returns-in-None-clause-included g t c = follows _ _ (c.loop-nodes.invariant.opened ▷ followed c.in_ok-found.ensures.included)
+
+pub children-returns-in_err-push_node-in-Some-clause-included : goal.children-returns-in_err-push_node-in-Some-clause-included
+children-returns-in_err-push_node-in-Some-clause-included g t c =
+    let failed : is_err c.from_residual-in_err-push_node-in-Some.result ≡ true = search rules in
+    stops _ _ failed (c.loop-nodes.invariant.opened ▷ followed c.in_ok-found.ensures.included)
+
+pub inside-returns-in_err-children-clause-included : goal.inside-returns-in_err-children-clause-included
+inside-returns-in_err-children-clause-included g t c =
+    let failed : is_err c.from_residual-in_err-children.result ≡ true = search rules in
+    stops_in _ _ failed (followed c.in_ok-props.ensures.included) c.in_err-children.ensures.included
+
+pub inside-returns-clause-included : goal.inside-returns-clause-included
+inside-returns-clause-included g t c = follows _ _ (followed c.in_ok-props.ensures.included ▷ followed c.in_ok-children.ensures.included)
+
+pub child-returns-in_err-rest-in-Opens-clause-included : goal.child-returns-in_err-rest-in-Opens-clause-included
+child-returns-in_err-rest-in-Opens-clause-included g t c =
+    let failed : is_err c.from_residual-in_err-rest-in-Opens.result ≡ true = search rules in
+    stops _ _ failed (passed _ _ _ (item_passes _ _ _ c.in_ok-head.ensures.gives) ▷ followed c.in_ok-found-in-Opens.ensures.included)
+
+pub child-returns-in_ok-rest-in-Opens-clause-included : goal.child-returns-in_ok-rest-in-Opens-clause-included
+child-returns-in_ok-rest-in-Opens-clause-included g t c =
+    follows _ _ (passed _ _ _ (item_passes _ _ _ c.in_ok-head.ensures.gives) ▷ followed c.in_ok-found-in-Opens.ensures.included
+    ▷ passed _ _ _ (expect_passes Semicolon _ _ c.in_ok-rest-in-Opens.ensures.gives))
+
+pub child-returns-in_err-head-clause-included : goal.child-returns-in_err-head-clause-included
+child-returns-in_err-head-clause-included g t c = unopened _ _ (search rules)
+
+pub child-returns-in_err-found-in-Opens-clause-included : goal.child-returns-in_err-found-in-Opens-clause-included
+child-returns-in_err-found-in-Opens-clause-included g t c = stops_in _ _ (search rules) (passed _ _ _ (item_passes _ _ _ c.in_ok-head.ensures.gives)) c.in_err-found-in-Opens.ensures.included
+
+pub child-returns-in-Closes-clause-included : goal.child-returns-in-Closes-clause-included
+child-returns-in-Closes-clause-included g t c = follows _ _ (passed _ _ _ (item_passes _ _ _ c.in_ok-head.ensures.gives))
+
+pub child-returns-in_default-clause-included : goal.child-returns-in_default-clause-included
+child-returns-in_default-clause-included g t c = unopened _ _ refl
+
+pub node-returns-then-levels-eq0-clause-included : goal.node-returns-then-levels-eq0-clause-included
+node-returns-then-levels-eq0-clause-included g t c = unopened _ _ refl
+
+pub node-returns-in_err-name-clause-included : goal.node-returns-in_err-name-clause-included
+node-returns-in_err-name-clause-included g t c = unopened _ _ (search rules)

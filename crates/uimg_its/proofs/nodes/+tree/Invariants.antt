@@ -2,6 +2,7 @@ use Rattle.std.proofs.Common.{◌≡◌, ◌≤◌, ◌*◌, ◌+◌, length, Is
 use Rattle.uimg_blob_writing.specs.UsingFiles.{UsesFiles}
 use Rattle.uimg_its.specs.{Words.words, Steps.with_front, Parts.all_parts_of, Reader.children}
 use Rattle.uimg_its.specs.FileValues.{AreSoundNodes}
+use Rattle.uimg_its.proofs.IncludedLaws.{Follows}
 use Rattle.uimg_its.proofs.nodes.+tree.Given as goal
 
 abbrev pub decreases-node : goal.decreases-node
@@ -21,6 +22,7 @@ abbrev pub invariant-children-loop-nodes : goal.invariant-children-loop-nodes
 invariant-children-loop-nodes g l =
     let bytes = (g.F.Files.map l.fn.files).bytes in record {
       files : UsesFiles false (g.F.Files.map l.fn.files) (g.F.Files.map l.files);
+      opened : Follows (words l.text) (words l.rest) (g.F.Files.map l.fn.files) (g.F.Files.map l.files);
       read : IsTrue (g.F.Files.map l.fn.files).honest → with_front (all_parts_of bytes l.nodes.items) (children l.levels bytes (words l.rest)) ≡ children l.levels bytes (words l.text);
       sound : AreSoundNodes (g.F.Files.map l.fn.files) l.nodes.items;
       within : length l.rest ≤ length l.text;

@@ -1,12 +1,17 @@
-use Rattle.std.proofs.Common.{◌∙◌, ℕ, List, Option, Some, None, ap, refl, subst, sym}
+use Rattle.std.proofs.Common.{◌≡◌, ◌∙◌, true, ℕ, List, Option, Some, None, ap, refl, subst, sym}
 use Rattle.std.specs.Prelude.{IfSome, is_some}
 use Rattle.std.specs.Io.{Buffered.writer_contents, KnownBytes.Keeps}
 use Rattle.uimg_base.specs.Sink.{Sink}
-use Rattle.uimg_tool.specs.Statuses.{end_status}
+use Rattle.uimg_tool.specs.{Complaints.Complains, Statuses.end_status}
 use Rattle.uimg_tool.proofs.CommandLaws.{by_outfile, of_some}
-use Rattle.uimg_tool.proofs.ExtractLaws
+use Rattle.uimg_tool.proofs.{ComplainLaws.{Means, by_extracts, by_tells, run_told}, ExtractLaws}
+use Rattle.uimg_tool.specs.FaultTexts.{told_of_end}
 use Rattle.uimg_tool.proofs.RunLaws
 use Rattle.uimg_tool.proofs.commands.run_image.Goals as goal
+
+by_file : {P X : Type 0} (outfile : Option X) → (outfile ≡ None → P) → (is_some outfile ≡ true → P) → P
+by_file None none some = none refl
+by_file (Some path) none some = some refl
 
 pub returns-clause-told : goal.returns-clause-told
 returns-clause-told g c = λ honest. by_outfile c.args.request.now.outfile _ c.args.request.now _ _ _ _ _ _
@@ -19,3 +24,13 @@ returns-clause-told g c = λ honest. by_outfile c.args.request.now.outfile _ c.a
     (c.run_command-end.ensures.extracted honest (ap is_some is) refl) (c.tell_end.ensures.status ∙ ap end_status c.told.ensures)
     (subst (λ (known : Option (List ℕ)). Keeps known (writer_contents g.W.Write.contents c.flush.new.self))
     (c.into_inner-out.ensures ∙ ap (λ (s : Sink). s.contents) (c.run_command-end.ensures.silent (ap is_some is) ∙ c.new-out.ensures)) c.flush.ensures.bytes))
+
+-- what the outcome has, by whether there is a file to extract to
+pub returns-clause-line : goal.returns-clause-line
+returns-clause-line g c = λ honest.
+    let meant : Means c.args.request.now (g.D.World.map c.args.world.now) c.run_command-end.result = by_file c.args.request.now.outfile
+    (λ none. by_tells _ _ c.run_command-end.result _ _ (c.run_command-end.ensures.told honest none))
+    (λ some. by_extracts _ _ _ c.run_command-end.result (c.run_command-end.ensures.extracted honest some refl)) in
+    run_told _ c.args.request.now (g.D.World.map c.args.world.now) c.tell_end.result _ c.run_command-end.result c.flush.result c.run_command-end.ensures.ends meant
+    (c.tell_end.ensures.status ∙ ap end_status c.told.ensures)
+    (subst (λ it. Complains _ (told_of_end it) _) c.told.ensures c.tell_end.ensures.line)

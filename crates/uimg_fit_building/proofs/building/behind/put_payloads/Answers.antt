@@ -1,6 +1,6 @@
 use Rattle.std.proofs.{Common.{List, sym, subst}, lemmas.List.Folds.flat_map-map}
 use Rattle.uimg_blob_writing.specs.{declared.tree.Node.Node, Content.Content, Pieces.WritesPieces}
-use Rattle.uimg_blob_writing.proofs.WritesLaws.{went_well, failed, refused, each-goes, each-stops, each-all}
+use Rattle.uimg_blob_writing.proofs.WritesLaws.{none-yet, went_well, failed, refused, each-goes, each-stops, each-all}
 use Rattle.uimg_fit_building.specs.Behind.{entry, payload_pieces}
 use Rattle.uimg_fit_building.proofs.building.behind.put_payloads.Goals as goal
 
@@ -37,3 +37,6 @@ returns g c =
     let f : Node g.row.A.Denot → List Content = λ i. payload_pieces c.args.align (entry i) in
     let whole = each-all steady f items c.loop-image.image-index c.loop-image-test.false m n c.args.out.now c.loop-image.out c.loop-image.invariant in
     subst (λ (ps : List Content). WritesPieces steady went_well m n c.args.out.now c.loop-image.out ps) (sym (flat_map-map (payload_pieces c.args.align) entry items)) whole
+
+pub loop-image-init : goal.loop-image-init
+loop-image-init g c = none-yet g.F.Opened.Source.steady (g.F.Files.map c.args.files.now) c.args.out.now

@@ -1,4 +1,4 @@
-use Rattle.std.{proofs.Common.{◌∙◌, refl, sym, ap, subst, map, Option, Some}, specs.Bool.⊤}
+use Rattle.std.{proofs.Common.{true, is_err, ◌∙◌, refl, sym, ap, subst, map, Option, Some}, specs.Bool.⊤}
 use Rattle.std.specs.List.{filter, AllByRecursion}
 use Rattle.uimg_blob_reading.specs.Roles.{is_hash}
 use Rattle.uimg_fit_building.specs.{Behind.entry, PayloadSums.CoversHash, Filling.each}
@@ -8,6 +8,8 @@ use Rattle.uimg_fit_base.proofs.AlgoSetLaws.{empty-is, some-are}
 use Rattle.uimg_blob_writing.specs.{Content.content_bytes, Properties.content, Trees.siblings}
 use Rattle.uimg_fit_building.proofs.FillOrderLaws.{always}
 use Rattle.uimg_fit_building.proofs.ImageFillLaws.{not-known, all-known, all-covered, none-found, none-hashed, some-hashed, stops-at, children-filled}
+use Rattle.uimg_blob_writing.proofs.OpenedLaws.{each_none, each_unopened}
+use Rattle.uimg_fit_building.proofs.OpenedFilesLaws.{hashed-opened, unhashed-opened}
 use Rattle.uimg_fit_building.proofs.filling.filled_images.fill_hashes.Goals as goal
 
 pub returns-in_default-clause-filled : goal.returns-in_default-clause-filled
@@ -54,3 +56,22 @@ returns-then-is_empty-clause-rest g c = λ message.
     let is = sym c.algos_of.ensures ∙ c.in-Some.is in
     let empty = empty-is c.in-Some.set (sym c.is_empty.ensures ∙ c.if-is_empty.true) in
     ap (each (zeroed_child c.args.naming)) (none-hashed c.args.naming c.args.nodes.now _ refl message (is ∙ ap (λ (s : AlgoSet). let o : Option AlgoSet = Some s in o) empty))
+
+pub returns-in_default-clause-opened : goal.returns-in_default-clause-opened
+returns-in_default-clause-opened g c = each_unopened _ _
+
+pub returns-then-is_empty-clause-opened : goal.returns-then-is_empty-clause-opened
+returns-then-is_empty-clause-opened g c =
+    let is = sym c.algos_of.ensures ∙ c.in-Some.is in
+    let empty = empty-is c.in-Some.set (sym c.is_empty.ensures ∙ c.if-is_empty.true) in
+    unhashed-opened _ _ _ _ _ (none-found c.args.naming c.args.nodes.now _ refl (is ∙ ap (λ (s : AlgoSet). let o : Option AlgoSet = Some s in o) empty)) (each_none _ _)
+
+pub returns-in-Err-clause-opened : goal.returns-in-Err-clause-opened
+returns-in-Err-clause-opened g c =
+    let is = sym c.algos_of.ensures ∙ c.in-Some.is in
+    hashed-opened true _ (content c.args.payload.now) _ _ (some-hashed c.args.naming c.args.nodes.now _ refl c.in-Some.set is (some-are c.in-Some.set (sym c.is_empty.ensures ∙ c.if-is_empty.false))) c.in-Err.ensures.reads.opened
+
+pub returns-in-Ok-clause-opened : goal.returns-in-Ok-clause-opened
+returns-in-Ok-clause-opened g c =
+    let is = sym c.algos_of.ensures ∙ c.in-Some.is in
+    hashed-opened (is_err c.fill_children.result) _ (content c.args.payload.now) _ _ (some-hashed c.args.naming c.args.nodes.now _ refl c.in-Some.set is (some-are c.in-Some.set (sym c.is_empty.ensures ∙ c.if-is_empty.false))) c.in-Ok.ensures.reads.opened

@@ -1,4 +1,4 @@
-use Rattle.std.proofs.Common.{◌≡◌, ◌≢◌, ◌∙◌, sym, subst, ap, List, [], length, OnOk, arith}
+use Rattle.std.proofs.Common.{◌≡◌, ◌≢◌, ◌∙◌, sym, subst, ap, List, [], length, Option, Some, OnOk, is_err, arith}
 use Rattle.std.specs.{List.filter, Bool.⊤}
 use Rattle.uimg_blob_reading.specs.{Plain.NamedOf, LookUps.listed, Roles.is_hash}
 use Rattle.uimg_blob_writing.specs.{Content.{Content, Unread, IsKept}, Properties.content}
@@ -10,6 +10,8 @@ use Rattle.uimg_fit_building.specs.DigestBytes.{zeroed_child, zeroed_image}
 use Rattle.uimg_fit_building.proofs.{EachLaws.written-back, FilledHashLaws.on-ok}
 use Rattle.uimg_fit_building.proofs.{FillOrderLaws.next-is, DigestBytesLaws.image-zeroed}
 use Rattle.uimg_fit_building.proofs.ImageFillLaws.{no-data, image-told, content-none, content-some}
+use Rattle.uimg_blob_writing.{specs.UsingFiles.OpensEach, proofs.OpenedLaws.each_unopened}
+use Rattle.uimg_fit_building.specs.OpenedFiles.{file_if_hashed}
 use Rattle.uimg_fit_building.proofs.filling.filled_images.fill_image.Goals as goal
 
 pub returns-in_default-clause-filled : goal.returns-in_default-clause-filled
@@ -69,3 +71,17 @@ returns-clause-rest g c =
     (subst (λ (t : Unread). OnOk answer (each (zeroed_child c.args.naming) (siblings now) ≡ each (zeroed_child c.args.naming) (each (hashed_in c.args.naming (in_memory payload)) t))) below (c.fill_hashes-answer.ensures.rest (in_memory payload))) in
     subst (λ (l : List (NamedOf Content)). OnOk answer (zeroed_image c.args.naming (record { name = image.name; own = l; below = c.of-2.result }) ≡ filled)) (sym own)
     (subst (λ (t : Unread). OnOk answer (zeroed_image c.args.naming (record { name = image.name; own = without_external image.props; below = t }) ≡ filled)) (sym children) told)
+
+pub returns-in_default-clause-opened : goal.returns-in_default-clause-opened
+returns-in_default-clause-opened g c = each_unopened _ _
+
+pub returns-clause-opened : goal.returns-clause-opened
+returns-clause-opened g c =
+    let m = g.F.Files.map c.args.files.now in
+    let n = g.F.Files.map c.fill_hashes-answer.new.files in
+    let e = is_err c.fill_hashes-answer.result in
+    let payload = content c.in-Some.payload.now in
+    let there = sym c.payload_of.ensures ∙ content-some _ c.payload_of.result c.in-Some.payload c.in-Some.is in
+    let below : siblings c.as_mut_slice.result.now ≡ c.args.image.now.children = ap siblings c.as_mut_slice.ensures.value ∙ c.into_vec-list.ensures ∙ c.replace-nodes.ensures.value in
+    subst (λ (o : Option Content). OpensEach e (file_if_hashed (filter (λ h. is_hash h.name) (listed c.args.image.now.children)) o) m n) (sym there)
+    (subst (λ (t : Unread). OpensEach e (file_if_hashed (filter (λ h. is_hash h.name) (listed t)) (Some payload)) m n) below c.fill_hashes-answer.ensures.opened)

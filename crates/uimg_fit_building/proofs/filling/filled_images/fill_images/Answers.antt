@@ -1,4 +1,4 @@
-use Rattle.std.proofs.Common.{rules, ◌≡◌, ◌<◌, ◌∙◌, ℕ, List, Bool, false, Option, Some, None, Err, length, map, set, get_or, arith, ap, refl, subst, sym, IsTrue}
+use Rattle.std.proofs.Common.{rules, true, is_err, ◌≡◌, ◌<◌, ◌∙◌, ℕ, List, Bool, false, Option, Some, None, Err, length, map, set, get_or, arith, ap, refl, subst, sym, IsTrue}
 use Rattle.std.{proofs.Math.ListN.length-set, specs.Bool.⊤}
 use Rattle.uimg_blob_writing.specs.declared.tree.Node.{Node}
 use Rattle.uimg_fit_building.specs.{Behind.entry, FillAnswers.{opens_no_file, fails_to_read}}
@@ -9,12 +9,15 @@ use Rattle.uimg_fit_building.proofs.EachLaws.{same-at, rest-more, changed-more, 
 use Rattle.uimg_fit_building.proofs.DigestBytesLaws.{each-agrees}
 use Rattle.uimg_fit_building.proofs.FillOrderLaws.{by-refusal, all-more, all-of, refused-before, order-refused}
 use Rattle.uimg_fit_building.proofs.ImagesFillLaws.{images-refused, sound-more, entry-at, none-sound}
+use Rattle.uimg_blob_writing.{specs.UsingFiles.OpensEach, proofs.OpenedLaws.each_none}
+use Rattle.uimg_fit_building.{specs.OpenedFiles.summed_file, proofs.OpenedFilesLaws.{one-more, one-stops, all-opened}}
 use Rattle.uimg_fit_building.proofs.filling.filled_images.fill_images.Goals as goal
 
 pub loop-image-init : goal.loop-image-init
 loop-image-init g c = record {
   long = refl;
   same = record { bytes = refl; honest = refl; complete = refl };
+  opened = each_none false (g.F.Files.map c.args.files.now);
   refusals = refl;
   rest = refl;
   filled = λ honest. record { rest = refl; done = refl };
@@ -109,6 +112,8 @@ loop-image-preserved g c =
     record {
       long = length-set now i new ∙ s.long;
       same = record { bytes = used.same.bytes ∙ s.same.bytes; honest = used.same.honest ∙ s.same.honest; complete = used.same.complete ∙ s.same.complete };
+      opened = one-more old i d in_old (g.F.Files.map c.args.files.now) (g.F.Files.map c.loop-image.files) (g.F.Files.map c.fill_image.new.files) s.opened
+          (subst (λ (n : Node _). OpensEach false (summed_file (entry n)) (g.F.Files.map c.loop-image.files) (g.F.Files.map c.fill_image.new.files)) here c.in_ok-fill_image.ensures.opened);
       refusals = used.refusals ∙ s.refusals;
       rest = rest-more old now i d new in_old in_now s.rest;
       filled = λ honest.
@@ -139,3 +144,24 @@ returns-clause-rest g c =
     each-agrees (zeroed_image c.args.naming) (filled_over c.args.naming no_files) old now
     (agree-all (λ (n : Node _). zeroed_image c.args.naming (entry n)) (λ (n : Node _). zeroed_image c.args.naming (filled_over c.args.naming no_files (entry n))) old now c.loop-image.image-index
     (omega (arith, s.long)) (omega arith) s.zeroed)
+
+pub returns-in_err-fill_image-clause-opened : goal.returns-in_err-fill_image-clause-opened
+returns-in_err-fill_image-clause-opened g c =
+    let old = c.args.images.now in
+    let now = c.loop-image.images in
+    let i = c.loop-image.image-index in
+    let d = c.image-item.result in
+    let s = c.loop-image.invariant in
+    let m = g.F.Files.map c.loop-image.files in
+    let n = g.F.Files.map c.fill_image.new.files in
+    let in_now : i < length now = omega arith in
+    let in_old : i < length old = omega (arith, s.long) in
+    let here : get_or now i d ≡ get_or old i d = same-at entry (filled_over c.args.naming no_files) old now i d in_old in_now s.rest in
+    let failed : is_err c.from_residual.result ≡ true = search rules in
+    one-stops old (is_err c.from_residual.result) i d in_old (g.F.Files.map c.args.files.now) m n failed s.opened
+    (subst (λ (n' : Node _). OpensEach true (summed_file (entry n')) m n) here c.in_err-fill_image.ensures.opened)
+
+pub returns-clause-opened : goal.returns-clause-opened
+returns-clause-opened g c =
+    let s = c.loop-image.invariant in
+    all-opened c.args.images.now c.loop-image.image-index _ _ (omega (arith, s.long)) s.opened

@@ -4,7 +4,7 @@ use Rattle.uimg_base.specs.Named.{SameFiles}
 use Rattle.uimg_fit_building.specs.{Behind.entry, FillOrder.IsPassed, PayloadSums.no_files}
 use Rattle.uimg_fit_building.specs.ImageFillings.{filled_over, first_in_memory}
 use Rattle.uimg_fit_building.specs.DigestBytes.{zeroed_image}
-use Rattle.uimg_fit_building.proofs.EachLaws.{ChangedTo, AgreeTo}
+use Rattle.uimg_fit_building.proofs.{EachLaws.{ChangedTo, AgreeTo}, OpenedFilesLaws.FirstOpened}
 use Rattle.uimg_fit_building.proofs.filling.filled_images.fill_images.Given as goal
 
 -- the images before the index are filled, over any files but for their digests, none of them is refused, and the others are as they were
@@ -14,6 +14,7 @@ invariant-loop-image g l =
     record {
       long : length l.images ≡ length l.fn.images;
       same : SameFiles files (g.F.Files.map l.files);
+      opened : FirstOpened l.fn.images l.image-index files (g.F.Files.map l.files);
       refusals : (g.F.Files.map l.files).refusals ≡ files.refusals;
       rest : drop l.image-index l.images ≡ drop l.image-index l.fn.images;
       filled : IsTrue files.honest → ChangedTo entry (filled_over l.naming files.bytes) l.fn.images l.images l.image-index;

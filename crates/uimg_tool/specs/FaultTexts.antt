@@ -1,0 +1,38 @@
+-- What is told of a request that was not carried out, and of one that was.
+use Rattle.std.specs.Prelude.{ℕ, List, ◌++◌, codes, Option, Some, None, Result, Ok, Err}
+use Rattle.uimg_base.specs.Outcome.{End, done, not_right, refused}
+use Rattle.uimg_base.specs.declared.status.Status.{Status}
+use Rattle.uimg_engine.specs.FaultTexts.{text_of}
+use Rattle.uimg_engine.specs.declared.fault.Fault.{Fault}
+use Rattle.uimg_printing.specs.Printing.{printed}
+use Rattle.uimg_tool.specs.declared.request_fault.RequestFault.{RequestFault}
+use Rattle.uimg_tool.specs.declared.request_fault.RequestFault.TheVariants as request
+
+-- the text of a fault, but not where the system's reason is in it
+abbrev pub request_text : RequestFault → Option (List ℕ)
+request_text (request.CannotRead path) = Some (codes "cannot read " ++ path.now)
+request_text (request.Unread path reason) = None
+request_text (request.CannotWrite path reason) = Some (codes "cannot write " ++ path.now)
+request_text (request.NotPut path reason) = Some (codes "write failed")
+request_text (request.NotPrinted reason) = Some (codes "write failed")
+request_text (request.Exists path) =
+    Some (printed false path.0.now ++ codes " exists; use --force to replace it")
+request_text (request.WritesWhatIsRead path) =
+    Some (path.now ++ codes " would be written while it is read")
+request_text (request.DrawsOverWhatIsRead path) =
+    Some (printed false path.0.now ++ codes " would be written while it is read")
+request_text (request.NoRoom path) = Some (codes "-x: " ++ path.now
+    ++ codes " does not begin with 64 bytes 0xff, which the header replaces")
+request_text request.OutOfMemory = Some (codes "out of memory")
+request_text (request.Stopped fault) = Some (text_of fault)
+
+-- what is told of the end of a request: nothing, or a fault
+abbrev pub told_of_end : Result Status RequestFault → Option (Option (List ℕ))
+told_of_end (Ok status) = None
+told_of_end (Err fault) = Some (request_text fault)
+
+-- what is told of an outcome
+abbrev pub told_of_outcome : End Fault → Option (Option (List ℕ))
+told_of_outcome done = None
+told_of_outcome not_right = None
+told_of_outcome (refused fault) = Some (Some (text_of fault))
