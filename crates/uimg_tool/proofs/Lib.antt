@@ -3,6 +3,7 @@ pub mod BufferLaws
 pub mod CheckLaws
 pub mod CommandLaws
 pub mod ComplainLaws
+pub mod DrawingLaws
 pub mod ExtractLaws
 pub mod FolderLaws
 pub mod InfoLaws

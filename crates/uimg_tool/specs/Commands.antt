@@ -7,7 +7,7 @@ use Rattle.uimg_cli.specs.declared.command_line.Asked.TheVariants.{One, Check, U
 use Rattle.uimg_cli.specs.declared.command_line.Request.{Request}
 use Rattle.uimg_cli.specs.declared.command_line.Request.TheVariants as asked
 use Rattle.uimg_requests.specs.declared.requests.RunRequest.{RunRequest}
-use Rattle.uimg_tool.specs.{Answering.AnswersBy, Extracting.{AnswersExtraction, AsksToRun}, Facts.IsFactsAnswer, Makings.AnswersMaking, MapAnswers.IsMapAnswer}
+use Rattle.uimg_tool.specs.{Answering.AnswersBy, Drawing.AsksToMap, Extracting.{AnswersExtraction, AsksToRun}, Facts.IsFactsAnswer, Makings.AnswersMaking, MapAnswers.IsMapAnswer}
 use Rattle.uimg_tool.specs.Checking.{AnswersRequest}
 use Rattle.uimg_tool.specs.{Running.AnswersRun, Unpackings.AnswersUnpacking}
 use Rattle.uimg_unpacking.specs.Deeds.{Deed, LendsReader, LendsShelf, changes}
@@ -45,8 +45,8 @@ Flushes it status left = status ≢ 3 → left ≡ []
 
 -- A command on one image opens it and nothing else, and changes only the file of an extraction. A making
 -- lends a reader, and a shelf in its image's file alone. A check, facts and a map that is not drawn change
--- no file, and an unpacking only files and its temporary folder in its folder. What a map that is drawn
--- changes is not said here.
+-- no file, and an unpacking only files and its temporary folder in its folder. A map that is drawn opens
+-- its image, and changes the picture's file alone.
 abbrev pub ChangesOne : Request → List Deed → List Deed → Type 0
 ChangesOne (asked.Run it) old new = AsksToRun it it.outfile old new
 ChangesOne (asked.Make it) old new = new ≡ LendsShelf it.written.now ∷ LendsReader ∷ old
@@ -56,5 +56,5 @@ abbrev pub Changes : Asked → List Deed → List Deed → Type 0
 Changes (One it) old new = ChangesOne it old new
 Changes (Check it) old new = changes new ≡ changes old
 Changes (Unpack it) old new = ChangesWithin it.folder.now true old new
-Changes (Map it) old new = it.picture ≡ None → changes new ≡ changes old
+Changes (Map it) old new = AsksToMap it it.picture old new
 Changes (Info it) old new = changes new ≡ changes old

@@ -7,6 +7,7 @@ pub mod Checks
 pub mod Commands
 pub mod Complaining
 pub mod Complaints
+pub mod Drawing
 pub mod EndingStatuses
 pub mod Extracting
 pub mod FaultTexts

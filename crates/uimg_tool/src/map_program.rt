@@ -1,11 +1,13 @@
 //! Prints the map of an image's file, as lines or as a picture.
 
-ghost use Rattle.std.specs.Prelude.{◌≡◌, ◌≢◌, ℕ, List, ◌∷◌, [], false, true, None, IfOk, IsTrue, OnOk, is_some};
+ghost use Rattle.std.specs.Prelude.{◌≡◌, ◌≢◌, ℕ, List, ◌∷◌, [], false, true, None, IfOk, IsTrue, OnOk, is_some, string_bytes};
 ghost use Rattle.std.specs.{Borrow.Bor, Io.Buffered.{writer_buffer, writer_contents}};
 ghost use Rattle.uimg_base.specs.Honest.{IfHonest};
 ghost use Rattle.uimg_map.specs.{Lines.PutsLines, Maps.contents_of, Picture.DrawsPicture};
 ghost use Rattle.uimg_printing.specs.Printing.{printed};
 ghost use Rattle.uimg_tool.specs.{Answering.AnswersBy, Complaints.Ends};
+ghost use Rattle.uimg_tool.specs.Drawing.{AsksToMap, Draws, DrawsTo, DrawsUnlessTaken, LooksTaken, NamesPicture};
+ghost use Rattle.uimg_tool.specs.Extracting.{Overwrites};
 ghost use Rattle.uimg_tool.specs.MapAnswers.{IsMapAnswer, PrintsMap};
 ghost use Rattle.uimg_tool.specs.MapEnds.{DrawEnds, PrintEnds, map_status};
 ghost use Rattle.uimg_unpacking.specs.Deeds.{Deed, changes};
@@ -43,8 +45,8 @@ pub(crate) fn map_image<D: World, W: Write + Drop, V: Write>(
     ensures silent { is_some request.now.picture ≡ true → out.new ≡ out.old }
     ensures opened { request.now.picture ≡ None → result ≢ 3 →
         D.trace world.new ≡ Deed.Opens request.now.image.now true ∷ D.trace world.old }
-    ensures reads { request.now.picture ≡ None →
-        changes (D.trace world.new) ≡ changes (D.trace world.old) }
+    ensures asks { AsksToMap request.now request.now.picture (D.trace world.old)
+        (D.trace world.new) }
 {
     match request.picture {
         Some(path) => draw_image(world, request, path, complaints),
@@ -105,7 +107,9 @@ fn draw_image<D: World, V: Write>(
     path: &str,
     complaints: &mut Complaints<'_, V>,
 ) -> u8
-    ensures { Ends result complaints.old.count complaints.new.count }
+    ensures ends { Ends result complaints.old.count complaints.new.count }
+    ensures asks { Draws request.now.image.now path.now request.now.is_forced
+        (D.trace world.old) (D.trace world.new) }
 {
     let Ok(mut source) = world.open(request.image) else {
         return complaints.tell_unread(world, request.image);
@@ -118,10 +122,43 @@ fn draw_image<D: World, V: Write>(
         let path = Printed(path.as_bytes());
         return complaints.tell(&RequestFault::DrawsOverWhatIsRead(path), WRONG_LINE);
     }
-    if !request.is_forced && is_taken(world, path) {
+    draw_unless_taken(world, request, path, &mut source, &map, complaints)
+}
+
+// Writes a map as the picture at a path, unless that would replace what must not be. Returns the
+// status.
+fn draw_unless_taken<D: World, S: Source, V: Write>(
+    world: &mut D,
+    request: &MapRequest<'_>,
+    path: &str,
+    source: &mut S,
+    map: &Map,
+    complaints: &mut Complaints<'_, V>,
+) -> u8
+    ensures ends { Ends result complaints.old.count complaints.new.count }
+    ensures asks { DrawsUnlessTaken path.now request.now.is_forced (D.trace world.old)
+        (D.trace world.new) }
+{
+    if request.is_forced {
+        let drawn = draw(world, request, path, source, map);
+        return tell_drawn(drawn, map, complaints);
+    }
+    if is_taken(world, path) {
         return complaints.tell(&RequestFault::Exists(Printed(path.as_bytes())), FAILED);
     }
-    match draw(world, request, path, &mut source, &map) {
+    let drawn = draw(world, request, path, source, map);
+    tell_drawn(drawn, map, complaints)
+}
+
+// Reports how the drawing of a map ended, and returns the status.
+fn tell_drawn<V: Write>(
+    drawn: Result<(), Stop<'_>>,
+    map: &Map,
+    complaints: &mut Complaints<'_, V>,
+) -> u8
+    ensures { Ends result complaints.old.count complaints.new.count }
+{
+    match drawn {
         Ok(()) => tell_ended(Ok(map.fault), complaints),
         Err(stop) => tell_ended(Err(stop), complaints),
     }
@@ -129,10 +166,13 @@ fn draw_image<D: World, V: Write>(
 
 // Returns whether a picture at a path would replace a file or a symbolic link. Devices and pipes are
 // written to.
-fn is_taken<D: World>(world: &mut D, path: &str) -> bool {
+fn is_taken<D: World>(world: &mut D, path: &str) -> bool
+    ensures { LooksTaken path.now result (D.trace world.old) (D.trace world.new) }
+{
     match world.target_of(path) {
         Target::File => true,
-        Target::Pipe | Target::Other => false,
+        Target::Pipe => false,
+        Target::Other => false,
         Target::Nothing => world.kind_at(path).is_something(),
     }
 }
@@ -205,19 +245,35 @@ fn draw<'a, D: World, S: Source>(
     source: &mut S,
     map: &Map,
 ) -> Result<(), Stop<'a>>
-    ensures { DrawEnds path.entry result }
+    ensures ends { DrawEnds path.entry result }
+    ensures asks { DrawsTo path.now request.now.is_forced (D.trace world.old) (D.trace world.new) }
 {
     match writing_of(world, world.alloc(), path) {
         Ok(Writing::Beside(file, safe)) => {
             let drawn = close(draw_into(world.alloc(), request, path, file, source, map));
             name_picture(world, path, &safe, request.is_forced, drawn)
         }
-        Ok(Writing::InPlace | Writing::Pipe) => match world.create(path) {
-            Ok(file) => close(draw_into(world.alloc(), request, path, file, source, map)),
-            Err(reason) => Err(Stop::CannotWrite(path, reason)),
-        },
+        Ok(Writing::InPlace) => draw_in_place(world, request, path, source, map),
+        Ok(Writing::Pipe) => draw_in_place(world, request, path, source, map),
         Ok(Writing::Nowhere(reason)) => Err(Stop::CannotWrite(path, reason)),
         Err(_) => Err(Stop::Stopped(MapStop::Stopped(MapFault::OutOfMemory))),
+    }
+}
+
+// Writes a map as a picture to what exists at a path.
+fn draw_in_place<'a, D: World, S: Source>(
+    world: &mut D,
+    request: &MapRequest<'_>,
+    path: &'a str,
+    source: &mut S,
+    map: &Map,
+) -> Result<(), Stop<'a>>
+    ensures ends { DrawEnds path.entry result }
+    ensures asks { Overwrites path.now (D.trace world.old) (D.trace world.new) }
+{
+    match world.create(path) {
+        Ok(file) => close(draw_into(world.alloc(), request, path, file, source, map)),
+        Err(reason) => Err(Stop::CannotWrite(path, reason)),
     }
 }
 
@@ -230,18 +286,24 @@ fn name_picture<'a, D: World>(
     is_forced: bool,
     drawn: Result<(), Stop<'a>>,
 ) -> Result<(), Stop<'a>>
-    ensures { DrawEnds path.entry drawn.entry → DrawEnds path.entry result }
+    ensures ends { DrawEnds path.entry drawn.entry → DrawEnds path.entry result }
+    ensures asks { NamesPicture (string_bytes safe.now.new) (string_bytes safe.now.whole) is_forced
+        (D.trace world.old) (D.trace world.new) }
 {
     let (new, whole) = (safe.new.as_str(), safe.whole.as_str());
-    let named = match drawn {
+    match drawn {
         Ok(()) => match name_file(world, new, whole, is_forced) {
-            Ok(()) => return Ok(()),
-            Err(reason) => Err(Stop::CannotWrite(path, reason)),
+            Ok(()) => Ok(()),
+            Err(reason) => {
+                let _ = world.remove_file(new);
+                Err(Stop::CannotWrite(path, reason))
+            }
         },
-        Err(stop) => Err(stop),
-    };
-    let _ = world.remove_file(new);
-    named
+        Err(stop) => {
+            let _ = world.remove_file(new);
+            Err(stop)
+        }
+    }
 }
 
 // Writes a picture to a file, which is returned.
