@@ -95,6 +95,7 @@ impl<'a, R: rt::Files + AllocGlobal> SearchedFiles<'a, R> {
     fn open_here(&mut self, name: &[u8]) -> Result<FileSource<R::File>, SourceFault>
         ensures fresh { IfOk result (λ source. IsFresh (⟦<FileSource<R::File> as Source>⟧.device source)) }
         ensures same { self.new.refusals ≡ self.old.refusals }
+        ensures noted { self.new.opened ≡ self.old.opened }
     {
         self.files.open(name)
     }
@@ -110,6 +111,7 @@ impl<'a, R: rt::Files + AllocGlobal> SearchedFiles<'a, R> {
     ) -> Result<FileSource<R::File>, SourceFault>
         ensures fresh { IfOk result (λ source. IsFresh (⟦<FileSource<R::File> as Source>⟧.device source)) }
         ensures same { self.new.refusals ≡ self.old.refusals }
+        ensures noted { self.new.opened ≡ self.old.opened }
     {
         let left_out = self.left_out;
         let met = &mut self.has_met_left_out;
