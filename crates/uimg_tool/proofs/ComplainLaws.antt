@@ -1,12 +1,12 @@
 -- What is told of a command on an image is what its outcome says.
 use Rattle.std.proofs.Common.{◌≡◌, ℕ, List, Option, Some, None, Result, Ok, Err, ◌⊎◌, inl, inr, refl, sym, subst, ◌∙◌}
 use Rattle.std.specs.{Borrow.Bor, Prelude.⊤, declared.io.Error.Error}
-use Rattle.uimg_base.specs.{Lent.Lent, Named.FileMap, Outcome.{End, Outcome, done, not_right, refused, Tells}, Sink.Sink}
+use Rattle.uimg_base.specs.{Named.FileMap, Outcome.{End, Outcome, done, not_right, refused, Tells}, Sink.Sink}
 use Rattle.uimg_base.specs.declared.status.Status.{Status, TheVariants.{Done, NotRight}}
 use Rattle.uimg_engine.specs.Faults.{end_of}
 use Rattle.uimg_engine.specs.declared.fault.Fault.{Fault}
 use Rattle.uimg_requests.specs.declared.requests.RunRequest.{RunRequest}
-use Rattle.uimg_tool.specs.{Complaining.ComplainsRun, Complaints.Complains, Extracting.ExtractsAt, FaultTexts.{told_of_end, told_of_outcome}}
+use Rattle.uimg_tool.specs.{Complaining.ComplainsRun, Complaints.ComplainsBetween, Extracting.ExtractsAt, FaultTexts.{told_of_end, told_of_outcome}}
 use Rattle.uimg_tool.specs.{MadeEnds.end_printed, RequestEnds.RunEnds, Running.{TellsAt, meant_end, outcome_on}, Statuses.{end_status, fault_status}}
 use Rattle.uimg_tool.specs.declared.complaints.Complaints.{Complaints}
 use Rattle.uimg_tool.specs.declared.request_fault.RequestFault.{RequestFault}
@@ -61,18 +61,18 @@ by_extracts contents asked files (Err (request.NoRoom path)) at = tt
 by_extracts contents asked files (Err request.OutOfMemory) at = tt
 by_extracts contents asked files (Err (request.Stopped fault)) at = (at.0, at.1, means_end (end_of (Err fault)) _ at.2.before at.2.after at.2.tells)
 
-module _ {V : Type 0} (contents : V → Option (List ℕ)) (asked : RunRequest) (files : FileMap) (status : ℕ) (err : Lent (Complaints V)) where
+module _ {V : Type 0} (contents : V → Option (List ℕ)) (asked : RunRequest) (files : FileMap) (status : ℕ) (old new : Complaints V) where
   -- an end that the outcome has
-  outcome_told : (e : End Fault) → MeansAt asked files (Some e) → Complains contents (told_of_outcome e) err → ComplainsRun contents asked files status err
-  outcome_told e at told = inr (inr (at.0, at.1, subst (λ (it : End Fault). Complains contents (told_of_outcome it) err) (sym at.2) told))
+  outcome_told : (e : End Fault) → MeansAt asked files (Some e) → ComplainsBetween contents (told_of_outcome e) old new → ComplainsRun contents asked files status old new
+  outcome_told e at told = inr (inr (at.0, at.1, subst (λ (it : End Fault). ComplainsBetween contents (told_of_outcome it) old new) (sym at.2) told))
 
   stopped_told : (fault : Fault) → (end_of (Err fault) ≡ Some (refused fault)) ⊎ (fault_status fault ≡ 3) → MeansAt asked files (end_of (Err fault))
-      → status ≡ fault_status fault → Complains contents (told_of_outcome (refused fault)) err → ComplainsRun contents asked files status err
+      → status ≡ fault_status fault → ComplainsBetween contents (told_of_outcome (refused fault)) old new → ComplainsRun contents asked files status old new
   stopped_told fault (inl is) at same told = outcome_told (refused fault) (subst (MeansAt asked files) is at) told
   stopped_told fault (inr failed) at same told = inl (same ∙ failed)
 
   -- what was told of an end that was flushed
-  end_told : (end : Result Status RequestFault) → RunEnds asked end → Means asked files end → status ≡ end_status end → Complains contents (told_of_end end) err → ComplainsRun contents asked files status err
+  end_told : (end : Result Status RequestFault) → RunEnds asked end → Means asked files end → status ≡ end_status end → ComplainsBetween contents (told_of_end end) old new → ComplainsRun contents asked files status old new
   end_told (Ok Done) ends at same told = outcome_told done at told
   end_told (Ok NotRight) ends at same told = outcome_told not_right at told
   end_told (Err (request.CannotRead path)) ends at same told = inl same
@@ -88,6 +88,6 @@ module _ {V : Type 0} (contents : V → Option (List ℕ)) (asked : RunRequest) 
   end_told (Err (request.Stopped fault)) ends at same told = stopped_told fault (means fault) at same told
 
   pub run_told : (end : Result Status RequestFault) (printed : Result Unit Error) → RunEnds asked end → Means asked files end
-      → status ≡ end_status (end_printed end printed) → Complains contents (told_of_end (end_printed end printed)) err → ComplainsRun contents asked files status err
+      → status ≡ end_status (end_printed end printed) → ComplainsBetween contents (told_of_end (end_printed end printed)) old new → ComplainsRun contents asked files status old new
   run_told end (Ok flushes) ends at same told = end_told end ends at same told
   run_told end (Err error) ends at same told = inl same

@@ -39,7 +39,7 @@ pub(crate) fn carry_out_asked<'a, D: MakingWorld<'a>, W: Write + Drop, V: Write>
         (D.trace world.new) }
     ensures changed { Changes asked.now (D.trace world.old) (D.trace world.new) }
     ensures line { IsTrue (D.map world.old).honest →
-        ComplainsAsked V.contents asked.now (D.map world.old) result.0 complaints }
+        ComplainsAsked V.contents asked.now (D.map world.old) result.0 complaints.old complaints.new }
 {
     let (status, out) = carry_out_buffered(world, asked, out, complaints);
     // A failed write leaves text in the buffer, which its drop would try to write again.
@@ -63,7 +63,7 @@ fn carry_out_buffered<'a, D: MakingWorld<'a>, W: Write + Drop, V: Write>(
     ensures flushed { Flushes asked.now result.0 (writer_buffer result.1) }
     ensures changed { Changes asked.now (D.trace world.old) (D.trace world.new) }
     ensures line { IsTrue (D.map world.old).honest →
-        ComplainsAsked V.contents asked.now (D.map world.old) result.0 complaints }
+        ComplainsAsked V.contents asked.now (D.map world.old) result.0 complaints.old complaints.new }
 {
     match asked {
         Asked::One(request) => carry_out_one(world, request, out, complaints),
@@ -98,7 +98,7 @@ fn carry_out_one<'a, D: MakingWorld<'a>, W: Write + Drop, V: Write>(
     ensures flushed { result.0 ≢ 3 → writer_buffer result.1 ≡ [] }
     ensures changed { ChangesOne request.now (D.trace world.old) (D.trace world.new) }
     ensures line { IsTrue (D.map world.old).honest →
-        ComplainsOne V.contents request.now (D.map world.old) result.0 complaints }
+        ComplainsOne V.contents request.now (D.map world.old) result.0 complaints.old complaints.new }
 {
     match request {
         Request::Run(request) => run_image(world, request, out, complaints),
@@ -123,7 +123,7 @@ fn run_image<D: World, W: Write + Drop, V: Write>(
     ensures asks { AsksToRun request.now request.now.outfile (D.trace world.old)
         (D.trace world.new) }
     ensures line { IsTrue (D.map world.old).honest →
-        ComplainsRun V.contents request.now (D.map world.old) result.0 complaints }
+        ComplainsRun V.contents request.now (D.map world.old) result.0 complaints.old complaints.new }
 {
     let mut out = Out::new(out);
     let end = run_command(world, request, None, &mut out);

@@ -134,7 +134,7 @@ pub(crate) fn carry_out_words<'a, D: MakingWorld<'a>, W: Write + Drop, V: Write>
         _line.entry (D.map world.old) result.0 (W.contents (writer_inner out)) (W.contents result.1)
         (D.trace world.old) (D.trace world.new) }
     ensures complained { IsTrue (D.map world.old).honest →
-        ComplainsAsked V.contents asked.now (D.map world.old) result.0 complaints }
+        ComplainsAsked V.contents asked.now (D.map world.old) result.0 complaints.old complaints.new }
 {
     carry_out_asked(world, asked, out, complaints)
 }

@@ -1,10 +1,13 @@
-use Rattle.std.proofs.Common.{◌≡◌, ◌∙◌, true, ℕ, List, Option, Some, None, ap, refl, subst, sym}
+use Rattle.std.proofs.Common.{◌≡◌, ◌∙◌, true, ℕ, List, Option, Some, None, Result, ap, refl, subst, sym}
 use Rattle.std.specs.Prelude.{IfSome, is_some}
 use Rattle.std.specs.Io.{Buffered.writer_contents, KnownBytes.Keeps}
 use Rattle.uimg_base.specs.Sink.{Sink}
-use Rattle.uimg_tool.specs.{Complaints.Complains, Statuses.end_status}
+use Rattle.uimg_tool.specs.{Complaints.ComplainsBetween, Statuses.end_status}
+use Rattle.uimg_tool.specs.declared.request_fault.RequestFault.{RequestFault}
+use Rattle.uimg_base.specs.declared.status.Status.{Status}
 use Rattle.uimg_tool.proofs.CommandLaws.{by_outfile, of_some}
-use Rattle.uimg_tool.proofs.{ComplainLaws.{Means, by_extracts, by_tells, run_told}, ExtractLaws}
+use Rattle.uimg_tool.proofs.ComplainLaws.{Means, by_extracts, by_tells, run_told}
+use Rattle.uimg_tool.proofs.ExtractLaws
 use Rattle.uimg_tool.specs.FaultTexts.{told_of_end}
 use Rattle.uimg_tool.proofs.RunLaws
 use Rattle.uimg_tool.proofs.commands.run_image.Goals as goal
@@ -28,9 +31,12 @@ returns-clause-told g c = λ honest. by_outfile c.args.request.now.outfile _ c.a
 -- what the outcome has, by whether there is a file to extract to
 pub returns-clause-line : goal.returns-clause-line
 returns-clause-line g c = λ honest.
-    let meant : Means c.args.request.now (g.D.World.map c.args.world.now) c.run_command-end.result = by_file c.args.request.now.outfile
-    (λ none. by_tells _ _ c.run_command-end.result _ _ (c.run_command-end.ensures.told honest none))
-    (λ some. by_extracts _ _ _ c.run_command-end.result (c.run_command-end.ensures.extracted honest some refl)) in
-    run_told _ c.args.request.now (g.D.World.map c.args.world.now) c.tell_end.result _ c.run_command-end.result c.flush.result c.run_command-end.ensures.ends meant
+    let asked = c.args.request.now in
+    let files = g.D.World.map c.args.world.now in
+    let end = c.run_command-end.result in
+    let meant : Means asked files end = by_file asked.outfile
+    (λ none. by_tells asked files end c.new-out.result c.run_command-end.new.out (c.run_command-end.ensures.told honest none))
+    (λ some. by_extracts g.D.File.Write.contents asked files end (c.run_command-end.ensures.extracted honest some refl)) in
+    run_told g.V.Write.contents asked files c.tell_end.result c.args.complaints.now c.tell_end.new.complaints end c.flush.result c.run_command-end.ensures.ends meant
     (c.tell_end.ensures.status ∙ ap end_status c.told.ensures)
-    (subst (λ it. Complains _ (told_of_end it) _) c.told.ensures c.tell_end.ensures.line)
+    (subst (λ (it : Result Status RequestFault). ComplainsBetween g.V.Write.contents (told_of_end it) c.args.complaints.now c.tell_end.new.complaints) c.told.ensures c.tell_end.ensures.line)
