@@ -13,7 +13,6 @@ pub mod Extracting
 pub mod FaultTexts
 pub mod Facts
 pub mod Finishing
-pub mod InMemory
 pub mod InfoEnds
 pub mod JsonLines
 pub mod KnownSources

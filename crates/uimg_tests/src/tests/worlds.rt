@@ -1,11 +1,8 @@
 //! A world of files in memory.
 
-use super::runs::shown;
 use std::io::Read;
 use std::test::Fail;
 use uimg_base::Source;
-use uimg_base_tests::samples::legacy::ABC_KERNEL;
-use uimg_tool::answer_in_memory;
 use uimg_unpacking::{MemoryWorld, World};
 
 const FILES: [(&[u8], &[u8]); 3] = [(b"a", b"abc"), (b"a", b"def"), (b"b/c", b"ghi")];
@@ -45,52 +42,5 @@ fn files_in_memory(rt: HostRuntime) -> Result<(), Fail> {
     assert!(rt; world.create("a").is_ok());
     assert!(rt; world.remove_file("a").is_err());
     assert!(rt; opens_as(&mut world, "a", "abc"));
-    Ok(())
-}
-
-const IMAGES: [(&[u8], &[u8]); 3] = [
-    (b"abc", &ABC_KERNEL),
-    (b"data", b"abc"),
-    (b"list", b"abc\ndata\n"),
-];
-
-// A command line over these files, the exit status, what is printed, and the line of its fault.
-const COMMANDS: [(&str, u8, &str, &str); 7] = [
-    ("uimg verify abc", 0, "header crc32 ok\ndata crc32 ok\n", ""),
-    ("uimg verify data", 1, "", "uimg: L1 too short\n"),
-    ("uimg verify none", 3, "", "uimg: cannot read none\n"),
-    ("uimg verify -p 1 abc", 2, "", "usage"),
-    (
-        "uimg check --files-from list",
-        1,
-        "abc: ok 2 checksums\ndata: refused L1 too short\n",
-        "",
-    ),
-    (
-        "uimg mkimage -A arm64 -O linux -T kernel -C none -a 80000 -n 0123456789012345678901234567890123456789 -d data new",
-        0,
-        "Image Name:   01234567890123456789012345678901\nCreated:      Tue Nov 14 22:13:20 2023\nImage Type:   AArch64 Linux Kernel Image (uncompressed)\nData Size:    3 Bytes = 0.00 KiB = 0.00 MiB\nLoad Address: 00080000\nEntry Point:  00080000\n",
-        "",
-    ),
-    ("uimg dumpimage -o new data", 1, "", "uimg: L1 too short\n"),
-];
-
-#[test]
-fn commands_over_files_in_memory(rt: HostRuntime) -> Result<(), Fail> {
-    for (line, status, printed, told) in &COMMANDS {
-        let mut words = Vec::new(rt.alloc());
-        for word in line.split(' ') {
-            words.push(word)?;
-        }
-        let mut err = Vec::new(rt.alloc());
-        let answered = answer_in_memory(rt.alloc(), &words, None, 1700000000, &IMAGES, &mut err);
-        assert!(rt; answered.status == *status, "{line}: {}", answered.status);
-        assert!(rt;
-            shown(&answered.printed) == *printed,
-            "{line}: {}",
-            shown(&answered.printed)
-        );
-        assert!(rt; shown(&err).contains(told), "{line}: {}", shown(&err));
-    }
     Ok(())
 }
