@@ -1,6 +1,7 @@
 pub mod Answered
 pub mod BelowLaws
 pub mod Cleaned
+pub mod ContentLaws
 pub mod EndLaws
 pub mod NameLaws
 pub mod NamingLaws

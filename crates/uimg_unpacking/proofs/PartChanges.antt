@@ -1,7 +1,7 @@
 -- What a part of a world was asked for is what the world was asked for since.
 use Rattle.std.proofs.Common.{◌≡◌, ℕ, List, [], ◌∷◌, ◌++◌, Bool, true, ◌&&◌, refl, ap, ap₂, ◌∙◌}
 use Rattle.std.proofs.lemmas.Bool.{and_parts}
-use Rattle.uimg_unpacking.specs.Deeds.{Deed, Follows, changes, Creates, Links, Renames, Removes, MakesFolder, RemovesFolder, RemovesAll, Syncs, Resolves, Looks, Identifies, Opens, Explains, Reads, Finds, Overwrites, LendsReader, LendsShelf}
+use Rattle.uimg_unpacking.specs.Deeds.{Deed, Follows, changes, Creates, Links, Renames, Removes, MakesFolder, RemovesFolder, RemovesAll, Syncs, Resolves, Looks, Identifies, Opens, Explains, Reads, Finds, Overwrites, LendsReader, LendsShelf, Closes}
 use Rattle.uimg_unpacking.specs.Places.{ChangesWithin, stays_within}
 
 changes_of : (new old : List Deed) → changes (new ++ old) ≡ changes new ++ changes old
@@ -24,6 +24,7 @@ changes_of (RemovesAll p x ∷ new) old = ap (λ (t : List Deed). RemovesAll p x
 changes_of (Syncs p x ∷ new) old = ap (λ (t : List Deed). Syncs p x ∷ t) (changes_of new old)
 changes_of (Overwrites p x ∷ new) old = ap (λ (t : List Deed). Overwrites p x ∷ t) (changes_of new old)
 changes_of (LendsShelf p ∷ new) old = ap (λ (t : List Deed). LendsShelf p ∷ t) (changes_of new old)
+changes_of (Closes p s c x ∷ new) old = ap (λ (t : List Deed). Closes p s c x ∷ t) (changes_of new old)
 
 both : (a b : Bool) → a ≡ true → b ≡ true → (a && b) ≡ true
 both a b p q = ap₂ (λ (x y : Bool). x && y) p q
@@ -49,6 +50,7 @@ changes_stay folder n (RemovesAll p x ∷ trace) ok = let h = and_parts _ _ ok i
 changes_stay folder n (Syncs p x ∷ trace) ok = changes_stay folder n trace ok
 changes_stay folder n (Overwrites p x ∷ trace) ok = let h = and_parts _ _ ok in both _ _ h.0 (changes_stay folder n trace h.1)
 changes_stay folder n (LendsShelf p ∷ trace) ok = let h = and_parts _ _ ok in both _ _ h.0 (changes_stay folder n trace h.1)
+changes_stay folder n (Closes p s c x ∷ trace) ok = let h = and_parts _ _ ok in both _ _ h.0 (changes_stay folder n trace h.1)
 
 pub within : (folder : List ℕ) (is_naming : Bool) (trace old new : List Deed) → new ≡ trace ++ old → stays_within folder is_naming trace ≡ true → ChangesWithin folder is_naming old new
 within folder is_naming trace old new is ok = record {

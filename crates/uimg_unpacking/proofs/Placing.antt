@@ -3,9 +3,10 @@ use Rattle.std.proofs.Common.{◌≡◌, ℕ, zero, suc, ◌/◌, ◌%◌, ◌<�
 use Rattle.std.specs.Option.{option_to_list}
 use Rattle.std.specs.{Fmt.{digit_glyph, digits, digits_onto}, List.list_all, Option.option_map_or}
 use Rattle.std.proofs.lemmas.Bool.{and_parts, cases_eq}
+use Rattle.std.proofs.lemmas.Slice.Eq.{bytes_eq-Decides}
 use Rattle.std.proofs.lemmas.List.Folds.{list_all-append, list_all_at}
 use mathlib.Core.List.{append_assoc}
-use Rattle.uimg_unpacking.specs.Deeds.{Answer, Done, Exists, Failed, Deed, Creates, Links, Renames, Removes, MakesFolder, RemovesFolder, RemovesAll, Looks, Identifies, Overwrites, LendsShelf, changes_only}
+use Rattle.uimg_unpacking.specs.Deeds.{Answer, Done, Exists, Failed, Deed, Creates, Links, Renames, Removes, MakesFolder, RemovesFolder, RemovesAll, Looks, Identifies, Overwrites, LendsShelf, Closes, changes_only}
 use Rattle.uimg_unpacking.specs.FileNames.{is_file_name, is_allowed}
 use Rattle.uimg_unpacking.specs.Naming.{GivesName, over, linked, exists, taken, moved, KeepsAs, linked_too, moved_away, PutsBack, unnamed, removed, lost, put, NamesOver, nothing_there, not_kept, replaced, Names, no_memory, refused, anew, over_it, RemovesOld, not_forced, nothing_old, removed_old}
 use Rattle.uimg_unpacking.specs.Allowing.{Allows, is_the_image, is_looked_at, Refused}
@@ -127,19 +128,27 @@ own_changes folder path is = or_right _ _ is
 -- the paths of a file that was begun
 pub begun_new : (folder : List ℕ) (begun : Begun) → is_begun_in folder begun ≡ true → is_temporary_file folder (string_bytes begun.new) ≡ true
 unfolding is_begun_in
-begun_new folder begun is = (and_parts _ _ (and_parts _ _ is).0).0
+begun_new folder begun is = (and_parts _ _ (and_parts _ _ (and_parts _ _ is).0).0).0
 
 pub begun_old : (folder : List ℕ) (begun : Begun) → is_begun_in folder begun ≡ true → is_temporary_file folder (string_bytes begun.old) ≡ true
 unfolding is_begun_in
-begun_old folder begun is = (and_parts _ _ (and_parts _ _ is).0).1
+begun_old folder begun is = (and_parts _ _ (and_parts _ _ (and_parts _ _ is).0).0).1
+
+pub begun_named : (folder : List ℕ) (begun : Begun) → is_begun_in folder begun ≡ true → is_file_name (string_bytes begun.name) ≡ true
+unfolding is_begun_in
+begun_named folder begun is = (and_parts _ _ (and_parts _ _ is).0).1
+
+pub begun_path : (folder : List ℕ) (begun : Begun) → is_begun_in folder begun ≡ true → string_bytes begun.whole ≡ folder ++ codes "/" ++ string_bytes begun.name
+unfolding is_begun_in
+begun_path folder begun is = (bytes_eq-Decides _ _).0 (and_parts _ _ is).1
 
 pub begun_whole : (folder : List ℕ) (begun : Begun) → is_begun_in folder begun ≡ true → is_file_of folder (string_bytes begun.whole) ≡ true
-unfolding is_begun_in
-begun_whole folder begun is = (and_parts _ _ is).1
+begun_whole folder begun is = ap (is_file_of folder) (begun_path folder begun is) ∙ own_in folder (string_bytes begun.name) (begun_named folder begun is)
 
-pub begun_of : (folder : List ℕ) (begun : Begun) → is_temporary_file folder (string_bytes begun.new) ≡ true → is_temporary_file folder (string_bytes begun.old) ≡ true → is_file_of folder (string_bytes begun.whole) ≡ true → is_begun_in folder begun ≡ true
+pub begun_of : (folder : List ℕ) (begun : Begun) → is_temporary_file folder (string_bytes begun.new) ≡ true → is_temporary_file folder (string_bytes begun.old) ≡ true → is_file_name (string_bytes begun.name) ≡ true → string_bytes begun.whole ≡ folder ++ codes "/" ++ string_bytes begun.name → is_begun_in folder begun ≡ true
 unfolding is_begun_in
-begun_of folder begun a b c = ap₂ (λ (p q : Bool). p && q) (ap₂ (λ (p q : Bool). p && q) a b) c
+begun_of folder begun a b c d =
+    ap₂ (λ (p q : Bool). p && q) (ap₂ (λ (p q : Bool). p && q) (ap₂ (λ (p q : Bool). p && q) a b) c) ((bytes_eq-Decides _ _).1 d)
 
 -- a call that changes only what may be changed
 pub one_more : (folder : List ℕ) (is_naming : Bool) (deed : Deed) (before after : List Deed) → after ≡ deed ∷ before → changes_only (may_change folder is_naming) deed ≡ true → stays_within folder is_naming after ≡ stays_within folder is_naming before
@@ -172,6 +181,7 @@ wider_deed f n (RemovesFolder p _) is = wider f p n is
 wider_deed f n (RemovesAll p _) is = wider f p n is
 wider_deed f n (Overwrites p _) is = wider f p n is
 wider_deed f n (LendsShelf p) is = wider f p n is
+wider_deed f n (Closes p _ _ _) is = wider f p n is
 wider_deed f n _ is = refl
 
 pub stays_naming : (folder : List ℕ) (is_naming : Bool) (trace : List Deed) → stays_within folder is_naming trace ≡ true → stays_within folder true trace ≡ true
@@ -241,12 +251,12 @@ created_within folder is_naming path answer before after ok is = one_more folder
 pub removed_within : (folder : List ℕ) (is_naming : Bool) (path : List ℕ) (answer : Answer) (before after : List Deed) → is_temporary_file folder path ≡ true → after ≡ Removes path answer ∷ before → stays_within folder is_naming after ≡ stays_within folder is_naming before
 removed_within folder is_naming path answer before after ok is = one_more folder is_naming (Removes path answer) before after is (file_changes folder path is_naming ok)
 
-pub begun_paths : (folder made name : List ℕ) (k : ℕ) (begun : Begun) → is_temporary_folder folder made ≡ true → is_file_name name ≡ true → string_bytes begun.new ≡ made ++ codes "/new-" ++ decimal k → string_bytes begun.old ≡ made ++ codes "/old-" ++ decimal k → string_bytes begun.whole ≡ folder ++ codes "/" ++ name → is_begun_in folder begun ≡ true
-begun_paths folder made name k begun is named new old whole =
+pub begun_paths : (folder made : List ℕ) (k : ℕ) (begun : Begun) → is_temporary_folder folder made ≡ true → is_file_name (string_bytes begun.name) ≡ true → string_bytes begun.new ≡ made ++ codes "/new-" ++ decimal k → string_bytes begun.old ≡ made ++ codes "/old-" ++ decimal k → string_bytes begun.whole ≡ folder ++ codes "/" ++ string_bytes begun.name → is_begun_in folder begun ≡ true
+begun_paths folder made k begun is named new old whole =
     begun_of folder begun
     (ap (is_temporary_file folder) new ∙ new_in folder made k is)
     (ap (is_temporary_file folder) old ∙ old_in folder made k is)
-    (ap (is_file_of folder) whole ∙ own_in folder name named)
+    named whole
 
 pub allows_within : (folder : List ℕ) (is_naming : Bool) (image : Option FileId) (is_forced : Bool) (path : List ℕ) (why : Option Refused) (before after : List Deed) → Allows image is_forced path why before after → stays_within folder is_naming after ≡ stays_within folder is_naming before
 allows_within f n image forced path why before after (is_the_image found e g is) = one_more f n (Identifies path found) before after is refl
@@ -296,6 +306,10 @@ the_last p xs ys x is all =
 pub pushed : {X : Type 0} (p : X → Bool) (xs ys : List X) (x : X) (is_pushed : Bool) → ys ≡ (if is_pushed then xs ++ x ∷ [] else xs) → list_all p xs ≡ true → p x ≡ true → list_all p ys ≡ true
 pushed p xs ys x true e all is = ap (list_all p) e ∙ one_file_more p xs x all is
 pushed p xs ys x false e all is = ap (list_all p) e ∙ all
+
+-- a file is closed
+pub closed_within : (folder : List ℕ) (is_naming is_synced : Bool) (path : List ℕ) (contents : Option (List ℕ)) (answer : Answer) (before after : List Deed) → is_temporary_file folder path ≡ true → after ≡ Closes path is_synced contents answer ∷ before → stays_within folder is_naming after ≡ stays_within folder is_naming before
+closed_within folder is_naming is_synced path contents answer before after ok is = one_more folder is_naming (Closes path is_synced contents answer) before after is (file_changes folder path is_naming ok)
 
 -- a temporary folder is removed
 pub unmade_within : (folder : List ℕ) (is_naming : Bool) (path : List ℕ) (answer : Answer) (before after : List Deed) → is_temporary_folder folder path ≡ true → after ≡ RemovesFolder path answer ∷ before → stays_within folder is_naming after ≡ stays_within folder is_naming before

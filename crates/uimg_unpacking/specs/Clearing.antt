@@ -1,18 +1,19 @@
 -- How temporary files are removed.
-use Rattle.std.specs.Prelude.{ℕ, List, [], ◌∷◌, Option, Some, None}
-use Rattle.uimg_unpacking.specs.Deeds.{Done, Deed, Removes, RemovesFolder}
+use Rattle.std.specs.Prelude.{◌≡◌, ℕ, List, [], ◌∷◌, Option, Some, None}
+use Rattle.uimg_unpacking.specs.Deeds.{Answer, Deed, Removes, RemovesFolder}
 
--- a removal, whatever it answers
-abbrev pub unanswered : Deed → Deed
-unanswered (Removes path _) = Removes path Done
-unanswered (RemovesFolder path _) = RemovesFolder path Done
-unanswered deed = deed
+-- Files are removed one after another, whatever that answers.
+abbrev pub RemovesEach : List (List ℕ) → List Deed → List Deed → Type 0
+RemovesEach [] before after = after ≡ before
+RemovesEach (path ∷ paths) before after = (answer : Answer) × RemovesEach paths (Removes path answer ∷ before) after
 
--- each file that was created is removed, then the folder that was made
-abbrev pub removals : List (List ℕ) → List Deed → List Deed
-removals [] before = before
-removals (path ∷ paths) before = removals paths (Removes path Done ∷ before)
+-- The folder that was made is removed, if one was.
+abbrev pub RemovesMade : Option (List ℕ) → List Deed → List Deed → Type 0
+RemovesMade None before after = after ≡ before
+RemovesMade (Some made) before after = (answer : Answer) × (after ≡ RemovesFolder made answer ∷ before)
 
-abbrev pub cleared : Option (List ℕ) → List (List ℕ) → List Deed → List Deed
-cleared None paths before = removals paths before
-cleared (Some made) paths before = RemovesFolder made Done ∷ removals paths before
+-- Each file that was created is removed, then the folder that was made.
+pub record Clears (made : Option (List ℕ)) (paths : List (List ℕ)) (before after : List Deed) : Type 0 where
+  pub seen : List Deed
+  pub files : RemovesEach paths before seen
+  pub folder : RemovesMade made seen after

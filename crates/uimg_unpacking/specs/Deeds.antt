@@ -1,5 +1,5 @@
 -- What was asked of a world of files, and what it answered.
-use Rattle.std.specs.Prelude.{◌≡◌, ℕ, List, [], ◌∷◌, ◌++◌, ◌==◌, if◌then◌else◌, slice_index, Option, Some, None, Result, Ok, Err, Bool, true, ◌&&◌}
+use Rattle.std.specs.Prelude.{◌≡◌, ℕ, List, [], ◌∷◌, ◌++◌, ◌==◌, if◌then◌else◌, slice_index, Option, Some, None, Result, Ok, Err, Bool, true, ◌&&◌, IsTrue}
 use Rattle.std.specs.Fs.{IsDir, IsSymlink, file_type}
 use Rattle.std.specs.declared.fs.attrs.Metadata.{Metadata}
 use Rattle.std.specs.declared.io.Error.{Error}
@@ -61,6 +61,7 @@ pub data Deed : Type 0 where
   Overwrites : List ℕ → Answer → Deed
   LendsReader : Deed
   LendsShelf : List ℕ → Deed
+  Closes : List ℕ → Bool → Option (List ℕ) → Answer → Deed
 
 -- the answer, the kind and others of a number, as a record of deeds has them
 abbrev pub answer_at : ℕ → Answer
@@ -103,7 +104,8 @@ deed_at call rest from to =
     else if call == 14 then Finds from (target_at (slice_index rest 0))
     else if call == 15 then Overwrites from (answer_at (slice_index rest 0))
     else if call == 16 then LendsReader
-    else LendsShelf from
+    else if call == 17 then LendsShelf from
+    else Closes from (slice_index rest 1 == 1) (resolved_at (slice_index rest 2) to) (answer_at (slice_index rest 0))
 
 abbrev pub deed_of : List ℕ → List ℕ → List ℕ → Deed
 deed_of [] from to = deed_at 0 [] from to
@@ -120,6 +122,7 @@ changes_only ok (RemovesFolder path _) = ok path
 changes_only ok (RemovesAll path _) = ok path
 changes_only ok (Overwrites path _) = ok path
 changes_only ok (LendsShelf path) = ok path
+changes_only ok (Closes path _ _ _) = ok path
 changes_only ok _ = true
 
 -- the calls that may change files, the newest first: all that do more than read, look, or lend what reads
@@ -134,6 +137,12 @@ changes (Looks path kind ∷ before) = changes before
 changes (Resolves path answer ∷ before) = changes before
 changes (LendsReader ∷ before) = changes before
 changes (deed ∷ before) = deed ∷ changes before
+
+-- A file was closed at a path, after a wait for its bytes if it is synced. What it holds is noted, if contracts know that.
+pub record ClosesFile (is_known : Bool) (path : List ℕ) (is_synced : Bool) (held : Option (List ℕ)) (answer : Answer) (old new : List Deed) : Type 0 where
+  pub contents : Option (List ℕ)
+  pub is : new ≡ Closes path is_synced contents answer ∷ old
+  pub known : IsTrue is_known → contents ≡ held
 
 -- these calls, and then others
 pub record Follows (old new : List Deed) : Type 0 where

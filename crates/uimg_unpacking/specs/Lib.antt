@@ -1,9 +1,11 @@
 pub mod Allowing
 pub mod Cleaning
 pub mod Clearing
+pub mod Contents
 pub mod Deeds
 pub mod Ends
 pub mod FileNames
+pub mod Filling
 pub mod Kinds
 pub mod Limiting
 pub mod Lines
@@ -17,5 +19,6 @@ pub mod Plan
 pub mod Refusals
 pub mod Refusing
 pub mod Sizes
+pub mod Staged
 pub mod Telling
 pub mod Troubles

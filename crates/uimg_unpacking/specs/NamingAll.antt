@@ -1,6 +1,6 @@
 -- How all files of a folder get their names, and how all names are taken back.
 use Rattle.std.specs.Prelude.{◌≡◌, ⊤, ℕ, zero, suc, List, [], ◌∷◌, length, map, Bool, true, false, nat_lt, ◌&&◌, Option, Some, None, string_bytes}
-use Rattle.uimg_unpacking.specs.Clearing.{unanswered, removals}
+use Rattle.uimg_unpacking.specs.Clearing.{RemovesEach}
 use Rattle.uimg_unpacking.specs.Deeds.{Answer, Done, Deed, Syncs}
 use Rattle.uimg_unpacking.specs.Naming.{Names, PutsBack}
 use Rattle.uimg_unpacking.specs.Refusals.{DropsLast}
@@ -58,8 +58,7 @@ pub record TakesBack (files : List Begun) (named : ℕ) (made : Option (List ℕ
 
 -- What was kept of replaced files is removed, whatever that answers.
 abbrev pub ForgetsOld : List Begun → List Deed → List Deed → Type 0
-ForgetsOld files before after =
-    map unanswered after ≡ removals (map (λ its. string_bytes its.old) files) (map unanswered before)
+ForgetsOld files = RemovesEach (map (λ its. string_bytes its.old) files)
 
 -- the trouble of names that could not be waited for, with the path of their folder, or of no memory
 abbrev pub IsUnsynced : List ℕ → Trouble → Type 0

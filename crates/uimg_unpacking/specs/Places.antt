@@ -1,7 +1,7 @@
 -- What an unpacking into a folder may change: files of the folder, when they get their names, and before that what is in
 -- a temporary folder within it.
 use Rattle.std.specs.Prelude.{◌≡◌, ℕ, nat_le, List, [], ◌∷◌, ◌++◌, ◌==◌, codes, Bool, true, false, ◌&&◌, ◌||◌, if◌then◌else◌}
-use Rattle.std.specs.Prelude.{Option, Some, None, string_bytes}
+use Rattle.std.specs.Prelude.{Option, Some, None, string_bytes, bytes_eq}
 use Rattle.std.specs.List.{list_all}
 use Rattle.std.specs.Option.{option_map_or}
 use Rattle.uimg_unpacking.specs.Deeds.{Deed, changes, changes_only}
@@ -55,8 +55,9 @@ pub record ChangesWithin (folder : List ℕ) (is_naming : Bool) (old new : List 
   pub is : changes new ≡ made ++ changes old
   pub within : stays_within folder is_naming made ≡ true
 
--- the paths of a file that was begun
+-- the paths of a file that was begun: `FOLDER/NAME` is that of its name
 unfoldable pub is_begun_in : List ℕ → Begun → Bool
 is_begun_in folder begun =
     is_temporary_file folder (string_bytes begun.new) && is_temporary_file folder (string_bytes begun.old)
-    && is_file_of folder (string_bytes begun.whole)
+    && is_file_name (string_bytes begun.name)
+    && bytes_eq (string_bytes begun.whole) (folder ++ codes "/" ++ string_bytes begun.name)

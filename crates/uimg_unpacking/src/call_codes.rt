@@ -45,6 +45,8 @@ pub(crate) const LENDS_READER: u64 = 16;
 
 pub(crate) const LENDS_SHELF: u64 = 17;
 
+pub(crate) const CLOSES: u64 = 18;
+
 /// Returns the number of an answer.
 pub(crate) fn code_of<X>(answer: &io::Result<X>) -> u64
     ensures { answer_at result ≡ answer_of answer.now }

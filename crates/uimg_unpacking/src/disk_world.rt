@@ -10,10 +10,14 @@ use crate::kind::{Kind, Target};
 use crate::record::Record;
 use crate::world::World;
 use std::alloc::Global;
+use std::fs::OpenFile;
 use std::path::PathBuf;
 use std::rt::Files;
 use std::{fs, io};
 use uimg_base::{FileSource, SourceFault};
+
+/// The number that the bytes of a file are not known.
+const UNKNOWN: u64 = 1;
 
 /// The files of the operating system. No contract says what they have, so it is not claimed to be
 /// honest.
@@ -51,6 +55,8 @@ impl<'a, R: Files + AllocGlobal> World for DiskWorld<'a, R> {
       refusals = world.refusals;
       opened = [];
     } };
+
+    ghost known = { λ world honest. honest };
 
     fn alloc(&self) -> Global {
         self.rt.alloc()
@@ -105,6 +111,14 @@ impl<'a, R: Files + AllocGlobal> World for DiskWorld<'a, R> {
         let call = [CREATES, code_of(&created)];
         self.record.note(&call, path.as_bytes(), b"");
         created
+    }
+
+    fn close(&mut self, path: &str, file: R::File, is_synced: bool) -> io::Result<()> {
+        let closed = if is_synced { file.sync_all() } else { Ok(()) };
+        drop(file);
+        let call = [CLOSES, code_of(&closed), is_synced as u64, UNKNOWN];
+        self.record.note(&call, path.as_bytes(), b"");
+        closed
     }
 
     fn hard_link(&mut self, from: &str, to: &str) -> io::Result<()> {

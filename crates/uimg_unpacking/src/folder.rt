@@ -2,6 +2,7 @@
 
 ghost use Rattle.std.specs.Prelude.{◌≡◌, ◌++◌, codes, IfOk, string_bytes, decimal, false, true, ℕ, List, Bool};
 ghost use Rattle.uimg_unpacking.specs.Allowing.{Allows};
+ghost use Rattle.uimg_unpacking.specs.Contents.{held};
 ghost use Rattle.uimg_unpacking.specs.Cleaning.{MayBeIn, SeeksImage, CleansAt, removal, is_at_or_below, ends_name};
 ghost use Rattle.uimg_unpacking.specs.Deeds.{answer_of};
 ghost use Rattle.uimg_unpacking.specs.Kinds.{is_no_link};
@@ -80,6 +81,7 @@ impl<'a> Folder<'a> {
         ensures within { (is_naming : Bool) →
             stays_within self.now.path.now is_naming (W.trace world.new)
             ≡ stays_within self.now.path.now is_naming (W.trace world.old) }
+        ensures held { held (W.trace world.new) ≡ held (W.trace world.old) }
     {
         for number in 1..=TRIED {
             let path = self.unnamed(alloc, number)?;

@@ -1,11 +1,15 @@
 //! Writes payloads to a folder, with a line for each.
 
-ghost use Rattle.std.specs.Prelude.{◌≡◌, ◌++◌, ◌&&◌, ◌||◌, [], None, OnOk, nat_lt, not, is_ok, false, true};
+ghost use Rattle.std.specs.Prelude.{◌≡◌, ◌++◌, ◌&&◌, ◌||◌, ℕ, List, [], Bool, None, Some, IfOk, IsTrue, OnOk, map, nat_lt, not, is_ok, false, true};
+ghost use Rattle.std.specs.Io.Buffered.{writer_contents};
 ghost use Rattle.uimg_fit_checking.specs.Unpacking.{as_bytes};
+ghost use Rattle.uimg_unpacking.specs.Contents.{HoldsAs, held};
+ghost use Rattle.uimg_unpacking.specs.Filling.{MayComplete, as_take, seen_of};
+ghost use Rattle.uimg_unpacking.specs.Names.{is_used};
 ghost use Rattle.uimg_unpacking.specs.Objects.{told_of, kept_told, refused_told};
 ghost use Rattle.uimg_unpacking.specs.Places.{stays_within};
-ghost use Rattle.uimg_unpacking.specs.Plan.{gives_names};
 ghost use Rattle.uimg_unpacking.specs.Refusals.{last_name, RefusesLast};
+ghost use Rattle.uimg_unpacking.specs.Staged.{names_of, staged, uses_names};
 ghost use Rattle.uimg_unpacking.specs.Telling.{with_kept, with_refused, TellsIf, is_named};
 
 use crate::limits::Claimed;
@@ -13,7 +17,6 @@ use crate::lines::Line;
 use crate::names::Names;
 use crate::new_file::{ErrorCode, NewFile};
 use crate::objects::told;
-use crate::plan::gives_names;
 use crate::staging::Staging;
 use crate::trouble::{Trouble, kept};
 use crate::unpacking::Unpacking;
@@ -41,6 +44,7 @@ pub(crate) struct FolderTaker<'a, 'c, W: World, O: Write + Drop> {
     claimed: Claimed,
     trouble: Option<Trouble>,
     ghost unnamed: { staging.is_naming ≡ false },
+    ghost names: { uses_names (is_used taken.given) (names_of staging.files.items) (names_of staging.outdated.items) ≡ true },
 }
 
 impl<'a, 'c, W: World, O: Write + Drop> FolderTaker<'a, 'c, W, O> {
@@ -56,6 +60,8 @@ impl<'a, 'c, W: World, O: Write + Drop> FolderTaker<'a, 'c, W, O> {
         requires { W.trace world ≡ [] }
         ensures folder { result.staging.folder ≡ asked.now.folder }
         ensures none { result.taken.count ≡ 0 }
+        ensures empty { staged (W.trace result.staging.world) result.staging.files.items
+            result.staging.is_writing ≡ [] }
     {
         FolderTaker {
             alloc,
@@ -72,22 +78,22 @@ impl<'a, 'c, W: World, O: Write + Drop> FolderTaker<'a, 'c, W, O> {
         }
     }
 
-    /// Gives the files their names, if `is_whole` and none was refused, or if good ones are kept.
-    /// Removes the others, and prints the lines. Returns the world, their writer, the number of
+    /// Gives the complete files their names, if `names`. Removes the others, and prints the lines.
+    /// Returns the world, their writer, the number of
     /// payloads that were begun, and the trouble, if it is known.
-    pub(crate) fn end(self, is_whole: bool) -> (W, O, usize, Option<Trouble>)
-        ensures within { stays_within self.entry.staging.folder.path.now
-            (gives_names self.entry.keeps_good is_whole self.entry.has_refused)
+    pub(crate) fn end(self, names: bool) -> (W, O, usize, Option<Trouble>)
+        ensures within { stays_within self.entry.staging.folder.path.now names
             (W.trace result.0) ≡ true }
-        ensures told { result.3 ≡ None → TellsIf
-            (gives_names self.entry.keeps_good is_whole self.entry.has_refused
-            || self.entry.has_refused)
+        ensures holds { names ≡ true → result.3 ≡ None → HoldsAs self.entry.staging.folder.path.now
+            (staged (W.trace self.entry.staging.world) self.entry.staging.files.items
+            self.entry.staging.is_writing) (W.trace result.0) }
+        ensures told { result.3 ≡ None → TellsIf (names || self.entry.has_refused)
             (O.contents self.entry.out) (O.contents result.1) self.entry.lines.items }
         ensures count { result.2 ≡ self.entry.taken.count }
     {
         let FolderTaker {
             alloc: _alloc,
-            keeps_good,
+            keeps_good: _keeps_good,
             json: _json,
             mut out,
             mut staging,
@@ -99,7 +105,6 @@ impl<'a, 'c, W: World, O: Write + Drop> FolderTaker<'a, 'c, W, O> {
             trouble,
         } = self;
         let trouble = trouble.or(staging.unwritten());
-        let names = gives_names(keeps_good, is_whole, has_refused);
         let named = name(&mut staging, names);
         let told = tell(named, &mut out, lines.as_slice(), names || has_refused);
         (staging.end(), out, taken.count(), trouble.or(told.err()))
@@ -109,6 +114,9 @@ impl<'a, 'c, W: World, O: Write + Drop> FolderTaker<'a, 'c, W, O> {
     fn look(&mut self, name: &NodeName, length: u64) -> Result<(), Trouble>
         ensures folder { self.new.staging.folder ≡ self.old.staging.folder }
         ensures taken { self.new.taken ≡ self.old.taken }
+        ensures staged { staged (W.trace self.new.staging.world) self.new.staging.files.items
+            self.new.staging.is_writing ≡ staged (W.trace self.old.staging.world)
+            self.old.staging.files.items self.old.staging.is_writing }
     {
         self.claimed.claim(length)?;
         match self.looked.next(name)? {
@@ -121,6 +129,11 @@ impl<'a, 'c, W: World, O: Write + Drop> FolderTaker<'a, 'c, W, O> {
     fn begin(&mut self, name: &NodeName) -> Result<NewFile<'c, W::File>, Trouble>
         ensures folder { self.new.staging.folder ≡ self.old.staging.folder }
         ensures counted { OnOk result (nat_lt 0 self.new.taken.count ≡ true) }
+        ensures staged { staged (W.trace self.new.staging.world) self.new.staging.files.items
+            self.new.staging.is_writing ≡ staged (W.trace self.old.staging.world)
+            self.old.staging.files.items self.old.staging.is_writing }
+        ensures empty { IsTrue W.knows → IfOk result (λ new.
+            writer_contents W.File.contents new.file ≡ Some []) }
     {
         match self.taken.next(name)? {
             Some(name) => self.staging.begin(name),
@@ -138,6 +151,12 @@ impl<'a, 'c, W: World, O: Write + Drop> FolderTaker<'a, 'c, W, O> {
         ensures folder { self.new.staging.folder ≡ self.old.staging.folder }
         ensures taken { self.new.taken ≡ self.old.taken }
         ensures files { self.new.staging.files ≡ self.old.staging.files }
+        ensures staged { IsTrue W.knows → (bytes : List ℕ) →
+            writer_contents W.File.contents file.entry.file ≡ Some bytes →
+            MayComplete (is_ok result) (Some bytes)
+            (staged (W.trace self.old.staging.world) self.old.staging.files.items
+            self.old.staging.is_writing) (staged (W.trace self.new.staging.world)
+            self.new.staging.files.items self.new.staging.is_writing) }
         ensures told { OnOk result (self.new.lines.items
             ≡ with_kept (self.old.has_refused && not self.old.keeps_good) self.old.lines.items
             (kept_told self.old.json (as_bytes name.now) (last_name self.old.staging.files.items)
@@ -175,6 +194,9 @@ impl<'a, 'c, W: World, O: Write + Drop> FolderTaker<'a, 'c, W, O> {
         ensures folder { self.new.staging.folder ≡ self.old.staging.folder }
         ensures taken { self.new.taken ≡ self.old.taken }
         ensures refused { OnOk result (self.new.has_refused ≡ true) }
+        ensures staged { staged (W.trace self.new.staging.world) self.new.staging.files.items
+            self.new.staging.is_writing ≡ staged (W.trace self.old.staging.world)
+            self.old.staging.files.items self.old.staging.is_writing }
         ensures dropped { OnOk result (RefusesLast self.old.keeps_good
             self.old.staging.files.items self.new.staging.files.items
             self.old.staging.outdated.items self.new.staging.outdated.items
@@ -201,6 +223,10 @@ fn name<W: World>(
     requires { staging.old.is_naming ≡ false }
     ensures folder { staging.new.folder ≡ staging.old.folder }
     ensures naming { staging.new.is_naming ≡ names }
+    ensures holds { names ≡ true → is_named result ≡ true → (used : List ℕ → Bool) →
+        uses_names used (names_of staging.old.files.items) (names_of staging.old.outdated.items) ≡ true →
+        HoldsAs staging.old.folder.path.now (staged (W.trace staging.old.world)
+        staging.old.files.items staging.old.is_writing) (W.trace staging.new.world) }
 {
     if !names {
         return Ok(Ok(()));
@@ -235,7 +261,12 @@ impl<'a, 'c, W: World, O: Write + Drop> Taker for FolderTaker<'a, 'c, W, O> {
 
     ghost place = { λ t. t.staging.folder.path.now };
 
-    ghost takes = { λ _. [] };
+    ghost honest = { W.knows };
+
+    ghost seen = { seen_of };
+
+    ghost takes = { λ t. map as_take (staged (W.trace t.staging.world) t.staging.files.items
+        t.staging.is_writing) };
 
     ghost begun = { λ t. nat_lt 0 t.taken.count };
 

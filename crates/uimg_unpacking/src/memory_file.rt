@@ -29,6 +29,13 @@ impl<'a> MemoryFile<'a> {
             written: Vec::new(alloc),
         }
     }
+
+    /// Returns what was written to it.
+    pub(crate) fn written(&self) -> &[u8]
+        ensures { result.now ≡ self.now.written.items }
+    {
+        self.written.as_slice()
+    }
 }
 
 /// Returns the error of a call that would change files.

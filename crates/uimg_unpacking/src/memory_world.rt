@@ -72,6 +72,8 @@ impl<'a> World for MemoryWorld<'a> {
 
     ghost trace = { λ world. world.record.deeds };
 
+    ghost knows = { true };
+
     ghost map = { λ world. record {
       bytes = λ path. bytes_named path world.files.now;
       honest = true;
@@ -79,6 +81,8 @@ impl<'a> World for MemoryWorld<'a> {
       refusals = world.refusals;
       opened = [];
     } };
+
+    ghost known = { λ world honest. honest };
 
     fn alloc(&self) -> Global {
         self.alloc
@@ -143,6 +147,12 @@ impl<'a> World for MemoryWorld<'a> {
 
     fn create_new(&mut self, path: &str) -> io::Result<MemoryFile<'a>> {
         self.refuse(CREATES, path, "")
+    }
+
+    fn close(&mut self, path: &str, file: MemoryFile<'a>, is_synced: bool) -> io::Result<()> {
+        let call = [CLOSES, 0, is_synced as u64, 0];
+        self.record.note(&call, path.as_bytes(), file.written());
+        Ok(())
     }
 
     fn hard_link(&mut self, from: &str, to: &str) -> io::Result<()> {

@@ -6,7 +6,7 @@ ghost use Rattle.uimg_unpacking.specs.Deeds.{answer_of};
 ghost use Rattle.uimg_unpacking.specs.Naming.{GivesName, KeepsAs, PutsBack};
 ghost use Rattle.uimg_unpacking.specs.Naming.{Names, NamesOver, RemovesOld, TellsCreated};
 ghost use Rattle.uimg_unpacking.specs.NamingAll.{NamesFiles, PutsBackFiles, UnlessLater, ForgetsOld};
-ghost use Rattle.uimg_unpacking.specs.Places.{is_begun_in, stays_within};
+ghost use Rattle.uimg_unpacking.specs.{Places.{is_begun_in, stays_within}, Staged.{LeavesOthers, names_of}};
 
 use crate::begun::Begun;
 use crate::folder::Folder;
@@ -203,8 +203,10 @@ pub(crate) fn remove_all_old<W: World>(
     files: &[Begun],
 ) -> Result<(), Trouble>
     requires { list_all (is_begun_in folder.now.path.now) files.now ≡ true }
-    ensures { stays_within folder.now.path.now true (W.trace world.new)
+    ensures within { stays_within folder.now.path.now true (W.trace world.new)
         ≡ stays_within folder.now.path.now true (W.trace world.old) }
+    ensures leaves { LeavesOthers folder.now.path.now (names_of files.now)
+        (W.trace world.old) (W.trace world.new) }
 {
     for its in files {
         remove_old(world, alloc, folder, its)?;

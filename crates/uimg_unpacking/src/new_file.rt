@@ -27,7 +27,8 @@ pub struct NewFile<'a, F: Write + OpenFile + Drop> {
 impl<'a, F: Write + OpenFile + Drop> NewFile<'a, F> {
     /// Returns a file to which nothing was written, and which notes its errors here.
     pub(crate) fn new(file: BufWriter<F, Global>, code: &'a ErrorCode) -> NewFile<'a, F>
-        ensures { result.size ≡ 0 }
+        ensures size { result.size ≡ 0 }
+        ensures bytes { writer_contents F.contents result.file ≡ writer_contents F.contents file }
     {
         NewFile {
             file,
@@ -36,22 +37,21 @@ impl<'a, F: Write + OpenFile + Drop> NewFile<'a, F> {
         }
     }
 
-    /// Writes what is buffered, to the disk too if `is_synced`, and closes the file. Returns its
-    /// length in bytes.
-    pub(crate) fn close(self, is_synced: bool) -> io::Result<u64>
-        ensures { IfOk result (λ size. size ≡ self.entry.size) }
+    /// Writes what is buffered. Returns the file, and its length in bytes.
+    pub(crate) fn into_file(self) -> io::Result<(F, u64)>
+        ensures size { IfOk result (λ it. it.1 ≡ self.entry.size) }
+        ensures bytes { IfOk result (λ it.
+            Keeps (writer_contents F.contents self.entry.file) (F.contents it.0)) }
     {
         let NewFile {
-            mut file,
+            file,
             size,
             code: _,
         } = self;
-        file.flush()?;
-        if is_synced {
-            file.get_ref().sync_all()?;
+        match file.into_inner() {
+            Ok(file) => Ok((file, size)),
+            Err(failed) => Err(failed.into_error()),
         }
-        drop(file);
-        Ok(size)
     }
 }
 

@@ -1,13 +1,15 @@
 //! Files that are written in a folder of their own, and get their names together.
 
-ghost use Rattle.std.specs.Prelude.{◌≡◌, ◌++◌, ◌∷◌, [], map, true, false, codes, IfOk, IfSome, MatchOption, OnOk, is_ok, string_bytes};
-ghost use Rattle.std.specs.List.{list_all};
+ghost use Rattle.std.specs.Prelude.{◌≡◌, ◌++◌, ◌∷◌, [], List, ℕ, Some, map, true, false, codes, IfOk, IfSome, IsTrue, MatchOption, OnOk, is_ok, not, string_bytes};
+ghost use Rattle.std.specs.{Io.Buffered.writer_contents, List.list_all};
 ghost use Rattle.std.specs.Option.{option_map, option_map_or};
-ghost use Rattle.uimg_unpacking.specs.Deeds.{Answer, Deed, answer_of};
-ghost use Rattle.uimg_unpacking.specs.Clearing.{unanswered, cleared};
+ghost use Rattle.uimg_unpacking.specs.Deeds.{Answer, ClosesFile, Deed, answer_of};
+ghost use Rattle.uimg_unpacking.specs.Clearing.{Clears};
+ghost use Rattle.uimg_unpacking.specs.Contents.{held};
 ghost use Rattle.uimg_unpacking.specs.FileNames.{is_file_name};
 ghost use Rattle.uimg_unpacking.specs.Places.{is_temporary_folder, is_temporary_file, is_begun_in, stays_within};
 ghost use Rattle.uimg_unpacking.specs.Refusals.{last_of, last_name, DropsLast, RefusesLast, TellsUnwritten};
+ghost use Rattle.uimg_unpacking.specs.Staged.{Completes, Drops, are_numbered_in, names_of, staged, with_name};
 
 mod naming_all;
 
@@ -46,6 +48,7 @@ pub(crate) struct Staging<'a, 'c, W: World> {
     ghost created_inside: { list_all (λ path. is_temporary_file folder.path.now (string_bytes path)) created.items ≡ true },
     ghost outdated_inside: { list_all (is_begun_in folder.path.now) outdated.items ≡ true },
     ghost stays: { stays_within folder.path.now is_naming (W.trace world) ≡ true },
+    ghost numbered: { are_numbered_in (option_map string_bytes made) files.items ≡ true },
 }
 
 impl<'a, 'c, W: World> Staging<'a, 'c, W> {
@@ -59,6 +62,8 @@ impl<'a, 'c, W: World> Staging<'a, 'c, W> {
         requires { W.trace world ≡ [] }
         ensures folder { result.folder ≡ folder.entry }
         ensures unnamed { result.is_naming ≡ false }
+        ensures none { result.files.items ≡ [] × result.outdated.items ≡ []
+            × result.is_writing ≡ false }
     {
         Staging {
             world,
@@ -78,18 +83,32 @@ impl<'a, 'c, W: World> Staging<'a, 'c, W> {
     pub(crate) fn look(&mut self, name: &str) -> Result<(), Trouble>
         ensures folder { self.new.folder ≡ self.old.folder }
         ensures naming { self.new.is_naming ≡ self.old.is_naming }
+        ensures files { self.new.files ≡ self.old.files }
+        ensures outdated { self.new.outdated ≡ self.old.outdated }
+        ensures writing { self.new.is_writing ≡ self.old.is_writing }
+        ensures held { held (W.trace self.new.world) ≡ held (W.trace self.old.world) }
     {
         let whole = self.folder.path_of(self.alloc, name)?;
         self.folder.allows(&mut self.world, whole)?;
         Ok(())
     }
 
-    /// Creates the file that gets a name later.
+    /// Creates the file that gets a name later. Fails if another one is not complete.
     pub(crate) fn begin(&mut self, name: String) -> Result<NewFile<'c, W::File>, Trouble>
         requires { is_file_name (string_bytes name) ≡ true }
         ensures folder { self.new.folder ≡ self.old.folder }
         ensures naming { self.new.is_naming ≡ self.old.is_naming }
+        ensures names { names_of self.new.files.items
+            ≡ with_name (is_ok result) (names_of self.old.files.items) (string_bytes name) }
+        ensures outdated { self.new.outdated ≡ self.old.outdated }
+        ensures staged { staged (W.trace self.new.world) self.new.files.items self.new.is_writing
+            ≡ staged (W.trace self.old.world) self.old.files.items self.old.is_writing }
+        ensures empty { IsTrue W.knows → IfOk result (λ new.
+            writer_contents W.File.contents new.file ≡ Some []) }
     {
+        if self.is_writing {
+            return Err(Trouble::NoName);
+        }
         let whole = self.folder.path_of(self.alloc, name.as_str())?;
         match self.make_folder() {
             Ok(Ok(())) => {}
@@ -110,6 +129,10 @@ impl<'a, 'c, W: World> Staging<'a, 'c, W> {
     fn make_folder(&mut self) -> Result<io::Result<()>, AllocError>
         ensures folder { self.new.folder ≡ self.old.folder }
         ensures naming { self.new.is_naming ≡ self.old.is_naming }
+        ensures files { self.new.files ≡ self.old.files }
+        ensures outdated { self.new.outdated ≡ self.old.outdated }
+        ensures writing { self.new.is_writing ≡ self.old.is_writing }
+        ensures held { held (W.trace self.new.world) ≡ held (W.trace self.old.world) }
     {
         if self.made.is_some() {
             return Ok(Ok(()));
@@ -129,7 +152,10 @@ impl<'a, 'c, W: World> Staging<'a, 'c, W> {
         requires named { is_file_name (string_bytes name) ≡ true }
         requires whole { string_bytes whole
             ≡ self.now.folder.path.now ++ codes "/" ++ string_bytes name }
-        ensures { IfOk result (λ it. is_begun_in self.now.folder.path.now it ≡ true) }
+        ensures begun { IfOk result (λ it. is_begun_in self.now.folder.path.now it ≡ true) }
+        ensures numbered { IfOk result (λ it. are_numbered_in (option_map string_bytes self.now.made)
+            (self.now.files.items ++ it ∷ []) ≡ true) }
+        ensures name { IfOk result (λ it. it.name ≡ name) }
     {
         let Some(made) = &self.made else {
             return Err(Trouble::NoName);
@@ -145,6 +171,11 @@ impl<'a, 'c, W: World> Staging<'a, 'c, W> {
         requires { is_begun_in self.old.folder.path.now begun.now ≡ true }
         ensures folder { self.new.folder ≡ self.old.folder }
         ensures naming { self.new.is_naming ≡ self.old.is_naming }
+        ensures made { self.new.made ≡ self.old.made }
+        ensures files { self.new.files ≡ self.old.files }
+        ensures outdated { self.new.outdated ≡ self.old.outdated }
+        ensures writing { self.new.is_writing ≡ self.old.is_writing }
+        ensures world { self.new.world ≡ self.old.world }
     {
         let path = String::from_str(self.alloc, begun.new.as_str())?;
         match self.created.push(path) {
@@ -155,18 +186,36 @@ impl<'a, 'c, W: World> Staging<'a, 'c, W> {
 
     // Creates a file.
     fn create(&mut self, begun: &Begun) -> io::Result<W::File>
-        requires { is_begun_in self.old.folder.path.now begun.now ≡ true }
+        requires begun { is_begun_in self.old.folder.path.now begun.now ≡ true }
+        requires numbered { are_numbered_in (option_map string_bytes self.old.made)
+            (self.old.files.items ++ begun.now ∷ []) ≡ true }
         ensures folder { self.new.folder ≡ self.old.folder }
         ensures naming { self.new.is_naming ≡ self.old.is_naming }
+        ensures made { self.new.made ≡ self.old.made }
+        ensures files { self.new.files ≡ self.old.files }
+        ensures outdated { self.new.outdated ≡ self.old.outdated }
+        ensures writing { self.new.is_writing ≡ self.old.is_writing }
+        ensures staged { staged (W.trace self.new.world) self.old.files.items self.old.is_writing
+            ≡ staged (W.trace self.old.world) self.old.files.items self.old.is_writing }
+        ensures empty { IsTrue W.knows →
+            IfOk result (λ file. W.File.contents file ≡ Some []) }
     {
         self.world.create_new(begun.new.as_str())
     }
 
     // Adds a file that was created, and is not complete.
     fn add(&mut self, begun: Begun) -> Result<(), Trouble>
-        requires { is_begun_in self.old.folder.path.now begun ≡ true }
+        requires begun { is_begun_in self.old.folder.path.now begun ≡ true }
+        requires numbered { are_numbered_in (option_map string_bytes self.old.made)
+            (self.old.files.items ++ begun ∷ []) ≡ true }
+        requires writing { self.old.is_writing ≡ false }
         ensures folder { self.new.folder ≡ self.old.folder }
         ensures naming { self.new.is_naming ≡ self.old.is_naming }
+        ensures names { names_of self.new.files.items
+            ≡ with_name (is_ok result) (names_of self.old.files.items) (string_bytes begun.name) }
+        ensures outdated { self.new.outdated ≡ self.old.outdated }
+        ensures staged { staged (W.trace self.new.world) self.new.files.items self.new.is_writing
+            ≡ staged (W.trace self.old.world) self.old.files.items self.old.is_writing }
     {
         match self.files.push(begun) {
             Ok(()) => {
@@ -177,35 +226,86 @@ impl<'a, 'c, W: World> Staging<'a, 'c, W> {
         }
     }
 
-    /// Completes the file that was begun last. Returns its length in bytes.
+    /// Completes the file that was begun last. Returns its length in bytes. Fails if it is complete.
     pub(crate) fn complete(&mut self, file: NewFile<'c, W::File>) -> Result<u64, Trouble>
         ensures size { IfOk result (λ size. size ≡ file.entry.size) }
         ensures folder { self.new.folder ≡ self.old.folder }
         ensures files { self.new.files ≡ self.old.files }
+        ensures outdated { self.new.outdated ≡ self.old.outdated }
         ensures naming { self.new.is_naming ≡ self.old.is_naming }
+        ensures staged { IsTrue W.knows → (bytes : List ℕ) →
+            writer_contents W.File.contents file.entry.file ≡ Some bytes →
+            Completes (is_ok result) (Some bytes)
+            (staged (W.trace self.old.world) self.old.files.items self.old.is_writing)
+            (staged (W.trace self.new.world) self.new.files.items self.new.is_writing) }
     {
-        match file.close(self.folder.is_synced) {
-            Ok(size) => {
+        if self.is_complete() {
+            return Err(Trouble::NoName);
+        }
+        let (file, size) = match file.into_file() {
+            Ok(written) => written,
+            Err(error) => return Err(self.unclosed(error)),
+        };
+        match self.close_last(file) {
+            Ok(()) => Ok(size),
+            Err(error) => Err(self.unclosed(error)),
+        }
+    }
+
+    // Returns whether no file is being written.
+    fn is_complete(&self) -> bool
+        ensures { result ≡ not self.now.is_writing }
+    {
+        !self.is_writing
+    }
+
+    // Returns the trouble that the last file could not be completed.
+    fn unclosed(&self, error: io::Error) -> Trouble {
+        self.code.set(error.raw_os_error());
+        self.unwritten().unwrap_or(Trouble::NoName)
+    }
+
+    // Closes the file that was begun last.
+    fn close_last(&mut self, file: W::File) -> io::Result<()>
+        requires { self.old.is_writing ≡ true }
+        ensures folder { self.new.folder ≡ self.old.folder }
+        ensures files { self.new.files ≡ self.old.files }
+        ensures outdated { self.new.outdated ≡ self.old.outdated }
+        ensures naming { self.new.is_naming ≡ self.old.is_naming }
+        ensures staged { IsTrue W.knows → Completes (is_ok result) (W.File.contents file)
+            (staged (W.trace self.old.world) self.old.files.items self.old.is_writing)
+            (staged (W.trace self.new.world) self.new.files.items self.new.is_writing) }
+    {
+        let Some(last) = self.files.last() else {
+            return Err(io::Error::from(ErrorKind::NotFound));
+        };
+        let (path, is_synced) = (last.new.as_str(), self.folder.is_synced);
+        match self.world.close(path, file, is_synced) {
+            Ok(()) => {
                 self.is_writing = false;
-                Ok(size)
+                Ok(())
             }
-            Err(error) => {
-                self.code.set(error.raw_os_error());
-                Err(self.unwritten().unwrap_or(Trouble::NoName))
-            }
+            Err(error) => Err(error),
         }
     }
 
     /// Removes the file that was begun last. If it is outdated, what it was to replace is removed
-    /// with the names.
+    /// with the names. Fails if it is complete.
     pub(crate) fn refuse_last(&mut self, is_outdated: bool) -> Result<(), Trouble>
         ensures folder { self.new.folder ≡ self.old.folder }
+        ensures names { Drops (names_of self.old.files.items) (names_of self.new.files.items)
+            (names_of self.old.outdated.items) (names_of self.new.outdated.items) }
+        ensures staged { staged (W.trace self.new.world) self.new.files.items self.new.is_writing
+            ≡ staged (W.trace self.old.world) self.old.files.items self.old.is_writing }
         ensures dropped { OnOk result (RefusesLast is_outdated
             self.old.files.items self.new.files.items
             self.old.outdated.items self.new.outdated.items
             (W.trace self.old.world) (W.trace self.new.world)) }
         ensures naming { self.new.is_naming ≡ self.old.is_naming }
     {
+        if self.is_complete() {
+            return Err(Trouble::NoName);
+        }
         let refused = self.drop_last()?;
         if !is_outdated {
             return Ok(());
@@ -225,6 +325,11 @@ impl<'a, 'c, W: World> Staging<'a, 'c, W> {
             (W.trace self.old.world) (W.trace self.new.world) }
         ensures outdated { self.new.outdated ≡ self.old.outdated }
         ensures naming { self.new.is_naming ≡ self.old.is_naming }
+        ensures names { Drops (names_of self.old.files.items) (names_of self.new.files.items)
+            (names_of self.old.outdated.items) (names_of self.new.outdated.items) }
+        ensures staged { self.old.is_writing ≡ true →
+            staged (W.trace self.new.world) self.new.files.items self.new.is_writing
+            ≡ staged (W.trace self.old.world) self.old.files.items true }
     {
         let Some(last) = self.pop() else {
             return Err(Trouble::NoName);
@@ -245,6 +350,7 @@ impl<'a, 'c, W: World> Staging<'a, 'c, W> {
         ensures world { self.new.world ≡ self.old.world }
         ensures outdated { self.new.outdated ≡ self.old.outdated }
         ensures naming { self.new.is_naming ≡ self.old.is_naming }
+        ensures writing { self.new.is_writing ≡ false }
     {
         self.is_writing = false;
         self.files.pop()
@@ -256,6 +362,7 @@ impl<'a, 'c, W: World> Staging<'a, 'c, W> {
         ensures folder { self.new.folder ≡ self.old.folder }
         ensures files { self.new.files ≡ self.old.files }
         ensures outdated { self.new.outdated ≡ self.old.outdated }
+        ensures writing { self.new.is_writing ≡ self.old.is_writing }
         ensures removed { W.trace self.new.world
             ≡ Deed.Removes (string_bytes begun.now.new) (answer_of result) ∷ W.trace self.old.world }
         ensures naming { self.new.is_naming ≡ self.old.is_naming }
@@ -298,10 +405,9 @@ impl<'a, 'c, W: World> Staging<'a, 'c, W> {
     /// Removes the files that have no name, and their folder. Returns the world.
     pub(crate) fn end(self) -> W
         ensures stays { stays_within self.entry.folder.path.now self.entry.is_naming (W.trace result) ≡ true }
-        ensures cleared { map unanswered (W.trace result)
-            ≡ cleared (option_map string_bytes self.entry.made)
+        ensures cleared { Clears (option_map string_bytes self.entry.made)
             (map string_bytes self.entry.created.items)
-            (map unanswered (W.trace self.entry.world)) }
+            (W.trace self.entry.world) (W.trace result) }
     {
         let Staging {
             mut world,

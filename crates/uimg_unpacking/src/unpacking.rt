@@ -1,12 +1,12 @@
 //! Unpacks a FIT image into a folder.
 
-ghost use Rattle.std.specs.Prelude.{◌≡◌, ◌+◌, ◌≤◌, [], true};
+ghost use Rattle.std.specs.Prelude.{◌≡◌, ◌+◌, ◌≤◌, [], IsTrue, true};
 ghost use Rattle.std.specs.Option.{option_map};
 ghost use Rattle.uimg_base.specs.Device.{SameDevice};
 ghost use Rattle.uimg_base.specs.Honest.{IfHonest};
 ghost use Rattle.uimg_fit_checking.specs.Unpacking.{as_bytes, unpack_work};
 ghost use Rattle.uimg_unpacking.specs.Ends.{asked_name, is_whole, end_of_taken, end_of_fault, TellsOverlap, EndsGiven, Ends, EndsByFile};
-ghost use Rattle.uimg_unpacking.specs.{Deeds.Follows, Places.{ChangesWithin, stays_within}};
+ghost use Rattle.uimg_unpacking.specs.{Deeds.Follows, Filling.Fills, Places.{ChangesWithin, stays_within}};
 
 use crate::folder::Folder;
 use crate::folder_taker::FolderTaker;
@@ -14,6 +14,7 @@ use crate::limits::Limits;
 use crate::lines::Line;
 use crate::new_file::ErrorCode;
 use crate::objects::told;
+use crate::plan::gives_names;
 use crate::trouble::Trouble;
 use crate::world::World;
 use std::alloc::Global;
@@ -77,7 +78,8 @@ pub enum Ended {
 /// `keeps_good` keeps the good ones, and removes what refused ones were to replace.
 ///
 /// Over an honest source it ends as the definition says of the image's bytes (`end_of_file`), unless
-/// a read fails, memory runs out or it returns a trouble.
+/// a read fails, memory runs out or it returns a trouble. Where files are kept, and contracts know
+/// what new files hold, these are exactly the bytes of the kept payloads, in order.
 #[tactic(auto, using(crate::proofs::PartChanges::within, crate::proofs::PartChanges::follows))]
 pub fn unpack<W: World, S: Source, O: Write + Drop>(
     world: &mut W,
@@ -91,6 +93,8 @@ pub fn unpack<W: World, S: Source, O: Write + Drop>(
     ensures asked { IfHonest S.device source (λ file. (S.device source.new).asked
         ≤ (S.device source.old).asked + unpack_work file) }
     ensures ended { IfHonest S.device source (λ file. EndsByFile asked.now file result) }
+    ensures filled { IfHonest S.device source (λ file. IsTrue W.knows →
+        Fills asked.now file result (W.trace world.old) (W.trace world.new)) }
 {
     let (part, ended) = unpack_in(world.part(), world.alloc(), asked, source, out);
     world.rejoin(part);
@@ -112,6 +116,8 @@ fn unpack_in<W: World, S: Source, O: Write + Drop>(
     ensures asked { IfHonest S.device source (λ file. (S.device source.new).asked
         ≤ (S.device source.old).asked + unpack_work file) }
     ensures ended { IfHonest S.device source (λ file. EndsByFile asked.now file result.1) }
+    ensures filled { IfHonest S.device source (λ file. IsTrue W.knows →
+        Fills asked.now file result.1 [] (W.trace result.0)) }
 {
     let Some(only) = only_of(asked.only) else {
         return (world, Ended::Stopped(Fault::Fit(FitFault::NoSuchImage)));
@@ -120,7 +126,8 @@ fn unpack_in<W: World, S: Source, O: Write + Drop>(
     let code = ErrorCode::new(None);
     let mut taker = FolderTaker::new(world, alloc, asked, out, &code);
     let unpacked = uimg_fit_checking::unpack(only, asked.need, source, &mut room, &mut taker);
-    let (world, mut out, count, trouble) = taker.end(is_whole(&unpacked));
+    let names = gives_names(asked.keeps_good, is_whole(&unpacked));
+    let (world, mut out, count, trouble) = taker.end(names);
     let ended = how_ended(alloc, asked, unpacked, (count, trouble), &mut out);
     (world, ended)
 }

@@ -13,12 +13,12 @@ use uimg_base::{Source, SourceFault};
 ///
 /// Contracts see the calls that were made, the newest first: which call, on which path or paths, and
 /// what it answered. They see the files as a `FileMap`, as those of `Files`: an honest world opens
-/// honest sources of the bytes that it has at a path. What a call that changes files makes of them is
-/// not claimed.
+/// honest sources of the bytes that it has at a path. Where contracts know what new files hold, each
+/// call that closes one says it.
 pub trait World: Drop {
-    ghost use Rattle.std.specs.Prelude.{◌≡◌, List, [], ◌∷◌, ◌++◌, None, Some, IfOk, IsTrue, OnErr, is_err, is_ok};
+    ghost use Rattle.std.specs.Prelude.{◌≡◌, List, [], ◌∷◌, ◌++◌, Bool, None, Some, false, IfOk, IsTrue, OnErr, is_err, is_ok};
     ghost use Rattle.uimg_base.specs.{Device.RisesIf, Named.{FileMap, SameFiles, Opens}};
-    ghost use Rattle.uimg_unpacking.specs.Deeds.{Deed, answer_of, resolved};
+    ghost use Rattle.uimg_unpacking.specs.Deeds.{ClosesFile, Deed, answer_of, resolved};
 
     /// A file to read or to write to.
     type File: Read + Write + OpenFile + Drop;
@@ -31,6 +31,12 @@ pub trait World: Drop {
 
     /// The bytes at each path.
     ghost map: { Self → FileMap };
+
+    /// Whether contracts know what new files hold.
+    ghost knows: { Bool } = { false };
+
+    /// They do in an honest world.
+    ghost known: { (world : Self) → IsTrue (map world).honest → IsTrue knows };
 
     /// Returns the allocator of the program's memory.
     fn alloc(&self) -> Global;
@@ -82,9 +88,17 @@ pub trait World: Drop {
         ensures empty { IsTrue (map self.old).honest →
             IfOk result (λ file. Self.File.contents file ≡ Some []) };
 
-    /// Creates a file where nothing exists.
+    /// Creates a file where nothing exists. If contracts know what it holds, it is empty.
     fn create_new(&mut self, path: &str) -> io::Result<Self::File>
-        ensures { trace self.new ≡ Deed.Creates path.now (answer_of result) ∷ trace self.old };
+        ensures noted { trace self.new ≡ Deed.Creates path.now (answer_of result) ∷ trace self.old }
+        ensures empty { IsTrue knows →
+            IfOk result (λ file. Self.File.contents file ≡ Some []) };
+
+    /// Closes the file that was created at a path. If `is_synced`, waits before that until its bytes
+    /// are on the disk.
+    fn close(&mut self, path: &str, file: Self::File, is_synced: bool) -> io::Result<()>
+        ensures { ClosesFile knows path.now is_synced (Self.File.contents file)
+            (answer_of result) (trace self.old) (trace self.new) };
 
     /// Gives a file a second path, where nothing exists.
     fn hard_link(&mut self, from: &str, to: &str) -> io::Result<()>

@@ -2,6 +2,7 @@
 
 ghost use Rattle.std.specs.Prelude.{◌≡◌, None, length, is_ok, is_some, not, string_bytes, true};
 ghost use Rattle.std.specs.Option.{option_map};
+ghost use Rattle.uimg_unpacking.specs.Staged.{LeavesOthers, names_of};
 ghost use Rattle.uimg_unpacking.specs.NamingAll.{NamesFiles, SyncsNames, NamesAll, NamesComplete, TakesBack};
 ghost use Rattle.uimg_unpacking.specs.Troubles.{trouble_in};
 
@@ -17,6 +18,7 @@ impl<'a, 'c, W: World> Staging<'a, 'c, W> {
         ensures writing { self.new.is_writing ≡ self.old.is_writing }
         ensures world { self.new.world ≡ self.old.world }
         ensures folder { self.new.folder ≡ self.old.folder }
+        ensures outdated { self.new.outdated ≡ self.old.outdated }
         ensures naming { self.new.is_naming ≡ true }
     {
         self.is_naming = true;
@@ -28,6 +30,7 @@ impl<'a, 'c, W: World> Staging<'a, 'c, W> {
         ensures told { NamesComplete self.old.folder self.old.files.items self.old.is_writing
             (is_ok result) (W.trace self.old.world) (W.trace self.new.world) }
         ensures folder { self.new.folder ≡ self.old.folder }
+        ensures outdated { self.new.outdated ≡ self.old.outdated }
         ensures naming { self.new.is_naming ≡ true }
     {
         self.begin_naming();
@@ -44,6 +47,7 @@ impl<'a, 'c, W: World> Staging<'a, 'c, W> {
         ensures told { NamesAll self.old.folder self.old.files.items (is_ok result)
             (W.trace self.old.world) (W.trace self.new.world) }
         ensures folder { self.new.folder ≡ self.old.folder }
+        ensures outdated { self.new.outdated ≡ self.old.outdated }
         ensures naming { self.new.is_naming ≡ self.old.is_naming }
     {
         if let (named, Some(trouble)) = self.name_each() {
@@ -62,6 +66,8 @@ impl<'a, 'c, W: World> Staging<'a, 'c, W> {
         requires { self.old.is_naming ≡ true }
         ensures folder { self.new.folder ≡ self.old.folder }
         ensures naming { self.new.is_naming ≡ self.old.is_naming }
+        ensures leaves { LeavesOthers self.old.folder.path.now (names_of self.old.outdated.items)
+            (W.trace self.old.world) (W.trace self.new.world) }
     {
         let outdated = self.outdated.as_slice();
         remove_all_old(&mut self.world, self.alloc, &self.folder, outdated)?;
@@ -77,6 +83,7 @@ impl<'a, 'c, W: World> Staging<'a, 'c, W> {
             (W.trace self.old.world) (W.trace self.new.world) }
         ensures files { self.new.files ≡ self.old.files }
         ensures folder { self.new.folder ≡ self.old.folder }
+        ensures outdated { self.new.outdated ≡ self.old.outdated }
         ensures naming { self.new.is_naming ≡ self.old.is_naming }
     {
         if !self.folder.is_synced || self.files.is_empty() {
@@ -100,6 +107,7 @@ impl<'a, 'c, W: World> Staging<'a, 'c, W> {
             (not (is_some result.1)) (W.trace self.old.world) (W.trace self.new.world) }
         ensures files { self.new.files ≡ self.old.files }
         ensures folder { self.new.folder ≡ self.old.folder }
+        ensures outdated { self.new.outdated ≡ self.old.outdated }
         ensures naming { self.new.is_naming ≡ self.old.is_naming }
     {
         name_files(
@@ -119,6 +127,7 @@ impl<'a, 'c, W: World> Staging<'a, 'c, W> {
             (option_map string_bytes self.old.made) trouble result
             (W.trace self.old.world) (W.trace self.new.world) }
         ensures folder { self.new.folder ≡ self.old.folder }
+        ensures outdated { self.new.outdated ≡ self.old.outdated }
         ensures naming { self.new.is_naming ≡ self.old.is_naming }
     {
         let is_back = put_back_all(&mut self.world, &self.folder, self.files.as_slice(), number);

@@ -10,4 +10,5 @@ invariant_of-self g c =
       created_inside = c.args.self.now.created_inside;
       outdated_inside = c.args.self.now.outdated_inside;
       stays = stays_naming it.folder.path.now it.is_naming (g.W.World.trace it.world) it.stays;
+      numbered = c.args.self.now.numbered;
     }

@@ -1,4 +1,6 @@
-use Rattle.std.proofs.Common.{rules, ◌∙◌}
+use Rattle.std.proofs.Common.{rules, ◌∙◌, string_bytes}
+use Rattle.std.specs.Option.{option_map}
+use Rattle.uimg_unpacking.proofs.StagedLaws.{numbered_made}
 use Rattle.uimg_unpacking.proofs.staging.Staging.make_folder.Goals as goal
 
 pub invariant_of-self : goal.invariant_of-self
@@ -9,6 +11,7 @@ invariant_of-self g c =
       created_inside = c.args.self.now.created_inside;
       outdated_inside = c.args.self.now.outdated_inside;
       stays = c.new_folder.ensures.within c.args.self.now.is_naming ∙ c.args.self.now.stays;
+      numbered = numbered_made (option_map string_bytes c.args.self.now.made) _ c.args.self.now.files.items (search rules) c.args.self.now.numbered;
     }
 
 pub invariant_of-self-in-Err-1 : goal.invariant_of-self-in-Err-1
@@ -19,6 +22,7 @@ invariant_of-self-in-Err-1 g c =
       created_inside = c.args.self.now.created_inside;
       outdated_inside = c.args.self.now.outdated_inside;
       stays = c.new_folder.ensures.within c.args.self.now.is_naming ∙ c.args.self.now.stays;
+      numbered = c.args.self.now.numbered;
     }
 
 pub invariant_of-self-in-Err-new_folder : goal.invariant_of-self-in-Err-new_folder
@@ -29,4 +33,5 @@ invariant_of-self-in-Err-new_folder g c =
       created_inside = c.args.self.now.created_inside;
       outdated_inside = c.args.self.now.outdated_inside;
       stays = c.new_folder.ensures.within c.args.self.now.is_naming ∙ c.args.self.now.stays;
+      numbered = c.args.self.now.numbered;
     }

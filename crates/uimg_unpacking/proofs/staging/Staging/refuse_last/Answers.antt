@@ -17,6 +17,7 @@ invariant_of-self g c =
       created_inside = it.created_inside;
       outdated_inside = pushed (is_begun_in it.folder.path.now) it.outdated.items c.push.new.self.items c.in_ok-refused.refused (is_ok c.push.result) c.push.ensures.items it.outdated_inside last;
       stays = it.stays;
+      numbered = it.numbered;
     }
 
 pub returns-clause-dropped : goal.returns-clause-dropped

@@ -15,4 +15,5 @@ invariant_of-self g c =
       created_inside = c.args.self.now.created_inside;
       outdated_inside = c.args.self.now.outdated_inside;
       stays = removed_within folder it.is_naming c.as_str.result.now (answer_of c.remove_file.result) (g.W.World.trace it.world) (g.W.World.trace c.remove_file.new.self) new c.remove_file.ensures ∙ it.stays;
+      numbered = c.args.self.now.numbered;
     }

@@ -1,0 +1,551 @@
+-- What files that were begun hold, and their names.
+use Rattle.std.proofs.Common.{◌≡◌, ℕ, suc, zero, ◌+◌, ◌^◌, ◌<◌, ◌≤◌, List, [], ◌∷◌, ◌++◌, map, length, codes, decimal, string_bytes, bytes_eq, slice_get, ◌-◌, is_none, option_to_list, Bool, true, false, ◌&&◌, ◌||◌, if◌then◌else◌, not, Option, Some, None, refl, ap, ap₂, sym, subst, ◌∙◌, true≢false, arith}
+use Rattle.std.specs.Bool.{⊤}
+use Rattle.std.specs.List.{list_all, list_any}
+use Rattle.std.specs.Io.KnownBytes.{Keeps}
+use Rattle.std.specs.Option.{option_map}
+use Rattle.std.proofs.lemmas.Bool.{and_parts}
+use Rattle.std.proofs.lemmas.List.{append-nil}
+use Rattle.std.proofs.lemmas.List.Folds.{list_all-append}
+use Rattle.std.proofs.lemmas.Slice.Eq.{bytes_eq-Decides}
+use Rattle.uimg_unpacking.specs.Allowing.{Allows, is_the_image, is_looked_at, Refused}
+use Rattle.uimg_unpacking.specs.Clearing.{RemovesEach, RemovesMade, Clears}
+use Rattle.uimg_unpacking.specs.Contents.{held, is_in, differ, HoldsAs}
+use Rattle.uimg_unpacking.specs.Deeds.{Answer, Done, Exists, Failed, Deed, Creates, Closes, Removes, MakesFolder}
+use Rattle.uimg_unpacking.specs.FileNames.{is_file_name}
+use Rattle.uimg_unpacking.specs.Naming.{is_done, RemovesOld, not_forced, nothing_old, removed_old}
+use Rattle.uimg_unpacking.specs.NamingAll.{NamesFiles, SyncsNames, not_needed, waited, ForgetsOld, NamesAll, all_named, not_named, not_synced, NamesComplete, complete as all_complete, without_last as all_but_last, not_dropped}
+use Rattle.uimg_unpacking.specs.Places.{is_file_of, is_temporary_file, is_begun_in}
+use Rattle.uimg_unpacking.specs.Refusals.{DropsLast, no_file, dropped}
+use Rattle.uimg_unpacking.specs.Staged.{are_numbered, are_numbered_in, without_last, complete, held_new, staged, names_of, with_name, Completes, Drops, none_gone, last_gone, last_noted, uses_names, LeavesOthers}
+use Rattle.uimg_unpacking.specs.declared.begun.Begun.{Begun}
+use Rattle.uimg_unpacking.specs.declared.file_id.FileId.{FileId}
+use Rattle.uimg_unpacking.specs.declared.folder.Folder.{Folder}
+use Rattle.uimg_unpacking.specs.declared.trouble.Trouble.{Trouble}
+use Rattle.uimg_unpacking.proofs.ContentLaws.{HasPaths, Numbered, all_numbered, numbers_told, differs, never, flipped, removes_other, creates_other, closes_other, closes_it, temporary_other, two_new, named_all, held_named, cancel, not_or}
+use Rattle.uimg_unpacking.proofs.Placing.{begun_new, begun_old, begun_named, begun_path, begun_whole, own_in}
+
+both : (a b : Bool) → a ≡ true → b ≡ true → (a && b) ≡ true
+both a b p q = ap₂ (λ (x y : Bool). x && y) p q
+
+-- the paths of numbers in the folder that was made, as facts
+abbrev pub NumberedIn : Option (List ℕ) → List Begun → Type 0
+NumberedIn None files = files ≡ []
+NumberedIn (Some made) files = Numbered made 0 files
+
+pub is_numbered : (made : Option (List ℕ)) (files : List Begun) → are_numbered_in made files ≡ true → NumberedIn made files
+unfolding are_numbered_in
+is_numbered None [] is = refl
+is_numbered None (its ∷ files) is = absurd (true≢false (sym is))
+is_numbered (Some made) files is = all_numbered made 0 files is
+
+pub tell_numbered : (made : Option (List ℕ)) (files : List Begun) → NumberedIn made files → are_numbered_in made files ≡ true
+unfolding are_numbered_in
+tell_numbered None files has = subst (λ (fs : List Begun). are_numbered_in None fs ≡ true) (sym has) refl
+tell_numbered (Some made) files has = numbers_told made 0 files has
+
+-- Some names and others are used. The names differ from one another and from the others.
+record UsesNames (is_used : List ℕ → Bool) (names others : List (List ℕ)) : Type 0 where
+  are_used : list_all is_used names ≡ true
+  were_used : list_all is_used others ≡ true
+  unlike : differ names ≡ true
+  apart : list_all (λ name. not (is_in name others)) names ≡ true
+
+names_used : (used : List ℕ → Bool) (names others : List (List ℕ)) → uses_names used names others ≡ true → UsesNames used names others
+unfolding uses_names
+names_used used names others is =
+    let h = and_parts _ _ is in
+    let k = and_parts _ _ h.0 in
+    let l = and_parts _ _ k.0 in
+    record { are_used = l.0; were_used = l.1; unlike = k.1; apart = h.1 }
+
+tell_used : (used : List ℕ → Bool) (names others : List (List ℕ)) → UsesNames used names others → uses_names used names others ≡ true
+unfolding uses_names
+tell_used used names others has = both _ _ (both _ _ (both _ _ has.are_used has.were_used) has.unlike) has.apart
+
+pub none_used : (used : List ℕ → Bool) → uses_names used [] [] ≡ true
+unfolding uses_names
+none_used used = refl
+
+-- the files before the last
+pub front_of : (left : List Begun) (its : Begun) → without_last (left ++ its ∷ []) ≡ left
+front_of [] its = refl
+front_of (one ∷ []) its = refl
+front_of (one ∷ next ∷ left) its = ap (λ (l : List Begun). one ∷ l) (front_of (next ∷ left) its)
+
+pub front_numbered : (made : List ℕ) (n : ℕ) (left : List Begun) (its : Begun) → Numbered made n (left ++ its ∷ []) → Numbered made n left
+front_numbered made n [] its numbered = tt
+front_numbered made n (one ∷ left) its numbered = (numbered.0, front_numbered made (suc n) left its numbered.1)
+
+pub last_numbered : (made : List ℕ) (n : ℕ) (left : List Begun) (its : Begun) → Numbered made n (left ++ its ∷ []) → HasPaths made (n + length left) its
+last_numbered made n [] its numbered = subst (λ (k : ℕ). HasPaths made k its) (omega arith) numbered.0
+last_numbered made n (one ∷ left) its numbered = subst (λ (k : ℕ). HasPaths made k its) (omega arith) (last_numbered made (suc n) left its numbered.1)
+
+pub more_numbered : (made : List ℕ) (n k : ℕ) (files : List Begun) (its : Begun) → k ≡ n + length files → Numbered made n files → HasPaths made k its → Numbered made n (files ++ its ∷ [])
+more_numbered made n k [] its is numbered paths = (subst (λ (m : ℕ). HasPaths made m its) (omega (arith, is)) paths, tt)
+more_numbered made n k (one ∷ files) its is numbered paths = (numbered.0, more_numbered made (suc n) k files its (omega (arith, is)) numbered.1 paths)
+
+-- none of these is the file at a path
+abbrev pub none_at : List ℕ → List Begun → Bool
+none_at path = list_all (λ its. not (bytes_eq path (string_bytes its.new)))
+
+pub none_numbered : (made : List ℕ) (n k : ℕ) (files : List Begun) (its : Begun) → n + length files ≤ k → Numbered made n files → HasPaths made k its → none_at (string_bytes its.new) files ≡ true
+none_numbered made n k [] its less numbered paths = refl
+none_numbered made n k (one ∷ files) its less numbered paths =
+    both _ _
+    (ap not (differs (string_bytes its.new) (string_bytes one.new) (λ is. two_new made k n paths.small numbered.0.small (λ e. omega (arith, e, less)) (sym paths.new ∙ is ∙ numbered.0.new))))
+    (none_numbered made (suc n) k files its (omega (arith, less)) numbered.1 paths)
+
+not_eq : (b : Bool) → not b ≡ true → b ≡ false
+not_eq true is = cc
+not_eq false is = refl
+
+-- a call at another path leaves what they hold
+pub held_each : (path : List ℕ) (files : List Begun) (before after : List Deed) → ((p : List ℕ) → bytes_eq path p ≡ false → held after p ≡ held before p) → none_at path files ≡ true → held_new after files ≡ held_new before files
+held_each path [] before after leaves none = refl
+held_each path (one ∷ files) before after leaves none =
+    let h = and_parts (not (bytes_eq path (string_bytes one.new))) (none_at path files) none in
+    ap₂ (λ (x : Option (List ℕ)) (xs : List (Option (List ℕ))). x ∷ xs) (leaves (string_bytes one.new) (not_eq _ h.0)) (held_each path files before after leaves h.1)
+
+front_none : (path : List ℕ) (files : List Begun) → none_at path files ≡ true → none_at path (without_last files) ≡ true
+front_none path [] none = refl
+front_none path (one ∷ []) none = refl
+front_none path (one ∷ next ∷ files) none =
+    let h = and_parts (not (bytes_eq path (string_bytes one.new))) (none_at path (next ∷ files)) none in
+    both _ _ h.0 (front_none path (next ∷ files) h.1)
+
+pub complete_none : (path : List ℕ) (files : List Begun) (is_writing : Bool) → none_at path files ≡ true → none_at path (complete files is_writing) ≡ true
+complete_none path files true none = front_none path files none
+complete_none path files false none = none
+
+-- a file is created that none of them is
+new_none : (made : Option (List ℕ)) (files : List Begun) (its : Begun) → NumberedIn made (files ++ its ∷ []) → none_at (string_bytes its.new) files ≡ true
+new_none None [] its numbered = refl
+new_none None (one ∷ files) its numbered = cc
+new_none (Some path) files its numbered =
+    none_numbered path 0 (length files) files its (omega arith) (front_numbered path 0 files its numbered) (subst (λ (k : ℕ). HasPaths path k its) (omega arith) (last_numbered path 0 files its numbered))
+
+pub created_same : (made : Option (List ℕ)) (files : List Begun) (is_writing : Bool) (its : Begun) (answer : Answer) (before after : List Deed) → NumberedIn made (files ++ its ∷ []) → after ≡ Creates (string_bytes its.new) answer ∷ before → staged after files is_writing ≡ staged before files is_writing
+created_same made files is_writing its answer before after numbered is =
+    held_each (string_bytes its.new) (complete files is_writing) before after
+    (λ p other. ap (λ (t : List Deed). held t p) is ∙ creates_other (string_bytes its.new) p answer before other)
+    (complete_none (string_bytes its.new) files is_writing (new_none made files its numbered))
+
+-- the last one is closed
+pub closed_same : (made : Option (List ℕ)) (files left : List Begun) (its : Begun) (is_synced : Bool) (contents : Option (List ℕ)) (answer : Answer) (before after : List Deed) → files ≡ left ++ its ∷ [] → NumberedIn made files → after ≡ Closes (string_bytes its.new) is_synced contents answer ∷ before → held_new after left ≡ held_new before left
+closed_same made files left its is_synced contents answer before after are numbered is =
+    held_each (string_bytes its.new) left before after
+    (λ p other. ap (λ (t : List Deed). held t p) is ∙ closes_other (string_bytes its.new) p is_synced contents answer before other)
+    (new_none made left its (subst (NumberedIn made) are numbered))
+
+map-append : (f : Begun → Option (List ℕ)) (xs ys : List Begun) → map f (xs ++ ys) ≡ map f xs ++ map f ys
+map-append f [] ys = refl
+map-append f (x ∷ xs) ys = ap (λ (l : List (Option (List ℕ))). f x ∷ l) (map-append f xs ys)
+
+pub closed_failed : (made : Option (List ℕ)) (files left : List Begun) (its : Begun) (is_synced : Bool) (contents : Option (List ℕ)) (answer : Answer) (before after : List Deed) → files ≡ left ++ its ∷ [] → NumberedIn made files → after ≡ Closes (string_bytes its.new) is_synced contents answer ∷ before → staged after files true ≡ staged before files true
+closed_failed made files left its is_synced contents answer before after are numbered is =
+    let front : without_last files ≡ left = ap without_last are ∙ front_of left its in
+    ap (held_new after) front ∙ closed_same made files left its is_synced contents answer before after are numbered is ∙ ap (held_new before) (sym front)
+
+pub closed_done : (made : Option (List ℕ)) (files left : List Begun) (its : Begun) (is_synced : Bool) (contents : Option (List ℕ)) (before after : List Deed) → files ≡ left ++ its ∷ [] → NumberedIn made files → after ≡ Closes (string_bytes its.new) is_synced contents Done ∷ before → staged after files false ≡ staged before files true ++ contents ∷ []
+closed_done made files left its is_synced contents before after are numbered is =
+    let front : without_last files ≡ left = ap without_last are ∙ front_of left its in
+    ap (held_new after) are ∙ map-append (λ file. held after (string_bytes file.new)) left (its ∷ [])
+    ∙ ap₂ (λ (xs ys : List (Option (List ℕ))). xs ++ ys)
+    (closed_same made files left its is_synced contents Done before after are numbered is ∙ ap (held_new before) (sym front))
+    (ap (λ (x : Option (List ℕ)). x ∷ []) (ap (λ (t : List Deed). held t (string_bytes its.new)) is ∙ closes_it (string_bytes its.new) is_synced contents before))
+
+-- the last one is removed
+pub removed_same : (made : Option (List ℕ)) (files left : List Begun) (its : Begun) (answer : Answer) (before after : List Deed) → files ≡ left ++ its ∷ [] → NumberedIn made files → after ≡ Removes (string_bytes its.new) answer ∷ before → held_new after left ≡ staged before files true
+removed_same made files left its answer before after are numbered is =
+    let front : without_last files ≡ left = ap without_last are ∙ front_of left its in
+    held_each (string_bytes its.new) left before after
+    (λ p other. ap (λ (t : List Deed). held t p) is ∙ removes_other (string_bytes its.new) p answer before other)
+    (new_none made left its (subst (NumberedIn made) are numbered))
+    ∙ ap (held_new before) (sym front)
+
+pub front_in : (made : Option (List ℕ)) (files left : List Begun) (its : Begun) → files ≡ left ++ its ∷ [] → NumberedIn made files → NumberedIn made left
+front_in None files [] its are numbered = refl
+front_in None files (one ∷ left) its are numbered = absurd (empty (sym numbered ∙ are))
+  where
+    empty : [] ≡ one ∷ (left ++ its ∷ []) → ⊥
+    empty is = omega (arith, ap (λ (l : List Begun). length l) is)
+front_in (Some path) files left its are numbered = front_numbered path 0 left its (subst (Numbered path 0) are numbered)
+
+-- nothing of this changes what files hold
+pub syncs_same : (folder : Folder) (files : List Begun) (trouble : Option Trouble) (before after : List Deed) → SyncsNames folder files trouble before after → held after ≡ held before
+syncs_same folder files trouble before after (not_needed e f is) = ap held is
+syncs_same folder files trouble before after (waited answer told is) = ap held is
+
+-- files that are removed in the temporary folder
+pub each_rest : (folder : List ℕ) (paths : List (List ℕ)) (before after : List Deed) (p : List ℕ) → list_all (is_temporary_file folder) paths ≡ true → is_file_of folder p ≡ true → RemovesEach paths before after → held after p ≡ held before p
+each_rest folder [] before after p all own is = ap (λ (t : List Deed). held t p) is
+each_rest folder (path ∷ paths) before after p all own removes =
+    let h = and_parts (is_temporary_file folder path) (list_all (is_temporary_file folder) paths) all in
+    each_rest folder paths (Removes path removes.0 ∷ before) after p h.1 own removes.1
+    ∙ removes_other path p removes.0 before (temporary_other folder path p h.0 own)
+
+made_rest : (made : Option (List ℕ)) (before after : List Deed) (p : List ℕ) → RemovesMade made before after → held after p ≡ held before p
+made_rest None before after p is = ap (λ (t : List Deed). held t p) is
+made_rest (Some path) before after p is = ap (λ (t : List Deed). held t p) is.1
+
+pub clears_rest : (folder : List ℕ) (made : Option (List ℕ)) (paths : List (List ℕ)) (before after : List Deed) → list_all (is_temporary_file folder) paths ≡ true → Clears made paths before after → (p : List ℕ) → is_file_of folder p ≡ true → held after p ≡ held before p
+clears_rest folder made paths before after all clears p own =
+    made_rest made clears.seen after p clears.folder ∙ each_rest folder paths before clears.seen p all own clears.files
+
+old_paths : (folder : List ℕ) (files : List Begun) → list_all (is_begun_in folder) files ≡ true → list_all (is_temporary_file folder) (map (λ its. string_bytes its.old) files) ≡ true
+old_paths folder [] all = refl
+old_paths folder (its ∷ files) all =
+    let h = and_parts (is_begun_in folder its) (list_all (is_begun_in folder) files) all in
+    both _ _ (begun_old folder its h.0) (old_paths folder files h.1)
+
+-- the files hold at their names what they held
+pub held_by_names : (folder : List ℕ) (names : List (List ℕ)) (before after : List Deed) → list_all is_file_name names ≡ true → ((p : List ℕ) → is_file_of folder p ≡ true → held after p ≡ held before p) → held_named folder after names ≡ held_named folder before names
+held_by_names folder [] before after all leaves = refl
+held_by_names folder (name ∷ names) before after all leaves =
+    let h = and_parts (is_file_name name) (list_all is_file_name names) all in
+    ap₂ (λ (x : Option (List ℕ)) (xs : List (Option (List ℕ))). x ∷ xs) (leaves (folder ++ codes "/" ++ name) (own_in folder name h.0)) (held_by_names folder names before after h.1 leaves)
+
+pub are_names : (folder : List ℕ) (files : List Begun) → list_all (is_begun_in folder) files ≡ true → list_all is_file_name (names_of files) ≡ true
+are_names folder [] all = refl
+are_names folder (its ∷ files) all =
+    let h = and_parts (is_begun_in folder its) (list_all (is_begun_in folder) files) all in
+    both _ _ (begun_named folder its h.0) (are_names folder files h.1)
+
+-- all files that got their names hold there what they held
+all_held : (folder : Folder) (made : Option (List ℕ)) (files : List Begun) (before after : List Deed) → list_all (is_begun_in folder.path.now) files ≡ true → NumberedIn made files → differ (names_of files) ≡ true
+    → NamesFiles folder files (length files) true before after → held_named folder.path.now after (names_of files) ≡ held_new before files
+all_held folder None files before after all numbered unlike names =
+    subst (λ (fs : List Begun). held_named folder.path.now after (names_of fs) ≡ held_new before fs) (sym numbered) refl
+all_held folder (Some made) files before after all numbered unlike names = named_all folder made 0 files before after all numbered unlike names
+
+pub all_hold : (folder : Folder) (made : Option (List ℕ)) (files : List Begun) (before after : List Deed) → list_all (is_begun_in folder.path.now) files ≡ true → NumberedIn made files → differ (names_of files) ≡ true
+    → NamesAll folder files true before after → held_named folder.path.now after (names_of files) ≡ held_new before files
+all_hold folder made files before after all numbered unlike (all_named seen synced e names syncs forgets) =
+    let at = folder.path.now in
+    held_by_names at (names_of files) synced after (are_names at files all) (λ p own. each_rest at (map (λ its. string_bytes its.old) files) synced after p (old_paths at files all) own forgets)
+    ∙ ap (λ (h : List ℕ → Option (List ℕ)). map (λ name. h (at ++ codes "/" ++ name)) (names_of files)) (syncs_same folder files None seen synced syncs)
+    ∙ all_held folder made files before seen all numbered unlike names
+all_hold folder made files before after all numbered unlike (not_named n back seen e names puts) = absurd (true≢false e)
+all_hold folder made files before after all numbered unlike (not_synced back trouble seen synced e names syncs puts) = absurd (true≢false e)
+
+front_differs : (left : List (List ℕ)) (name : List ℕ) → differ (left ++ name ∷ []) ≡ true → differ left ≡ true
+front_differs [] name unlike = refl
+front_differs (one ∷ left) name unlike =
+    let h = and_parts (not (is_in one (left ++ name ∷ []))) (differ (left ++ name ∷ [])) unlike in
+    both _ _ (fewer left h.0) (front_differs left name h.1)
+  where
+    rest : (b : Bool) (xs : List (List ℕ)) → (not (is_in one (xs ++ name ∷ [])) ≡ true → not (is_in one xs) ≡ true) → not (b || is_in one (xs ++ name ∷ [])) ≡ true → not (b || is_in one xs) ≡ true
+    rest true xs f is = is
+    rest false xs f is = f is
+    fewer : (xs : List (List ℕ)) → not (is_in one (xs ++ name ∷ [])) ≡ true → not (is_in one xs) ≡ true
+    fewer [] is = refl
+    fewer (x ∷ xs) is = rest (bytes_eq one x) xs (fewer xs) is
+
+names-append : (left : List Begun) (its : Begun) → names_of (left ++ its ∷ []) ≡ names_of left ++ string_bytes its.name ∷ []
+names-append [] its = refl
+names-append (one ∷ left) its = ap (λ (l : List (List ℕ)). string_bytes one.name ∷ l) (names-append left its)
+
+without : (p : Begun → Bool) (left : List Begun) (its : Begun) → list_all p (left ++ its ∷ []) ≡ true → list_all p left ≡ true
+without p left its all = (and_parts (list_all p left) (list_all p (its ∷ [])) (sym (list_all-append p left (its ∷ [])) ∙ all)).0
+
+-- The same of the files that are complete: their names, and that they hold there what they held.
+pub complete_hold : (folder : Folder) (made : Option (List ℕ)) (files : List Begun) (is_writing : Bool) (before after : List Deed) → list_all (is_begun_in folder.path.now) files ≡ true → NumberedIn made files → differ (names_of files) ≡ true
+    → NamesComplete folder files is_writing true before after → held_named folder.path.now after (names_of (complete files is_writing)) ≡ staged before files is_writing
+complete_hold folder made files false before after all numbered unlike (all_complete e names) = all_hold folder made files before after all numbered unlike names
+complete_hold folder made files true before after all numbered unlike (all_complete e names) = absurd (true≢false e)
+complete_hold folder made files false before after all numbered unlike (all_but_last left seen e drops names) = absurd (true≢false (sym e))
+complete_hold folder made files true before after all numbered unlike (all_but_last left seen e (no_file f g h i) names) = absurd (true≢false h)
+complete_hold folder made files true before after all numbered unlike (all_but_last left seen e (dropped its answer are done is) names) =
+    let at = folder.path.now in
+    let front : without_last files ≡ left = ap without_last are ∙ front_of left its in
+    ap (λ (fs : List Begun). held_named at after (names_of fs)) front
+    ∙ all_hold folder made left seen after (without (is_begun_in at) left its (ap (list_all (is_begun_in at)) (sym are) ∙ all)) (front_in made files left its are numbered)
+    (front_differs (names_of left) (string_bytes its.name) (ap differ (sym (names-append left its)) ∙ ap (λ (fs : List Begun). differ (names_of fs)) (sym are) ∙ unlike)) names
+    ∙ removed_same made files left its answer before seen are numbered is
+complete_hold folder made files is_writing before after all numbered unlike (not_dropped left e f drops) = absurd (true≢false f)
+
+-- what is true of all files is true of those before the last
+front_all : (p : Begun → Bool) (files : List Begun) → list_all p files ≡ true → list_all p (without_last files) ≡ true
+front_all p [] all = refl
+front_all p (one ∷ []) all = refl
+front_all p (one ∷ next ∷ files) all =
+    let h = and_parts (p one) (list_all p (next ∷ files)) all in
+    both _ _ h.0 (front_all p (next ∷ files) h.1)
+
+complete_all : (p : Begun → Bool) (files : List Begun) (is_writing : Bool) → list_all p files ≡ true → list_all p (complete files is_writing) ≡ true
+complete_all p files true all = front_all p files all
+complete_all p files false all = all
+
+not_in_front : (x : List ℕ) (files : List Begun) → not (is_in x (names_of files)) ≡ true → not (is_in x (names_of (without_last files))) ≡ true
+not_in_front x [] is = refl
+not_in_front x (one ∷ []) is = refl
+not_in_front x (one ∷ next ∷ files) is =
+    let h = not_or (bytes_eq x (string_bytes one.name)) (is_in x (names_of (next ∷ files))) is in
+    ap₂ (λ (a b : Bool). not (a || b)) h.0 (not_eq (is_in x (names_of (without_last (next ∷ files)))) (not_in_front x (next ∷ files) h.1))
+
+front_unlike : (files : List Begun) → differ (names_of files) ≡ true → differ (names_of (without_last files)) ≡ true
+front_unlike [] unlike = refl
+front_unlike (one ∷ []) unlike = refl
+front_unlike (one ∷ next ∷ files) unlike =
+    let h = and_parts (not (is_in (string_bytes one.name) (names_of (next ∷ files)))) (differ (names_of (next ∷ files))) unlike in
+    both _ _ (not_in_front (string_bytes one.name) (next ∷ files) h.0) (front_unlike (next ∷ files) h.1)
+
+complete_unlike : (files : List Begun) (is_writing : Bool) → differ (names_of files) ≡ true → differ (names_of (complete files is_writing)) ≡ true
+complete_unlike files true unlike = front_unlike files unlike
+complete_unlike files false unlike = unlike
+
+-- names that are used once
+all_more : {X : Type 0} (p q : X → Bool) (xs : List X) → ((x : X) → p x ≡ true → q x ≡ true) → list_all p xs ≡ true → list_all q xs ≡ true
+all_more p q [] more all = refl
+all_more p q (x ∷ xs) more all =
+    let h = and_parts (p x) (list_all p xs) all in
+    both _ _ (more x h.0) (all_more p q xs more h.1)
+
+uses_more_names : (old new : List ℕ → Bool) (names others : List (List ℕ)) → ((name : List ℕ) → old name ≡ true → new name ≡ true) → UsesNames old names others → UsesNames new names others
+uses_more_names old new names others more uses = record {
+  are_used = all_more old new names more uses.are_used;
+  were_used = all_more old new others more uses.were_used;
+  unlike = uses.unlike;
+  apart = uses.apart;
+}
+
+fresh : (used : List ℕ → Bool) (x name : List ℕ) → used x ≡ true → used name ≡ false → bytes_eq x name ≡ false
+fresh used x name is other = differs x name (λ e. true≢false (sym is ∙ ap used e ∙ other))
+
+none_in : (used : List ℕ → Bool) (name : List ℕ) (others : List (List ℕ)) → list_all used others ≡ true → used name ≡ false → not (is_in name others) ≡ true
+none_in used name [] all other = refl
+none_in used name (x ∷ xs) all other =
+    let h = and_parts (used x) (list_all used xs) all in
+    ap₂ (λ (a b : Bool). not (a || b)) (flipped x name (fresh used x name h.0 other)) (not_eq (is_in name xs) (none_in used name xs h.1 other))
+
+in_more : (x name : List ℕ) (names : List (List ℕ)) → not (is_in x names) ≡ true → bytes_eq x name ≡ false → not (is_in x (names ++ name ∷ [])) ≡ true
+in_more x name [] is other = ap (λ (b : Bool). not (b || false)) other
+in_more x name (y ∷ names) is other =
+    let h = not_or (bytes_eq x y) (is_in x names) is in
+    ap₂ (λ (a b : Bool). not (a || b)) h.0 (not_eq (is_in x (names ++ name ∷ [])) (in_more x name names h.1 other))
+
+differ_more : (used : List ℕ → Bool) (names : List (List ℕ)) (name : List ℕ) → list_all used names ≡ true → used name ≡ false → differ names ≡ true → differ (names ++ name ∷ []) ≡ true
+differ_more used [] name all other unlike = refl
+differ_more used (x ∷ names) name all other unlike =
+    let a = and_parts (used x) (list_all used names) all in
+    let d = and_parts (not (is_in x names)) (differ names) unlike in
+    both _ _ (in_more x name names d.0 (fresh used x name a.0 other)) (differ_more used names name a.1 other d.1)
+
+one_more : (p : List ℕ → Bool) (names : List (List ℕ)) (name : List ℕ) → list_all p names ≡ true → p name ≡ true → list_all p (names ++ name ∷ []) ≡ true
+one_more p names name all is = list_all-append p names (name ∷ []) ∙ both _ _ all (both _ _ is refl)
+
+-- a name that was not used before
+uses_next_name : (old new : List ℕ → Bool) (names others : List (List ℕ)) (name : List ℕ) (is_begun : Bool) (now : List (List ℕ)) → ((x : List ℕ) → old x ≡ true → new x ≡ true) → old name ≡ false → new name ≡ true
+    → now ≡ with_name is_begun names name → UsesNames old names others → UsesNames new now others
+uses_next_name old new names others name true now more other is e uses =
+    subst (λ (ns : List (List ℕ)). UsesNames new ns others) (sym e) (record {
+      are_used = one_more new names name (all_more old new names more uses.are_used) is;
+      were_used = all_more old new others more uses.were_used;
+      unlike = differ_more old names name uses.are_used other uses.unlike;
+      apart = one_more (λ x. not (is_in x others)) names name uses.apart (none_in old name others uses.were_used other);
+    })
+uses_next_name old new names others name false now more other is e uses =
+    subst (λ (ns : List (List ℕ)). UsesNames new ns others) (sym e) (uses_more_names old new names others more uses)
+
+-- the last name is gone
+front_and_last : (p : List ℕ → Bool) (left : List (List ℕ)) (name : List ℕ) → list_all p (left ++ name ∷ []) ≡ true → (list_all p left ≡ true) × (p name ≡ true)
+front_and_last p left name all =
+    let h = and_parts (list_all p left) (list_all p (name ∷ [])) (sym (list_all-append p left (name ∷ [])) ∙ all) in
+    (h.0, (and_parts (p name) true h.1).0)
+
+not_the_last : (x : List ℕ) (xs : List (List ℕ)) (name : List ℕ) → not (is_in x (xs ++ name ∷ [])) ≡ true → bytes_eq x name ≡ false
+not_the_last x [] name is = (not_or (bytes_eq x name) false is).0
+not_the_last x (y ∷ xs) name is = not_the_last x xs name (not_or (bytes_eq x y) (is_in x (xs ++ name ∷ [])) is).1
+
+apart_more : (left others : List (List ℕ)) (name : List ℕ) → differ (left ++ name ∷ []) ≡ true → list_all (λ x. not (is_in x others)) left ≡ true → list_all (λ x. not (is_in x (others ++ name ∷ []))) left ≡ true
+apart_more [] others name unlike all = refl
+apart_more (x ∷ left) others name unlike all =
+    let d = and_parts (not (is_in x (left ++ name ∷ []))) (differ (left ++ name ∷ [])) unlike in
+    let a = and_parts (not (is_in x others)) (list_all (λ y. not (is_in y others)) left) all in
+    both _ _ (in_more x name others a.0 (not_the_last x left name d.0)) (apart_more left others name d.1 a.1)
+
+uses_fewer_names : (used : List ℕ → Bool) (names left others now : List (List ℕ)) → Drops names left others now → UsesNames used names others → UsesNames used left now
+uses_fewer_names used names left others now (none_gone a b) uses =
+    subst (λ (ns : List (List ℕ)). UsesNames used ns now) (sym a) (subst (λ (os : List (List ℕ)). UsesNames used names os) (sym b) uses)
+uses_fewer_names used names left others now (last_gone name a b) uses =
+    let all = front_and_last used left name (ap (list_all used) (sym a) ∙ uses.are_used) in
+    let unlike : differ (left ++ name ∷ []) ≡ true = ap differ (sym a) ∙ uses.unlike in
+    let apart = front_and_last (λ x. not (is_in x others)) left name (ap (list_all (λ x. not (is_in x others))) (sym a) ∙ uses.apart) in
+    subst (λ (os : List (List ℕ)). UsesNames used left os) (sym b) (record { are_used = all.0; were_used = uses.were_used; unlike = front_differs left name unlike; apart = apart.0 })
+uses_fewer_names used names left others now (last_noted name a b) uses =
+    let all = front_and_last used left name (ap (list_all used) (sym a) ∙ uses.are_used) in
+    let unlike : differ (left ++ name ∷ []) ≡ true = ap differ (sym a) ∙ uses.unlike in
+    let apart = front_and_last (λ x. not (is_in x others)) left name (ap (list_all (λ x. not (is_in x others))) (sym a) ∙ uses.apart) in
+    subst (λ (os : List (List ℕ)). UsesNames used left os) (sym b) (record {
+      are_used = all.0;
+      were_used = one_more used others name uses.were_used all.1;
+      unlike = front_differs left name unlike;
+      apart = apart_more left others name unlike apart.0;
+    })
+
+-- what refused files were to replace is removed
+pub old_rest : (is_forced : Bool) (whole p : List ℕ) (before after : List Deed) → RemovesOld is_forced whole before after → bytes_eq whole p ≡ false → held after p ≡ held before p
+old_rest forced whole p before after (not_forced e is) other = ap (λ (t : List Deed). held t p) is
+old_rest forced whole p before after (nothing_old kind e f is) other = ap (λ (t : List Deed). held t p) is
+old_rest forced whole p before after (removed_old kind answer e f is) other = ap (λ (t : List Deed). held t p) is ∙ removes_other whole p answer before other
+
+pub none_of_names : (name : List ℕ) (files : List Begun) → is_in name (names_of files) ≡ false → list_all (λ its. not (bytes_eq name (string_bytes its.name))) files ≡ true
+none_of_names name [] is = refl
+none_of_names name (its ∷ files) is =
+    let h = not_or (bytes_eq name (string_bytes its.name)) (is_in name (names_of files)) (ap not is) in
+    both _ _ (ap not h.0) (none_of_names name files (not_eq _ h.1))
+
+pub old_leaves : (folder : List ℕ) (is_forced : Bool) (its : Begun) (name : List ℕ) (before after : List Deed) → is_begun_in folder its ≡ true → not (bytes_eq name (string_bytes its.name)) ≡ true → RemovesOld is_forced (string_bytes its.whole) before after
+    → held after (folder ++ codes "/" ++ name) ≡ held before (folder ++ codes "/" ++ name)
+old_leaves folder forced its name before after begun other removes =
+    old_rest forced (string_bytes its.whole) (folder ++ codes "/" ++ name) before after removes
+    (differs (string_bytes its.whole) (folder ++ codes "/" ++ name)
+    (λ e. never name (string_bytes its.name) (not_eq _ other) (sym (cancel (folder ++ codes "/") (string_bytes its.name) name (sym (begun_path folder its begun) ∙ e)))))
+
+held_by_others : (folder : List ℕ) (names others : List (List ℕ)) (before after : List Deed) → list_all is_file_name names ≡ true → list_all (λ name. not (is_in name others)) names ≡ true → LeavesOthers folder others before after → held_named folder after names ≡ held_named folder before names
+held_by_others folder [] others before after all apart leaves = refl
+held_by_others folder (name ∷ names) others before after all apart leaves =
+    let a = and_parts (is_file_name name) (list_all is_file_name names) all in
+    let b = and_parts (not (is_in name others)) (list_all (λ x. not (is_in x others)) names) apart in
+    ap₂ (λ (x : Option (List ℕ)) (xs : List (Option (List ℕ))). x ∷ xs) (leaves name a.0 (not_eq _ b.0)) (held_by_others folder names others before after a.1 b.1 leaves)
+
+names_all : (p : List ℕ → Bool) (files : List Begun) → list_all p (names_of files) ≡ true → list_all (λ its. p (string_bytes its.name)) files ≡ true
+names_all p [] all = refl
+names_all p (its ∷ files) all = let h = and_parts (p (string_bytes its.name)) (list_all p (names_of files)) all in both _ _ h.0 (names_all p files h.1)
+
+all_names : (p : List ℕ → Bool) (files : List Begun) → list_all (λ its. p (string_bytes its.name)) files ≡ true → list_all p (names_of files) ≡ true
+all_names p [] all = refl
+all_names p (its ∷ files) all = let h = and_parts (p (string_bytes its.name)) (list_all (λ it. p (string_bytes it.name)) files) all in both _ _ h.0 (all_names p files h.1)
+
+-- The files that are complete have their names, and hold there what they held in the temporary folder.
+pub hold_named : (folder : Folder) (made : Option (List ℕ)) (files : List Begun) (is_writing : Bool) (others : List (List ℕ)) (used : List ℕ → Bool) (before seen after : List Deed) → list_all (is_begun_in folder.path.now) files ≡ true → are_numbered_in made files ≡ true
+    → uses_names used (names_of files) others ≡ true → NamesComplete folder files is_writing true before seen → LeavesOthers folder.path.now others seen after → HoldsAs folder.path.now (staged before files is_writing) after
+hold_named folder made files is_writing others used before seen after all numbered-in is names leaves =
+    let numbered = is_numbered made files numbered-in in
+    let uses = names_used used (names_of files) others is in
+    let at = folder.path.now in
+    let some = complete files is_writing in
+    let named = are_names at some (complete_all (is_begun_in at) files is_writing all) in
+    let apart = all_names (λ name. not (is_in name others)) some (complete_all (λ its. not (is_in (string_bytes its.name) others)) files is_writing (names_all (λ name. not (is_in name others)) files uses.apart)) in
+    record {
+      names = names_of some;
+      are_names = named;
+      apart = complete_unlike files is_writing uses.unlike;
+      hold = held_by_others at (names_of some) others seen after named apart leaves ∙ complete_hold folder made files is_writing before seen all numbered uses.unlike names;
+    }
+
+pub hold_cleared : (folder : List ℕ) (contents : List (Option (List ℕ))) (made : Option (List ℕ)) (paths : List (List ℕ)) (before after : List Deed) → list_all (is_temporary_file folder) paths ≡ true → Clears made paths before after → HoldsAs folder contents before → HoldsAs folder contents after
+hold_cleared folder contents made paths before after all clears holds = record {
+  names = holds.names;
+  are_names = holds.are_names;
+  apart = holds.apart;
+  hold = held_by_names folder holds.names before after holds.are_names (clears_rest folder made paths before after all clears) ∙ holds.hold;
+}
+
+-- names that are used once, as they are told
+pub uses_more : (old new : List ℕ → Bool) (names others : List (List ℕ)) → ((name : List ℕ) → old name ≡ true → new name ≡ true) → uses_names old names others ≡ true → uses_names new names others ≡ true
+uses_more old new names others more is = tell_used new names others (uses_more_names old new names others more (names_used old names others is))
+
+pub uses_next : (old new : List ℕ → Bool) (names others : List (List ℕ)) (name : List ℕ) (is_begun : Bool) (now : List (List ℕ)) → ((x : List ℕ) → old x ≡ true → new x ≡ true) → old name ≡ false → new name ≡ true
+    → now ≡ with_name is_begun names name → uses_names old names others ≡ true → uses_names new now others ≡ true
+uses_next old new names others name is_begun now more other used is uses =
+    tell_used new now others (uses_next_name old new names others name is_begun now more other used is (names_used old names others uses))
+
+pub uses_fewer : (used : List ℕ → Bool) (names left others now : List (List ℕ)) → Drops names left others now → uses_names used names others ≡ true → uses_names used left now ≡ true
+uses_fewer used names left others now drops is = tell_used used left now (uses_fewer_names used names left others now drops (names_used used names others is))
+
+-- files with their numbers, as they are told
+pub numbered_front : (made : Option (List ℕ)) (files left : List Begun) (its : Begun) → files ≡ left ++ its ∷ [] → are_numbered_in made files ≡ true → are_numbered_in made left ≡ true
+numbered_front made files left its are is = tell_numbered made left (front_in made files left its are (is_numbered made files is))
+
+pub numbered_more : (made : List ℕ) (k : ℕ) (files : List Begun) (its : Begun) → are_numbered_in (Some made) files ≡ true → k ≡ length files → k < 2 ^ 64 → string_bytes its.new ≡ made ++ codes "/new-" ++ decimal k → string_bytes its.old ≡ made ++ codes "/old-" ++ decimal k
+    → are_numbered_in (Some made) (files ++ its ∷ []) ≡ true
+numbered_more made k files its is count small new old =
+    tell_numbered (Some made) (files ++ its ∷ []) (more_numbered made 0 k files its (omega (arith, count)) (is_numbered (Some made) files is) (record { small = small; new = new; old = old }))
+
+pub numbered_made : (made : Option (List ℕ)) (path : List ℕ) (files : List Begun) → made ≡ None → are_numbered_in made files ≡ true → are_numbered_in (Some path) files ≡ true
+numbered_made made path files none is =
+    let empty : files ≡ [] = is_numbered None files (subst (λ (m : Option (List ℕ)). are_numbered_in m files ≡ true) none is) in
+    subst (λ (fs : List Begun). are_numbered_in (Some path) fs ≡ true) (sym empty) (tell_numbered (Some path) [] tt)
+
+pub numbered_none : are_numbered_in None [] ≡ true
+numbered_none = tell_numbered None [] refl
+
+pub created_staged : (made : Option (List ℕ)) (files : List Begun) (is_writing : Bool) (its : Begun) (answer : Answer) (before after : List Deed) → are_numbered_in made (files ++ its ∷ []) ≡ true → after ≡ Creates (string_bytes its.new) answer ∷ before → staged after files is_writing ≡ staged before files is_writing
+created_staged made files is_writing its answer before after is made-it = created_same made files is_writing its answer before after (is_numbered made (files ++ its ∷ []) is) made-it
+
+pub removed_staged : (made : Option (List ℕ)) (files left : List Begun) (its : Begun) (answer : Answer) (before after : List Deed) → files ≡ left ++ its ∷ [] → are_numbered_in made files ≡ true → after ≡ Removes (string_bytes its.new) answer ∷ before → staged after left false ≡ staged before files true
+removed_staged made files left its answer before after are is removed = removed_same made files left its answer before after are (is_numbered made files is) removed
+
+-- one more is added, and is being written
+pub added_staged : (calls : List Deed) (files now : List Begun) (its : Begun) → now ≡ files ++ its ∷ [] → staged calls now true ≡ staged calls files false
+added_staged calls files now its is = ap (held_new calls) (ap without_last is ∙ front_of files its)
+
+pub names_pushed : (files now : List Begun) (its : Begun) (is_pushed : Bool) → now ≡ (if is_pushed then files ++ its ∷ [] else files) → names_of now ≡ with_name is_pushed (names_of files) (string_bytes its.name)
+names_pushed files now its true is = ap names_of is ∙ names-append files its
+names_pushed files now its false is = ap names_of is
+
+pub names_last : (files left : List Begun) (its : Begun) → files ≡ left ++ its ∷ [] → names_of files ≡ names_of left ++ string_bytes its.name ∷ []
+names_last files left its is = ap names_of is ∙ names-append left its
+
+-- the last one is closed, by what that answers
+pub closed_staged : (made : Option (List ℕ)) (files left : List Begun) (its : Begun) (is_synced : Bool) (contents : Option (List ℕ)) (before after : List Deed) → files ≡ left ++ its ∷ [] → are_numbered_in made files ≡ true → after ≡ Closes (string_bytes its.new) is_synced contents Done ∷ before
+    → staged after files false ≡ staged before files true ++ contents ∷ []
+closed_staged made files left its is_synced contents before after are is closed = closed_done made files left its is_synced contents before after are (is_numbered made files is) closed
+
+pub unclosed_staged : (made : Option (List ℕ)) (files left : List Begun) (its : Begun) (is_synced : Bool) (contents : Option (List ℕ)) (answer : Answer) (before after : List Deed) → files ≡ left ++ its ∷ [] → are_numbered_in made files ≡ true → after ≡ Closes (string_bytes its.new) is_synced contents answer ∷ before
+    → staged after files true ≡ staged before files true
+unclosed_staged made files left its is_synced contents answer before after are is closed = closed_failed made files left its is_synced contents answer before after are (is_numbered made files is) closed
+
+-- the last of some files
+pub last_is : (files : List Begun) (its : Begun) → slice_get files (length files - 1) ≡ Some its → (left : List Begun) × (files ≡ left ++ its ∷ [])
+last_is [] its is = absurd (nothing is)
+  where
+    nothing : {X : Type 0} {x : X} → None ≡ Some x → ⊥
+    nothing is = true≢false (sym (ap is_none is))
+last_is (one ∷ []) its is = ([], ap (λ (o : Option Begun). option_to_list o) is)
+last_is (one ∷ next ∷ files) its is =
+    let e : length (one ∷ next ∷ files) - 1 ≡ suc (length (next ∷ files) - 1) = omega arith in
+    let k = last_is (next ∷ files) its (sym (ap (slice_get (one ∷ next ∷ files)) e) ∙ is) in
+    (one ∷ k.0, ap (λ (l : List Begun). one ∷ l) k.1)
+
+-- the last one is taken away, if there is one
+pub numbered_popped : (made : Option (List ℕ)) (files left : List Begun) (o : Option Begun) → files ≡ left ++ option_to_list o → are_numbered_in made files ≡ true → are_numbered_in made left ≡ true
+numbered_popped made files left None are is = subst (λ (fs : List Begun). are_numbered_in made fs ≡ true) (are ∙ append-nil left) is
+numbered_popped made files left (Some its) are is = numbered_front made files left its are is
+
+pub dropped_staged : (made : Option (List ℕ)) (files left now : List Begun) (is_writing : Bool) (its : Begun) (answer : Answer) (before middle after : List Deed) → files ≡ left ++ its ∷ [] → are_numbered_in made files ≡ true → middle ≡ before
+    → after ≡ Removes (string_bytes its.new) answer ∷ middle → now ≡ left → is_writing ≡ false → staged after now is_writing ≡ staged before files true
+dropped_staged made files left now is_writing its answer before middle after are is same removed now-left done =
+    ap₂ (λ (fs : List Begun) (b : Bool). staged after fs b) now-left done
+    ∙ removed_staged made files left its answer before after are is (removed ∙ ap (λ (t : List Deed). Removes (string_bytes its.new) answer ∷ t) same)
+
+-- what is known stays known
+pub kept_known : (old new : Option (List ℕ)) (bytes : List ℕ) → Keeps old new → old ≡ Some bytes → new ≡ Some bytes
+kept_known old new bytes keeps is = by_new new (subst (λ (o : Option (List ℕ)). Keeps o new) is keeps)
+  where
+    by_new : (o : Option (List ℕ)) → Keeps (Some bytes) o → o ≡ Some bytes
+    by_new None keeps = absurd keeps
+    by_new (Some xs) keeps = ap Some keeps
+
+pub completes_known : (is_done : Bool) (contents known : Option (List ℕ)) (old new : List (Option (List ℕ))) → contents ≡ known → Completes is_done contents old new → Completes is_done known old new
+completes_known is_done contents known old new is told = subst (λ (o : Option (List ℕ)). Completes is_done o old new) is told
+
+-- what was seen of a path
+pub allows_held : (image : Option FileId) (is_forced : Bool) (path : List ℕ) (why : Option Refused) (before after : List Deed) → Allows image is_forced path why before after → held after ≡ held before
+allows_held image forced path why before after (is_the_image found e g is) = ap held is
+allows_held image forced path why before after (is_looked_at found kind e g is) = ap held is
+
+pub made_held : (path : List ℕ) (answer : Answer) (before after : List Deed) → after ≡ MakesFolder path answer ∷ before → held after ≡ held before
+made_held path Done before after is = ap held is
+made_held path Exists before after is = ap held is
+made_held path Failed before after is = ap held is
+
+pub held_staged : (before after : List Deed) (files : List Begun) (is_writing : Bool) → held after ≡ held before → staged after files is_writing ≡ staged before files is_writing
+held_staged before after files is_writing same = ap (λ (h : List ℕ → Option (List ℕ)). map (λ its. h (string_bytes its.new)) (complete files is_writing)) same
+
+-- one more file is removed
+pub each_next : (path p : List ℕ) (paths : List (List ℕ)) (answer : Answer) (before middle t : List Deed) → p ≡ path → middle ≡ Removes p answer ∷ before → RemovesEach paths middle t → RemovesEach (path ∷ paths) before t
+each_next path p paths answer before middle t same is rest =
+    (answer, subst (λ (u : List Deed). RemovesEach paths u t) (is ∙ ap (λ (q : List ℕ). Removes q answer ∷ before) same) rest)
