@@ -1,6 +1,7 @@
 //! The trait of those who are given unpacked payloads.
 
 ghost use Rattle.std.specs.Prelude.{◌≡◌, ℕ, [], ◌∷◌, ◌++◌, List, Bool, true, false, Some, IfOk, IsTrue, OnOk};
+ghost use Rattle.std.specs.Prelude.{◌||◌, is_err};
 ghost use Rattle.uimg_fit_checking.specs.Unpacking.{Take, kept, refused, told_of, as_bytes, AddsIf, IsVouched};
 ghost use Rattle.uimg_fit_checking.specs.Claiming.{Claim, claim};
 
@@ -47,8 +48,17 @@ pub trait Taker {
     /// Whether shelves hold what is written to them, and the list has all that was given.
     ghost honest: { Bool } = { false };
 
-    /// What was given so far.
+    /// What the list shows of a payload that was given.
+    ghost seen: { Take → List Take } = { λ one. one ∷ [] };
+
+    /// What was given so far, as far as the list shows it.
     ghost takes: { Self → List Take };
+
+    /// Whether `failed` has each call.
+    ghost tells: { Bool } = { false };
+
+    /// Whether a call ever failed; false for a taker that does not say.
+    ghost failed: { Self → Bool } = { λ _. false };
 
     /// Whether the list of claims has each call.
     ghost notes: { Bool } = { false };
@@ -63,6 +73,7 @@ pub trait Taker {
     /// it refuses.
     fn claim(&mut self, name: &NodeName, length: u64) -> Result<(), PutFault>
         ensures place { place self.new ≡ place self.old }
+        ensures fails { IsTrue tells → failed self.new ≡ (is_err result || failed self.old) }
         ensures begun { begun self.new ≡ begun self.old }
         ensures told { IsTrue notes → claimed self.new ≡ claimed self.old
             ++ claim (as_bytes name.now) length ∷ [] }
@@ -71,6 +82,7 @@ pub trait Taker {
     /// Returns an empty shelf to write the payload of an image to.
     fn shelf(&mut self, name: &NodeName) -> Result<Self::Shelf, PutFault>
         ensures place { place self.new ≡ place self.old }
+        ensures fails { IsTrue tells → failed self.new ≡ (is_err result || failed self.old) }
         ensures begun { OnOk result (begun self.new ≡ true) }
         ensures none { IsTrue notes → claimed self.new ≡ claimed self.old }
         ensures same { IsTrue honest → takes self.new ≡ takes self.old }
@@ -87,10 +99,11 @@ pub trait Taker {
         requires { IsTrue honest → (bytes : List ℕ) → Self.Shelf.contents shelf ≡ Some bytes →
             IsVouched bytes vouched }
         ensures place { place self.new ≡ place self.old }
+        ensures fails { IsTrue tells → failed self.new ≡ (is_err result || failed self.old) }
         ensures begun { begun self.new ≡ begun self.old }
         ensures none { IsTrue notes → claimed self.new ≡ claimed self.old }
         ensures given { IsTrue honest → (bytes : List ℕ) → Self.Shelf.contents shelf ≡ Some bytes →
-            AddsIf result (takes self.old) (takes self.new)
+            AddsIf seen result (takes self.old) (takes self.new)
             (kept (as_bytes name.now) bytes vouched) };
 
     /// Takes a payload that is not kept, to discard it.
@@ -101,8 +114,9 @@ pub trait Taker {
         refusal: Refusal,
     ) -> Result<(), PutFault>
         ensures place { place self.new ≡ place self.old }
+        ensures fails { IsTrue tells → failed self.new ≡ (is_err result || failed self.old) }
         ensures begun { begun self.new ≡ begun self.old }
         ensures none { IsTrue notes → claimed self.new ≡ claimed self.old }
-        ensures given { IsTrue honest → AddsIf result (takes self.old) (takes self.new)
+        ensures given { IsTrue honest → AddsIf seen result (takes self.old) (takes self.new)
             (refused (as_bytes name.now) (told_of (as_bytes name.now) refusal)) };
 }
