@@ -15,10 +15,10 @@ use Rattle.uimg_checks.specs.Answers.{answer_status}
 use Rattle.uimg_checks.specs.declared.answer.Answer.{Answer, TheVariants.{Failed, Refused}}
 use Rattle.uimg_engine.specs.Headline.{is_fit}
 use Rattle.uimg_requests.specs.declared.command.Form.TheVariants as form
-use Rattle.uimg_tool.specs.{CheckEnds.AnswersEnding, UnpackEnds.{end_of, end_of_parts}, Unpackings.{IsRight, IsRightIn, RightAt, UnpacksRight, unpacking_of}}
+use Rattle.uimg_tool.specs.{CheckEnds.AnswersEnding, UnpackEnds.{end_of, end_of_parts}, Unpackings.{HoldsIn, HoldsPayloads, IsRight, IsRightIn, RightAt, UnpacksRight, unpacking_of}}
 use Rattle.uimg_tool.specs.declared.unpack_answers.Ending.{Ending}
 use Rattle.uimg_tool.specs.declared.unpack_answers.Ending.TheVariants as ending
-use Rattle.uimg_unpacking.specs.{Ends.EndsByFile, PartEnds.KeepsRight}
+use Rattle.uimg_unpacking.specs.{Ends.EndsByFile, Filling.Fills, PartEnds.KeepsRight}
 use Rattle.uimg_unpacking.specs.declared.part_unpacking.PartsEnded.{PartsEnded}
 use Rattle.uimg_unpacking.specs.declared.part_unpacking.PartsEnded.TheVariants as legacy
 use Rattle.uimg_unpacking.specs.declared.unpacking.Ended.{Ended}
@@ -76,6 +76,17 @@ parts_right asked file is legacy.Weak other by keeps told = differs ending.Weak 
 parts_right asked file is (legacy.Stopped fault) other by keeps told = differs (end_of_parts (legacy.Stopped fault)) refl told
 parts_right asked file is (legacy.Troubled trouble) other by keeps told = differs (end_of_parts (legacy.Troubled trouble)) refl told
 
+-- files of the folder hold it
+pub fit_holds : (asked : Unpacking) (file : List ℕ) (is : Bool) (ended : Ended) (old new : List Deed) → is ≡ true → is ≡ is_fit form.Guess file → Fills asked file ended old new → end_of ended ≡ ending.Told Done → HoldsPayloads asked file old new
+fit_holds asked file is fit.Kept old new right by fills told = subst (λ (b : Bool). HoldsIn b asked file old new) (sym right ∙ by) (fills refl)
+fit_holds asked file is fit.Refused old new right by fills told = differs (ending.Told NotRight) refl told
+fit_holds asked file is fit.NoImage old new right by fills told = differs ending.NoImage refl told
+fit_holds asked file is (fit.Stopped fault) old new right by fills told = differs (end_of (fit.Stopped fault)) refl told
+fit_holds asked file is (fit.Troubled trouble) old new right by fills told = differs (end_of (fit.Troubled trouble)) refl told
+
+pub parts_hold : (asked : Unpacking) (file : List ℕ) (is : Bool) (old new : List Deed) → is ≡ false → is ≡ is_fit form.Guess file → HoldsPayloads asked file old new
+parts_hold asked file is old new other by = subst (λ (b : Bool). HoldsIn b asked file old new) (sym other ∙ by) tt
+
 -- an end that is told as an object is none of status 0
 failed : {P : Type 0} (status : ℕ) → (status ≡ 1) ⊎ (status ≡ 3) → status ≡ 0 → P
 failed status (inl one) zero = absurd (omega arith)
@@ -104,9 +115,14 @@ nothing_later old new same = record { later = []; is = same }
 
 -- an image that was opened and looked at before
 pub right_at : (asked : UnpackRequest) (path : Bor (List ℕ)) (image : Option FileId) (file : List ℕ) (old middle new : List Deed) → middle ≡ Identifies path.now image ∷ Opens path.now true ∷ old → Follows middle new
-    → IsRight (unpacking_of asked image path) file → UnpacksRight asked path file old new
-right_at asked path image file old middle new looked follows right =
-    record { image = image; follows = subst (λ (t : List Deed). Follows t new) looked follows; right = right }
+    → IsRight (unpacking_of asked image path) file → HoldsPayloads (unpacking_of asked image path) file middle new → UnpacksRight asked path file old new
+right_at asked path image file old middle new looked follows right holds =
+    record {
+      image = image;
+      follows = subst (λ (t : List Deed). Follows t new) looked follows;
+      right = right;
+      holds = subst (λ (t : List Deed). HoldsPayloads (unpacking_of asked image path) file t new) looked holds;
+    }
 
 -- the same after it was told
 pub right_told : (files : FileMap) (asked : UnpackRequest) (path : Bor (List ℕ)) (old middle new : List Deed) → RightAt files asked (Some path) old middle → new ≡ middle → RightAt files asked (Some path) old new

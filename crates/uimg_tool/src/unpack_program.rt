@@ -3,7 +3,7 @@
 ghost use Rattle.std.specs.Prelude.{◌≡◌, ◌⊎◌, IsTrue, Some, true, false};
 ghost use Rattle.uimg_base.specs.Honest.{IfHonest};
 ghost use Rattle.uimg_tool.specs.{Complaints.Ends, EndingStatuses.HasEndingStatus, Statuses.{is_of_command, trouble_status}};
-ghost use Rattle.uimg_tool.specs.Unpackings.{AnswersUnpacking, IsRight, RightAt, unpacking_of};
+ghost use Rattle.uimg_tool.specs.Unpackings.{AnswersUnpacking, HoldsPayloads, IsRight, RightAt, unpacking_of};
 ghost use Rattle.uimg_unpacking.specs.{Deeds.{Follows, changes}, Places.ChangesWithin};
 
 use crate::check_answers::Names;
@@ -158,6 +158,8 @@ fn unpack_source<D: World, S: Source, W: Write + Drop>(
     ensures later { Follows (D.trace world.old) (D.trace world.new) }
     ensures done { IfHonest S.device source (λ file. result ≡ Ending.Told Status.Done →
         IsRight asked.now file) }
+    ensures holds { IfHonest S.device source (λ file. IsTrue D.knows → result ≡ Ending.Told Status.Done →
+        HoldsPayloads asked.now file (D.trace world.old) (D.trace world.new)) }
 {
     match is_fit(Form::Guess, source) {
         Ok(true) => Ending::from(unpack(world, asked, source, out)),

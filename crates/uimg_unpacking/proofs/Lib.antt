@@ -1,11 +1,14 @@
 pub mod Answered
 pub mod BelowLaws
 pub mod Cleaned
+pub mod ContentExamples
 pub mod ContentLaws
 pub mod EndLaws
+pub mod FillingLaws
 pub mod NameLaws
 pub mod NamingLaws
 pub mod PartChanges
 pub mod PartLaws
 pub mod Placing
 pub mod Printed
+pub mod StagedLaws

@@ -1,9 +1,10 @@
 -- What files that were begun hold, and their names.
-use Rattle.std.proofs.Common.{◌≡◌, ℕ, suc, zero, ◌+◌, ◌^◌, ◌<◌, ◌≤◌, List, [], ◌∷◌, ◌++◌, map, length, codes, decimal, string_bytes, bytes_eq, slice_get, ◌-◌, is_none, option_to_list, Bool, true, false, ◌&&◌, ◌||◌, if◌then◌else◌, not, Option, Some, None, refl, ap, ap₂, sym, subst, ◌∙◌, true≢false, arith}
+use Rattle.std.proofs.Common.{◌≡◌, ℕ, suc, zero, ◌+◌, ◌^◌, ◌<◌, ◌≤◌, List, [], ◌∷◌, ◌++◌, map, length, codes, decimal, string_bytes, bytes_eq, slice_get, ◌-◌, is_none, option_to_list, String, Bool, true, false, ◌&&◌, ◌||◌, if◌then◌else◌, not, Option, Some, None, refl, ap, ap₂, sym, subst, ◌∙◌, true≢false, arith}
 use Rattle.std.specs.Bool.{⊤}
 use Rattle.std.specs.List.{list_all, list_any}
 use Rattle.std.specs.Io.KnownBytes.{Keeps}
 use Rattle.std.specs.Option.{option_map}
+use Rattle.std.specs.declared.alloc.Global.{Global}
 use Rattle.std.proofs.lemmas.Bool.{and_parts}
 use Rattle.std.proofs.lemmas.List.{append-nil}
 use Rattle.std.proofs.lemmas.List.Folds.{list_all-append}
@@ -503,7 +504,7 @@ pub last_is : (files : List Begun) (its : Begun) → slice_get files (length fil
 last_is [] its is = absurd (nothing is)
   where
     nothing : {X : Type 0} {x : X} → None ≡ Some x → ⊥
-    nothing is = true≢false (sym (ap is_none is))
+    nothing is = true≢false (ap is_none is)
 last_is (one ∷ []) its is = ([], ap (λ (o : Option Begun). option_to_list o) is)
 last_is (one ∷ next ∷ files) its is =
     let e : length (one ∷ next ∷ files) - 1 ≡ suc (length (next ∷ files) - 1) = omega arith in
@@ -549,3 +550,13 @@ held_staged before after files is_writing same = ap (λ (h : List ℕ → Option
 pub each_next : (path p : List ℕ) (paths : List (List ℕ)) (answer : Answer) (before middle t : List Deed) → p ≡ path → middle ≡ Removes p answer ∷ before → RemovesEach paths middle t → RemovesEach (path ∷ paths) before t
 each_next path p paths answer before middle t same is rest =
     (answer, subst (λ (u : List Deed). RemovesEach paths u t) (is ∙ ap (λ (q : List ℕ). Removes q answer ∷ before) same) rest)
+
+pub same_staged : (before after : List Deed) (files now : List Begun) (was is_writing : Bool) → held after ≡ held before → now ≡ files → is_writing ≡ was → staged after now is_writing ≡ staged before files was
+same_staged before after files now was is_writing same are writing =
+    ap₂ (λ (fs : List Begun) (b : Bool). staged after fs b) are writing ∙ held_staged before after files was same
+
+pub all_paths : (folder : List ℕ) (paths : List (String Global)) → list_all (λ path. is_temporary_file folder (string_bytes path)) paths ≡ true → list_all (is_temporary_file folder) (map string_bytes paths) ≡ true
+all_paths folder [] all = refl
+all_paths folder (path ∷ paths) all =
+    let h = and_parts (is_temporary_file folder (string_bytes path)) (list_all (λ (p : String Global). is_temporary_file folder (string_bytes p)) paths) all in
+    both _ _ h.0 (all_paths folder paths h.1)

@@ -2,7 +2,7 @@
 use Rattle.std.specs.Prelude.{◌≡◌, ℕ, suc, ◌^◌, nat_lt, List, [], ◌∷◌, ◌++◌, map, codes, decimal, string_bytes, bytes_eq, Bool, true, false, ◌&&◌, not, if◌then◌else◌, Option, Some, None}
 use Rattle.std.specs.List.{list_all}
 use Rattle.uimg_unpacking.specs.Contents.{held, is_in, differ}
-use Rattle.uimg_unpacking.specs.Deeds.{Deed}
+use Rattle.uimg_unpacking.specs.Deeds.{Answer, ClosesFile, Deed}
 use Rattle.uimg_unpacking.specs.FileNames.{is_file_name}
 use Rattle.uimg_unpacking.specs.declared.begun.Begun.{Begun}
 
@@ -65,6 +65,12 @@ unfoldable pub uses_names : (List ℕ → Bool) → (names others : List (List �
 uses_names is_used names others =
     list_all is_used names && list_all is_used others
     && differ names && list_all (λ name. not (is_in name others)) names
+
+-- The last file was closed, after a wait for its bytes if it is synced. If there is none, nothing is done.
+abbrev pub ClosesLast : Bool → Bool → Option Begun → Option (List ℕ) → Answer → (old new : List Deed) → Type 0
+ClosesLast is_known is_synced None contents answer old new = new ≡ old
+ClosesLast is_known is_synced (Some its) contents answer old new =
+    ClosesFile is_known (string_bytes its.new) is_synced contents answer old new
 
 -- Calls leave the files of a folder as they are, except those of some names.
 abbrev pub LeavesOthers : List ℕ → List (List ℕ) → (old new : List Deed) → Type 0

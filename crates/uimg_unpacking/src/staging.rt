@@ -9,7 +9,7 @@ ghost use Rattle.uimg_unpacking.specs.Contents.{held};
 ghost use Rattle.uimg_unpacking.specs.FileNames.{is_file_name};
 ghost use Rattle.uimg_unpacking.specs.Places.{is_temporary_folder, is_temporary_file, is_begun_in, stays_within};
 ghost use Rattle.uimg_unpacking.specs.Refusals.{last_of, last_name, DropsLast, RefusesLast, TellsUnwritten};
-ghost use Rattle.uimg_unpacking.specs.Staged.{Completes, Drops, are_numbered_in, names_of, staged, with_name};
+ghost use Rattle.uimg_unpacking.specs.Staged.{ClosesLast, Completes, Drops, are_numbered_in, names_of, staged, with_name};
 
 mod naming_all;
 
@@ -268,6 +268,9 @@ impl<'a, 'c, W: World> Staging<'a, 'c, W> {
     // Closes the file that was begun last.
     fn close_last(&mut self, file: W::File) -> io::Result<()>
         requires { self.old.is_writing ≡ true }
+        ensures closed { ClosesLast W.knows self.old.folder.is_synced
+            (last_of self.old.files.items) (W.File.contents file) (answer_of result)
+            (W.trace self.old.world) (W.trace self.new.world) }
         ensures folder { self.new.folder ≡ self.old.folder }
         ensures files { self.new.files ≡ self.old.files }
         ensures outdated { self.new.outdated ≡ self.old.outdated }

@@ -22,5 +22,6 @@ returns-in-Ok-clause-numbered g c =
     let made = c.as_str.result.now in
     let is : option_map string_bytes c.args.self.now.made ≡ Some made = search rules in
     let small : c.len.result < 2 ^ 64 = search rules in
+    let count : c.len.result ≡ length files = search rules in
     subst (λ (m : Option (List ℕ)). are_numbered_in m (files ++ c.in-Ok.begun ∷ []) ≡ true) (sym is)
-    (numbered_more made c.len.result files c.in-Ok.begun (subst (λ (m : Option (List ℕ)). are_numbered_in m files ≡ true) is c.args.self.now.numbered) c.len.ensures small c.in-Ok.ensures.new c.in-Ok.ensures.old)
+    (numbered_more made c.len.result files c.in-Ok.begun (subst (λ (m : Option (List ℕ)). are_numbered_in m files ≡ true) is c.args.self.now.numbered) count small c.in-Ok.ensures.new c.in-Ok.ensures.old)

@@ -28,7 +28,7 @@ returns-in-Ok-clause-staged g c = λ writing.
     let it = c.args.self.now in
     let its = c.in-Some.last in
     let are : it.files.items ≡ c.pop.new.self.files.items ++ its ∷ [] = search rules in
-    dropped_staged (option_map string_bytes it.made) it.files.items c.pop.new.self.files.items _ _ its (answer_of c.remove.result) (g.W.World.trace it.world) (g.W.World.trace c.pop.new.self.world) _ are it.numbered (search rules) c.remove.ensures.removed (search rules) (search rules)
+    dropped_staged (option_map string_bytes it.made) it.files.items c.pop.new.self.files.items c.remove.new.self.files.items c.remove.new.self.is_writing its (answer_of c.remove.result) (g.W.World.trace it.world) (g.W.World.trace c.pop.new.self.world) (g.W.World.trace c.remove.new.self.world) are it.numbered (search rules) c.remove.ensures.removed (search rules) (search rules)
 
 pub returns-in-Err-clause-names : goal.returns-in-Err-clause-names
 returns-in-Err-clause-names g c =
@@ -42,4 +42,4 @@ returns-in-Err-clause-staged g c = λ writing.
     let it = c.args.self.now in
     let its = c.in-Some.last in
     let are : it.files.items ≡ c.pop.new.self.files.items ++ its ∷ [] = search rules in
-    dropped_staged (option_map string_bytes it.made) it.files.items c.pop.new.self.files.items _ _ its (answer_of c.remove.result) (g.W.World.trace it.world) (g.W.World.trace c.pop.new.self.world) _ are it.numbered (search rules) c.remove.ensures.removed (search rules) (search rules)
+    dropped_staged (option_map string_bytes it.made) it.files.items c.pop.new.self.files.items c.remove.new.self.files.items c.remove.new.self.is_writing its (answer_of c.remove.result) (g.W.World.trace it.world) (g.W.World.trace c.pop.new.self.world) (g.W.World.trace c.remove.new.self.world) are it.numbered (search rules) c.remove.ensures.removed (search rules) (search rules)

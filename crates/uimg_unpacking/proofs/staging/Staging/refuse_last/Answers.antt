@@ -1,5 +1,9 @@
-use Rattle.std.proofs.Common.{rules, ◌≡◌, true, is_ok}
+use Rattle.std.proofs.Common.{rules, refl, ◌≡◌, ◌∙◌, ◌++◌, ◌∷◌, [], ap, true, is_ok, string_bytes, Vec}
+use Rattle.std.specs.declared.alloc.Global.{Global}
 use Rattle.uimg_unpacking.specs.Places.{is_begun_in}
+use Rattle.uimg_unpacking.specs.Staged.{last_gone, last_noted, names_of, none_gone}
+use Rattle.uimg_unpacking.specs.declared.begun.Begun.{Begun}
+use Rattle.uimg_unpacking.proofs.StagedLaws.{names_last}
 use Rattle.uimg_unpacking.proofs.Placing.{pushed}
 use Rattle.uimg_unpacking.proofs.staging.Staging.refuse_last.Goals as goal
 
@@ -23,3 +27,23 @@ invariant_of-self g c =
 pub returns-clause-dropped : goal.returns-clause-dropped
 returns-clause-dropped g c =
     record { last = c.in_ok-refused.refused; is_last = search rules; removed = search rules; noted = search rules }
+
+pub returns-then-is_complete-clause-names : goal.returns-then-is_complete-clause-names
+returns-then-is_complete-clause-names g c = none_gone refl refl
+
+pub returns-then-not-is_outdated-clause-names : goal.returns-then-not-is_outdated-clause-names
+returns-then-not-is_outdated-clause-names g c = c.drop_last.ensures.names
+
+pub returns-clause-names : goal.returns-clause-names
+returns-clause-names g c =
+    let it = c.args.self.now in
+    let its = c.in_ok-refused.refused in
+    last_noted (string_bytes its.name) (names_last it.files.items c.drop_last.new.self.files.items its c.in_ok-refused.ensures.last.0)
+    (names_last c.push.new.self.items it.outdated.items its (c.in_ok-push.ensures.items ∙ ap (λ (o : Vec Begun Global). o.items ++ its ∷ []) c.drop_last.ensures.outdated))
+
+pub returns-in_err-push-clause-names : goal.returns-in_err-push-clause-names
+returns-in_err-push-clause-names g c =
+    let it = c.args.self.now in
+    let its = c.in_ok-refused.refused in
+    let same : c.push.new.self.items ≡ it.outdated.items = search rules in
+    last_gone (string_bytes its.name) (names_last it.files.items c.drop_last.new.self.files.items its c.in_ok-refused.ensures.last.0) (ap names_of same)
