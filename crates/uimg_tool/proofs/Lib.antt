@@ -1,4 +1,5 @@
 pub mod BesideLaws
+pub mod BodyLaws
 pub mod BufferLaws
 pub mod CheckLaws
 pub mod CommandLaws
@@ -12,6 +13,7 @@ pub mod MapLaws
 pub mod OldWordLaws
 pub mod PathLaws
 pub mod RunLaws
+pub mod SearchedLaws
 pub mod StrictLaws
 pub mod UnpackLaws
 pub mod VerdictLaws

@@ -1,6 +1,7 @@
 pub mod AnswerTexts
 pub mod Answering
 pub mod BesidePaths
+pub mod Bodies
 pub mod CheckEnds
 pub mod Checking
 pub mod Checks
@@ -26,6 +27,7 @@ pub mod Paths
 pub mod Programs
 pub mod RequestEnds
 pub mod Running
+pub mod SearchedNames
 pub mod Statuses
 pub mod StrictEnds
 pub mod TreeSizes

@@ -112,7 +112,7 @@ fn make_xip<'a, R: rt::Files + AllocGlobal, H: Shelf, W: Write>(
         Err(Fault::NoFile(number)) if files.has_met_no_room() => {
             Err(RequestFault::NoRoom(file_path(request, number)))
         }
-        made => end_of(request, made, files.has_met_left_out()),
+        made => end_of(request, made, files.whole().has_met_left_out()),
     }
 }
 
