@@ -1,6 +1,6 @@
 //! Files as values of a blob, copied through a window.
 
-ghost use Rattle.std.specs.Prelude.{◌≡◌, ◌∷◌, [], length, OnOk, is_err, false};
+ghost use Rattle.std.specs.Prelude.{◌≡◌, ◌≤◌, ◌+◌, ◌∷◌, [], length, OnOk, is_err, false};
 ghost use Rattle.uimg_base.specs.{Honest.HonestSource, Device.RisesIf, Writing.Written};
 ghost use Rattle.uimg_blob_writing.specs.{Content.file, Faults.{is_put, is_read, is_no_file}};
 ghost use Rattle.uimg_blob_writing.specs.Pieces.{WritesPieces};
@@ -18,6 +18,7 @@ fn put_source<S: Source, W: Write>(
     out: &mut Out<W>,
 ) -> Result<(), TreeFault>
     ensures opened { is_no_file result ≡ false }
+    ensures asked { (S.device source.new).asked ≤ (S.device source.old).asked + size }
     ensures sized { OnOk result (length (S.device source.old).bytes ≡ size) }
     ensures failures { length (S.device source.old).bytes ≡ size →
         RisesIf (is_read result) (S.device source.old).failures (S.device source.new).failures }

@@ -1,10 +1,11 @@
 -- How unpacking ends, whatever its taker does.
 use Rattle.std.proofs.Common.{◌≡◌, ℕ, List, [], ◌∷◌, ◌++◌, length, Option, Some, None, Bool, true, false, ◌&&◌, ◌||◌, refl, ap, sym, ◌∙◌, subst}
-use Rattle.std.specs.Prelude.{Result, Ok, Err, is_ok, if◌then◌else◌}
+use Rattle.std.specs.Prelude.{Result, Ok, Err, is_ok, if◌then◌else◌, flat_map}
 use Rattle.std.specs.List.{list_all}
 use Rattle.std.specs.Option.{option_map}
 use Rattle.std.proofs.Math.Bool.{and-true}
 use Rattle.std.proofs.lemmas.List.{append_assoc, append-nil}
+use Rattle.std.proofs.lemmas.List.Concat.{flat_map-append}
 use Rattle.std.proofs.lemmas.List.Folds.{list_all-append}
 use Rattle.uimg_sums.specs.declared.algo.Algo.{Algo}
 use Rattle.uimg_blob_reading.specs.Grammar.{Siblings}
@@ -159,17 +160,19 @@ pub ends_stopped : (told : Result UnpackOutcome Fault) (ts : List Take) (fault :
 ends_stopped told ts fault r old m new is ended = subst (λ (x : Result Unpacked Fault). EndsAs x told old new) (sym is) (stops ts fault told old m new ended)
 
 -- nothing was given
-pub gives_none : (given : List Take) → GivesBy true given given
-gives_none given = record { given = []; is = sym (append-nil given); kept = refl }
+pub gives_none : (seen : Take → List Take) (given : List Take) → GivesBy seen true given given
+gives_none seen given = record { given = []; is = sym (append-nil given); kept = refl }
 
 -- one was
-pub gives_one : (one : Take) (all : Bool) (old new : List Take) → new ≡ old ++ one ∷ [] → all ≡ is_kept one → GivesBy all old new
-gives_one one all old new is kept = record { given = one ∷ []; is = is; kept = kept ∙ sym (and-true (is_kept one)) }
+pub gives_one : (seen : Take → List Take) (one : Take) (all : Bool) (old m new : List Take) → m ≡ old → new ≡ m ++ seen one → all ≡ is_kept one → GivesBy seen all old new
+gives_one seen one all old m new before is kept =
+    record { given = one ∷ []; is = is ∙ ap (λ (l : List Take). l ++ seen one) before ∙ ap (λ (l : List Take). old ++ l) (sym (append-nil (seen one))); kept = kept ∙ sym (and-true (is_kept one)) }
 
 -- more were
-pub gives_more : (all ok : Bool) (old middle new : List Take) → GivesBy all old middle → GivesBy ok middle new → GivesBy (all && ok) old new
-gives_more all ok old middle new first last = record {
+pub gives_more : (seen : Take → List Take) (all ok : Bool) (old middle new : List Take) → GivesBy seen all old middle → GivesBy seen ok middle new → GivesBy seen (all && ok) old new
+gives_more seen all ok old middle new first last = record {
   given = first.given ++ last.given;
-  is = last.is ∙ ap (λ (l : List Take). l ++ last.given) first.is ∙ append_assoc old first.given last.given;
+  is = last.is ∙ ap (λ (l : List Take). l ++ flat_map seen last.given) first.is ∙ append_assoc old (flat_map seen first.given) (flat_map seen last.given)
+      ∙ ap (λ (l : List Take). old ++ l) (sym (flat_map-append seen first.given last.given));
   kept = ap (λ (b : Bool). b && ok) first.kept ∙ ap (λ (b : Bool). list_all is_kept first.given && b) last.kept ∙ sym (list_all-append is_kept first.given last.given);
 }

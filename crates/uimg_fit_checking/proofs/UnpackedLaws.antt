@@ -71,56 +71,56 @@ claims_before_fault X fault r told all ts a b old middle new is named ended clai
     (subst (λ (l : List Claim). ClaimsTo {X = X} l (Err fault) old new) (sym named) (later X fault all ts a b old new ended (same ∙ claimed)))
 
 -- a device failed before anything was given
-stops_none : (r : Result UnpackOutcome Fault) (old new : List Take) → new ≡ old → StopsIn r old new
-stops_none (Ok (taken ts)) old new same = record { count = 0; given = same ∙ sym (append-nil old) }
-stops_none (Ok (overlaps name)) old new same = same
-stops_none (Err fault) old new same = same
+stops_none : (seen : Take → List Take) (r : Result UnpackOutcome Fault) (old new : List Take) → new ≡ old → StopsIn seen r old new
+stops_none seen (Ok (taken ts)) old new same = record { count = 0; given = same ∙ sym (append-nil old) }
+stops_none seen (Ok (overlaps name)) old new same = same
+stops_none seen (Err fault) old new same = same
 
-refuses : (told : Result UnpackOutcome Fault) (o : Result (Option (List ℕ)) FitFault) (ts : List Take) (fault : Fault) (old new : List Take) → told ≡ told_or_fault o ts → ClaimsAll o (Err fault) → new ≡ old → Unpacks (Err fault) told old new
-refuses told o ts (of.Blob fault at) old new same claims none = absurd claims
-refuses told o ts (of.Fit fault) old new same claims none = (same ∙ ap (λ (x : Result (Option (List ℕ)) FitFault). told_or_fault x ts) claims, none)
-refuses told o ts of.Read old new same claims none = stops_none told old new none
-refuses told o ts of.Put old new same claims none = stops_none told old new none
+refuses : (seen : Take → List Take) (told : Result UnpackOutcome Fault) (o : Result (Option (List ℕ)) FitFault) (ts : List Take) (fault : Fault) (old new : List Take) → told ≡ told_or_fault o ts → ClaimsAll o (Err fault) → new ≡ old → Unpacks seen (Err fault) told old new
+refuses seen told o ts (of.Blob fault at) old new same claims none = absurd claims
+refuses seen told o ts (of.Fit fault) old new same claims none = (same ∙ ap (λ (x : Result (Option (List ℕ)) FitFault). told_or_fault x ts) claims, none)
+refuses seen told o ts of.Read old new same claims none = stops_none seen told old new none
+refuses seen told o ts of.Put old new same claims none = stops_none seen told old new none
 
 -- an image is refused
-pub unpack_refused : (told : Result UnpackOutcome Fault) (o : Result (Option (List ℕ)) FitFault) (ts : List Take) (fault : Fault) (r : Result Unpacked Fault) (old new : List Take) → r ≡ Err fault → told ≡ told_or_fault o ts
-    → ClaimsAll o (Err fault) → new ≡ old → Unpacks r told old new
-unpack_refused told o ts fault r old new is same claims none =
-    subst (λ (x : Result Unpacked Fault). Unpacks x told old new) (sym is) (refuses told o ts fault old new same claims none)
+pub unpack_refused : (seen : Take → List Take) (told : Result UnpackOutcome Fault) (o : Result (Option (List ℕ)) FitFault) (ts : List Take) (fault : Fault) (r : Result Unpacked Fault) (old new : List Take) → r ≡ Err fault → told ≡ told_or_fault o ts
+    → ClaimsAll o (Err fault) → new ≡ old → Unpacks seen r told old new
+unpack_refused seen told o ts fault r old new is same claims none =
+    subst (λ (x : Result Unpacked Fault). Unpacks seen x told old new) (sym is) (refuses seen told o ts fault old new same claims none)
 
 -- payloads overlap
-pub unpack_overlaps : (told : Result UnpackOutcome Fault) (o : Result (Option (List ℕ)) FitFault) (ts : List Take) (name : NodeName) (found : Option NodeName) (old new : List Take) → told ≡ told_or_fault o ts → found ≡ Some name
-    → o ≡ Ok (option_map as_bytes found) → new ≡ old → Unpacks (Ok (Overlapping name)) told old new
-unpack_overlaps told o ts name found old new same is claims none =
+pub unpack_overlaps : (seen : Take → List Take) (told : Result UnpackOutcome Fault) (o : Result (Option (List ℕ)) FitFault) (ts : List Take) (name : NodeName) (found : Option NodeName) (old new : List Take) → told ≡ told_or_fault o ts → found ≡ Some name
+    → o ≡ Ok (option_map as_bytes found) → new ≡ old → Unpacks seen (Ok (Overlapping name)) told old new
+unpack_overlaps seen told o ts name found old new same is claims none =
     let all : told ≡ Ok (overlaps (as_bytes name)) =
     same ∙ ap (λ (x : Result (Option (List ℕ)) FitFault). told_or_fault x ts) (claims ∙ ap (λ (f : Option NodeName). let r : Result (Option (List ℕ)) FitFault = Ok (option_map as_bytes f) in r) is) in
-    subst (λ (r : Result UnpackOutcome Fault). Unpacks (Ok (Overlapping name)) r old new) (sym all) (refl, none)
+    subst (λ (r : Result UnpackOutcome Fault). Unpacks seen (Ok (Overlapping name)) r old new) (sym all) (refl, none)
 
 -- they don't
 pub fitting : (o : Result (Option (List ℕ)) FitFault) (found : Option NodeName) → found ≡ None → o ≡ Ok (option_map as_bytes found) → o ≡ Ok None
 fitting o found is claims = claims ∙ ap (λ (f : Option NodeName). let r : Result (Option (List ℕ)) FitFault = Ok (option_map as_bytes f) in r) is
 
-pub unpack_taken : (told : Result UnpackOutcome Fault) (o : Result (Option (List ℕ)) FitFault) (ts : List Take) (all : Bool) (old middle new : List Take) → told ≡ told_or_fault o ts → o ≡ Ok None → middle ≡ old
-    → TakesAll ts (Ok all) middle new → Unpacks (Ok (Taken all)) told old new
-unpack_taken told o ts all old middle new same fits none given =
+pub unpack_taken : (seen : Take → List Take) (told : Result UnpackOutcome Fault) (o : Result (Option (List ℕ)) FitFault) (ts : List Take) (all : Bool) (old middle new : List Take) → told ≡ told_or_fault o ts → o ≡ Ok None → middle ≡ old
+    → TakesAll seen ts (Ok all) middle new → Unpacks seen (Ok (Taken all)) told old new
+unpack_taken seen told o ts all old middle new same fits none given =
     let whole : told ≡ Ok (taken ts) = same ∙ ap (λ (x : Result (Option (List ℕ)) FitFault). told_or_fault x ts) fits in
-    subst (λ (r : Result UnpackOutcome Fault). Unpacks (Ok (Taken all)) r old new) (sym whole)
-    (subst (λ (l : List Take). TakesAll ts (Ok all) l new) none given)
+    subst (λ (r : Result UnpackOutcome Fault). Unpacks seen (Ok (Taken all)) r old new) (sym whole)
+    (subst (λ (l : List Take). TakesAll seen ts (Ok all) l new) none given)
 
-stops : (ts : List Take) (fault : Fault) (old new : List Take) → TakesAll ts (Err fault) old new → Unpacks (Err fault) (Ok (taken ts)) old new
-stops ts (of.Blob fault at) old new given = absurd given
-stops ts (of.Fit fault) old new given = absurd given
-stops ts of.Read old new given = given
-stops ts of.Put old new given = given
+stops : (seen : Take → List Take) (ts : List Take) (fault : Fault) (old new : List Take) → TakesAll seen ts (Err fault) old new → Unpacks seen (Err fault) (Ok (taken ts)) old new
+stops seen ts (of.Blob fault at) old new given = absurd given
+stops seen ts (of.Fit fault) old new given = absurd given
+stops seen ts of.Read old new given = given
+stops seen ts of.Put old new given = given
 
 -- a device failed while they were taken
-pub unpack_stops : (told : Result UnpackOutcome Fault) (o : Result (Option (List ℕ)) FitFault) (ts : List Take) (fault : Fault) (r : Result Unpacked Fault) (old middle new : List Take) → r ≡ Err fault → told ≡ told_or_fault o ts → o ≡ Ok None
-    → middle ≡ old → TakesAll ts (Err fault) middle new → Unpacks r told old new
-unpack_stops told o ts fault r old middle new is same fits none given =
+pub unpack_stops : (seen : Take → List Take) (told : Result UnpackOutcome Fault) (o : Result (Option (List ℕ)) FitFault) (ts : List Take) (fault : Fault) (r : Result Unpacked Fault) (old middle new : List Take) → r ≡ Err fault → told ≡ told_or_fault o ts → o ≡ Ok None
+    → middle ≡ old → TakesAll seen ts (Err fault) middle new → Unpacks seen r told old new
+unpack_stops seen told o ts fault r old middle new is same fits none given =
     let whole : told ≡ Ok (taken ts) = same ∙ ap (λ (x : Result (Option (List ℕ)) FitFault). told_or_fault x ts) fits in
-    subst (λ (x : Result Unpacked Fault). Unpacks x told old new) (sym is)
-    (subst (λ (x : Result UnpackOutcome Fault). Unpacks (Err fault) x old new) (sym whole)
-    (stops ts fault old new (subst (λ (l : List Take). TakesAll ts (Err fault) l new) none given)))
+    subst (λ (x : Result Unpacked Fault). Unpacks seen x told old new) (sym is)
+    (subst (λ (x : Result UnpackOutcome Fault). Unpacks seen (Err fault) x old new) (sym whole)
+    (stops seen ts fault old new (subst (λ (l : List Take). TakesAll seen ts (Err fault) l new) none given)))
 
 -- what was asked for about the images is within the work
 pub unpack_within : (file : List ℕ) (t : Siblings) (found : List (NodeOf Spot)) → tree file ≡ Ok t → images (spots t) ≡ Some found

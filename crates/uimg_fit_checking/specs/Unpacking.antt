@@ -1,7 +1,7 @@
 -- What becomes of the unpacked payloads of a FIT image.
 use Rattle.std.specs.Prelude.{◌≡◌, ⊤, ℕ, ◌+◌, ◌-◌, List, [], ◌∷◌, ◌++◌, length, take, nat_lt, Bool}
 use Rattle.std.specs.Prelude.{true, false, if◌then◌else◌, Option, Some, None, Result, Ok, Err}
-use Rattle.std.specs.Prelude.{IfSome, ◌||◌}
+use Rattle.std.specs.Prelude.{IfSome, ◌||◌, ◌⊎◌, flat_map}
 use Rattle.std.specs.List.{last_or, list_all}
 use Rattle.std.specs.Option.{option_map}
 use Rattle.std.specs.Str.{bytes_eq}
@@ -45,10 +45,11 @@ abbrev pub told_of : List ℕ → Refusal → NamedFinding
 told_of name (Wrong hash word) = fit_finding.Wrong name (as_bytes hash) word
 told_of name Weak = fit_finding.Weak name
 
--- One more was given, unless a device failed.
-abbrev pub AddsIf : {E : Type 0} → Result ⊤ E → List Take → List Take → Take → Type 0
-AddsIf (Ok done) old new one = new ≡ old ++ one ∷ []
-AddsIf (Err fault) old new one = new ≡ old
+-- One more was given, and the list has what it shows of that; at a failure perhaps, too.
+abbrev pub AddsIf : {E : Type 0} → (Take → List Take) → Result ⊤ E → List Take → List Take → Take
+    → Type 0
+AddsIf seen (Ok done) old new one = new ≡ old ++ seen one
+AddsIf seen (Err fault) old new one = (new ≡ old) ⊎ (new ≡ old ++ seen one)
 
 -- The digest that vouches for some bytes is theirs.
 abbrev pub IsVouched : List ℕ → Option Vouched → Type 0
@@ -144,28 +145,31 @@ abbrev pub is_kept : Take → Bool
 is_kept (kept name bytes vouched) = true
 is_kept (refused name told) = false
 
--- The first of these were given.
-pub record GivenFirst (old new ts : List Take) : Type 0 where
+-- The first of these were given, to a taker whose list shows this of each.
+pub record GivenFirst (seen : Take → List Take) (old new ts : List Take) : Type 0 where
   pub count : ℕ
-  pub given : new ≡ old ++ take count ts
+  pub given : new ≡ old ++ flat_map seen (take count ts)
 
 -- What was given before a device failed: the first of the outcome; nothing if the file is refused.
-abbrev pub StopsIn : Result UnpackOutcome Fault → List Take → List Take → Type 0
-StopsIn (Ok (taken ts)) old new = GivenFirst old new ts
-StopsIn (Ok (overlaps name)) old new = new ≡ old
-StopsIn (Err fault) old new = new ≡ old
+abbrev pub StopsIn : (Take → List Take) → Result UnpackOutcome Fault → List Take → List Take
+    → Type 0
+StopsIn seen (Ok (taken ts)) old new = GivenFirst seen old new ts
+StopsIn seen (Ok (overlaps name)) old new = new ≡ old
+StopsIn seen (Err fault) old new = new ≡ old
 
 -- What a result says of a file and of what was given. A refusal comes before anything is given.
-abbrev pub Unpacks : Result Unpacked Fault → Result UnpackOutcome Fault → List Take → List Take
-    → Type 0
-Unpacks (Ok (Taken all)) (Ok (taken ts)) old new = (new ≡ old ++ ts) × (all ≡ list_all is_kept ts)
-Unpacks (Ok (Overlapping name)) (Ok (overlaps its)) old new = (as_bytes name ≡ its) × (new ≡ old)
-Unpacks (Ok found) told old new = ⊥
-Unpacks (Err (of.Blob fault at)) told old new =
+abbrev pub Unpacks : (Take → List Take) → Result Unpacked Fault → Result UnpackOutcome Fault
+    → List Take → List Take → Type 0
+Unpacks seen (Ok (Taken all)) (Ok (taken ts)) old new =
+    (new ≡ old ++ flat_map seen ts) × (all ≡ list_all is_kept ts)
+Unpacks seen (Ok (Overlapping name)) (Ok (overlaps its)) old new =
+    (as_bytes name ≡ its) × (new ≡ old)
+Unpacks seen (Ok found) told old new = ⊥
+Unpacks seen (Err (of.Blob fault at)) told old new =
     (refuses_memory fault ≡ false → told ≡ Err (of.Blob fault at)) × (new ≡ old)
-Unpacks (Err (of.Fit fault)) told old new = (told ≡ Err (of.Fit fault)) × (new ≡ old)
-Unpacks (Err of.Read) told old new = StopsIn told old new
-Unpacks (Err of.Put) told old new = StopsIn told old new
+Unpacks seen (Err (of.Fit fault)) told old new = (told ≡ Err (of.Fit fault)) × (new ≡ old)
+Unpacks seen (Err of.Read) told old new = StopsIn seen told old new
+Unpacks seen (Err of.Put) told old new = StopsIn seen told old new
 
 -- whether any payload is taken
 abbrev pub is_any : List Take → Bool
@@ -187,15 +191,15 @@ EndsAs (Err of.Read) told old new = ⊤
 EndsAs (Err of.Put) told old new = ⊤
 
 -- What was given in a call: the result says whether each payload of it is kept.
-pub record GivesBy (all : Bool) (old new : List Take) : Type 0 where
+pub record GivesBy (seen : Take → List Take) (all : Bool) (old new : List Take) : Type 0 where
   pub given : List Take
-  pub is : new ≡ old ++ given
+  pub is : new ≡ old ++ flat_map seen given
   pub kept : all ≡ list_all is_kept given
 
 -- What a result says of what was given, whatever the source returned.
-abbrev pub Gives : Unpacked → List Take → List Take → Type 0
-Gives (Taken all) old new = GivesBy all old new
-Gives (Overlapping name) old new = new ≡ old
+abbrev pub Gives : (Take → List Take) → Unpacked → List Take → List Take → Type 0
+Gives seen (Taken all) old new = GivesBy seen all old new
+Gives seen (Overlapping name) old new = new ≡ old
 
 -- the most bytes requested: all taken payloads have at most the file's length together
 abbrev pub unpack_work : List ℕ → ℕ

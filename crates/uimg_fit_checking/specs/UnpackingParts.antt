@@ -1,6 +1,6 @@
 -- Unpacking the payloads of a FIT image, one after the other.
 use Rattle.std.specs.Prelude.{◌≡◌, ⊤, ℕ, ◌+◌, ◌<◌, ◌≤◌, ◌*◌, List, [], ◌∷◌, ◌++◌, length, Bool}
-use Rattle.std.specs.Prelude.{true, false, ◌||◌, if◌then◌else◌, IfOk, IsTrue}
+use Rattle.std.specs.Prelude.{true, false, ◌||◌, ◌⊎◌, if◌then◌else◌, IfOk, IsTrue, flat_map}
 use Rattle.std.specs.Prelude.{Option, Some, None, Result, Ok, Err}
 use Rattle.std.specs.List.{list_all}
 use Rattle.std.specs.Option.{option_map}
@@ -128,22 +128,23 @@ abbrev pub take_allowance : NodeOf Spot → ℕ
 take_allowance image = 493 + allowance image.below
 
 -- What a result says of an image that was taken, or passed over if it is not requested.
-abbrev pub TakesTo : Bool → Take → Result Bool Fault → Result (List ℕ) FitFault → List Take
-    → List Take → Type 0
-TakesTo true one (Ok all) payload old new = (new ≡ old ++ one ∷ []) × (all ≡ is_kept one)
-TakesTo false one (Ok all) payload old new = (new ≡ old) × (all ≡ true)
-TakesTo true one (Err (of.Fit fault)) payload old new = (new ≡ old) × (payload ≡ Err fault)
-TakesTo false one (Err (of.Fit fault)) payload old new = ⊥
-TakesTo asked one (Err (of.Blob fault at)) payload old new = ⊥
-TakesTo asked one (Err of.Read) payload old new = new ≡ old
-TakesTo asked one (Err of.Put) payload old new = new ≡ old
+abbrev pub TakesTo : (Take → List Take) → Bool → Take → Result Bool Fault
+    → Result (List ℕ) FitFault → List Take → List Take → Type 0
+TakesTo seen true one (Ok all) payload old new = (new ≡ old ++ seen one) × (all ≡ is_kept one)
+TakesTo seen false one (Ok all) payload old new = (new ≡ old) × (all ≡ true)
+TakesTo seen true one (Err (of.Fit fault)) payload old new = (new ≡ old) × (payload ≡ Err fault)
+TakesTo seen false one (Err (of.Fit fault)) payload old new = ⊥
+TakesTo seen asked one (Err (of.Blob fault at)) payload old new = ⊥
+TakesTo seen asked one (Err of.Read) payload old new = new ≡ old
+TakesTo seen true one (Err of.Put) payload old new = (new ≡ old) ⊎ (new ≡ old ++ seen one)
+TakesTo seen false one (Err of.Put) payload old new = new ≡ old
 
 -- What a result says of the payload of an image that is requested, the bytes in its span.
-abbrev pub TakesRequested : Option Algo → NodeOf Spot → Requested → List ℕ → Result Bool Fault
-    → List Take → List Take → Type 0
-TakesRequested need image found file result old new =
+abbrev pub TakesRequested : (Take → List Take) → Option Algo → NodeOf Spot → Requested → List ℕ
+    → Result Bool Fault → List Take → List Take → Type 0
+TakesRequested seen need image found file result old new =
     as_bytes found.name ≡ image.name → (message : List ℕ) → message ≡ in_span file found.span
-    → TakesTo true (take_of need image message) result (Ok message) old new
+    → TakesTo seen true (take_of need image message) result (Ok message) old new
 
 -- What a result says of such an image, whatever the taker does: whether it is kept; and whether a
 -- payload was begun, before and after.
@@ -167,11 +168,12 @@ abbrev pub Fitting : Option (List ℕ) → List ℕ → List (NodeOf Spot) → T
 Fitting only file found P = overlapping only file (length file) found ≡ Ok None → P
 
 -- Images were taken, or some of them if a device failed; no other fault is returned.
-abbrev pub TakesAll : List Take → Result Bool Fault → List Take → List Take → Type 0
-TakesAll ts (Ok all) old new = (new ≡ old ++ ts) × (all ≡ list_all is_kept ts)
-TakesAll ts (Err (of.Fit fault)) old new = ⊥
-TakesAll ts (Err (of.Blob fault at)) old new = ⊥
-TakesAll ts (Err fault) old new = GivenFirst old new ts
+abbrev pub TakesAll : (Take → List Take) → List Take → Result Bool Fault → List Take → List Take
+    → Type 0
+TakesAll seen ts (Ok all) old new = (new ≡ old ++ flat_map seen ts) × (all ≡ list_all is_kept ts)
+TakesAll seen ts (Err (of.Fit fault)) old new = ⊥
+TakesAll seen ts (Err (of.Blob fault at)) old new = ⊥
+TakesAll seen ts (Err fault) old new = GivenFirst seen old new ts
 
 -- The result says whether each image is kept; no fault but that of a device is returned. A payload
 -- was begun if there is one, or before.

@@ -65,10 +65,10 @@ pub fn unpack<S: Source, A: Allocator, T: Taker>(
 ) -> Result<Unpacked, Fault>
     ensures takes { TakesOut unpack_work result S.device source room }
     ensures place { T.place taker.new ≡ T.place taker.old }
-    ensures told { IfHonest S.device source (λ file. IsTrue T.honest → Unpacks result
+    ensures told { IfHonest S.device source (λ file. IsTrue T.honest → Unpacks T.seen result
         (unpack_of need (option_map as_bytes only) file) (T.takes taker.old) (T.takes taker.new)) }
     ensures given { IsTrue T.honest → IfOk result
-        (λ found. Gives found (T.takes taker.old) (T.takes taker.new)) }
+        (λ found. Gives T.seen found (T.takes taker.old) (T.takes taker.new)) }
     ensures ended { IfHonest S.device source (λ file.
         EndsAs result (unpack_of need (option_map as_bytes only) file)
         (T.begun taker.old) (T.begun taker.new)) }

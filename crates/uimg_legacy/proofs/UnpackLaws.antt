@@ -1,5 +1,5 @@
 -- What is kept of an image, and what is told of it.
-use Rattle.std.proofs.Common.{◌≡◌, ◌≤◌, ◌<◌, ◌+◌, ◌*◌, ◌^◌, ℕ, List, [], ◌++◌, length, length-append, Bool, true, false, true≢false, ◌==◌, nat_lt, IsTrue, Option, Some, None, Result, Ok, Err, refl, ap, sym, subst, ◌∙◌, arith}
+use Rattle.std.proofs.Common.{◌≡◌, inl, inr, ◌≤◌, ◌<◌, ◌+◌, ◌*◌, ◌^◌, ℕ, List, [], ◌++◌, length, length-append, Bool, true, false, true≢false, ◌==◌, nat_lt, IsTrue, Option, Some, None, Result, Ok, Err, refl, ap, sym, subst, ◌∙◌, arith}
 use Rattle.std.proofs.lemmas.{Bool.{lt-ltb, le-ltb, eq-eqb}, List.{take_all, drop_at}}
 use Rattle.uimg_sums.specs.Crc.{crc}
 use Rattle.uimg_base.specs.Device.{Device, SameDevice}
@@ -97,6 +97,36 @@ unpacks made only honest h d e false kept from to old mid new same true_one read
     subst (λ (b : Bool). UnpacksBetween (Ok b) (unpack_of only d.bytes) old new) (sym s.0)
     (unpack_known only d.bytes h read inside ∙ ap (λ (xs : List ℕ). unpacked only h (payload xs h)) (sym same.bytes) ∙ told, s.1 ∙ before)
 
+-- what is kept where keeping failed, of any device
+kept_or_not : {E : Type 0} (fault : E) (only : Option ℕ) (honest : Bool) (h : Header) (d : Device) (right : Bool) (from to old mid new : List Part) → IsSpelled h → IsTrue honest → from ≡ [] → TakesDataBetween only honest h d (Ok right) from to → mid ≡ old → SettlesBetween {E = E} right (Err fault) to mid new → KeepsRightBetween only (Err Put) old new
+kept_or_not {E} fault only honest h d true from to old mid new is known none p before (inl same) = inl (same ∙ before)
+kept_or_not {E} fault only honest h d true from to old mid new is known none p before (inr given) = inr (keeps_right {E = E} (Err fault) only honest h d true true from to old mid new is known none p before (refl, given))
+kept_or_not {E} fault only honest h d false from to old mid new is known none p before same = inl (same ∙ before)
+
+pub keeps_failed : {E : Type 0} (fault : E) (only : Option ℕ) (honest : Bool) (h : Header) (d : Device) (right : Bool) (r : Result Bool Fault) (from to old mid new : List Part) → r ≡ Err Put → IsSpelled h → IsTrue honest → from ≡ [] → TakesDataBetween only honest h d (Ok right) from to → mid ≡ old → SettlesBetween {E = E} right (Err fault) to mid new → KeepsRightBetween only r old new
+keeps_failed {E} fault only honest h d right r from to old mid new failed is known none p before s =
+    subst (λ (x : Result Bool Fault). KeepsRightBetween only x old new) (sym failed) (kept_or_not {E = E} fault only honest h d right from to old mid new is known none p before s)
+
+-- the same of an honest one
+told_or_not : {E : Type 0} (fault : E) (only : Option ℕ) (honest : Bool) (h : Header) (d e : Device) (right : Bool) (from to old mid new : List Part) → SameDevice d e → IsTrue d.honest → header d.bytes ≡ Ok h → 64 + h.size ≤ length d.bytes → IsTrue honest → from ≡ [] → TakesDataBetween only honest h e (Ok right) from to → mid ≡ old → SettlesBetween {E = E} right (Err fault) to mid new → UnpacksBetween (Err Put) (unpack_of only d.bytes) old new
+told_or_not {E} fault only honest h d e true from to old mid new same true_one read inside known none p before (inl none_kept) = inl (none_kept ∙ before)
+told_or_not {E} fault only honest h d e true from to old mid new same true_one read inside known none p before (inr given) =
+    inr (unpacks {E = E} (Err fault) only honest h d e true true from to old mid new same true_one read inside known none p before (refl, given))
+told_or_not {E} fault only honest h d e false from to old mid new same true_one read inside known none p before none_kept = inl (none_kept ∙ before)
+
+pub unpacks_failed : {E : Type 0} (fault : E) (only : Option ℕ) (honest : Bool) (h : Header) (d e : Device) (right : Bool) (r : Result Bool Fault) (from to old mid new : List Part) → r ≡ Err Put → SameDevice d e → IsTrue d.honest → header d.bytes ≡ Ok h → 64 + h.size ≤ length d.bytes → IsTrue honest → from ≡ [] → TakesDataBetween only honest h e (Ok right) from to → mid ≡ old → SettlesBetween {E = E} right (Err fault) to mid new → UnpacksBetween r (unpack_of only d.bytes) old new
+unpacks_failed {E} fault only honest h d e right r from to old mid new failed same true_one read inside known none p before s =
+    subst (λ (x : Result Bool Fault). UnpacksBetween x (unpack_of only d.bytes) old new) (sym failed) (told_or_not {E = E} fault only honest h d e right from to old mid new same true_one read inside known none p before s)
+
+-- nothing is kept before the parts are settled
+none_kept : (only : Option ℕ) (fault : Fault) (old new : List Part) → new ≡ old → KeepsRightBetween only (Err fault) old new
+none_kept only (Legacy fault) old new same = same
+none_kept only Read old new same = same
+none_kept only Put old new same = inl same
+
+pub keeps_none : (only : Option ℕ) (r : Result Bool Fault) (fault : Fault) (old new : List Part) → r ≡ Err fault → new ≡ old → KeepsRightBetween only r old new
+keeps_none only r fault old new is same = subst (λ (x : Result Bool Fault). KeepsRightBetween only x old new) (sym is) (none_kept only fault old new same)
+
 -- what is told where data are refused
 refused_data : (only : Option ℕ) (h : Header) (bytes : List ℕ) (fault : LegacyFault) → parts_in only (has_parts h.kind) bytes ≡ Err fault → unpacked only h bytes ≡ Err fault
 refused_data only h bytes fault e = rw e refl
@@ -107,7 +137,7 @@ stops only honest h d e r (Legacy fault) from to old new is same true_one read i
     subst (λ (x : Result Bool Fault). UnpacksBetween x (unpack_of only d.bytes) old new) (sym is)
     (unpack_known only d.bytes h read inside ∙ ap (λ (xs : List ℕ). unpacked only h (payload xs h)) (sym same.bytes) ∙ refused_data only h (payload e.bytes h) fault (p at_e), kept)
 stops only honest h d e r Read from to old new is same true_one read inside p kept = subst (λ (x : Result Bool Fault). UnpacksBetween x (unpack_of only d.bytes) old new) (sym is) kept
-stops only honest h d e r Put from to old new is same true_one read inside p kept = subst (λ (x : Result Bool Fault). UnpacksBetween x (unpack_of only d.bytes) old new) (sym is) kept
+stops only honest h d e r Put from to old new is same true_one read inside p kept = subst (λ (x : Result Bool Fault). UnpacksBetween x (unpack_of only d.bytes) old new) (sym is) (inl kept)
 
 -- the same whatever the taker does
 pub ends_of : (r : Result Bool Fault) (told : Result (Option (List Part)) LegacyFault) (old new : List Part) → UnpacksBetween r told old new → EndsAs r told

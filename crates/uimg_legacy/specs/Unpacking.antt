@@ -1,7 +1,7 @@
 -- The parts of a legacy image, as they are unpacked.
 use Rattle.std.specs.Prelude.{◌≡◌, ⊤, ℕ, suc, ◌+◌, ◌*◌, List, [], ◌∷◌, ◌++◌, length, take, drop}
 use Rattle.std.specs.Prelude.{nat_lt, ◌==◌, if◌then◌else◌, Option, Some, None, Result, Ok, Err}
-use Rattle.std.specs.{Prelude.{Bool, true, false, IsTrue}, List.AllByRecursion}
+use Rattle.std.specs.{Prelude.{Bool, true, false, IsTrue, ◌⊎◌}, List.AllByRecursion}
 use Rattle.uimg_texts.specs.Numbers.{up4}
 use Rattle.uimg_base.specs.{Lent.Lent, Device.Device, Outcome.{done, told}, Results.◌>>=◌}
 use Rattle.uimg_sums.specs.Crc.{crc}
@@ -91,14 +91,14 @@ pub record KeepsParts (told : Result (Option (List Part)) LegacyFault) (old new 
   pub kept : new ≡ old ++ parts
 
 -- What a result says of an image and of the kept parts. Nothing is kept if the image is refused,
--- its data's CRC is wrong or a device failed.
+-- its data's CRC is wrong or a read failed. At a failed write its parts may be kept already.
 abbrev pub UnpacksBetween : Result Bool Fault → Result (Option (List Part)) LegacyFault → List Part
     → List Part → Type 0
 UnpacksBetween (Ok true) told old new = KeepsParts told old new
 UnpacksBetween (Ok false) told old new = (told ≡ Ok None) × (new ≡ old)
 UnpacksBetween (Err (Legacy fault)) told old new = (told ≡ Err fault) × (new ≡ old)
 UnpacksBetween (Err Read) told old new = new ≡ old
-UnpacksBetween (Err Put) told old new = new ≡ old
+UnpacksBetween (Err Put) told old new = (new ≡ old) ⊎ KeepsParts told old new
 
 -- there are parts, and the data's CRC is right
 abbrev pub HasRightParts : Result (Option (List Part)) LegacyFault → Type 0
@@ -140,10 +140,11 @@ pub record AreRight (dcrc : ℕ) (held : List Part) : Type 0 where
   -- the checksum of its data is right, and these are its parts
   pub told : unpack_of only image ≡ Ok (Some held)
 
--- the same of a result; nothing is kept unless all is right
+-- the same of a result; nothing is kept unless all is right, and perhaps at a failed write
 abbrev pub KeepsRightBetween : Option ℕ → Result Bool Fault → List Part → List Part → Type 0
 KeepsRightBetween only (Ok true) old new = KeepsSome only old new
 KeepsRightBetween only (Ok false) old new = new ≡ old
+KeepsRightBetween only (Err Put) old new = (new ≡ old) ⊎ KeepsSome only old new
 KeepsRightBetween only (Err fault) old new = new ≡ old
 
 -- the same for an honest taker

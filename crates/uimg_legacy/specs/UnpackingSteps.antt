@@ -1,7 +1,7 @@
 -- What the steps of unpacking do, over any device.
 use Rattle.std.specs.Prelude.{◌≡◌, ◌≢◌, ⊤, ℕ, ◌+◌, ◌-◌, ◌*◌, ◌<◌, ◌≤◌, min, List, ◌++◌, length}
 use Rattle.std.specs.Prelude.{take, sum_by, ◌==◌, Option, Bool, true, false, Result, Ok, Err}
-use Rattle.std.specs.{Prelude.{IsTrue, OnOk}, List.AllByRecursion}
+use Rattle.std.specs.{Prelude.{IsTrue, OnOk, ◌⊎◌}, List.AllByRecursion}
 use Rattle.uimg_texts.specs.{Slices.slice, Numbers.{be32, up4}}
 use Rattle.uimg_sums.specs.{Crc.crc, Adding.Adds, CrcSums.Holds, declared.crc.Crc.Crc}
 use Rattle.uimg_base.specs.{Lent.Lent, Device.Device, Held.Held, Ranges.SumsRange}
@@ -171,12 +171,13 @@ TakesData only h result device source honest held taker =
     TakesDataBetween only honest h (device source.entry.now) result
     (held taker.entry.now) (held taker.exit.now)
 
--- The held parts were kept if the data's CRC is right; else, or if keeping failed, nothing was.
+-- The held parts were kept if the data's CRC is right, and perhaps if keeping failed; else nothing.
 abbrev pub SettlesBetween : {E : Type 0} → Bool → Result Bool E → List Part → List Part → List Part
     → Type 0
 SettlesBetween true (Ok kept) held old new = (kept ≡ true) × (new ≡ old ++ held)
 SettlesBetween false (Ok kept) held old new = (kept ≡ false) × (new ≡ old)
-SettlesBetween right (Err fault) held old new = new ≡ old
+SettlesBetween true (Err fault) held old new = (new ≡ old) ⊎ (new ≡ old ++ held)
+SettlesBetween false (Err fault) held old new = new ≡ old
 
 -- the same for an honest taker
 abbrev pub Settles : {E T : Type 0} → Bool → Result Bool E → Bool → (T → List Part)

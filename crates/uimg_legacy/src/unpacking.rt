@@ -1,10 +1,10 @@
 //! Unpacking: parts are written while the image's data are summed.
 
-ghost use Rattle.std.specs.Prelude.{◌≡◌, [], IfOk, IsTrue};
+ghost use Rattle.std.specs.Prelude.{◌≡◌, [], ◌||◌, is_err, IfOk, IsTrue};
 ghost use Rattle.uimg_base.specs.Honest.{IfHonest};
 ghost use Rattle.uimg_legacy.specs.{Commands.TakesOut, UnpackingSteps.{Settles, unpack_work}};
 ghost use Rattle.uimg_legacy.specs.Unpacking.{AreRight, Unpacks, EndsAs, KeepsRight, Extracts, unpack_of};
-ghost use Rattle.uimg_legacy.specs.Told.{TellsAll, Tells, settling};
+ghost use Rattle.uimg_legacy.specs.Told.{TellsAll, Tells, NoneFails, settling};
 
 mod mem_parts;
 mod part_taker;
@@ -26,6 +26,7 @@ fn settle<T: PartTaker>(right: bool, dcrc: u32, taker: &mut T) -> Result<bool, P
     ensures is { IfOk result (λ kept. kept ≡ right) }
     ensures kept { Settles right result T.honest T.held T.kept taker }
     ensures stays { T.place taker.new ≡ T.place taker.old }
+    ensures fails { IsTrue T.tells → T.failed taker.new ≡ (is_err result || T.failed taker.old) }
     ensures told { Tells (settling right dcrc) result T.notes T.told taker }
 {
     if right {
@@ -53,7 +54,8 @@ fn settle<T: PartTaker>(right: bool, dcrc: u32, taker: &mut T) -> Result<bool, P
 /// `NoSuchPart`, all before the taker is called, or `PartOutside` when that part is reached. A
 /// wrong checksum of the data is found last, as they are summed while they are written; it is the
 /// result `false`, no fault. Returns `BadDataCrc` if a size of the table is 0 when it is read
-/// again, `Read` exactly if a read failed, and `Put` if the taker or one of its shelves failed.
+/// again, `Read` exactly if a read failed, and `Put` if the taker or one of its shelves failed. If
+/// the taker fails as it keeps the parts, it keeps all or none.
 pub fn unpack<S: Source, A: Allocator, T: PartTaker>(
     only: Option<u32>,
     source: &mut S,
@@ -67,6 +69,7 @@ pub fn unpack<S: Source, A: Allocator, T: PartTaker>(
     ensures ends { IfHonest S.device source (λ file. EndsAs result (unpack_of only file)) }
     ensures extracts { Extracts result S.device source T.honest T.kept taker }
     ensures stays { T.place taker.new ≡ T.place taker.old }
+    ensures fails { NoneFails result T.tells T.failed taker }
     ensures tells { TellsAll only result T.notes T.told taker }
 {
     room.clear();

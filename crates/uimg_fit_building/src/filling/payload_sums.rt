@@ -1,6 +1,6 @@
 //! Sums of a payload by all algorithms in use, in one pass.
 
-ghost use Rattle.std.specs.Prelude.{◌≡◌, length, IsOkUnless, IfOk, OnOk};
+ghost use Rattle.std.specs.Prelude.{◌≡◌, ◌≤◌, ◌+◌, length, IsOkUnless, IfOk, OnOk};
 ghost use Rattle.uimg_base.specs.{Honest.HonestSource, Device.RisesIf};
 ghost use Rattle.uimg_blob_writing.specs.{Content.{content_bytes, file}, Properties.content};
 ghost use Rattle.uimg_blob_writing.specs.LentFiles.{OfHonest};
@@ -17,6 +17,7 @@ use uimg_fit_base::{AlgoSet, Digests, FitFault};
 // Feeds a source of this size; another size counts as a failed read.
 fn feed_source<S: Source>(bundle: &mut Bundle, source: &mut S, size: u64) -> Result<(), FitFault>
     ensures fault { IsOkUnless result ReadFailed }
+    ensures asked { (S.device source.new).asked ≤ (S.device source.old).asked + size }
     ensures sized { OnOk result (length (S.device source.old).bytes ≡ size) }
     ensures failures { length (S.device source.old).bytes ≡ size →
         RisesIf (fails_to_read result) (S.device source.old).failures (S.device source.new).failures }

@@ -47,7 +47,10 @@ pub trait Taker {
     /// Whether shelves hold what is written to them, and the list has all that was given.
     ghost honest: { Bool } = { false };
 
-    /// What was given so far.
+    /// What the list shows of a payload that was given.
+    ghost seen: { Take → List Take } = { λ one. one ∷ [] };
+
+    /// What was given so far, as far as the list shows it.
     ghost takes: { Self → List Take };
 
     /// Whether the list of claims has each call.
@@ -90,7 +93,7 @@ pub trait Taker {
         ensures begun { begun self.new ≡ begun self.old }
         ensures none { IsTrue notes → claimed self.new ≡ claimed self.old }
         ensures given { IsTrue honest → (bytes : List ℕ) → Self.Shelf.contents shelf ≡ Some bytes →
-            AddsIf result (takes self.old) (takes self.new)
+            AddsIf seen result (takes self.old) (takes self.new)
             (kept (as_bytes name.now) bytes vouched) };
 
     /// Takes a payload that is not kept, to discard it.
@@ -103,6 +106,6 @@ pub trait Taker {
         ensures place { place self.new ≡ place self.old }
         ensures begun { begun self.new ≡ begun self.old }
         ensures none { IsTrue notes → claimed self.new ≡ claimed self.old }
-        ensures given { IsTrue honest → AddsIf result (takes self.old) (takes self.new)
+        ensures given { IsTrue honest → AddsIf seen result (takes self.old) (takes self.new)
             (refused (as_bytes name.now) (told_of (as_bytes name.now) refusal)) };
 }

@@ -43,10 +43,10 @@ fn take_requested<S: Source, A: Allocator, T: Taker>(
         (λ found. Pays (payload.span.length + 383 * length (hashes found)) S.device source) }
     ensures told { IsTrue T.honest →
         OfNode (S.device source.old) blob.now room.old in_images payload.image (λ found.
-        TakesRequested need found payload (S.device source.old).bytes result
+        TakesRequested T.seen need found payload (S.device source.old).bytes result
         (T.takes taker.old) (T.takes taker.new)) }
     ensures given { IsTrue T.honest → IfOk result
-        (λ all. GivesBy all (T.takes taker.old) (T.takes taker.new)) }
+        (λ all. GivesBy T.seen all (T.takes taker.old) (T.takes taker.new)) }
     ensures ended { OfNode (S.device source.old) blob.now room.old in_images payload.image
         (λ found. EndsImage true
         (take_of need found (in_span (S.device source.old).bytes payload.span))
@@ -84,12 +84,12 @@ fn take_image<S: Source, A: Allocator, T: Taker>(
         (λ found. Pays (size_if (is_asked (option_map as_bytes request.only) found.name)
         (payload (S.device source.old).bytes found) + take_allowance found) S.device source) }
     ensures told { IsTrue T.honest → OfNode (S.device source.old) blob.now room.old in_images image
-        (λ found. TakesTo (is_asked (option_map as_bytes request.only) found.name)
+        (λ found. TakesTo T.seen (is_asked (option_map as_bytes request.only) found.name)
         (take_of request.need found (bytes_or_none (payload (S.device source.old).bytes found)))
         result (payload (S.device source.old).bytes found)
         (T.takes taker.old) (T.takes taker.new)) }
     ensures given { IsTrue T.honest → IfOk result
-        (λ all. GivesBy all (T.takes taker.old) (T.takes taker.new)) }
+        (λ all. GivesBy T.seen all (T.takes taker.old) (T.takes taker.new)) }
     ensures ended { OfNode (S.device source.old) blob.now room.old in_images image
         (λ found. EndsImage (is_asked (option_map as_bytes request.only) found.name)
         (take_of request.need found (bytes_or_none (payload (S.device source.old).bytes found)))
@@ -120,10 +120,10 @@ pub(super) fn take_images<S: Source, A: Allocator, T: Taker>(
         (Pays (length (S.device source.old).bytes + sum_by take_allowance found) S.device source)) }
     ensures told { IsTrue T.honest → OfNodes (S.device source.old) blob.now room.old in_images first
         (λ found. Fitting (option_map as_bytes request.only) (S.device source.old).bytes found
-        (TakesAll (takes request.need (option_map as_bytes request.only)
+        (TakesAll T.seen (takes request.need (option_map as_bytes request.only)
         (S.device source.old).bytes found) result (T.takes taker.old) (T.takes taker.new))) }
     ensures given { IsTrue T.honest → IfOk result
-        (λ all. GivesBy all (T.takes taker.old) (T.takes taker.new)) }
+        (λ all. GivesBy T.seen all (T.takes taker.old) (T.takes taker.new)) }
     ensures ended { OfNodes (S.device source.old) blob.now room.old in_images first
         (λ found. Fitting (option_map as_bytes request.only) (S.device source.old).bytes found
         (EndsAll (takes request.need (option_map as_bytes request.only)

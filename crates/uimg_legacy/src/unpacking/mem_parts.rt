@@ -1,6 +1,6 @@
 //! Parts that are unpacked into memory.
 
-ghost use Rattle.std.specs.Prelude.{◌≡◌, [], true, map, not};
+ghost use Rattle.std.specs.Prelude.{◌≡◌, ◌++◌, [], true, map, not, IsOk, IfOk};
 ghost use Rattle.uimg_legacy.specs.MemParts.{mem_part, parts_if};
 
 use crate::unpacking::part_taker::PartTaker;
@@ -59,11 +59,20 @@ impl<A: Allocator + Copy> PartTaker for MemParts<A> {
 
     ghost kept = { λ t. parts_if t.is_kept t.parts.items };
 
-    fn claim(&mut self, _number: u32) -> Result<(), PutFault> {
+    /// Does nothing. Never fails.
+    fn claim(&mut self, _number: u32) -> Result<(), PutFault>
+        ensures ok { IsOk result }
+        ensures same { self.new ≡ self.old }
+    {
         Ok(())
     }
 
-    fn shelf(&mut self, _number: u32) -> Result<Vec<u8, A>, PutFault> {
+    /// Returns an empty vector. Never fails.
+    fn shelf(&mut self, _number: u32) -> Result<Vec<u8, A>, PutFault>
+        ensures ok { IsOk result }
+        ensures same { self.new ≡ self.old }
+        ensures empty { IfOk result (λ shelf. shelf.items ≡ []) }
+    {
         Ok(Vec::new(self.alloc))
     }
 
@@ -78,12 +87,22 @@ impl<A: Allocator + Copy> PartTaker for MemParts<A> {
         self.parts.push(part).map_err(|_refused| PutFault)
     }
 
-    fn keep(&mut self, _dcrc: u32) -> Result<(), PutFault> {
+    /// Keeps the held parts. Never fails.
+    fn keep(&mut self, _dcrc: u32) -> Result<(), PutFault>
+        ensures ok { IsOk result }
+        ensures kept { ⟦<MemParts<A> as PartTaker>⟧.kept self.new
+            ≡ ⟦<MemParts<A> as PartTaker>⟧.kept self.old
+            ++ ⟦<MemParts<A> as PartTaker>⟧.held self.old }
+    {
         self.is_kept = true;
         Ok(())
     }
 
-    fn refuse(&mut self) -> Result<(), PutFault> {
+    /// Does nothing. Never fails.
+    fn refuse(&mut self) -> Result<(), PutFault>
+        ensures ok { IsOk result }
+        ensures same { self.new ≡ self.old }
+    {
         Ok(())
     }
 }

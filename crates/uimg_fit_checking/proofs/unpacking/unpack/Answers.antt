@@ -49,7 +49,7 @@ returns-in_err-name-clause-told g c = λ honest shelf.
     let is = unpack_is file h.nodes c.args.need only found.found h.read.is found.is in
     let fault = c.in_err-name.field-0.0 in
     let answer : c.from_residual-in_err-name.result ≡ Err fault = search rules in
-    unpack_refused _ _ (takes c.args.need only file found.found) fault c.from_residual-in_err-name.result _ _ answer is claims.told (c.claim_images.ensures.none_given shelf)
+    unpack_refused g.T.Taker.seen _ _ (takes c.args.need only file found.found) fault c.from_residual-in_err-name.result _ _ answer is claims.told (c.claim_images.ensures.none_given shelf)
 
 pub returns-in-Some-clause-takes : goal.returns-in-Some-clause-takes
 returns-in-Some-clause-takes g c = record {
@@ -86,7 +86,7 @@ returns-in-Some-clause-told g c = λ honest shelf.
     let claims = subst (λ (xs : List ℕ). ClaimsImagesBetween xs only found.found (d c.read_tree.new.source).asked (d c.claim_images.new.source).asked (Ok c.in_ok-name.field-0) g.T.Taker.notes (g.T.Taker.claimed c.args.taker.now) (g.T.Taker.claimed c.claim_images.new.taker)) same.bytes
     (c.in_ok-name.ensures.told h.nodes here found.found found.from) in
     let is = unpack_is file h.nodes c.args.need only found.found h.read.is found.is in
-    unpack_overlaps _ _ (takes c.args.need only file found.found) c.in-Some.name c.in_ok-name.field-0 _ _ is c.in-Some.is claims.told (c.claim_images.ensures.none_given shelf)
+    unpack_overlaps g.T.Taker.seen _ _ (takes c.args.need only file found.found) c.in-Some.name c.in_ok-name.field-0 _ _ is c.in-Some.is claims.told (c.claim_images.ensures.none_given shelf)
 
 pub returns-in_err-all-clause-takes : goal.returns-in_err-all-clause-takes
 returns-in_err-all-clause-takes g c = record {
@@ -135,9 +135,9 @@ returns-in_err-all-clause-told g c = λ honest shelf.
     let is = unpack_is file h.nodes c.args.need only found.found h.read.is found.is in
     let fault = c.in_err-all.field-0.0 in
     let answer : c.from_residual-in_err-all.result ≡ Err fault = search rules in
-    let given = subst (λ (xs : List ℕ). Fitting only xs found.found (TakesAll (takes c.args.need only xs found.found) (Err fault) (g.T.Taker.takes c.claim_images.new.taker) (g.T.Taker.takes c.take_images.new.taker))) bytes
+    let given = subst (λ (xs : List ℕ). Fitting only xs found.found (TakesAll g.T.Taker.seen (takes c.args.need only xs found.found) (Err fault) (g.T.Taker.takes c.claim_images.new.taker) (g.T.Taker.takes c.take_images.new.taker))) bytes
     (c.in_err-all.ensures.told shelf h.nodes there found.found found.from) fits in
-    unpack_stops _ _ (takes c.args.need only file found.found) fault c.from_residual-in_err-all.result _ _ _ answer is fits (c.claim_images.ensures.none_given shelf) given
+    unpack_stops g.T.Taker.seen _ _ (takes c.args.need only file found.found) fault c.from_residual-in_err-all.result _ _ _ answer is fits (c.claim_images.ensures.none_given shelf) given
 
 pub returns-clause-takes : goal.returns-clause-takes
 returns-clause-takes g c = record {
@@ -184,9 +184,9 @@ returns-clause-told g c = λ honest shelf.
     let its = subst (λ (xs : List ℕ). Fitting only xs found.found ((d c.take_images.new.source).asked ≤ (d c.claim_images.new.source).asked + (length xs + sum_by take_allowance found.found))) bytes
     (c.take_images.ensures.paid h.nodes there found.found found.from) fits in
     let is = unpack_is file h.nodes c.args.need only found.found h.read.is found.is in
-    let given = subst (λ (xs : List ℕ). Fitting only xs found.found (TakesAll (takes c.args.need only xs found.found) (Ok c.in_ok-all.all) (g.T.Taker.takes c.claim_images.new.taker) (g.T.Taker.takes c.take_images.new.taker))) bytes
+    let given = subst (λ (xs : List ℕ). Fitting only xs found.found (TakesAll g.T.Taker.seen (takes c.args.need only xs found.found) (Ok c.in_ok-all.all) (g.T.Taker.takes c.claim_images.new.taker) (g.T.Taker.takes c.take_images.new.taker))) bytes
     (c.in_ok-all.ensures.told shelf h.nodes there found.found found.from) fits in
-    unpack_taken _ _ (takes c.args.need only file found.found) c.in_ok-all.all _ _ _ is fits (c.claim_images.ensures.none_given shelf) given
+    unpack_taken g.T.Taker.seen _ _ (takes c.args.need only file found.found) c.in_ok-all.all _ _ _ is fits (c.claim_images.ensures.none_given shelf) given
 
 pub returns-in_err-blob-clause-claimed : goal.returns-in_err-blob-clause-claimed
 returns-in_err-blob-clause-claimed g c = λ honest known.
@@ -342,4 +342,4 @@ returns-in-Some-clause-given g c = λ honest. c.claim_images.ensures.none_given 
 
 pub returns-clause-given : goal.returns-clause-given
 returns-clause-given g c = λ honest.
-    subst (λ (l : List Take). GivesBy c.in_ok-all.all l (g.T.Taker.takes c.take_images.new.taker)) (c.claim_images.ensures.none_given honest) (c.in_ok-all.ensures.given honest)
+    subst (λ (l : List Take). GivesBy g.T.Taker.seen c.in_ok-all.all l (g.T.Taker.takes c.take_images.new.taker)) (c.claim_images.ensures.none_given honest) (c.in_ok-all.ensures.given honest)

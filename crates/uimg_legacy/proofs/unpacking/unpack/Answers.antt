@@ -3,7 +3,7 @@ use Rattle.std.specs.Prelude.{Ok, Err}
 use Rattle.uimg_legacy.specs.declared.fault.Fault.{TheVariants.{Read, Put}}
 use Rattle.uimg_legacy.proofs.ToldLaws.{ends_before, ends_by, ends_untold, ends_told}
 use Rattle.uimg_legacy.proofs.{SourceLaws.{honest_still, same_still}, ExtractedLaws.extracts}
-use Rattle.uimg_legacy.proofs.UnpackLaws.{is_spelled, unpack_truncated, are_right, keeps_right, unpacks, stops, ends_of, ends_kept, work_known}
+use Rattle.uimg_legacy.proofs.UnpackLaws.{is_spelled, unpack_truncated, are_right, keeps_right, unpacks, stops, keeps_none, keeps_failed, unpacks_failed, ends_of, ends_kept, work_known}
 use Rattle.uimg_legacy.proofs.unpacking.unpack.Goals as goal
 
 pub returns-then-branch-header-clause-told : goal.returns-then-branch-header-clause-told
@@ -70,6 +70,30 @@ returns-clause-takes g c =
       room = search rules;
       no_making = search rules;
     }
+
+pub returns-in_err-header-clause-right : goal.returns-in_err-header-clause-right
+returns-in_err-header-clause-right g c = λ known.
+    let fault = c.in_err-header.field-0.0 in
+    let is : c.from_residual.result ≡ Err fault = search rules in
+    keeps_none c.args.only c.from_residual.result fault _ _ is refl
+
+pub returns-in_err-right-clause-right : goal.returns-in_err-right-clause-right
+returns-in_err-right-clause-right g c = λ known.
+    let fault = c.in_err-right.field-0.0 in
+    let is : c.from_residual-in_err-right.result ≡ Err fault = search rules in
+    keeps_none c.args.only c.from_residual-in_err-right.result fault _ _ is (c.take_data.ensures.takes.kept known)
+
+pub returns-in_err-settle-clause-right : goal.returns-in_err-settle-clause-right
+returns-in_err-settle-clause-right g c = λ known.
+    let is : c.from_residual-in_err-settle.result ≡ Err Put = search rules in
+    keeps_failed c.in_err-settle.field-0.0 c.args.only g.T.PartTaker.honest c.in_ok-header.header _ c.in_ok-right.right c.from_residual-in_err-settle.result _ _ _ _ _ is (is_spelled c.in_ok-header.header (omega arith) (omega arith) (omega arith) (omega arith) (omega arith) (omega arith)) known (c.requires known) c.in_ok-right.ensures.taken (c.take_data.ensures.takes.kept known) (c.in_err-settle.ensures.kept known)
+
+pub returns-in_err-settle-clause-told : goal.returns-in_err-settle-clause-told
+returns-in_err-settle-clause-told g c = λ honest known.
+    let same = same_still c.read_header.ensures.reads.uses.same c.size.ensures.same in
+    let long = ap (λ (xs : List ℕ). length xs) c.read_header.ensures.reads.uses.same.bytes in
+    let is : c.from_residual-in_err-settle.result ≡ Err Put = search rules in
+    unpacks_failed c.in_err-settle.field-0.0 c.args.only g.T.PartTaker.honest c.in_ok-header.header _ _ c.in_ok-right.right c.from_residual-in_err-settle.result _ _ _ _ _ is same honest (c.in_ok-header.ensures.gives honest) (omega (arith, c.in_ok-size.ensures.length, long, c.if-branch-header.false)) known (c.requires known) c.in_ok-right.ensures.taken (c.take_data.ensures.takes.kept known) (c.in_err-settle.ensures.kept known)
 
 pub returns-clause-right : goal.returns-clause-right
 returns-clause-right g c = λ known.

@@ -18,13 +18,13 @@ returns-in_err-payload-clause-told g c = λ honest t o found n.
     let file = (g.S.Source.device c.args.source.now).bytes in
     let fault = c.in_err-payload.field-0.0 in
     let is : c.from_residual.result ≡ Err fault = search rules in
-    takes_lacks file (option_map as_bytes c.args.request.only) _ found fault c.from_residual.result _ is (c.in_err-payload.ensures.told t o found n)
+    takes_lacks g.T.Taker.seen file (option_map as_bytes c.args.request.only) _ found fault c.from_residual.result _ is (c.in_err-payload.ensures.told t o found n)
 
 pub returns-in-None-clause-told : goal.returns-in-None-clause-told
 returns-in-None-clause-told g c = λ honest t o found n.
     let file = (g.S.Source.device c.args.source.now).bytes in
     let only = option_map as_bytes c.args.request.only in
-    takes_skips file only _ found _ (subst (λ (x : Option Requested). TellsFound only file found (Ok x)) c.in-None.is (c.in_ok-payload.ensures.told t o found n))
+    takes_skips g.T.Taker.seen file only _ found _ (subst (λ (x : Option Requested). TellsFound only file found (Ok x)) c.in-None.is (c.in_ok-payload.ensures.told t o found n))
 
 pub returns-in-Some-clause-paid : goal.returns-in-Some-clause-paid
 returns-in-Some-clause-paid g c = λ t o found n.
@@ -47,7 +47,7 @@ returns-in-Some-clause-told g c = λ honest t o found n.
     let same = c.find_requested.ensures.uses.same in
     let message = slice file it.span.place it.span.length in
     let cut = ap (λ (xs : List ℕ). slice xs it.span.place it.span.length) (sym same.bytes) in
-    takes_there file only c.args.request.need found message c.take_requested.result _ _ finds.asked finds.is (c.take_requested.ensures.told honest t (still same refl o) found node finds.named message cut)
+    takes_there g.T.Taker.seen file only c.args.request.need found message c.take_requested.result _ _ finds.asked finds.is (c.take_requested.ensures.told honest t (still same refl o) found node finds.named message cut)
 
 pub returns-in_err-payload-clause-ended : goal.returns-in_err-payload-clause-ended
 returns-in_err-payload-clause-ended g c = λ t o found n.
@@ -76,4 +76,4 @@ returns-in-Some-clause-ended g c = λ t o found n.
     ends_there file only c.args.request.need found (in_span file it.span) c.take_requested.result _ _ finds.asked finds.is ended
 
 pub returns-in-None-clause-given : goal.returns-in-None-clause-given
-returns-in-None-clause-given g c = λ honest. gives_none (g.T.Taker.takes c.args.taker.now)
+returns-in-None-clause-given g c = λ honest. gives_none g.T.Taker.seen (g.T.Taker.takes c.args.taker.now)

@@ -24,8 +24,8 @@ loop-next-init g c = record {
   within = search rules;
   none_claimed = search rules;
   paid = λ t o found from fits. pay_first t _ _ found _ c.args.first from fits;
-  told = λ honest t o found from fits. take_first t _ c.args.request.need _ found _ c.args.first from fits;
-  given = λ honest. gives_none (g.T.Taker.takes c.args.taker.now);
+  told = λ honest t o found from fits. take_first g.T.Taker.seen t _ c.args.request.need _ found _ c.args.first from fits;
+  given = λ honest. gives_none g.T.Taker.seen (g.T.Taker.takes c.args.taker.now);
   ended = λ t o found from fits. end_first t _ c.args.request.need _ found _ c.args.first from fits;
 }
 
@@ -60,13 +60,13 @@ loop-next-preserved g c = record {
       let k = c.loop-next.invariant.told honest t o found from fits in
       let start = subst (λ (x : Option ℕ). AreFrom t in_images x k.rest) c.in-Some.is k.from in
       let f = front t in_images c.in-Some.image k.rest start in
-      let told = subst (λ (xs : List ℕ). TakesTo (is_asked only f.image.name) (take_of c.args.request.need f.image (bytes_or_none (payload xs f.image))) (Ok c.in_ok-all.field-0) (payload xs f.image)
+      let told = subst (λ (xs : List ℕ). TakesTo g.T.Taker.seen (is_asked only f.image.name) (take_of c.args.request.need f.image (bytes_or_none (payload xs f.image))) (Ok c.in_ok-all.field-0) (payload xs f.image)
       (g.T.Taker.takes c.loop-next.taker) (g.T.Taker.takes c.take_image.new.taker)) same.bytes
       (c.in_ok-all.ensures.told honest t here f.image f.node) in
       let indexed = (still c.take_image.ensures.leaves.uses.same c.take_image.ensures.leaves.room here).read.indexed in
-      take_more t file c.args.request.need only found c.loop-next.all c.in_ok-all.field-0 _ _ _ c.loop-next.next k f.image f.more f.are _ told
+      take_more g.T.Taker.seen t file c.args.request.need only found c.loop-next.all c.in_ok-all.field-0 _ _ _ c.loop-next.next k f.image f.more f.are _ told
       (c.next_of-next.ensures.next t indexed in_images f.image f.more (subst (λ (l : List (NodeOf Spot)). AreFrom t in_images (Some c.in-Some.image) l) f.are start));
-  given = λ honest. gives_more c.loop-next.all c.in_ok-all.field-0 _ _ _ (c.loop-next.invariant.given honest) (c.in_ok-all.ensures.given honest);
+  given = λ honest. gives_more g.T.Taker.seen c.loop-next.all c.in_ok-all.field-0 _ _ _ (c.loop-next.invariant.given honest) (c.in_ok-all.ensures.given honest);
   ended = λ t o found from fits.
       let d = g.S.Source.device in
       let file = (d c.args.source.now).bytes in
@@ -107,11 +107,11 @@ returns-in_err-all-clause-told g c = λ honest t o found from fits.
     let fault = c.in_err-all.field-0.0 in
     let is : c.from_residual.result ≡ Err fault = search rules in
     let f = front t in_images c.in-Some.image k.rest (subst (λ (x : Option ℕ). AreFrom t in_images x k.rest) c.in-Some.is k.from) in
-    let told = subst (λ (xs : List ℕ). TakesTo (is_asked only f.image.name) (take_of c.args.request.need f.image (bytes_or_none (payload xs f.image))) (Err fault) (payload xs f.image)
+    let told = subst (λ (xs : List ℕ). TakesTo g.T.Taker.seen (is_asked only f.image.name) (take_of c.args.request.need f.image (bytes_or_none (payload xs f.image))) (Err fault) (payload xs f.image)
     (g.T.Taker.takes c.loop-next.taker) (g.T.Taker.takes c.take_image.new.taker)) same.bytes
     (c.in_err-all.ensures.told honest t here f.image f.node) in
-    subst (λ (r : Result Bool Fault). TakesAll (takes c.args.request.need only file found) r (g.T.Taker.takes c.args.taker.now) (g.T.Taker.takes c.take_image.new.taker)) (sym is)
-    (take_cut t file c.args.request.need only found c.loop-next.all _ _ _ c.loop-next.next k f.image f.more f.are fault told)
+    subst (λ (r : Result Bool Fault). TakesAll g.T.Taker.seen (takes c.args.request.need only file found) r (g.T.Taker.takes c.args.taker.now) (g.T.Taker.takes c.take_image.new.taker)) (sym is)
+    (take_cut g.T.Taker.seen t file c.args.request.need only found c.loop-next.all _ _ _ c.loop-next.next k f.image f.more f.are fault told)
 
 pub returns-clause-paid : goal.returns-clause-paid
 returns-clause-paid g c = λ t o found from fits.
@@ -119,7 +119,7 @@ returns-clause-paid g c = λ t o found from fits.
 
 pub returns-clause-told : goal.returns-clause-told
 returns-clause-told g c = λ honest t o found from fits.
-    take_done t _ c.args.request.need _ found c.loop-next.all _ _ c.loop-next.next (search rules) (c.loop-next.invariant.told honest t o found from fits)
+    take_done g.T.Taker.seen t _ c.args.request.need _ found c.loop-next.all _ _ c.loop-next.next (search rules) (c.loop-next.invariant.told honest t o found from fits)
 
 pub returns-in_err-all-clause-ended : goal.returns-in_err-all-clause-ended
 returns-in_err-all-clause-ended g c = λ t o found from fits.

@@ -28,8 +28,8 @@ invariant-loop-next g l =
       paid : (t : Siblings) → Opened (device l.fn.source) l.blob l.fn.room t → (found : List (NodeOf Spot)) → AreFrom t in_images l.fn.first found
           → Fitting only file found (LeftToPay t file only found (device l.fn.source).asked (device l.source).asked l.next);
       told : IsTrue g.T.Taker.honest → (t : Siblings) → Opened (device l.fn.source) l.blob l.fn.room t → (found : List (NodeOf Spot)) → AreFrom t in_images l.fn.first found
-          → Fitting only file found (LeftToTake t file l.request.need only found l.all (g.T.Taker.takes l.fn.taker) (g.T.Taker.takes l.taker) l.next);
-      given : IsTrue g.T.Taker.honest → GivesBy l.all (g.T.Taker.takes l.fn.taker) (g.T.Taker.takes l.taker);
+          → Fitting only file found (LeftToTake g.T.Taker.seen t file l.request.need only found l.all (g.T.Taker.takes l.fn.taker) (g.T.Taker.takes l.taker) l.next);
+      given : IsTrue g.T.Taker.honest → GivesBy g.T.Taker.seen l.all (g.T.Taker.takes l.fn.taker) (g.T.Taker.takes l.taker);
       ended : (t : Siblings) → Opened (device l.fn.source) l.blob l.fn.room t → (found : List (NodeOf Spot)) → AreFrom t in_images l.fn.first found
           → Fitting only file found (LeftToEnd t file l.request.need only found l.all (g.T.Taker.begun l.fn.taker) (g.T.Taker.begun l.taker) l.next);
     }
