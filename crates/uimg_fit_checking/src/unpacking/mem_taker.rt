@@ -1,6 +1,6 @@
 //! Payloads that are unpacked into memory.
 
-ghost use Rattle.std.specs.Prelude.{◌≡◌, [], true, map};
+ghost use Rattle.std.specs.Prelude.{◌≡◌, [], true, map, IsOk, IfOk};
 ghost use Rattle.uimg_fit_checking.specs.MemTakes.{take_at};
 
 use crate::unpacking::node_names::NodeName;
@@ -62,11 +62,20 @@ impl<A: Allocator + Copy> Taker for MemTaker<A> {
 
     ghost takes = { λ t. map take_at t.takes.items };
 
-    fn claim(&mut self, _name: &NodeName, _length: u64) -> Result<(), PutFault> {
+    /// Does nothing. Never fails.
+    fn claim(&mut self, _name: &NodeName, _length: u64) -> Result<(), PutFault>
+        ensures ok { IsOk result }
+        ensures same { self.new ≡ self.old }
+    {
         Ok(())
     }
 
-    fn shelf(&mut self, _name: &NodeName) -> Result<Vec<u8, A>, PutFault> {
+    /// Returns an empty vector. Never fails.
+    fn shelf(&mut self, _name: &NodeName) -> Result<Vec<u8, A>, PutFault>
+        ensures ok { IsOk result }
+        ensures same { self.new ≡ self.old }
+        ensures empty { IfOk result (λ shelf. shelf.items ≡ []) }
+    {
         Ok(Vec::new(self.alloc))
     }
 

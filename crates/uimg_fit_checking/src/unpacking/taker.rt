@@ -1,6 +1,7 @@
 //! The trait of those who are given unpacked payloads.
 
 ghost use Rattle.std.specs.Prelude.{◌≡◌, ℕ, [], ◌∷◌, ◌++◌, List, Bool, true, false, Some, IfOk, IsTrue, OnOk};
+ghost use Rattle.std.specs.Prelude.{◌||◌, is_err};
 ghost use Rattle.uimg_fit_checking.specs.Unpacking.{Take, kept, refused, told_of, as_bytes, AddsIf, IsVouched};
 ghost use Rattle.uimg_fit_checking.specs.Claiming.{Claim, claim};
 
@@ -53,6 +54,12 @@ pub trait Taker {
     /// What was given so far, as far as the list shows it.
     ghost takes: { Self → List Take };
 
+    /// Whether `failed` has each call.
+    ghost tells: { Bool } = { false };
+
+    /// Whether a call ever failed; false for a taker that does not say.
+    ghost failed: { Self → Bool } = { λ _. false };
+
     /// Whether the list of claims has each call.
     ghost notes: { Bool } = { false };
 
@@ -66,6 +73,7 @@ pub trait Taker {
     /// it refuses.
     fn claim(&mut self, name: &NodeName, length: u64) -> Result<(), PutFault>
         ensures place { place self.new ≡ place self.old }
+        ensures fails { IsTrue tells → failed self.new ≡ (is_err result || failed self.old) }
         ensures begun { begun self.new ≡ begun self.old }
         ensures told { IsTrue notes → claimed self.new ≡ claimed self.old
             ++ claim (as_bytes name.now) length ∷ [] }
@@ -74,6 +82,7 @@ pub trait Taker {
     /// Returns an empty shelf to write the payload of an image to.
     fn shelf(&mut self, name: &NodeName) -> Result<Self::Shelf, PutFault>
         ensures place { place self.new ≡ place self.old }
+        ensures fails { IsTrue tells → failed self.new ≡ (is_err result || failed self.old) }
         ensures begun { OnOk result (begun self.new ≡ true) }
         ensures none { IsTrue notes → claimed self.new ≡ claimed self.old }
         ensures same { IsTrue honest → takes self.new ≡ takes self.old }
@@ -90,6 +99,7 @@ pub trait Taker {
         requires { IsTrue honest → (bytes : List ℕ) → Self.Shelf.contents shelf ≡ Some bytes →
             IsVouched bytes vouched }
         ensures place { place self.new ≡ place self.old }
+        ensures fails { IsTrue tells → failed self.new ≡ (is_err result || failed self.old) }
         ensures begun { begun self.new ≡ begun self.old }
         ensures none { IsTrue notes → claimed self.new ≡ claimed self.old }
         ensures given { IsTrue honest → (bytes : List ℕ) → Self.Shelf.contents shelf ≡ Some bytes →
@@ -104,6 +114,7 @@ pub trait Taker {
         refusal: Refusal,
     ) -> Result<(), PutFault>
         ensures place { place self.new ≡ place self.old }
+        ensures fails { IsTrue tells → failed self.new ≡ (is_err result || failed self.old) }
         ensures begun { begun self.new ≡ begun self.old }
         ensures none { IsTrue notes → claimed self.new ≡ claimed self.old }
         ensures given { IsTrue honest → AddsIf seen result (takes self.old) (takes self.new)
