@@ -81,7 +81,7 @@ abbrev pub Tells : {X E T : Type 0} → List Deed → Result X E → Bool → (T
 Tells deeds result notes told taker = IsTrue notes
     → ToldBetween (is_err result) deeds (told taker.entry.now) (told taker.exit.now)
 
--- Unless the result is a failed write, no call of a taker failed, if it tells that.
+-- No call of a taker that tells so failed, unless the result is a failed write.
 abbrev pub NoneFails : {X T : Type 0} → Result X Fault → Bool → (T → Bool) → Lent T → Type 0
 NoneFails result tells failed taker = IsTrue tells
     → (is_put result || failed taker.exit.now) ≡ (is_put result || failed taker.entry.now)

@@ -31,7 +31,7 @@ pub trait PartTaker {
     /// The parts that are kept.
     ghost kept: { Self → List Part };
 
-    /// Whether `failed` has each call that fails.
+    /// Whether `failed` has each call.
     ghost tells: { Bool } = { false };
 
     /// Whether a call ever failed; false for a taker that does not say.
