@@ -133,8 +133,8 @@ pub(crate) fn carry_out_words<'a, D: MakingWorld<'a>, W: Write + Drop, V: Write>
     ensures told { AnswersWords D.File.contents D.Shelf.Kept.device (D.identities world.old)
         _line.entry (D.map world.old) result.0 (W.contents (writer_inner out)) (W.contents result.1)
         (D.trace world.old) (D.trace world.new) }
-    ensures complained { IsTrue (D.map world.old).honest →
-        ComplainsAsked V.contents asked.now (D.map world.old) result.0 complaints.old complaints.new }
+    ensures complained { IsTrue (D.map world.old).honest → ComplainsAsked V.contents
+        D.Shelf.Kept.device asked.now (D.map world.old) result.0 complaints.old complaints.new }
 {
     carry_out_asked(world, asked, out, complaints)
 }
