@@ -10,6 +10,7 @@ pub mod FolderLaws
 pub mod InfoLaws
 pub mod MakingLaws
 pub mod MapLaws
+pub mod MemoryLaws
 pub mod OldWordLaws
 pub mod PathLaws
 pub mod RunLaws

@@ -14,6 +14,7 @@ pub mod Extracting
 pub mod FaultTexts
 pub mod Facts
 pub mod Finishing
+pub mod InMemory
 pub mod InfoEnds
 pub mod JsonLines
 pub mod KnownSources
