@@ -47,7 +47,7 @@ abbrev pub told_of : List ℕ → Refusal → NamedFinding
 told_of name (Wrong hash word) = fit_finding.Wrong name (as_bytes hash) word
 told_of name Weak = fit_finding.Weak name
 
--- One more was given, and the list has what it shows of that; at a failure perhaps, too.
+-- One more was given, and the list has what it shows of that, at a failure perhaps.
 abbrev pub AddsIf : {E : Type 0} → (Take → List Take) → Result ⊤ E → List Take → List Take → Take
     → Type 0
 AddsIf seen (Ok done) old new one = new ≡ old ++ seen one
@@ -203,7 +203,7 @@ abbrev pub Gives : (Take → List Take) → Unpacked → List Take → List Take
 Gives seen (Taken all) old new = GivesBy seen all old new
 Gives seen (Overlapping name) old new = new ≡ old
 
--- No call of a taker that tells so failed, unless the result is a failed write.
+-- Unless the result is a failed write, no call of a taker failed, if it tells that.
 abbrev pub NoneFails : {X T : Type 0} → Result X Fault → Bool → (T → Bool) → Lent T → Type 0
 NoneFails result tells failed taker = IsTrue tells
     → (is_put result || failed taker.exit.now) ≡ (is_put result || failed taker.entry.now)

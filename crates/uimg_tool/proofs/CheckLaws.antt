@@ -1,7 +1,7 @@
 -- Answers about some images, and then about others.
-use Rattle.std.proofs.Common.{◌≡◌, ◌≢◌, ℕ, List, [], ◌∷◌, ◌++◌, map, drop, Bool, true, false, ◌&&◌, ◌||◌, if◌then◌else◌, Option, Some, None, Result, Ok, Err, OnOk, IfSome, IsTrue, filter, inl, inr, refl, ap, ap₂, sym, subst, subst₂, ◌∙◌}
+use Rattle.std.proofs.Common.{◌≡◌, ◌≢◌, ℕ, List, [], ◌∷◌, ◌++◌, map, drop, Bool, true, false, ◌&&◌, ◌||◌, if◌then◌else◌, Option, Some, None, Result, Ok, Err, OnOk, IfSome, IsTrue, filter, ◌⊎◌, ◌==◌, max, is_some, inl, inr, refl, ap, ap₂, sym, subst, subst₂, ◌∙◌, arith, ne_eqb, true≢false}
 use mathlib.Core.List.{append-nil}
-use Rattle.std.specs.{Borrow.Bor, Io.KnownBytes.{IsAtEnd}, List.list_all}
+use Rattle.std.specs.{Borrow.Bor, Io.KnownBytes.{IsAtEnd}, List.list_all, Prelude.unwrap_or}
 use Rattle.std.proofs.lemmas.List.Folds.{list_all-append}
 use Rattle.uimg_cli.specs.declared.command_line.check.CheckRequest.{CheckRequest}
 use Rattle.uimg_tool.specs.Checking.{AnswersRequest, nothing_told}
@@ -9,7 +9,13 @@ use Rattle.uimg_base.specs.Named.{FileMap, SameFiles}
 use Rattle.uimg_tool.specs.Checks.{Answers, AnswersAll, AnswersEach, AnswersNamed, AnswersFrom, AnswersUnlessEmpty, AreNames, Told, after_names, names_end, names_path}
 use Rattle.uimg_tool.specs.Paths.{is_name, paths_in}
 use Rattle.uimg_tool.proofs.{PathLaws.{Left, left_ends}, VerdictLaws.file_same}
+use Rattle.uimg_base.specs.declared.status.Status.{Status, TheVariants.{Done, NotRight}}
+use Rattle.uimg_checks.specs.{Answers.{answer_status, exit_status}, Finding.status_of}
+use Rattle.uimg_checks.specs.declared.answer.Answer.{Answer}
+use Rattle.uimg_checks.specs.declared.answer.Answer.TheVariants.{Found, Missing, Loose, Refused, Failed}
+use Rattle.uimg_tool.specs.{Complaining.ComplainsCheck, Complaints.ComplainsBetween, FaultTexts.{told_of_check, told_of_greatest}}
 use Rattle.uimg_tool.specs.Statuses.{checked_status}
+use Rattle.uimg_tool.specs.declared.complaints.Complaints.{Complaints}
 use Rattle.uimg_tool.specs.declared.check_program.Stop.{Stop}
 use Rattle.uimg_unpacking.specs.Deeds.{Deed}
 
@@ -105,6 +111,52 @@ chosen false greatest done = refl
 pub flushed_unless : (ended : Result Unit Stop) (found : Option ℕ) (status : ℕ) (left : List ℕ) → status ≡ checked_status ended found → OnOk ended (left ≡ []) → status ≢ 3 → left ≡ []
 flushed_unless (Ok done) found status left is flushed other = flushed
 flushed_unless (Err stop) found status left is flushed other = absurd (other is)
+
+-- no image is answered with the status of wrong words
+exit_is : (status : Status) → exit_status status ≢ 2
+exit_is Done = λ is. omega (arith, is)
+exit_is NotRight = λ is. omega (arith, is)
+
+answer_is : (answer : Answer) → answer_status answer ≢ 2
+answer_is (Found found more) = exit_is (status_of found)
+answer_is (Missing configuration property name) = λ is. omega (arith, is)
+answer_is (Loose format why place) = λ is. omega (arith, is)
+answer_is (Refused stop) = λ is. omega (arith, is)
+answer_is (Failed stop) = λ is. omega (arith, is)
+
+greater_is : (a b : ℕ) → a ≢ 2 → b ≢ 2 → max a b ≢ 2
+greater_is a b first second = λ is. omega (arith, first, second, is)
+
+each_is : (files : FileMap) (asked : CheckRequest) (paths : List (List ℕ)) (old new : Told) → AnswersEach files asked paths old new → old.greatest ≢ 2 → new.greatest ≢ 2
+each_is files asked [] old new each is = subst (λ (it : Told). it.greatest ≢ 2) (sym each) is
+each_is files asked (path ∷ paths) old new each is =
+    let next = subst (λ (n : ℕ). n ≢ 2) (sym each.1.1.status) (greater_is old.greatest (answer_status each.1.0) is (answer_is each.1.0)) in
+    each_is files asked paths each.0 new each.2 next
+
+from_is : (files : FileMap) (asked : CheckRequest) (from : Option (Bor (List ℕ))) (old new : Told) → AnswersFrom files asked from old new → old.greatest ≢ 2 → new.greatest ≢ 2
+from_is files asked None old new from is = subst (λ (it : Told). it.greatest ≢ 2) (sym from) is
+from_is files asked (Some path) old new from is = each_is files asked from.0 (after_names path.now old) new from.2 is
+
+greatest_of : (b : Bool) (n m : ℕ) → Some n ≡ (if b then Some m else None) → n ≡ m
+greatest_of true n m is = ap (λ (o : Option ℕ). unwrap_or o 0) is
+greatest_of false n m is = absurd (true≢false (ap is_some is))
+
+not_told : (status : ℕ) → status ≢ 2 → told_of_check status ≡ None
+not_told status other = ap (λ (b : Bool). if b then told_of_greatest None else None) (ne_eqb status 2 other)
+
+-- what is told of all checks
+pub check_told : {V : Type 0} (contents : V → Option (List ℕ)) (files : FileMap) (asked : CheckRequest) (ended : Result Unit Stop) (found : Option ℕ) (status : ℕ) (old new : Told) (before after : Complaints V)
+    → status ≡ checked_status ended found → found ≡ (if new.has_checked || asked.allows_none then Some new.greatest else None) → old.greatest ≡ 0 → OnOk ended (AnswersAll files asked old new)
+    → (status ≡ 3) ⊎ ComplainsBetween contents (told_of_greatest found) before after → ComplainsCheck contents status before after
+check_told contents files asked ended found status old new before after is greatest begins all (inl failed) = inl failed
+check_told contents files asked (Err stop) found status old new before after is greatest begins all (inr told) = inl is
+check_told contents files asked (Ok done) None status old new before after is greatest begins all (inr told) =
+    inr (subst (λ (n : ℕ). ComplainsBetween contents (told_of_check n) before after) (sym is) told)
+check_told contents files asked (Ok done) (Some n) status old new before after is greatest begins all (inr told) =
+    let first : all.0.greatest ≢ 2 = each_is files asked (map (λ (path : Bor (List ℕ)). path.now) asked.images.items) old all.0 all.1 (λ two. omega (arith, begins, two)) in
+    let last : new.greatest ≢ 2 = from_is files asked asked.files_from all.0 new all.2 first in
+    let other : status ≢ 2 = λ two. last (sym (is ∙ greatest_of (new.has_checked || asked.allows_none) n new.greatest greatest) ∙ two) in
+    inr (subst (λ (it : Option (Option (List ℕ))). ComplainsBetween contents it before after) (sym (not_told status other)) told)
 
 -- the end of all checks
 pub request_told : (files : FileMap) (asked : CheckRequest) (ended : Result Unit Stop) (found : Option ℕ) (status : ℕ) (before after : Option (List ℕ)) (asked_before asked_after : List Deed) (old new : Told)

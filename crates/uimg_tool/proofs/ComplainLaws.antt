@@ -6,8 +6,8 @@ use Rattle.uimg_base.specs.declared.status.Status.{Status, TheVariants.{Done, No
 use Rattle.uimg_engine.specs.Faults.{end_of}
 use Rattle.uimg_engine.specs.declared.fault.Fault.{Fault}
 use Rattle.uimg_requests.specs.declared.requests.RunRequest.{RunRequest}
-use Rattle.uimg_tool.specs.{Complaining.ComplainsRun, Complaints.ComplainsBetween, Extracting.ExtractsAt, FaultTexts.{told_of_end, told_of_outcome}}
-use Rattle.uimg_tool.specs.{MadeEnds.end_printed, RequestEnds.RunEnds, Running.{TellsAt, meant_end, outcome_on}, Statuses.{end_status, fault_status}}
+use Rattle.uimg_tool.specs.{Complaining.{ComplainsNot, ComplainsRun}, Complaints.ComplainsBetween, Extracting.ExtractsAt, FaultTexts.{told_of_end, told_of_outcome}}
+use Rattle.uimg_tool.specs.{MadeEnds.end_printed, RequestEnds.{RunEnds, ShowEnds}, Running.{TellsAt, meant_end, outcome_on}, Statuses.{end_status, fault_status}}
 use Rattle.uimg_tool.specs.declared.complaints.Complaints.{Complaints}
 use Rattle.uimg_tool.specs.declared.request_fault.RequestFault.{RequestFault}
 use Rattle.uimg_tool.specs.declared.request_fault.RequestFault.TheVariants as request
@@ -91,3 +91,11 @@ module _ {V : Type 0} (contents : V → Option (List ℕ)) (asked : RunRequest) 
       → status ≡ end_status (end_printed end printed) → ComplainsBetween contents (told_of_end (end_printed end printed)) old new → ComplainsRun contents asked files status old new
   run_told end (Ok flushes) ends at same told = end_told end ends at same told
   run_told end (Err error) ends at same told = inl same
+
+-- what is told of a text that was printed
+pub show_told : {V : Type 0} (contents : V → Option (List ℕ)) (end : Result Status RequestFault) (printed : Result Unit Error) (status : ℕ) (old new : Complaints V) → ShowEnds end
+    → status ≡ end_status (end_printed end printed) → ComplainsBetween contents (told_of_end (end_printed end printed)) old new → ComplainsNot contents status old new
+show_told contents end (Err error) status old new ends is told = inl is
+show_told contents (Ok given) (Ok flushes) status old new ends is told = inr told
+show_told contents (Err (request.NotPrinted reason)) (Ok flushes) status old new ends is told = inl is
+show_told contents (Err fault) (Ok flushes) status old new ends is told = absurd ends

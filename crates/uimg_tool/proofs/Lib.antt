@@ -1,4 +1,5 @@
 pub mod BesideLaws
+pub mod BodyLaws
 pub mod BufferLaws
 pub mod CheckLaws
 pub mod CommandLaws
@@ -9,9 +10,11 @@ pub mod FolderLaws
 pub mod InfoLaws
 pub mod MakingLaws
 pub mod MapLaws
+pub mod MemoryLaws
 pub mod OldWordLaws
 pub mod PathLaws
 pub mod RunLaws
+pub mod SearchedLaws
 pub mod StrictLaws
 pub mod UnpackLaws
 pub mod VerdictLaws

@@ -1,12 +1,20 @@
--- What is told of a request that was not carried out, and of one that was.
-use Rattle.std.specs.Prelude.{ℕ, List, ◌++◌, codes, Option, Some, None, Result, Ok, Err, false}
+-- What is told on standard error: of a request that was not carried out, and of what was found.
+use Rattle.std.specs.Prelude.{ℕ, ◌==◌, List, ◌++◌, codes, Option, Some, None, Result, Ok, Err, false, if◌then◌else◌}
 use Rattle.uimg_base.specs.Outcome.{End, done, not_right, refused}
 use Rattle.uimg_base.specs.declared.status.Status.{Status}
+use Rattle.uimg_cli.specs.FaultTexts as words
+use Rattle.uimg_cli.specs.declared.command_line.words_fault.WordsFault.TheVariants.{NoImages}
 use Rattle.uimg_engine.specs.FaultTexts.{text_of}
 use Rattle.uimg_engine.specs.declared.fault.Fault.{Fault}
+use Rattle.uimg_map.specs.FaultTexts as mapped
+use Rattle.uimg_map.specs.declared.fault.MapFault.{MapFault}
 use Rattle.uimg_printing.specs.Printing.{printed}
 use Rattle.uimg_tool.specs.declared.request_fault.RequestFault.{RequestFault}
 use Rattle.uimg_tool.specs.declared.request_fault.RequestFault.TheVariants as request
+
+-- the text of a picture that would be written to its image
+abbrev pub draws_over : List ℕ → List ℕ
+draws_over path = printed false path ++ codes " would be written while it is read"
 
 -- the text of a fault, but not where the system's reason is in it
 abbrev pub request_text : RequestFault → Option (List ℕ)
@@ -19,8 +27,7 @@ request_text (request.Exists path) =
     Some (printed false path.0.now ++ codes " exists; use --force to replace it")
 request_text (request.WritesWhatIsRead path) =
     Some (path.now ++ codes " would be written while it is read")
-request_text (request.DrawsOverWhatIsRead path) =
-    Some (printed false path.0.now ++ codes " would be written while it is read")
+request_text (request.DrawsOverWhatIsRead path) = Some (draws_over path.0.now)
 request_text (request.NoRoom path) = Some (codes "-x: " ++ path.now
     ++ codes " does not begin with 64 bytes 0xff, which the header replaces")
 request_text request.OutOfMemory = Some (codes "out of memory")
@@ -36,3 +43,22 @@ abbrev pub told_of_outcome : End Fault → Option (Option (List ℕ))
 told_of_outcome done = None
 told_of_outcome not_right = None
 told_of_outcome (refused fault) = Some (Some (text_of fault))
+
+-- what is told of the making of an image: its fault, if it has one
+abbrev pub told_of_made : {K : Type 0} → Result K Fault → Option (Option (List ℕ))
+told_of_made (Ok kept) = None
+told_of_made (Err fault) = Some (Some (text_of fault))
+
+-- what is told of a map: the fault of its image, if it has one
+abbrev pub told_of_map : Option MapFault → Option (Option (List ℕ))
+told_of_map None = None
+told_of_map (Some fault) = Some (Some (mapped.text_of fault))
+
+-- what is told of many checks, whose greatest status this is: that there is no image, if there is none
+abbrev pub told_of_greatest : Option ℕ → Option (Option (List ℕ))
+told_of_greatest (Some status) = None
+told_of_greatest None = Some (Some (words.text_of NoImages))
+
+-- the same by the status: only if there is no image, it is that of wrong words
+abbrev pub told_of_check : ℕ → Option (Option (List ℕ))
+told_of_check status = if status == 2 then told_of_greatest None else None

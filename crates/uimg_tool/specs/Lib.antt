@@ -1,6 +1,7 @@
 pub mod AnswerTexts
 pub mod Answering
 pub mod BesidePaths
+pub mod Bodies
 pub mod CheckEnds
 pub mod Checking
 pub mod Checks
@@ -13,6 +14,7 @@ pub mod Extracting
 pub mod FaultTexts
 pub mod Facts
 pub mod Finishing
+pub mod InMemory
 pub mod InfoEnds
 pub mod JsonLines
 pub mod KnownSources
@@ -26,6 +28,7 @@ pub mod Paths
 pub mod Programs
 pub mod RequestEnds
 pub mod Running
+pub mod SearchedNames
 pub mod Statuses
 pub mod StrictEnds
 pub mod TreeSizes

@@ -1,5 +1,6 @@
 //! Makes a FIT image from the source that mkimage makes itself.
 
+ghost use Rattle.std.specs.Prelude.{◌≡◌, codes};
 ghost use Rattle.uimg_tool.specs.Complaints.{Ends};
 
 use crate::complaints::Complaints;
@@ -76,7 +77,10 @@ fn make_of_text<R: Files + AllocGlobal, W: Write, V: Write>(
 }
 
 // Returns a request whose source is reported as the one that the tool makes.
-fn named_source<'a>(making: MakeRequest<'a>) -> MakeRequest<'a> {
+fn named_source<'a>(making: MakeRequest<'a>) -> MakeRequest<'a>
+    ensures named { result.source.now ≡ codes "-f auto" }
+    ensures same { record result { source = making.entry.source } ≡ making.entry }
+{
     let mut named = making;
     named.source = SOURCE_NAME;
     named

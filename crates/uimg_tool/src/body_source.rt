@@ -1,9 +1,9 @@
 //! A source after the room for a header.
 
-ghost use Rattle.std.specs.Prelude.{◌+◌, ◌^◌, ◌<◌, ◌≤◌, false, length, IfOk, IfSome};
+ghost use Rattle.std.specs.Prelude.{◌≡◌, ◌+◌, ◌^◌, ◌<◌, drop, length, IfOk, IfSome};
 ghost use Rattle.std.proofs.Common.{rules};
 ghost use Rattle.uimg_base.specs.Device.{IsFresh};
-ghost use Rattle.uimg_base.specs.Zeros.{zeros, zeros_short};
+ghost use Rattle.uimg_tool.specs.Bodies.{short_body};
 
 use uimg_base::{Source, SourceFault};
 
@@ -12,8 +12,7 @@ const HEADER_BYTES: usize = 64;
 
 /// A source without its first 64 bytes.
 ///
-/// Its length is that found when it was created. It is not claimed to be honest: contracts see
-/// zeros instead of its bytes.
+/// Contracts see the bytes after those, and it is honest if the source is.
 #[derive(Drop)]
 pub(crate) struct BodySource<S: Source> {
     source: S,
@@ -21,15 +20,21 @@ pub(crate) struct BodySource<S: Source> {
     asked: u128,
     failures: u64,
     ghost short: { count < 2 ^ 64 },
-    ghost fits: { count + 64 ≤ length (S.device source).bytes },
+    ghost whole: { length (S.device source).bytes < 2 ^ 64 },
+    ghost counted: { count + 64 ≡ length (S.device source).bytes },
+    ghost rest: { length (drop 64 (S.device source).bytes) ≡ count },
 }
 
 impl<S: Source> BodySource<S> {
     /// Returns a source without its first 64 bytes, or `None` if it is shorter or they are not all
     /// 0xff. Returns `SourceFault` if a read failed.
     pub(crate) fn of(mut source: S) -> Result<Option<BodySource<S>>, SourceFault>
-        ensures { IfOk result (λ found. IfSome found (λ body.
+        ensures fresh { IfOk result (λ found. IfSome found (λ body.
             IsFresh (⟦<BodySource<S> as Source>⟧.device body))) }
+        ensures bytes { IfOk result (λ found. IfSome found (λ body.
+            (⟦<BodySource<S> as Source>⟧.device body).bytes ≡ drop 64 (S.device source).bytes)) }
+        ensures honest { IfOk result (λ found. IfSome found (λ body.
+            (⟦<BodySource<S> as Source>⟧.device body).honest ≡ (S.device source).honest)) }
     {
         let size = source.size()?;
         if size < HEADER_BYTES as u64 {
@@ -51,15 +56,15 @@ impl<S: Source> BodySource<S> {
 
 impl<S: Source> Source for BodySource<S> {
     ghost device = { λ s. record {
-      bytes = zeros s.count;
-      honest = false;
+      bytes = drop 64 (S.device s.source).bytes;
+      honest = (S.device s.source).honest;
       asked = s.asked;
       failures = s.failures;
     } };
 
     ghost never_failed = { λ s always. Prim.search rules };
 
-    ghost short = { λ s. zeros_short s.count s.short };
+    ghost short = { λ s. short_body (drop 64 (S.device s.source).bytes) s.count s.rest s.short };
 
     fn size(&mut self) -> Result<u64, SourceFault> {
         Ok(self.count)

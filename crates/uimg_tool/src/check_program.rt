@@ -1,10 +1,10 @@
 //! Checks many images, with a line for each.
 
-ghost use Rattle.std.specs.Prelude.{◌≡◌, ◌≢◌, ◌≤◌, ◌+◌, ◌||◌, [], max, true, Some, None, OnOk, if◌then◌else◌};
+ghost use Rattle.std.specs.Prelude.{◌≡◌, ◌≢◌, ◌≤◌, ◌+◌, ◌||◌, ◌⊎◌, [], max, true, Some, None, OnOk, if◌then◌else◌};
 ghost use Rattle.std.specs.Io.{Buffered.{writer_buffer, writer_contents}, KnownBytes.Appends};
 ghost use Rattle.uimg_base.specs.Named.{SameFiles};
 ghost use Rattle.uimg_checks.specs.Answers.{answer_status};
-ghost use Rattle.uimg_tool.specs.{AnswerTexts.{answer_text, object_line, text_line}, Checking.AnswersRequest, Checks.{names_end, names_path}, Complaints.Ends, Statuses.{Grows, checked_status}};
+ghost use Rattle.uimg_tool.specs.{AnswerTexts.{answer_text, object_line, text_line}, Checking.AnswersRequest, Checks.{names_end, names_path}, Complaining.ComplainsCheck, Complaints.{Complains, Ends}, FaultTexts.told_of_greatest, Statuses.{Grows, checked_status}};
 ghost use Rattle.uimg_unpacking.specs.Deeds.{changes};
 
 use crate::check_answers::{NOT_UTF8, Names, answer_of_unread};
@@ -45,6 +45,7 @@ pub(crate) fn check_images<D: World, W: Write + Drop, V: Write>(
         (D.trace world.old) (D.trace world.new) }
     ensures same { SameFiles (D.map world.old) (D.map world.new) }
     ensures changes { changes (D.trace world.new) ≡ changes (D.trace world.old) }
+    ensures line { ComplainsCheck V.contents result.0 complaints.old complaints.new }
 {
     let mut checks = Checks {
         room: Room::new(world.alloc()),
@@ -83,6 +84,7 @@ fn tell_ended<V: Write>(
     ensures status { result ≡ checked_status ended.entry greatest }
     ensures once { complaints.new.count ≤ complaints.old.count + 1 }
     ensures silent { result ≢ 2 → result ≢ 3 → complaints.new.count ≡ complaints.old.count }
+    ensures line { (result ≡ 3) ⊎ Complains V.contents (told_of_greatest greatest) complaints }
 {
     match ended {
         Ok(()) => match greatest {
@@ -123,7 +125,8 @@ impl<'a> From<AllocError> for Stop<'a> {
     }
 }
 
-// The checks so far: their shared room, their lines, the greatest status, and whether there was one.
+// The checks so far: their shared room, their lines, the greatest status, and whether there was
+// one.
 struct Checks<W: Write + Drop> {
     room: Room<Global>,
     out: BufWriter<W, Global>,

@@ -3,7 +3,7 @@
 
 ghost use Rattle.std.specs.Prelude.{◌≡◌, ◌≢◌, ◌∷◌, [], IsTrue};
 ghost use Rattle.std.specs.Io.Buffered.{writer_buffer, writer_contents, writer_inner};
-ghost use Rattle.uimg_tool.specs.Complaining.{ComplainsAsked, ComplainsOne, ComplainsRun};
+ghost use Rattle.uimg_tool.specs.Complaining.{ComplainsAsked, ComplainsMake, ComplainsNot, ComplainsOne, ComplainsRun};
 ghost use Rattle.uimg_tool.specs.{Commands.{AnswersAsked, AnswersImage, AnswersOne, Changes, ChangesOne, Flushes}, Complaints.{Complains, Ends}, FaultTexts.told_of_end, Statuses.end_status};
 ghost use Rattle.uimg_tool.specs.{Extracting.AsksToRun, Makings.AnswersMaking, Running.AnswersShow};
 ghost use Rattle.uimg_unpacking.specs.Deeds.{Deed};
@@ -38,8 +38,9 @@ pub(crate) fn carry_out_asked<'a, D: MakingWorld<'a>, W: Write + Drop, V: Write>
         (W.contents (writer_inner out)) (W.contents result.1) (D.trace world.old)
         (D.trace world.new) }
     ensures changed { Changes asked.now (D.trace world.old) (D.trace world.new) }
-    ensures line { IsTrue (D.map world.old).honest →
-        ComplainsAsked V.contents asked.now (D.map world.old) result.0 complaints.old complaints.new }
+    ensures line { IsTrue (D.map world.old).honest → ComplainsAsked V.contents
+        D.Shelf.Kept.device asked.now (D.map world.old) result.0 complaints.old
+        complaints.new }
 {
     let (status, out) = carry_out_buffered(world, asked, out, complaints);
     // A failed write leaves text in the buffer, which its drop would try to write again.
@@ -62,8 +63,9 @@ fn carry_out_buffered<'a, D: MakingWorld<'a>, W: Write + Drop, V: Write>(
         (D.trace world.old) (D.trace world.new) }
     ensures flushed { Flushes asked.now result.0 (writer_buffer result.1) }
     ensures changed { Changes asked.now (D.trace world.old) (D.trace world.new) }
-    ensures line { IsTrue (D.map world.old).honest →
-        ComplainsAsked V.contents asked.now (D.map world.old) result.0 complaints.old complaints.new }
+    ensures line { IsTrue (D.map world.old).honest → ComplainsAsked V.contents
+        D.Shelf.Kept.device asked.now (D.map world.old) result.0 complaints.old
+        complaints.new }
 {
     match asked {
         Asked::One(request) => carry_out_one(world, request, out, complaints),
@@ -97,8 +99,9 @@ fn carry_out_one<'a, D: MakingWorld<'a>, W: Write + Drop, V: Write>(
         (D.trace world.old) (D.trace world.new) }
     ensures flushed { result.0 ≢ 3 → writer_buffer result.1 ≡ [] }
     ensures changed { ChangesOne request.now (D.trace world.old) (D.trace world.new) }
-    ensures line { IsTrue (D.map world.old).honest →
-        ComplainsOne V.contents request.now (D.map world.old) result.0 complaints.old complaints.new }
+    ensures line { IsTrue (D.map world.old).honest → ComplainsOne V.contents
+        D.Shelf.Kept.device request.now (D.map world.old) result.0 complaints.old
+        complaints.new }
 {
     match request {
         Request::Run(request) => run_image(world, request, out, complaints),
@@ -122,8 +125,8 @@ fn run_image<D: World, W: Write + Drop, V: Write>(
     ensures flushed { result.0 ≢ 3 → writer_buffer result.1 ≡ [] }
     ensures asks { AsksToRun request.now request.now.outfile (D.trace world.old)
         (D.trace world.new) }
-    ensures line { IsTrue (D.map world.old).honest →
-        ComplainsRun V.contents request.now (D.map world.old) result.0 complaints.old complaints.new }
+    ensures line { IsTrue (D.map world.old).honest → ComplainsRun V.contents request.now
+        (D.map world.old) result.0 complaints.old complaints.new }
 {
     let mut out = Out::new(out);
     let end = run_command(world, request, None, &mut out);
@@ -149,6 +152,9 @@ fn make_one<'a, D: MakingWorld<'a>, W: Write + Drop, V: Write>(
     ensures flushed { result.0 ≢ 3 → writer_buffer result.1 ≡ [] }
     ensures lent { D.trace world.new
         ≡ Deed.LendsShelf request.now.written.now ∷ Deed.LendsReader ∷ D.trace world.old }
+    ensures line { IsTrue (D.map world.old).honest → ComplainsMake V.contents
+        D.Shelf.Kept.device request.now (D.map world.old) result.0 complaints.old
+        complaints.new }
 {
     let mut out = Out::new(out);
     let end = make_in(world, request, &mut out);
@@ -170,18 +176,17 @@ fn show_text<D: Display, W: Write + Drop, V: Write>(
     ensures told { AnswersShow (D.output text.now) result.0 (writer_contents W.contents out)
         (writer_contents W.contents result.1) }
     ensures flushed { result.0 ≢ 3 → writer_buffer result.1 ≡ [] }
+    ensures line { ComplainsNot V.contents result.0 complaints.old complaints.new }
 {
     let made = Made {
         end: show(text, &mut out),
         printed: out.flush(),
     };
     let end = made.told();
-    let status = if is_unread(&end) {
-        FAILED
-    } else {
-        tell_end(&end, complaints)
-    };
-    (status, out)
+    if is_unread(&end) {
+        return (FAILED, out);
+    }
+    (tell_end(&end, complaints), out)
 }
 
 // Returns whether a request ended because nobody reads what it prints.

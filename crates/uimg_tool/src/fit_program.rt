@@ -1,5 +1,6 @@
 //! Makes a FIT image from a source, as mkimage does.
 
+ghost use Rattle.std.specs.Prelude.{◌≡◌, [], None, codes};
 ghost use Rattle.uimg_tool.specs.Complaints.{Ends};
 
 use crate::complaints::Complaints;
@@ -159,7 +160,10 @@ fn make_of_copy<R: Files + AllocGlobal, W: Write, V: Write>(
 }
 
 // Returns a request whose source is reported as standard input.
-fn named_input<'a>(making: MakeRequest<'a>) -> MakeRequest<'a> {
+fn named_input<'a>(making: MakeRequest<'a>) -> MakeRequest<'a>
+    ensures named { result.source.now ≡ codes "-" }
+    ensures same { record result { source = making.entry.source } ≡ making.entry }
+{
     let mut named = making;
     named.source = INPUT_NAME;
     named
@@ -218,7 +222,12 @@ fn warn_and_make<R: Files + AllocGlobal, W: Write, V: Write>(
 }
 
 // Returns what is made of the tree of a source.
-fn tree_request<'a>(request: &FitRequest<'_>, making: &MakeRequest<'a>) -> TreeRequest<'a> {
+fn tree_request<'a>(request: &FitRequest<'_>, making: &MakeRequest<'a>) -> TreeRequest<'a>
+    ensures made { (result.source ≡ making.now.source) × (result.image ≡ making.now.outfile) }
+    ensures placed { (result.placement ≡ request.now.placement) × (result.manner ≡ request.now.manner) }
+    ensures quiet { result.is_quiet ≡ request.now.is_quiet }
+    ensures bare { (result.reservations.now ≡ []) × (result.roomy_size ≡ None) }
+{
     TreeRequest {
         source: making.source,
         image: making.outfile,

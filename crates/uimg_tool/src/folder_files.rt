@@ -1,6 +1,6 @@
 //! The files of a folder of a world, opened by their names.
 
-ghost use Rattle.std.specs.Prelude.{◌≡◌, ◌||◌, ℕ, List, [], Bool, IfOk, IsTrue, is_err, true, false};
+ghost use Rattle.std.specs.Prelude.{◌≡◌, ◌≤◌, ◌||◌, ℕ, List, [], Bool, IfOk, IsTrue, is_err, true, false};
 ghost use Rattle.std.specs.{List.list_any, Path.{path_buf_bytes, path_join}};
 ghost use Rattle.uimg_base.specs.Named.{Opens, SameFiles};
 ghost use Rattle.uimg_tool.specs.LeavingOut.{NotesMet, in_folder, leads_to};
@@ -36,12 +36,15 @@ pub(crate) struct FolderFiles<'a, R: Reader, L: LeftOut> {
     opened: OpenedNames,
     marker: PhantomData<L>,
     ghost leads: { leads_to (R.identities reader) folder.now left_out.now ≡ L.leads },
-    ghost met: { IsTrue (R.map reader).honest → has_met_left_out ≡ true → list_any L.leads opened.names ≡ true },
+    ghost met: { IsTrue (R.map reader).honest → has_met_left_out ≡ true →
+        list_any L.leads opened.names ≡ true },
+    ghost refused: { IsTrue (R.map reader).honest → list_any L.leads opened.names ≡ true →
+        1 ≤ refusals },
 }
 
 impl<'a, R: Reader, L: LeftOut> FolderFiles<'a, R, L> {
-    /// Returns the files of a folder, none of them opened, without the file at a path, whose open is
-    /// refused.
+    /// Returns the files of a folder, none of them opened, without the file at a path, whose open
+    /// is refused.
     pub(crate) fn new(
         reader: R,
         alloc: Global,
@@ -78,6 +81,8 @@ impl<'a, R: Reader, L: LeftOut> FolderFiles<'a, R, L> {
         ensures noted { result ≡ self.now.has_met_left_out }
         ensures met { IsTrue (R.map self.now.reader).honest → result ≡ true →
             list_any L.leads self.now.opened.names ≡ true }
+        ensures refused { IsTrue (R.map self.now.reader).honest →
+            list_any L.leads self.now.opened.names ≡ true → 1 ≤ self.now.refusals }
     {
         self.has_met_left_out
     }
@@ -130,6 +135,9 @@ fn open_in<R: Reader>(
     ensures met { IsTrue (R.map reader.old).honest → NotesMet
         (leads_to (R.identities reader.old) folder.now left_out.now name.now)
         (is_err result) has_met_left_out.old has_met_left_out.new }
+    ensures refused { IsTrue (R.map reader.old).honest →
+        leads_to (R.identities reader.old) folder.now left_out.now name.now ≡ true →
+        is_err result ≡ true }
     ensures opened { IfOk result (λ opened.
         Opens (R.map reader.old) (path_join folder.now name.now) (R.Opened.device opened)) }
 {

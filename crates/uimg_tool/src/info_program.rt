@@ -5,7 +5,7 @@ ghost use Rattle.std.specs.Io.{Buffered.{writer_buffer, writer_contents}, KnownB
 ghost use Rattle.uimg_base.specs.Honest.{IfHonest};
 ghost use Rattle.uimg_checks.specs.{Answers.answer_status, Objects.check_json};
 ghost use Rattle.uimg_engine.specs.declared.fault.Fault.TheVariants.{Legacy};
-ghost use Rattle.uimg_tool.specs.{Answering.AnswersBy, Complaints.Ends, JsonLines.shown_line};
+ghost use Rattle.uimg_tool.specs.{Answering.AnswersBy, Complaining.ComplainsNot, Complaints.Ends, JsonLines.shown_line};
 ghost use Rattle.uimg_tool.specs.Facts.{GivesFacts, IsFactsAnswer, IsObjectOf, IsTextOf, TellsFacts, facts_of, fault_as, legacy_facts};
 ghost use Rattle.uimg_unpacking.specs.Deeds.{Deed, changes};
 
@@ -43,6 +43,7 @@ pub(crate) fn tell_facts<D: World, W: Write + Drop, V: Write>(
     ensures opened { result ≢ 3 →
         D.trace world.new ≡ Deed.Opens request.now.image.now true ∷ D.trace world.old }
     ensures reads { changes (D.trace world.new) ≡ changes (D.trace world.old) }
+    ensures line { ComplainsNot V.contents result complaints.old complaints.new }
 {
     match object_of(world, request.image) {
         Ok((text, status)) => put_object(text.as_slice(), status, out, complaints),
@@ -61,6 +62,7 @@ pub(crate) fn put_object<W: Write + Drop, V: Write>(
     ensures put { (result ≡ 3) ⊎ ((result ≡ status) × Appends (writer_contents W.contents out.old)
         (writer_contents W.contents out.new) (shown_line text.now)) }
     ensures flushed { result ≢ 3 → writer_buffer out.new ≡ [] }
+    ensures line { ComplainsNot V.contents result complaints.old complaints.new }
 {
     match put_flushed(text, out) {
         Ok(()) => status,

@@ -12,6 +12,7 @@ mod complaints;
 mod dts_program;
 mod fit_program;
 mod folder_files;
+mod in_memory;
 mod info_program;
 mod json_lines;
 mod known_sources;
@@ -40,6 +41,7 @@ mod watched_files;
 mod writing;
 mod xip_files;
 
+pub use in_memory::{Answered, answer_in_memory};
 pub use main_program::program;
 pub use moments::{can_erase, epoch, now};
 pub use progress::{Cleared, Meter};

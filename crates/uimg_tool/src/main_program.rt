@@ -133,23 +133,26 @@ pub(crate) fn carry_out_words<'a, D: MakingWorld<'a>, W: Write + Drop, V: Write>
     ensures told { AnswersWords D.File.contents D.Shelf.Kept.device (D.identities world.old)
         _line.entry (D.map world.old) result.0 (W.contents (writer_inner out)) (W.contents result.1)
         (D.trace world.old) (D.trace world.new) }
-    ensures complained { IsTrue (D.map world.old).honest →
-        ComplainsAsked V.contents asked.now (D.map world.old) result.0 complaints.old complaints.new }
+    ensures complained { IsTrue (D.map world.old).honest → ComplainsAsked V.contents
+        D.Shelf.Kept.device asked.now (D.map world.old) result.0 complaints.old complaints.new }
 {
     carry_out_asked(world, asked, out, complaints)
 }
 
-// Reads the words. Not inlined, so that what this takes of the stack is free when the request is
-// carried out.
+/// Reads the words. Not inlined, so that what this takes of the stack is free when the request is
+/// carried out.
 #[inline(never)]
-fn asked_by<'a>(alloc: Global, line: CommandLine<'a>) -> Result<Asked<'a>, WordsFault>
+pub(crate) fn asked_by<'a>(alloc: Global, line: CommandLine<'a>) -> Result<Asked<'a>, WordsFault>
     ensures { ReadsWords (epoch_of line.entry) line.entry.time (words_of line.entry) result }
 {
     read_words(alloc, line.words, line.epoch, line.time)
 }
 
-// Reports what is wrong with the words of a command line. Returns the status.
-fn tell_words_fault<V: Write>(fault: &WordsFault, complaints: &mut Complaints<'_, V>) -> u8
+/// Reports what is wrong with the words of a command line. Returns the status.
+pub(crate) fn tell_words_fault<V: Write>(
+    fault: &WordsFault,
+    complaints: &mut Complaints<'_, V>,
+) -> u8
     ensures status { result ≡ words_status fault.now }
     ensures ends { Ends result complaints.old.count complaints.new.count }
     ensures line { ComplainsWords V.contents fault.now complaints.old complaints.new }

@@ -1,7 +1,7 @@
 //! Makes an image, over a world of files or on a disk.
 
-ghost use Rattle.std.specs.Prelude.{◌≡◌, ◌∷◌, ◌⊎◌, [], Some, IsTrue, true};
-ghost use Rattle.uimg_engine.specs.Commands.{HonestFiles, MakesCommand, OpensToBuild};
+ghost use Rattle.std.specs.Prelude.{◌≡◌, ◌∷◌, ◌⊎◌, [], Some, IsTrue, is_err, true};
+ghost use Rattle.uimg_engine.specs.{Commands.{HonestFiles, MakesCommand, OpensToBuild}, OpenedFiles.OpensCommand};
 ghost use Rattle.uimg_tool.specs.{LeavingOut.leads_to, Makings.MakesAt, Statuses.end_status};
 ghost use Rattle.uimg_tool.specs.RequestEnds.{AsMade, IsFileAt, MakeEnds, StoppedAs};
 ghost use Rattle.uimg_unpacking.specs.Deeds.{Deed};
@@ -112,7 +112,7 @@ fn make_xip<'a, R: rt::Files + AllocGlobal, H: Shelf, W: Write>(
         Err(Fault::NoFile(number)) if files.has_met_no_room() => {
             Err(RequestFault::NoRoom(file_path(request, number)))
         }
-        made => end_of(request, made, files.has_met_left_out()),
+        made => end_of(request, made, files.whole().has_met_left_out()),
     }
 }
 
@@ -128,6 +128,8 @@ fn make_over<F: Files, H: Shelf, W: Write>(
         MakesCommand H.Kept.device request.now.manner.naming request.now.command
         request.now.manner.time request.now.manner.align (F.map files.old).bytes result out }
     ensures opens { OpensToBuild request.now.command result (F.map files.old) (F.map files.new) }
+    ensures opened { OpensCommand request.now.command request.now.manner.time
+        request.now.manner.align (is_err result) (F.map files.old) (F.map files.new) }
 {
     let mut room = Room::new(alloc);
     make_by(
@@ -166,6 +168,7 @@ pub(crate) fn end_written<'a>(
     requires { MakeEnds request.now made }
     ensures ends { MakeEnds request.now result }
     ensures status { end_status result ≡ end_status made.entry }
+    ensures kept { (end_status made.entry ≡ 3) ⊎ (result ≡ made.entry) }
 {
     match (made, code) {
         (Err(RequestFault::Stopped(Fault::Put)), Some(code)) => {

@@ -1,11 +1,12 @@
 //! Prints the map of an image's file, as lines or as a picture.
 
-ghost use Rattle.std.specs.Prelude.{◌≡◌, ◌≢◌, ℕ, List, ◌∷◌, [], false, true, None, IfOk, IsTrue, OnOk, is_some, string_bytes};
+ghost use Rattle.std.specs.Prelude.{◌≡◌, ◌≢◌, ◌⊎◌, ℕ, List, ◌∷◌, [], false, true, None, IfOk, IsTrue, OnOk, is_some, string_bytes};
 ghost use Rattle.std.specs.{Borrow.Bor, Io.Buffered.{writer_buffer, writer_contents}};
 ghost use Rattle.uimg_base.specs.Honest.{IfHonest};
 ghost use Rattle.uimg_map.specs.{Lines.PutsLines, Maps.contents_of, Picture.DrawsPicture};
 ghost use Rattle.uimg_printing.specs.Printing.{printed};
-ghost use Rattle.uimg_tool.specs.{Answering.AnswersBy, Complaints.Ends};
+ghost use Rattle.uimg_tool.specs.{Answering.AnswersBy, Complaining.{ComplainsLines, ComplainsMap, ComplainsMapped, ComplainsPicture}};
+ghost use Rattle.uimg_tool.specs.{Complaints.{Complains, Ends}, FaultTexts.told_of_map};
 ghost use Rattle.uimg_tool.specs.Drawing.{AsksToMap, Draws, DrawsTo, DrawsUnlessTaken, LooksTaken, NamesPicture};
 ghost use Rattle.uimg_tool.specs.Extracting.{Overwrites};
 ghost use Rattle.uimg_tool.specs.MapAnswers.{IsMapAnswer, PrintsMap};
@@ -47,6 +48,9 @@ pub(crate) fn map_image<D: World, W: Write + Drop, V: Write>(
         D.trace world.new ≡ Deed.Opens request.now.image.now true ∷ D.trace world.old }
     ensures asks { AsksToMap request.now request.now.picture (D.trace world.old)
         (D.trace world.new) }
+    ensures line { IsTrue (D.map world.old).honest → ComplainsMap V.contents
+        request.now.image.now request.now.picture (D.map world.old) result complaints.old
+        complaints.new }
 {
     match request.picture {
         Some(path) => draw_image(world, request, path, complaints),
@@ -55,7 +59,7 @@ pub(crate) fn map_image<D: World, W: Write + Drop, V: Write>(
 }
 
 // Writes the map of the image at a path as lines. Returns the status.
-#[tactic(auto, using(crate::proofs::MapLaws::map_told, crate::proofs::MapLaws::unless_failed))]
+#[tactic(auto, using(crate::proofs::MapLaws::map_told, crate::proofs::MapLaws::map_complained, crate::proofs::MapLaws::unless_failed))]
 fn print_image<D: World, W: Write + Drop, V: Write>(
     world: &mut D,
     path: &str,
@@ -70,6 +74,8 @@ fn print_image<D: World, W: Write + Drop, V: Write>(
     ensures opened { result ≢ 3 →
         D.trace world.new ≡ Deed.Opens path.now true ∷ D.trace world.old }
     ensures reads { changes (D.trace world.new) ≡ changes (D.trace world.old) }
+    ensures line { IsTrue (D.map world.old).honest → ComplainsLines V.contents path.now
+        (D.map world.old) result complaints.old complaints.new }
 {
     let Ok(mut source) = world.open(path) else {
         return complaints.tell_unread(world, path);
@@ -101,6 +107,7 @@ fn print_source<'a, S: Source, W: Write + Drop>(
 }
 
 // Writes the map of the requested image as the picture at a path. Returns the status.
+#[tactic(auto, using(crate::proofs::MapLaws::drawn_complained))]
 fn draw_image<D: World, V: Write>(
     world: &mut D,
     request: &MapRequest<'_>,
@@ -110,6 +117,8 @@ fn draw_image<D: World, V: Write>(
     ensures ends { Ends result complaints.old.count complaints.new.count }
     ensures asks { Draws request.now.image.now path.now request.now.is_forced
         (D.trace world.old) (D.trace world.new) }
+    ensures line { IsTrue (D.map world.old).honest → ComplainsPicture V.contents
+        request.now.image.now path.now (D.map world.old) result complaints.old complaints.new }
 {
     let Ok(mut source) = world.open(request.image) else {
         return complaints.tell_unread(world, request.image);
@@ -138,6 +147,8 @@ fn draw_unless_taken<D: World, S: Source, V: Write>(
     ensures ends { Ends result complaints.old.count complaints.new.count }
     ensures asks { DrawsUnlessTaken path.now request.now.is_forced (D.trace world.old)
         (D.trace world.new) }
+    ensures line { (result ≡ 3) ⊎ ComplainsMapped V.contents map.now.fault result complaints.old
+        complaints.new }
 {
     if request.is_forced {
         let drawn = draw(world, request, path, source, map);
@@ -156,7 +167,9 @@ fn tell_drawn<V: Write>(
     map: &Map,
     complaints: &mut Complaints<'_, V>,
 ) -> u8
-    ensures { Ends result complaints.old.count complaints.new.count }
+    ensures ends { Ends result complaints.old.count complaints.new.count }
+    ensures line { (result ≡ 3) ⊎ ComplainsMapped V.contents map.now.fault result complaints.old
+        complaints.new }
 {
     match drawn {
         Ok(()) => tell_ended(Ok(map.fault), complaints),
@@ -164,8 +177,8 @@ fn tell_drawn<V: Write>(
     }
 }
 
-// Returns whether a picture at a path would replace a file or a symbolic link. Devices and pipes are
-// written to.
+// Returns whether a picture at a path would replace a file or a symbolic link. Devices and pipes
+// are written to.
 fn is_taken<D: World>(world: &mut D, path: &str) -> bool
     ensures { LooksTaken path.now result (D.trace world.old) (D.trace world.new) }
 {
@@ -196,6 +209,7 @@ fn tell_ended<V: Write>(
 ) -> u8
     ensures ends { Ends result complaints.old.count complaints.new.count }
     ensures status { result ≡ map_status ended.entry }
+    ensures line { IfOk ended.entry (λ fault. Complains V.contents (told_of_map fault) complaints) }
 {
     match ended {
         Ok(None) => DONE,

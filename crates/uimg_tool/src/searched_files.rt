@@ -1,7 +1,9 @@
 //! Files that are looked for in several folders.
 
-ghost use Rattle.std.specs.Prelude.{◌≡◌, ◌-◌, length, take, None, false, IfOk, IfSome};
+ghost use Rattle.std.specs.Prelude.{◌≡◌, ◌-◌, [], length, take, None, false, IfOk, IfSome};
+ghost use Rattle.std.specs.Option.{option_map_or};
 ghost use Rattle.uimg_base.specs.Device.{IsFresh};
+ghost use Rattle.uimg_tool.specs.SearchedNames.{folder_in, or_own, own_in};
 
 use std::alloc::Global;
 use std::path::Path;
@@ -69,7 +71,9 @@ impl<'a, R: rt::Files + AllocGlobal> SearchedFiles<'a, R> {
     }
 
     /// Returns the name of the last file that was not opened.
-    pub(crate) fn missing(&self) -> &[u8] {
+    pub(crate) fn missing(&self) -> &[u8]
+        ensures { result.now ≡ option_map_or (λ name. name.items) self.now.missing [] }
+    {
         match &self.missing {
             Some(name) => name.as_slice(),
             None => b"",
@@ -187,20 +191,32 @@ fn open_in_others<R: rt::Files + AllocGlobal>(
 }
 
 // Returns what the source calls a file: the name after the last `/./`.
-fn own_name(name: &[u8]) -> &[u8] {
+fn own_name(name: &[u8]) -> &[u8]
+    ensures { result.now ≡ or_own (own_in name.now) name.now }
+{
     let mut own = name;
-    for i in 0..name.len() {
-        if name.get(i..).unwrap_or(&[]).starts_with(b"/./") {
-            own = name.get(i.saturating_add(3)..).unwrap_or(&[]);
+    let mut rest = name;
+    while let Some((_, next)) = rest.split_first() {
+        if let Some(after) = rest.strip_prefix(b"/./") {
+            own = after;
         }
+        rest = next;
     }
     own
 }
 
 // Returns the folder in a name, with its last slash.
-fn folder_of(name: &[u8]) -> &[u8] {
-    let own = name.iter().rev().take_while(|b| **b != b'/').count();
-    name.get(..name.len().saturating_sub(own)).unwrap_or(&[])
+fn folder_of(name: &[u8]) -> &[u8]
+    ensures { result.now ≡ folder_in name.now }
+{
+    let mut folder = name;
+    while let Some((last, before)) = folder.split_last() {
+        if *last == b'/' {
+            return folder;
+        }
+        folder = before;
+    }
+    folder
 }
 
 // Returns the folder of the file that names another: what is before `./` and what it calls that.

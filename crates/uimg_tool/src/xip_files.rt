@@ -1,27 +1,29 @@
 //! The files of images that run in place.
 
-ghost use Rattle.std.specs.Prelude.{None, false, IfOk};
-ghost use Rattle.uimg_base.specs.Device.{IsFresh};
+ghost use Rattle.std.specs.Prelude.{◌≡◌, [], false, IfOk};
+ghost use Rattle.uimg_base.specs.Named.{Opens, SameFiles};
+ghost use Rattle.uimg_tool.specs.Bodies.{bodies};
 
 use crate::body_source::BodySource;
-use std::rt;
-use uimg_base::{FileSource, Files, OpenedNames, Source, SourceFault};
-use uimg_engine::DiskFiles;
+use uimg_base::{Files, OpenedNames, Source, SourceFault};
 
-/// The files of a folder, each without the room for a header at its beginning.
+/// Files, each without the room for a header at its beginning.
 ///
-/// No contract says what a file has, so the files are not claimed to be honest.
+/// Contracts see the bytes after that room.
 #[derive(Drop)]
-pub(crate) struct XipFiles<'a, R: rt::Files + AllocGlobal> {
-    files: DiskFiles<'a, R>,
+pub(crate) struct XipFiles<F: Files> {
+    files: F,
     has_met_no_room: bool,
     refusals: u64,
     opened: OpenedNames,
 }
 
-impl<'a, R: rt::Files + AllocGlobal> XipFiles<'a, R> {
+impl<F: Files> XipFiles<F> {
     /// Returns these files, none of them opened.
-    pub(crate) fn new(files: DiskFiles<'a, R>) -> XipFiles<'a, R> {
+    pub(crate) fn new(files: F) -> XipFiles<F>
+        ensures files { result.files ≡ files }
+        ensures none { result.opened.names ≡ [] }
+    {
         XipFiles {
             files,
             has_met_no_room: false,
@@ -31,30 +33,34 @@ impl<'a, R: rt::Files + AllocGlobal> XipFiles<'a, R> {
     }
 
     /// Returns whether a file was refused because it has no room for a header.
-    pub(crate) fn has_met_no_room(&self) -> bool {
+    pub(crate) fn has_met_no_room(&self) -> bool
+        ensures { result ≡ self.now.has_met_no_room }
+    {
         self.has_met_no_room
     }
 
-    /// Returns whether the file that is left out was requested, and refused.
-    pub(crate) fn has_met_left_out(&self) -> bool {
-        self.files.has_met_left_out()
+    /// Returns the whole files.
+    pub(crate) fn whole(&self) -> &F
+        ensures { result.now ≡ self.now.files }
+    {
+        &self.files
     }
 }
 
-impl<'a, R: rt::Files + AllocGlobal> Files for XipFiles<'a, R> {
-    type Opened = BodySource<FileSource<R::File>>;
+impl<F: Files> Files for XipFiles<F> {
+    type Opened = BodySource<F::Opened>;
 
     ghost map = { λ s. record {
-      bytes = λ _. None;
-      honest = false;
+      bytes = bodies (F.map s.files);
+      honest = (F.map s.files).honest;
       complete = false;
       refusals = s.refusals;
       opened = s.opened.names;
     } };
 
     /// Opens the file of this name, without the room at its beginning. Returns `SourceFault` if it
-    /// has no such room, if that cannot be read, or as `DiskFiles::open` does.
-    fn open(&mut self, name: &[u8]) -> Result<BodySource<FileSource<R::File>>, SourceFault> {
+    /// has no such room, if that cannot be read, or as the files do.
+    fn open(&mut self, name: &[u8]) -> Result<BodySource<F::Opened>, SourceFault> {
         self.opened.note(name);
         let opened = open_body(&mut self.files, name, &mut self.has_met_no_room);
         if opened.is_err() {
@@ -70,7 +76,10 @@ fn open_body<F: Files>(
     name: &[u8],
     has_met_no_room: &mut bool,
 ) -> Result<BodySource<F::Opened>, SourceFault>
-    ensures { IfOk result (λ source. IsFresh (⟦<BodySource<F::Opened> as Source>⟧.device source)) }
+    ensures same { SameFiles (F.map files.old) (F.map files.new) }
+    ensures opened { IfOk result (λ body. Opens (record (F.map files.old) {
+      bytes = bodies (F.map files.old);
+    }) name.now (⟦<BodySource<F::Opened> as Source>⟧.device body)) }
 {
     let source = files.open(name)?;
     match BodySource::of(source)? {

@@ -239,6 +239,7 @@ front_differs (one ∷ left) name unlike =
     rest : (b : Bool) (xs : List (List ℕ)) → (not (is_in one (xs ++ name ∷ [])) ≡ true → not (is_in one xs) ≡ true) → not (b || is_in one (xs ++ name ∷ [])) ≡ true → not (b || is_in one xs) ≡ true
     rest true xs f is = is
     rest false xs f is = f is
+
     fewer : (xs : List (List ℕ)) → not (is_in one (xs ++ name ∷ [])) ≡ true → not (is_in one xs) ≡ true
     fewer [] is = refl
     fewer (x ∷ xs) is = rest (bytes_eq one x) xs (fewer xs) is

@@ -54,7 +54,7 @@ pub trait Taker {
     /// What was given so far, as far as the list shows it.
     ghost takes: { Self → List Take };
 
-    /// Whether `failed` has each call.
+    /// Whether `failed` has each call that fails.
     ghost tells: { Bool } = { false };
 
     /// Whether a call ever failed; false for a taker that does not say.
@@ -88,8 +88,9 @@ pub trait Taker {
         ensures same { IsTrue honest → takes self.new ≡ takes self.old }
         ensures empty { IsTrue honest → IfOk result (λ shelf. Self.Shelf.contents shelf ≡ Some []) };
 
-    /// Takes a payload to keep, with what vouches for it. For an honest taker the caller has shown
-    /// that this is the digest of what the shelf holds, whatever source it was read from.
+    /// Takes a payload to keep, with what vouches for it; at a failure it may be kept or not. For an
+    /// honest taker the caller has shown that this is the digest of what the shelf holds, whatever
+    /// source it was read from.
     fn keep(
         &mut self,
         name: &NodeName,

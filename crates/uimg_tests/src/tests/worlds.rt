@@ -1,8 +1,11 @@
-//! A world of files in memory.
+//! A world of files in memory, and commands over it.
 
+use super::runs::shown;
 use std::io::Read;
 use std::test::Fail;
 use uimg_base::Source;
+use uimg_base_tests::samples::legacy::ABC_KERNEL;
+use uimg_tool::answer_in_memory;
 use uimg_unpacking::{MemoryWorld, World};
 
 const FILES: [(&[u8], &[u8]); 3] = [(b"a", b"abc"), (b"a", b"def"), (b"b/c", b"ghi")];
@@ -42,5 +45,64 @@ fn files_in_memory(rt: HostRuntime) -> Result<(), Fail> {
     assert!(rt; world.create("a").is_ok());
     assert!(rt; world.remove_file("a").is_err());
     assert!(rt; opens_as(&mut world, "a", "abc"));
+    Ok(())
+}
+
+const IMAGES: [(&[u8], &[u8]); 3] = [
+    (b"abc", &ABC_KERNEL),
+    (b"data", b"abc"),
+    (b"list", b"abc\ndata\n"),
+];
+
+const MAKES: &str = "uimg mkimage -A arm64 -O linux -T kernel -C none -a 80000 -n demo -d data new";
+
+const LISTING: &str = "Image Name:   demo
+Created:      Tue Nov 14 22:13:20 2023
+Image Type:   AArch64 Linux Kernel Image (uncompressed)
+Data Size:    3 Bytes = 0.00 KiB = 0.00 MiB
+Load Address: 00080000
+Entry Point:  00080000
+";
+
+// A command line over these files, the exit status, what is printed, and what is told.
+const COMMANDS: [(&str, u8, &str, &str); 9] = [
+    ("uimg verify abc", 0, "header crc32 ok\ndata crc32 ok\n", ""),
+    ("uimg verify data", 1, "", "uimg: L1 too short\n"),
+    ("uimg verify none", 3, "", "uimg: cannot read none\n"),
+    ("uimg check", 2, "", "uimg: no image\n"),
+    (
+        "uimg check --files-from list",
+        1,
+        "abc: ok 2 checksums\ndata: refused L1 too short\n",
+        "",
+    ),
+    (MAKES, 0, LISTING, ""),
+    (
+        "uimg mkimage -f data new",
+        1,
+        "",
+        "uimg: I2 bad syntax at line 1\n",
+    ),
+    ("uimg dumpimage -o new abc", 0, "", ""),
+    ("uimg dumpimage -o new data", 1, "", "uimg: L1 too short\n"),
+];
+
+#[test]
+fn commands_over_files_in_memory(rt: HostRuntime) -> Result<(), Fail> {
+    for (line, status, printed, told) in &COMMANDS {
+        let mut words = Vec::new(rt.alloc());
+        for word in line.split(' ') {
+            words.push(word)?;
+        }
+        let mut err = Vec::new(rt.alloc());
+        let answered = answer_in_memory(rt.alloc(), &words, None, 1700000000, &IMAGES, &mut err);
+        assert!(rt; answered.status == *status, "{line}: {}", answered.status);
+        assert!(rt;
+            shown(&answered.printed) == *printed,
+            "{line}: {}",
+            shown(&answered.printed)
+        );
+        assert!(rt; shown(&err) == *told, "{line}: {}", shown(&err));
+    }
     Ok(())
 }
