@@ -1,0 +1,24 @@
+use Rattle.std.proofs.Common.{rules, ◌≡◌, ◌∷◌, true, subst}
+use Rattle.uimg_base.specs.Named.{Opens}
+use Rattle.uimg_tool.specs.Unpackings.{HoldsPayloads, IsRight, unpacking_of}
+use Rattle.uimg_unpacking.specs.declared.unpacking.Unpacking.{Unpacking}
+use Rattle.uimg_unpacking.specs.Deeds.{Identifies, Opens as Opened}
+use Rattle.uimg_tool.proofs.UnpackLaws.{right_at}
+use Rattle.uimg_tool.proofs.unpack_program.unpack_at.Goals as goal
+
+-- the image was opened, and is honest; then it was unpacked as requested
+pub returns-clause-done : goal.returns-clause-done
+returns-clause-done g c = λ honest told.
+    let files = g.D.World.map c.args.world.now in
+    let device = g.D.Opened.Source.device c.in-Ok.source in
+    let opened : Opens files c.args.path.now device = c.in-Ok.ensures.opened in
+    let asked : c.unpacking_of-asked.result ≡ unpacking_of c.args.request.now c.file_at.result c.args.path = c.unpacking_of-asked.ensures in
+    let middle = g.D.World.trace c.file_at.new.self in
+    let after = g.D.World.trace c.unpack_source-else-request.new.world in
+    let looked : middle ≡ Identifies c.args.path.now c.file_at.result ∷ Opened c.args.path.now true ∷ g.D.World.trace c.args.world.now = search rules in
+    let right : IsRight (unpacking_of c.args.request.now c.file_at.result c.args.path) device.bytes =
+    subst (λ (a : Unpacking). IsRight a device.bytes) asked (c.unpack_source-else-request.ensures.done (opened.honest honest) told) in
+    let holds : HoldsPayloads (unpacking_of c.args.request.now c.file_at.result c.args.path) device.bytes middle after =
+    subst (λ (a : Unpacking). HoldsPayloads a device.bytes middle after) asked
+    (c.unpack_source-else-request.ensures.holds (opened.honest honest) (g.D.World.known c.args.world.now honest) told) in
+    (device.bytes, opened.bytes honest, right_at c.args.request.now c.args.path c.file_at.result device.bytes (g.D.World.trace c.args.world.now) middle after looked c.unpack_source-else-request.ensures.later right holds)
