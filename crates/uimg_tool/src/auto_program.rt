@@ -79,7 +79,7 @@ fn make_of_text<R: Files + AllocGlobal, W: Write, V: Write>(
 // Returns a request whose source is reported as the one that the tool makes.
 fn named_source<'a>(making: MakeRequest<'a>) -> MakeRequest<'a>
     ensures named { result.source.now ≡ codes "-f auto" }
-    ensures same { record result { source = making.entry.source } ≡ making.entry }
+    ensures same { result ≡ record making.entry { source = result.source } }
 {
     let mut named = making;
     named.source = SOURCE_NAME;

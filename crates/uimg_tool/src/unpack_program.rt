@@ -158,7 +158,8 @@ fn unpack_source<D: World, S: Source, W: Write + Drop>(
     ensures later { Follows (D.trace world.old) (D.trace world.new) }
     ensures done { IfHonest S.device source (λ file. result ≡ Ending.Told Status.Done →
         IsRight asked.now file) }
-    ensures holds { IfHonest S.device source (λ file. IsTrue D.knows → result ≡ Ending.Told Status.Done →
+    ensures holds { IfHonest S.device source (λ file. IsTrue D.knows →
+        result ≡ Ending.Told Status.Done →
         HoldsPayloads asked.now file (D.trace world.old) (D.trace world.new)) }
 {
     match is_fit(Form::Guess, source) {
