@@ -78,8 +78,7 @@ fn make_of_text<R: Files + AllocGlobal, W: Write, V: Write>(
 
 // Returns a request whose source is reported as the one that the tool makes.
 fn named_source<'a>(making: MakeRequest<'a>) -> MakeRequest<'a>
-    ensures named { result.source.now ≡ codes "-f auto" }
-    ensures same { result ≡ record making.entry { source = result.source } }
+    ensures { result.source.now ≡ codes "-f auto" }
 {
     let mut named = making;
     named.source = SOURCE_NAME;

@@ -161,8 +161,7 @@ fn make_of_copy<R: Files + AllocGlobal, W: Write, V: Write>(
 
 // Returns a request whose source is reported as standard input.
 fn named_input<'a>(making: MakeRequest<'a>) -> MakeRequest<'a>
-    ensures named { result.source.now ≡ codes "-" }
-    ensures same { result ≡ record making.entry { source = result.source } }
+    ensures { result.source.now ≡ codes "-" }
 {
     let mut named = making;
     named.source = INPUT_NAME;
