@@ -15,4 +15,4 @@ returns-in-Ok-clause-made g c =
 pub loop-number-preserved : goal.loop-number-preserved
 loop-number-preserved g c =
     tried_more c.args.path.now c.as_str.result.now c.loop-number.number (answer_of c.create_new.result) _ (g.W.World.trace c.loop-number.world) (g.W.World.trace c.create_new.new.self)
-    (c.as_str.ensures.value ∙ c.in_ok-path.ensures) (search rules) c.loop-number.invariant c.create_new.ensures
+    (c.as_str.ensures.value ∙ c.in_ok-path.ensures) (search rules) c.loop-number.invariant c.create_new.ensures.noted
