@@ -1,5 +1,5 @@
 -- What a command of `uimg` tells on standard error, over the files of a world.
-use Rattle.std.specs.Prelude.{◌≡◌, ⊤, ◌⊎◌, ℕ, List, Option, Some, None, Err, Result}
+use Rattle.std.specs.Prelude.{◌≡◌, ◌⊎◌, ℕ, List, Option, Some, None, Err, Result}
 use Rattle.std.specs.Borrow.{Bor}
 use Rattle.uimg_base.specs.{Device.Device, Named.FileMap, Sink.Sink}
 use Rattle.uimg_cli.specs.FaultTexts as words
@@ -15,7 +15,7 @@ use Rattle.uimg_map.specs.{Maps.contents_of, declared.fault.MapFault.MapFault}
 use Rattle.uimg_requests.specs.declared.requests.{MakeRequest.MakeRequest, RunRequest.RunRequest}
 use Rattle.uimg_tool.specs.{Complaints.{AddsText, ComplainsBetween}, Makings.{MakesRequested, made_status}, MapEnds.mapped_status}
 use Rattle.uimg_tool.specs.FaultTexts.{draws_over, request_text, told_of_check, told_of_made, told_of_map, told_of_outcome}
-use Rattle.uimg_tool.specs.{Programs.{epoch_of, words_of}, Running.outcome_on}
+use Rattle.uimg_tool.specs.{Programs.{epoch_of, words_of}, Running.outcome_on, UnpackComplaints.ComplainsUnpack}
 use Rattle.uimg_tool.specs.declared.command_line.CommandLine.{CommandLine}
 use Rattle.uimg_tool.specs.declared.complaints.Complaints.{Complaints}
 use Rattle.uimg_tool.specs.declared.request_fault.RequestFault.TheVariants.{WritesWhatIsRead}
@@ -81,11 +81,11 @@ abbrev pub ComplainsMap : {V : Type 0} → (V → Option (List ℕ)) → List �
 ComplainsMap contents image None files status old new = ComplainsLines contents image files status old new
 ComplainsMap contents image (Some path) files status old new = ComplainsPicture contents image path.now files status old new
 
--- A request. Of an unpacking this is not said. Facts tell what refuses the image on standard output.
+-- A request. Facts tell what refuses the image on standard output.
 abbrev pub ComplainsAsked : {K V : Type 0} → (V → Option (List ℕ)) → (K → Device) → Asked → FileMap → ℕ → (old new : Complaints V) → Type 0
 ComplainsAsked contents device (One it) files status old new = ComplainsOne contents device it files status old new
 ComplainsAsked contents device (Check it) files status old new = ComplainsCheck contents status old new
-ComplainsAsked contents device (Unpack it) files status old new = ⊤
+ComplainsAsked contents device (Unpack it) files status old new = ComplainsUnpack contents files it status old new
 ComplainsAsked contents device (Map it) files status old new = ComplainsMap contents it.image.now it.picture files status old new
 ComplainsAsked contents device (Info it) files status old new = ComplainsNot contents status old new
 

@@ -32,6 +32,7 @@ pub mod SearchedNames
 pub mod Statuses
 pub mod StrictEnds
 pub mod TreeSizes
+pub mod UnpackComplaints
 pub mod UnpackEnds
 pub mod Unpackings
 pub mod Verdicts

@@ -14,16 +14,19 @@ use std::alloc::Global;
 use std::io::{BufWriter, Write};
 use uimg_base::{MemKept, Source};
 use uimg_cli::Asked;
-use uimg_unpacking::{MemoryFile, MemoryWorld};
+use uimg_unpacking::{MemoryFile, MemoryWorld, NewFiles};
 
-/// What a command answered: its exit status, and what it printed on standard output.
-#[derive(Debug, Drop)]
+/// What a command answered: its exit status, what it printed on standard output, and what it made.
+#[derive(Drop)]
 pub struct Answered {
     /// The exit status.
     pub status: u8,
 
     /// The bytes that were printed.
     pub printed: Vec<u8>,
+
+    /// The files and folders that were made.
+    pub new_files: NewFiles,
 }
 
 /// Carries out the words of a command line of `uimg`, the program's name first, over files in
@@ -32,8 +35,9 @@ pub struct Answered {
 ///
 /// Unless the status is 3, the words are refused by their definition, or a listing, a verification,
 /// a check, facts, the lines of a map, and the listing of an image that is made are exactly those
-/// that the definitions give for the bytes at the paths. A new file or an image is at no path
-/// afterwards, and an unpacking, which needs folders, fails.
+/// that the definitions give for the bytes at the paths. If a FIT image is unpacked with status 0 and
+/// without `--clean`, new files hold exactly the requested payloads. The file of an extraction and an
+/// image that is made are not among the new files.
 pub fn answer_in_memory<'f, V: Write>(
     alloc: Global,
     words: &[&str],
@@ -63,6 +67,7 @@ pub fn answer_in_memory<'f, V: Write>(
             return Answered {
                 status: tell_words_fault(&fault, complaints),
                 printed: Vec::new(alloc),
+                new_files: NewFiles::new(alloc),
             };
         }
     };
@@ -70,6 +75,7 @@ pub fn answer_in_memory<'f, V: Write>(
         return Answered {
             status: complaints.tell_no_memory(),
             printed: Vec::new(alloc),
+            new_files: NewFiles::new(alloc),
         };
     };
     carry_out(alloc, line, &asked, files, out, complaints)
@@ -108,7 +114,11 @@ fn carry_out_over<'a, V: Write>(
         ⟦<MemKept<Global> as Source>⟧.device (λ _. None) line.entry (files_in files.entry.now)
         result.status (Some (writer_inner out).items) (Some result.printed.items) [] trace }
 {
-    let world = &mut MemoryWorld::new(alloc, files);
-    let (status, printed) = carry_out_words(world, line, asked, out, complaints);
-    Answered { status, printed }
+    let mut world = MemoryWorld::new(alloc, files);
+    let (status, printed) = carry_out_words(&mut world, line, asked, out, complaints);
+    Answered {
+        status,
+        printed,
+        new_files: world.into_new_files(),
+    }
 }

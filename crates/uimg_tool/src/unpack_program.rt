@@ -1,8 +1,9 @@
 //! Unpacks an image.
 
-ghost use Rattle.std.specs.Prelude.{◌≡◌, ◌⊎◌, IsTrue, Some, true, false};
+ghost use Rattle.std.specs.Prelude.{◌≡◌, ◌⊎◌, IsTrue, None, Some, true, false};
 ghost use Rattle.uimg_base.specs.Honest.{IfHonest};
-ghost use Rattle.uimg_tool.specs.{Complaints.Ends, EndingStatuses.HasEndingStatus, Statuses.{is_of_command, trouble_status}};
+ghost use Rattle.uimg_tool.specs.{Complaining.ComplainsNot, Complaints.{Complains, Ends}, EndingStatuses.HasEndingStatus, Statuses.{is_of_command, trouble_status}};
+ghost use Rattle.uimg_tool.specs.UnpackComplaints.{ComplainsImage, ComplainsUnpack, EndsAt, EndsOver, told_of_unpacking};
 ghost use Rattle.uimg_tool.specs.Unpackings.{AnswersUnpacking, HoldsPayloads, IsRight, RightAt, unpacking_of};
 ghost use Rattle.uimg_unpacking.specs.{Deeds.{Follows, changes}, Places.ChangesWithin};
 
@@ -37,6 +38,8 @@ pub(crate) fn unpack_image<D: World, W: Write + Drop, V: Write>(
     ensures told { IsTrue (D.map world.old).honest →
         AnswersUnpacking (D.map world.old) request.now result (D.trace world.old)
         (D.trace world.new) }
+    ensures line { IsTrue (D.map world.old).honest → ComplainsUnpack V.contents
+        (D.map world.old) request.now result complaints.old complaints.new }
 {
     match (clean_if(world, request, out), request.image) {
         (Err(trouble), _) => tell_trouble(trouble, complaints),
@@ -77,6 +80,8 @@ fn unpack_and_tell<D: World, W: Write + Drop, V: Write>(
         (D.trace world.new) }
     ensures done { IsTrue (D.map world.old).honest → result ≡ 0 → RightAt (D.map world.old)
         request.now (Some path.entry) (D.trace world.old) (D.trace world.new) }
+    ensures line { IsTrue (D.map world.old).honest → ComplainsImage V.contents
+        (D.map world.old) request.now (Some path.entry) result complaints.old complaints.new }
 {
     let ending = unpack_at(world, path, request, out);
     tell_ending(world, path, request.as_json, ending, out, complaints)
@@ -133,6 +138,8 @@ fn unpack_at<'a, D: World, W: Write + Drop>(
     ensures done { IsTrue (D.map world.old).honest → result ≡ Ending.Told Status.Done →
         RightAt (D.map world.old) request.now (Some path.entry) (D.trace world.old)
         (D.trace world.new) }
+    ensures ended { IsTrue (D.map world.old).honest → EndsAt (D.map world.old)
+        (unpacking_of request.now None path.entry) path.now result }
 {
     let Ok(mut source) = world.open(path) else {
         return Ending::Unread;
@@ -161,6 +168,7 @@ fn unpack_source<D: World, S: Source, W: Write + Drop>(
     ensures holds { IfHonest S.device source (λ file. IsTrue D.knows →
         result ≡ Ending.Told Status.Done →
         HoldsPayloads asked.now file (D.trace world.old) (D.trace world.new)) }
+    ensures ended { IfHonest S.device source (λ file. EndsOver asked.now file result) }
 {
     match is_fit(Form::Guess, source) {
         Ok(true) => Ending::from(unpack(world, asked, source, out)),
@@ -180,6 +188,8 @@ fn tell_ending<D: World, W: Write + Drop, V: Write>(
 ) -> u8
     ensures ends { Ends result complaints.old.count complaints.new.count }
     ensures status { as_json ≡ false → HasEndingStatus ending result }
+    ensures line { (result ≡ 3)
+        ⊎ Complains V.contents (told_of_unpacking as_json ending) complaints }
     ensures done { result ≡ 0 → ending ≡ Ending.Told Status.Done }
     ensures unasked { result ≡ 0 → D.trace world.new ≡ D.trace world.old }
     ensures kept { changes (D.trace world.new) ≡ changes (D.trace world.old) }
@@ -226,6 +236,7 @@ fn tell_object<D: World, W: Write + Drop, V: Write>(
     ensures done { result ≡ 0 → ending ≡ Ending.Told Status.Done }
     ensures unasked { result ≡ 0 → D.trace world.new ≡ D.trace world.old }
     ensures kept { changes (D.trace world.new) ≡ changes (D.trace world.old) }
+    ensures line { ComplainsNot V.contents result complaints.old complaints.new }
 {
     let mut names = Names::new(world.alloc());
     let answer = answer_of_ending(world, path, ending, &mut names);
@@ -239,6 +250,7 @@ fn tell_object<D: World, W: Write + Drop, V: Write>(
 fn tell_weak<W: Write, V: Write>(path: &str, out: &mut W, complaints: &mut Complaints<'_, V>) -> u8
     ensures ends { Ends result complaints.old.count complaints.new.count }
     ensures status { (result ≡ 1) ⊎ (result ≡ 3) }
+    ensures line { ComplainsNot V.contents result complaints.old complaints.new }
 {
     let told = writeln!(out, "{}: weak crc32", Printed(path.as_bytes()));
     match told.and_then(|()| out.flush()) {
@@ -250,6 +262,7 @@ fn tell_weak<W: Write, V: Write>(path: &str, out: &mut W, complaints: &mut Compl
 fn tell_trouble<V: Write>(trouble: Trouble, complaints: &mut Complaints<'_, V>) -> u8
     ensures status { result ≡ trouble_status trouble }
     ensures ends { Ends result complaints.old.count complaints.new.count }
+    ensures line { (result ≡ 3) ⊎ Complains V.contents (Some None) complaints }
 {
     match trouble {
         Trouble::Closed => FAILED,

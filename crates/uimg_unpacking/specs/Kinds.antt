@@ -2,6 +2,8 @@
 use Rattle.std.specs.Prelude.{Bool, true, false}
 use Rattle.uimg_unpacking.specs.declared.kind.Kind.{Kind}
 use Rattle.uimg_unpacking.specs.declared.kind.Kind.TheVariants.{Nothing, File, Folder, Link}
+use Rattle.uimg_unpacking.specs.declared.kind.Target.{Target}
+use Rattle.uimg_unpacking.specs.declared.kind.Target.TheVariants as target
 
 abbrev pub is_something : Kind → Bool
 is_something Nothing = false
@@ -15,3 +17,10 @@ is_no_link Nothing = false
 is_no_link File = true
 is_no_link Folder = true
 is_no_link Link = false
+
+-- what a path leads to, where no path is a symbolic link
+abbrev pub target_of_kind : Kind → Target
+target_of_kind Nothing = target.Nothing
+target_of_kind File = target.File
+target_of_kind Folder = target.Other
+target_of_kind Link = target.Other

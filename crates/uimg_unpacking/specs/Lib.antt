@@ -9,6 +9,7 @@ pub mod Filling
 pub mod Kinds
 pub mod Limiting
 pub mod Lines
+pub mod Made
 pub mod Names
 pub mod Naming
 pub mod NamingAll

@@ -1,7 +1,7 @@
 //! What is at a path, and what it leads to.
 
 /// What is at a path; links are not followed.
-#[derive(Clone, Copy, Debug)]
+#[derive(Clone, Copy, Debug, PartialEq, Eq)]
 pub enum Kind {
     /// Nothing, or nothing that can be looked at.
     Nothing,

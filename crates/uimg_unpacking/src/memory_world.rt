@@ -1,18 +1,20 @@
-//! Files in memory, which can be opened and read, and new ones.
+//! Files in memory, which can be opened and read, and new ones beside them.
 
 ghost use Rattle.std.specs.Prelude.{◌≡◌, ◌∷◌, [], true};
 ghost use Rattle.std.specs.Option.{option_map};
 ghost use Rattle.uimg_base.specs.Named.{bytes_named};
-ghost use Rattle.uimg_unpacking.specs.Deeds.{Answer, answer_of, deed_of};
+ghost use Rattle.uimg_unpacking.specs.{Deeds.{Answer, answer_of, deed_of}, Kinds.target_of_kind};
 
 use crate::call_codes::*;
 use crate::file_id::FileId;
 use crate::kind::{Kind, Target};
 use crate::memory_file::{MemoryFile, read_only};
+use crate::new_files::NewFiles;
 use crate::record::Record;
 use crate::world::World;
 use std::alloc::Global;
 use std::io;
+use std::io::ErrorKind;
 use std::path::PathBuf;
 use uimg_base::{MemSource, SourceFault};
 
@@ -21,15 +23,17 @@ const FAILED: u64 = 2;
 
 /// Files in memory: pairs of a path and its bytes. Of equal paths, the first counts.
 ///
-/// They are honest and complete. What is written to a new file is kept, but no path has it. Each
-/// other call that would change files fails, as do those that resolve a path or wait for names, and
-/// no file is found by which it is (`file_at`).
+/// They are honest and complete, and never change. New files and folders are beside them: they are
+/// created, closed, linked, renamed and removed as on a disk, but are not opened again. What is
+/// written to a file of `create` is at no path. Calls that resolve a path or remove a folder with all
+/// in it fail, and no file is found by which it is (`file_at`).
 #[derive(Drop)]
 pub struct MemoryWorld<'a> {
     pub(crate) alloc: Global,
     pub(crate) files: &'a [(&'a [u8], &'a [u8])],
     pub(crate) record: Record,
     refusals: u64,
+    new_files: NewFiles,
 }
 
 impl<'a> MemoryWorld<'a> {
@@ -49,7 +53,15 @@ impl<'a> MemoryWorld<'a> {
             files,
             record: Record::new(),
             refusals: 0,
+            new_files: NewFiles::new(alloc),
         }
+    }
+
+    /// Returns the files and folders that were made.
+    pub fn into_new_files(self) -> NewFiles
+        ensures { result ≡ self.entry.new_files }
+    {
+        self.new_files
     }
 
     // Notes a call, and returns that it failed.
@@ -62,6 +74,17 @@ impl<'a> MemoryWorld<'a> {
         let call = [call, FAILED];
         self.record.note(&call, path.as_bytes(), other.as_bytes());
         Err(read_only())
+    }
+
+    // Puts a new file, which is empty, or a folder at a path where nothing is.
+    fn make(&mut self, path: &str, bytes: Option<&[u8]>) -> io::Result<()>
+        ensures deeds { self.new.record ≡ self.old.record }
+        ensures files { self.new.files ≡ self.old.files }
+    {
+        match bytes_at(self.files, path) {
+            Some(_) => Err(io::Error::from(ErrorKind::AlreadyExists)),
+            None => self.new_files.make(path, bytes),
+        }
     }
 }
 
@@ -94,11 +117,13 @@ impl<'a> World for MemoryWorld<'a> {
             files: self.files,
             record: Record::new(),
             refusals: 0,
+            new_files: self.new_files.copied(),
         }
     }
 
     fn rejoin(&mut self, part: MemoryWorld<'a>) {
         self.record = part.record.after(&self.record);
+        self.new_files = part.new_files;
     }
 
     fn open(&mut self, path: &str) -> Result<MemSource<'a>, SourceFault> {
@@ -133,7 +158,7 @@ impl<'a> World for MemoryWorld<'a> {
     fn target_of(&mut self, path: &str) -> Target {
         let target = match bytes_at(self.files, path) {
             Some(_) => Target::File,
-            None => Target::Nothing,
+            None => target_of_kind(self.new_files.kind_at(path)),
         };
         let call = [FINDS, code_of_target(target)];
         self.record.note(&call, path.as_bytes(), b"");
@@ -146,33 +171,61 @@ impl<'a> World for MemoryWorld<'a> {
     }
 
     fn create_new(&mut self, path: &str) -> io::Result<MemoryFile<'a>> {
-        self.refuse(CREATES, path, "")
+        let made = self.make(path, Some(&[]));
+        let call = [CREATES, code_of(&made)];
+        self.record.note(&call, path.as_bytes(), b"");
+        match made {
+            Ok(()) => Ok(MemoryFile::new(self.alloc, &[])),
+            Err(error) => Err(error),
+        }
     }
 
     fn close(&mut self, path: &str, file: MemoryFile<'a>, is_synced: bool) -> io::Result<()> {
-        let call = [CLOSES, 0, is_synced as u64, 0];
+        let closed = self.new_files.put(path, Some(file.written()));
+        let call = [CLOSES, code_of(&closed), is_synced as u64, 0];
         self.record.note(&call, path.as_bytes(), file.written());
-        Ok(())
+        closed
     }
 
     fn hard_link(&mut self, from: &str, to: &str) -> io::Result<()> {
-        self.refuse(LINKS, from, to)
+        let linked = match bytes_at(self.files, to) {
+            Some(_) => Err(io::Error::from(ErrorKind::AlreadyExists)),
+            None => self.new_files.hard_link(from, to),
+        };
+        let call = [LINKS, code_of(&linked)];
+        self.record.note(&call, from.as_bytes(), to.as_bytes());
+        linked
     }
 
     fn rename(&mut self, from: &str, to: &str) -> io::Result<()> {
-        self.refuse(RENAMES, from, to)
+        let renamed = match bytes_at(self.files, to) {
+            Some(_) => Err(read_only()),
+            None => self.new_files.rename(from, to),
+        };
+        let call = [RENAMES, code_of(&renamed)];
+        self.record.note(&call, from.as_bytes(), to.as_bytes());
+        renamed
     }
 
     fn remove_file(&mut self, path: &str) -> io::Result<()> {
-        self.refuse(REMOVES, path, "")
+        let removed = self.new_files.remove_file(path);
+        let call = [REMOVES, code_of(&removed)];
+        self.record.note(&call, path.as_bytes(), b"");
+        removed
     }
 
     fn create_dir(&mut self, path: &str) -> io::Result<()> {
-        self.refuse(MAKES_FOLDER, path, "")
+        let made = self.make(path, None);
+        let call = [MAKES_FOLDER, code_of(&made)];
+        self.record.note(&call, path.as_bytes(), b"");
+        made
     }
 
     fn remove_dir(&mut self, path: &str) -> io::Result<()> {
-        self.refuse(REMOVES_FOLDER, path, "")
+        let removed = self.new_files.remove_dir(path);
+        let call = [REMOVES_FOLDER, code_of(&removed)];
+        self.record.note(&call, path.as_bytes(), b"");
+        removed
     }
 
     fn remove_dir_all(&mut self, path: &str) -> io::Result<()> {
@@ -180,7 +233,8 @@ impl<'a> World for MemoryWorld<'a> {
     }
 
     fn sync_dir(&mut self, path: &str) -> io::Result<()> {
-        self.refuse(SYNCS, path, "")
+        self.record.note(&[SYNCS, 0], path.as_bytes(), b"");
+        Ok(())
     }
 
     fn canonicalize(&mut self, path: &str) -> io::Result<PathBuf> {
@@ -191,7 +245,7 @@ impl<'a> World for MemoryWorld<'a> {
     fn kind_at(&mut self, path: &str) -> Kind {
         let kind = match bytes_at(self.files, path) {
             Some(_) => Kind::File,
-            None => Kind::Nothing,
+            None => self.new_files.kind_at(path),
         };
         let call = [LOOKS, code_of_kind(kind)];
         self.record.note(&call, path.as_bytes(), b"");
@@ -201,6 +255,17 @@ impl<'a> World for MemoryWorld<'a> {
     fn file_at(&mut self, path: &str) -> Option<FileId> {
         self.record.note(&[IDENTIFIES], path.as_bytes(), b"");
         None
+    }
+}
+
+// Returns what a path leads to where this is.
+fn target_of_kind(kind: Kind) -> Target
+    ensures { result ≡ target_of_kind kind }
+{
+    match kind {
+        Kind::Nothing => Target::Nothing,
+        Kind::File => Target::File,
+        Kind::Folder | Kind::Link => Target::Other,
     }
 }
 

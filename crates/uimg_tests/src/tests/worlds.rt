@@ -1,12 +1,13 @@
 //! A world of files in memory, and commands over it.
 
 use super::runs::shown;
-use std::io::Read;
+use std::io::{ErrorKind, Read, Write};
 use std::test::Fail;
 use uimg_base::Source;
 use uimg_base_tests::samples::legacy::ABC_KERNEL;
+use uimg_fit_tests::samples::{four_hash_fit, set_cell};
 use uimg_tool::answer_in_memory;
-use uimg_unpacking::{MemoryWorld, World};
+use uimg_unpacking::{Kind, MemoryWorld, World};
 
 const FILES: [(&[u8], &[u8]); 3] = [(b"a", b"abc"), (b"a", b"def"), (b"b/c", b"ghi")];
 
@@ -45,6 +46,69 @@ fn files_in_memory(rt: HostRuntime) -> Result<(), Fail> {
     assert!(rt; world.create("a").is_ok());
     assert!(rt; world.remove_file("a").is_err());
     assert!(rt; opens_as(&mut world, "a", "abc"));
+    Ok(())
+}
+
+// Calls on new files, in order, and what each answers: `ok`, `exists` or `fails`. The files above are
+// there, too.
+const CALLS: [(&str, &str, &str, &str); 20] = [
+    ("create", "new", "", "ok"),
+    ("create", "new", "", "exists"),
+    ("create", "a", "", "exists"),
+    ("link", "none", "other", "fails"),
+    ("link", "new", "a", "exists"),
+    ("link", "new", "other", "ok"),
+    ("link", "new", "other", "exists"),
+    ("rename", "other", "a", "fails"),
+    ("rename", "other", "moved", "ok"),
+    ("remove", "other", "", "fails"),
+    ("folder", "made", "", "ok"),
+    ("folder", "made", "", "exists"),
+    ("folder", "a", "", "exists"),
+    ("create", "made/x", "", "ok"),
+    ("remove folder", "made", "", "fails"),
+    ("remove", "made/x", "", "ok"),
+    ("remove", "made", "", "fails"),
+    ("remove folder", "made", "", "ok"),
+    ("remove folder", "made", "", "fails"),
+    ("remove", "a", "", "fails"),
+];
+
+// Makes a call, which closes a file with the bytes `abc` if it created one. Returns what it answers.
+fn answer(world: &mut MemoryWorld<'_>, call: &str, path: &str, other: &str) -> &'static str {
+    let done = match call {
+        "create" => world.create_new(path).and_then(|mut file| {
+            file.write_all(b"abc")?;
+            world.close(path, file, true)
+        }),
+        "link" => world.hard_link(path, other),
+        "rename" => world.rename(path, other),
+        "remove" => world.remove_file(path),
+        "folder" => world.create_dir(path),
+        _ => world.remove_dir(path),
+    };
+    match done {
+        Ok(()) => "ok",
+        Err(error) if error.kind() == ErrorKind::AlreadyExists => "exists",
+        Err(_) => "fails",
+    }
+}
+
+#[test]
+fn new_files_in_memory(rt: HostRuntime) -> Result<(), Fail> {
+    let mut world = MemoryWorld::new(rt.alloc(), &FILES);
+    for (call, path, other, expected) in &CALLS {
+        let answered = answer(&mut world, call, path, other);
+        assert!(rt; answered == *expected, "{call} {path} {other}: {answered}");
+    }
+    assert!(rt; world.kind_at("moved") == Kind::File);
+    assert!(rt; world.kind_at("made") == Kind::Nothing);
+    assert!(rt; world.open("new").is_err());
+    let made = world.into_new_files();
+    assert!(rt; made.bytes_at("new") == Some(b"abc".as_slice()));
+    assert!(rt; made.bytes_at("moved") == Some(b"abc".as_slice()));
+    assert!(rt; made.bytes_at("a").is_none());
+    assert!(rt; made.bytes_at("made/x").is_none());
     Ok(())
 }
 
@@ -103,6 +167,49 @@ fn commands_over_files_in_memory(rt: HostRuntime) -> Result<(), Fail> {
             shown(&answered.printed)
         );
         assert!(rt; shown(&err) == *told, "{line}: {}", shown(&err));
+    }
+    Ok(())
+}
+
+// A command line that unpacks, the exit status, a path, and the bytes of the new file there: an empty
+// text if there is none.
+const UNPACKS: [(&str, u8, &str, &str); 8] = [
+    ("uimg unpack -C out fit", 0, "out/kernel", "abc"),
+    (
+        "uimg unpack -C out --need sha256 fit",
+        0,
+        "out/kernel",
+        "abc",
+    ),
+    ("uimg unpack -C out fit", 0, "out/.uimg-new1/new-0", ""),
+    ("uimg unpack -C out --only kernel fit", 0, "out/kernel", "abc"),
+    ("uimg unpack -C out bad", 1, "out/kernel", ""),
+    ("uimg unpack -C out abc", 0, "out/image-0", "abc"),
+    ("uimg unpack -C out data", 1, "out/image-0", ""),
+    ("uimg unpack -C out none", 3, "out/image-0", ""),
+];
+
+#[test]
+fn images_unpacked_in_memory(rt: HostRuntime) -> Result<(), Fail> {
+    let fit = four_hash_fit(rt.alloc())?;
+    let mut bad = four_hash_fit(rt.alloc())?;
+    set_cell(&mut bad, 168, 0);
+    let files: [(&[u8], &[u8]); 4] = [
+        (b"abc", &ABC_KERNEL),
+        (b"data", b"abc"),
+        (b"fit", &fit),
+        (b"bad", &bad),
+    ];
+    for (line, status, path, bytes) in &UNPACKS {
+        let mut words = Vec::new(rt.alloc());
+        for word in line.split(' ') {
+            words.push(word)?;
+        }
+        let mut err = Vec::new(rt.alloc());
+        let answered = answer_in_memory(rt.alloc(), &words, None, 1700000000, &files, &mut err);
+        assert!(rt; answered.status == *status, "{line}: {}", answered.status);
+        let found = answered.new_files.bytes_at(path).unwrap_or(b"");
+        assert!(rt; found == bytes.as_bytes(), "{line}: {path}");
     }
     Ok(())
 }

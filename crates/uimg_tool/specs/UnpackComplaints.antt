@@ -1,0 +1,67 @@
+-- What an unpacking tells on standard error, over the files of a world.
+use Rattle.std.specs.Prelude.{◌≡◌, ⊤, ◌⊎◌, ℕ, List, codes, Bool, true, false, Option, Some, None, if◌then◌else◌}
+use Rattle.std.specs.Borrow.{Bor}
+use Rattle.uimg_base.specs.Named.{FileMap}
+use Rattle.uimg_cli.specs.declared.command_line.unpack.UnpackRequest.{UnpackRequest}
+use Rattle.uimg_engine.specs.{FaultTexts.text_of, Headline.is_fit}
+use Rattle.uimg_requests.specs.declared.command.Form.TheVariants as form
+use Rattle.uimg_tool.specs.{Complaints.ComplainsBetween, EndingStatuses.ending_status, Statuses.is_of_command, UnpackEnds.{end_of, end_of_parts}, Unpackings.unpacking_of}
+use Rattle.uimg_tool.specs.declared.complaints.Complaints.{Complaints}
+use Rattle.uimg_tool.specs.declared.unpack_answers.Ending.{Ending}
+use Rattle.uimg_tool.specs.declared.unpack_answers.Ending.TheVariants as ending
+use Rattle.uimg_unpacking.specs.Ends.{EndsByFile}
+use Rattle.uimg_unpacking.specs.declared.part_unpacking.PartsEnded.{PartsEnded}
+use Rattle.uimg_unpacking.specs.declared.unpacking.Ended.{Ended}
+use Rattle.uimg_unpacking.specs.declared.unpacking.Unpacking.{Unpacking}
+
+-- How the unpacking of a file can end: for a FIT image, unless something fails, as the definition says.
+abbrev pub EndsIn : Bool → Unpacking → List ℕ → Ending → Type 0
+EndsIn true asked file end = (ended : Ended) × (end ≡ end_of ended) × EndsByFile asked file ended
+EndsIn false asked file end = (ended : PartsEnded) × (end ≡ end_of_parts ended)
+
+-- Or a read of it failed.
+abbrev pub EndsOver : Unpacking → List ℕ → Ending → Type 0
+EndsOver asked file end = (ending_status end ≡ 3) ⊎ EndsIn (is_fit form.Guess file) asked file end
+
+-- the same of the file at a path, which can be opened or not
+abbrev pub EndsAt : FileMap → Unpacking → List ℕ → Ending → Type 0
+EndsAt files asked path end =
+    (ending_status end ≡ 3) ⊎ ((file : List ℕ) × (files.bytes path ≡ Some file) × EndsIn (is_fit form.Guess file) asked file end)
+
+-- What is told of an end: a fault, or a trouble, whose text is not defined. What was unpacked or is refused
+-- or weak has its lines on standard output.
+abbrev pub told_of_ending : Ending → Option (Option (List ℕ))
+told_of_ending (ending.Told status) = None
+told_of_ending ending.Unread = Some None
+told_of_ending ending.Weak = None
+told_of_ending ending.NoImage = Some (Some (codes "no image has a hash, as there is none"))
+told_of_ending (ending.Stopped fault) = Some (Some (text_of fault))
+told_of_ending (ending.Troubled trouble) = Some None
+
+-- For JSON, objects on standard output have all of it but some troubles.
+abbrev pub told_beside_object : Ending → Option (Option (List ℕ))
+told_beside_object (ending.Troubled trouble) = if is_of_command trouble then Some None else None
+told_beside_object end = None
+
+abbrev pub told_of_unpacking : Bool → Ending → Option (Option (List ℕ))
+told_of_unpacking true end = told_beside_object end
+told_of_unpacking false end = told_of_ending end
+
+-- What is told is that of the end of the file's unpacking, and without JSON the status is that of it, too.
+pub record ComplainsUnpacked {V : Type 0} (contents : V → Option (List ℕ)) (asked : UnpackRequest) (path : Bor (List ℕ))
+    (file : List ℕ) (status : ℕ) (old new : Complaints V) : Type 0 where
+  pub end : Ending
+  pub ends : EndsIn (is_fit form.Guess file) (unpacking_of asked None path) file end
+  pub is : asked.as_json ≡ false → status ≡ ending_status end
+  pub told : ComplainsBetween contents (told_of_unpacking asked.as_json end) old new
+
+-- the same of the image of a request; without one nothing is told
+abbrev pub ComplainsImage : {V : Type 0} → (V → Option (List ℕ)) → FileMap → UnpackRequest → Option (Bor (List ℕ)) → ℕ → (old new : Complaints V) → Type 0
+ComplainsImage contents files asked None status old new = ComplainsBetween contents None old new
+ComplainsImage contents files asked (Some path) status old new = (status ≡ 3)
+    ⊎ ((file : List ℕ) × (files.bytes path.now ≡ Some file) × ComplainsUnpacked contents asked path file status old new)
+
+-- Where the folder is cleaned before, this is not said.
+abbrev pub ComplainsUnpack : {V : Type 0} → (V → Option (List ℕ)) → FileMap → UnpackRequest → ℕ → (old new : Complaints V) → Type 0
+ComplainsUnpack contents files asked status old new =
+    asked.cleans ≡ false → ComplainsImage contents files asked asked.image status old new

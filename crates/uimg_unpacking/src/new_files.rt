@@ -1,0 +1,199 @@
+//! Files and folders that are made in memory.
+
+ghost use Rattle.std.specs.Prelude.{◌≡◌, List, ℕ, None, Some, OnOk, OnErr, IfOk, IfErr};
+ghost use Rattle.std.specs.Option.{option_map};
+ghost use Rattle.uimg_unpacking.specs.Made.{MadeBut, MovesMade, bytes_made, kind_made, made_at};
+
+use crate::kind::Kind;
+use std::alloc::Global;
+use std::collections::BTreeMap;
+use std::io;
+use std::io::ErrorKind;
+
+/// Files and folders by their paths. The folders above a path need not exist.
+#[derive(Drop)]
+pub struct NewFiles {
+    alloc: Global,
+    // The bytes of a file; a folder has none.
+    made: BTreeMap<String, Option<Vec<u8>>>,
+    // Whether memory for them was refused. Then no call changes them.
+    is_lost: bool,
+}
+
+impl NewFiles {
+    /// Returns that nothing was made.
+    pub fn new(alloc: Global) -> NewFiles
+        ensures { (path : List ℕ) → made_at result.made path ≡ None }
+    {
+        NewFiles {
+            alloc,
+            made: BTreeMap::new(alloc),
+            is_lost: false,
+        }
+    }
+
+    /// Returns the bytes of the file at a path, if there is one.
+    pub fn bytes_at(&self, path: &str) -> Option<&[u8]>
+        ensures { option_map (λ bytes. bytes.now) result ≡ bytes_made (made_at self.now.made path.now) }
+    {
+        match self.made.get(path) {
+            Some(Some(bytes)) => Some(bytes.as_slice()),
+            Some(None) => None,
+            None => None,
+        }
+    }
+
+    /// Returns what is at a path.
+    pub(crate) fn kind_at(&self, path: &str) -> Kind
+        ensures { result ≡ kind_made (made_at self.now.made path.now) }
+    {
+        match self.made.get(path) {
+            Some(Some(_)) => Kind::File,
+            Some(None) => Kind::Folder,
+            None => Kind::Nothing,
+        }
+    }
+
+    /// Returns the same files and folders, if there is memory for them.
+    pub(crate) fn copied(&self) -> NewFiles {
+        match self.made.clone() {
+            Ok(made) => NewFiles {
+                alloc: self.alloc,
+                made,
+                is_lost: self.is_lost,
+            },
+            Err(_) => NewFiles {
+                alloc: self.alloc,
+                made: BTreeMap::new(self.alloc),
+                is_lost: true,
+            },
+        }
+    }
+
+    /// Puts a file of these bytes, or a folder, at a path where nothing is.
+    pub(crate) fn make(&mut self, path: &str, bytes: Option<&[u8]>) -> io::Result<()>
+        ensures done { OnOk result (MadeBut self.old.made self.new.made path.now
+            (Some (option_map (λ bytes. bytes.now) bytes.entry))) }
+        ensures free { OnOk result (made_at self.old.made path.now ≡ None) }
+    {
+        if self.kind_at(path).is_something() {
+            return Err(io::Error::from(ErrorKind::AlreadyExists));
+        }
+        self.put(path, bytes)
+    }
+
+    /// Puts a file of these bytes, or a folder, at a path.
+    pub(crate) fn put(&mut self, path: &str, bytes: Option<&[u8]>) -> io::Result<()>
+        ensures done { OnOk result (MadeBut self.old.made self.new.made path.now
+            (Some (option_map (λ bytes. bytes.now) bytes.entry))) }
+    {
+        if self.is_lost {
+            return Err(io::Error::from(ErrorKind::OutOfMemory));
+        }
+        let path = String::from_str(self.alloc, path)?;
+        let found = found_of(self.alloc, bytes)?;
+        self.made.insert(path, found)?;
+        Ok(())
+    }
+
+    /// Gives a file a second path, where nothing is.
+    pub(crate) fn hard_link(&mut self, from: &str, to: &str) -> io::Result<()>
+        ensures done { OnOk result (MadeBut self.old.made self.new.made to.now (made_at self.old.made from.now)) }
+    {
+        let bytes = self.copy_at(from)?;
+        self.make(to, Some(&bytes))
+    }
+
+    /// Moves a file to another path, over the file that is there.
+    pub(crate) fn rename(&mut self, from: &str, to: &str) -> io::Result<()>
+        ensures done { OnOk result (MovesMade self.old.made self.new.made from.now to.now) }
+    {
+        if from == to {
+            return Err(io::Error::from(ErrorKind::InvalidInput));
+        }
+        let bytes = self.copy_at(from)?;
+        self.put(to, Some(&bytes))?;
+        self.forget(from);
+        Ok(())
+    }
+
+    /// Removes a file.
+    pub(crate) fn remove_file(&mut self, path: &str) -> io::Result<()>
+        ensures done { OnOk result (MadeBut self.old.made self.new.made path.now None) }
+    {
+        self.remove(path, Kind::File)
+    }
+
+    /// Removes a folder in which nothing is.
+    pub(crate) fn remove_dir(&mut self, path: &str) -> io::Result<()>
+        ensures done { OnOk result (MadeBut self.old.made self.new.made path.now None) }
+    {
+        if self.has_within(path) {
+            return Err(io::Error::from(ErrorKind::DirectoryNotEmpty));
+        }
+        self.remove(path, Kind::Folder)
+    }
+
+    // Removes what is at a path, if it is of this kind.
+    fn remove(&mut self, path: &str, kind: Kind) -> io::Result<()>
+        ensures done { OnOk result (MadeBut self.old.made self.new.made path.now None) }
+    {
+        if self.is_lost || self.kind_at(path) != kind {
+            return Err(io::Error::from(ErrorKind::NotFound));
+        }
+        self.forget(path);
+        Ok(())
+    }
+
+    // Removes what is at a path.
+    fn forget(&mut self, path: &str)
+        ensures { MadeBut self.old.made self.new.made path.now None }
+    {
+        self.made.remove(path);
+    }
+
+    // Returns whether something is in a folder.
+    fn has_within(&self, folder: &str) -> bool {
+        self.made
+            .keys()
+            .any(|path| is_within(folder, path.as_str()))
+    }
+
+    // Returns a copy of the bytes of the file at a path.
+    fn copy_at(&self, path: &str) -> io::Result<Vec<u8>>
+        ensures { IfOk result (λ bytes. made_at self.now.made path.now ≡ Some (Some bytes.items)) }
+    {
+        match self.bytes_at(path) {
+            Some(bytes) => Ok(copy_of(self.alloc, bytes)?),
+            None => Err(io::Error::from(ErrorKind::NotFound)),
+        }
+    }
+}
+
+// Returns whether a path is in a folder.
+fn is_within(folder: &str, path: &str) -> bool {
+    match path.strip_prefix(folder) {
+        Some(rest) => rest.starts_with('/'),
+        None => false,
+    }
+}
+
+// Returns what is at the path of a file of these bytes, or of a folder.
+fn found_of(alloc: Global, bytes: Option<&[u8]>) -> io::Result<Option<Vec<u8>>>
+    ensures { IfOk result (λ found. option_map (λ copy. copy.items) found
+        ≡ option_map (λ bytes. bytes.now) bytes.entry) }
+{
+    match bytes {
+        Some(bytes) => Ok(Some(copy_of(alloc, bytes)?)),
+        None => Ok(None),
+    }
+}
+
+// Returns a copy of bytes.
+fn copy_of(alloc: Global, bytes: &[u8]) -> io::Result<Vec<u8>>
+    ensures { IfOk result (λ copy. copy.items ≡ bytes.now) }
+{
+    let mut copy = Vec::new(alloc);
+    copy.extend_from_slice(bytes)?;
+    Ok(copy)
+}
