@@ -17,5 +17,6 @@ pub mod RunLaws
 pub mod SearchedLaws
 pub mod StrictLaws
 pub mod UnpackLaws
+pub mod UnpackTells
 pub mod VerdictLaws
 pub mod WritingLaws

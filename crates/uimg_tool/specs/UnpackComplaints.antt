@@ -47,19 +47,19 @@ abbrev pub told_of_unpacking : Bool → Ending → Option (Option (List ℕ))
 told_of_unpacking true end = told_beside_object end
 told_of_unpacking false end = told_of_ending end
 
--- What is told is that of the end of the file's unpacking, and without JSON the status is that of it, too.
-pub record ComplainsUnpacked {V : Type 0} (contents : V → Option (List ℕ)) (asked : UnpackRequest) (path : Bor (List ℕ))
-    (file : List ℕ) (status : ℕ) (old new : Complaints V) : Type 0 where
+-- What is told is that of how the unpacking of the file at a path ended. Without JSON the status is that of it, too.
+pub record ComplainsUnpacked {V : Type 0} (contents : V → Option (List ℕ)) (files : FileMap) (asked : UnpackRequest)
+    (path : Bor (List ℕ)) (status : ℕ) (old new : Complaints V) : Type 0 where
   pub end : Ending
-  pub ends : EndsIn (is_fit form.Guess file) (unpacking_of asked None path) file end
+  pub ends : EndsAt files (unpacking_of asked None path) path.now end
   pub is : asked.as_json ≡ false → status ≡ ending_status end
   pub told : ComplainsBetween contents (told_of_unpacking asked.as_json end) old new
 
--- the same of the image of a request; without one nothing is told
+-- the same of the image of a request, unless the status is 3; without an image nothing is told
 abbrev pub ComplainsImage : {V : Type 0} → (V → Option (List ℕ)) → FileMap → UnpackRequest → Option (Bor (List ℕ)) → ℕ → (old new : Complaints V) → Type 0
 ComplainsImage contents files asked None status old new = ComplainsBetween contents None old new
-ComplainsImage contents files asked (Some path) status old new = (status ≡ 3)
-    ⊎ ((file : List ℕ) × (files.bytes path.now ≡ Some file) × ComplainsUnpacked contents asked path file status old new)
+ComplainsImage contents files asked (Some path) status old new =
+    (status ≡ 3) ⊎ ComplainsUnpacked contents files asked path status old new
 
 -- Where the folder is cleaned before, this is not said.
 abbrev pub ComplainsUnpack : {V : Type 0} → (V → Option (List ℕ)) → FileMap → UnpackRequest → ℕ → (old new : Complaints V) → Type 0

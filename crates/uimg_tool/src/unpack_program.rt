@@ -1,6 +1,6 @@
 //! Unpacks an image.
 
-ghost use Rattle.std.specs.Prelude.{◌≡◌, ◌⊎◌, IsTrue, None, Some, true, false};
+ghost use Rattle.std.specs.Prelude.{◌≡◌, ◌⊎◌, IsTrue, None, OnErr, Some, true, false};
 ghost use Rattle.uimg_base.specs.Honest.{IfHonest};
 ghost use Rattle.uimg_tool.specs.{Complaining.ComplainsNot, Complaints.{Complains, Ends}, EndingStatuses.HasEndingStatus, Statuses.{is_of_command, trouble_status}};
 ghost use Rattle.uimg_tool.specs.UnpackComplaints.{ComplainsImage, ComplainsUnpack, EndsAt, EndsOver, told_of_unpacking};
@@ -59,6 +59,7 @@ fn clean_if<D: World, W: Write>(
         (D.trace world.new) }
     ensures kept { request.now.cleans ≡ false → D.map world.new ≡ D.map world.old }
     ensures unasked { request.now.cleans ≡ false → D.trace world.new ≡ D.trace world.old }
+    ensures done { OnErr result (request.now.cleans ≡ true) }
 {
     if request.cleans {
         return folder_of(request, None).clean(world, request.image, out);

@@ -3,7 +3,7 @@ use Rattle.uimg_base.specs.Named.{Opens}
 use Rattle.uimg_tool.specs.Unpackings.{HoldsPayloads, IsRight, unpacking_of}
 use Rattle.uimg_unpacking.specs.declared.unpacking.Unpacking.{Unpacking}
 use Rattle.uimg_unpacking.specs.Deeds.{Identifies, Opens as Opened}
-use Rattle.uimg_tool.proofs.UnpackLaws.{right_at}
+use Rattle.uimg_tool.proofs.{UnpackLaws.right_at, UnpackTells.ended_at}
 use Rattle.uimg_tool.proofs.unpack_program.unpack_at.Goals as goal
 
 -- the image was opened, and is honest; then it was unpacked as requested
@@ -22,3 +22,16 @@ returns-clause-done g c = λ honest told.
     subst (λ (a : Unpacking). HoldsPayloads a device.bytes middle after) asked
     (c.unpack_source-else-request.ensures.holds (opened.honest honest) (g.D.World.known c.args.world.now honest) told) in
     (device.bytes, opened.bytes honest, right_at c.args.request.now c.args.path c.file_at.result device.bytes (g.D.World.trace c.args.world.now) middle after looked c.unpack_source-else-request.ensures.later right holds)
+
+-- so its end is that of the file at the path
+pub returns-then-request-clause-ended : goal.returns-then-request-clause-ended
+returns-then-request-clause-ended g c = λ honest.
+    let opened : Opens (g.D.World.map c.args.world.now) c.args.path.now (g.D.Opened.Source.device c.in-Ok.source) = c.in-Ok.ensures.opened in
+    ended_at (g.D.World.map c.args.world.now) c.args.request.now c.args.path c.file_at.result (g.D.Opened.Source.device c.in-Ok.source).bytes c.unpacking_of-asked.result c.unpack_source.result
+    c.unpacking_of-asked.ensures (opened.bytes honest) (c.unpack_source.ensures.ended (opened.honest honest))
+
+pub returns-clause-ended : goal.returns-clause-ended
+returns-clause-ended g c = λ honest.
+    let opened : Opens (g.D.World.map c.args.world.now) c.args.path.now (g.D.Opened.Source.device c.in-Ok.source) = c.in-Ok.ensures.opened in
+    ended_at (g.D.World.map c.args.world.now) c.args.request.now c.args.path c.file_at.result (g.D.Opened.Source.device c.in-Ok.source).bytes c.unpacking_of-asked.result c.unpack_source-else-request.result
+    c.unpacking_of-asked.ensures (opened.bytes honest) (c.unpack_source-else-request.ensures.ended (opened.honest honest))

@@ -1,0 +1,6 @@
+use Rattle.std.proofs.Common.{sym, ◌∙◌, true≢false}
+use Rattle.uimg_tool.proofs.unpack_program.unpack_image.Goals as goal
+
+-- a folder that is not cleaned is no trouble
+pub returns-in-Err-default-clause-line : goal.returns-in-Err-default-clause-line
+returns-in-Err-default-clause-line g c = λ honest kept. absurd (true≢false (sym c.in-Err-default.ensures.done ∙ kept))
