@@ -7,7 +7,9 @@ pub mod EndLaws
 pub mod FillingLaws
 pub mod NameLaws
 pub mod NamingLaws
+pub mod NumberLaws
 pub mod PartChanges
+pub mod PartFillingLaws
 pub mod PartLaws
 pub mod Placing
 pub mod Printed

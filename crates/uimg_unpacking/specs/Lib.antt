@@ -14,6 +14,7 @@ pub mod Naming
 pub mod NamingAll
 pub mod Objects
 pub mod PartEnds
+pub mod PartFilling
 pub mod Places
 pub mod Plan
 pub mod Refusals
