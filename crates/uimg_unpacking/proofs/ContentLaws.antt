@@ -1,5 +1,5 @@
 -- What files hold after they got their names.
-use Rattle.std.proofs.Common.{◌≡◌, ℕ, suc, zero, ◌+◌, ◌^◌, ◌<◌, List, [], ◌∷◌, ◌++◌, map, length, drop, codes, decimal, string_bytes, bytes_eq, slice_get, Bool, true, false, ◌&&◌, ◌||◌, ◌==◌, if◌then◌else◌, not, Option, Some, None, refl, ap, ap₂, sym, subst, ◌∙◌, true≢false, arith, get_or, nat_lt}
+use Rattle.std.proofs.Common.{◌≡◌, ℕ, suc, zero, ◌+◌, ◌^◌, ◌<◌, List, [], ◌∷◌, ◌++◌, length, drop, codes, decimal, string_bytes, bytes_eq, slice_get, Bool, true, false, ◌&&◌, ◌||◌, ◌==◌, if◌then◌else◌, not, Option, Some, None, refl, ap, ap₂, sym, subst, ◌∙◌, true≢false, arith, get_or, nat_lt}
 use Rattle.std.specs.Bool.{⊤}
 use Rattle.std.specs.Cmp.{unsigned_Decides}
 use mathlib.Core.List.{append_assoc}
@@ -9,7 +9,7 @@ use Rattle.std.proofs.lemmas.Bool.{and_parts, lt-ltb, ltb-true}
 use Rattle.std.proofs.lemmas.Slice.Eq.{bytes_eq-Decides}
 use Rattle.std.proofs.lemmas.Fmt.{decimal_injective}
 use Rattle.uimg_unpacking.specs.Allowing.{Allows, is_the_image, is_looked_at, Refused}
-use Rattle.uimg_unpacking.specs.Contents.{at, held, is_in, differ, HoldsAs}
+use Rattle.uimg_unpacking.specs.Contents.{at, held, held_in, is_in, differ, HoldsAs}
 use Rattle.uimg_unpacking.specs.Deeds.{Answer, Done, Exists, Failed, Deed, Creates, Closes, Links, Renames, Removes, Looks}
 use Rattle.uimg_unpacking.specs.FileNames.{is_file_name}
 use Rattle.uimg_unpacking.specs.Naming.{is_done, GivesName, over, linked, exists, taken, moved, KeepsAs, linked_too, moved_away, NamesOver, nothing_there, not_kept, replaced, Names, no_memory, refused, anew, over_it}
@@ -279,15 +279,11 @@ named_rest folder made n (its ∷ files) before after name all numbered names is
     (temporary_other at (string_bytes its.old) (at ++ codes "/" ++ name) (begun_old at its h.0) own)
     whole
 
--- what the files of a folder hold
-abbrev pub held_named : List ℕ → List Deed → List (List ℕ) → List (Option (List ℕ))
-held_named folder calls = map (λ name. held calls (folder ++ codes "/" ++ name))
-
 -- files that got their names hold there what they held before
 pub named_all : (folder : Folder) (made : List ℕ) (n : ℕ) (files : List Begun) (before after : List Deed)
     → list_all (is_begun_in folder.path.now) files ≡ true → Numbered made n files → differ (names_of files) ≡ true
     → NamesFiles folder files (length files) true before after
-    → held_named folder.path.now after (names_of files) ≡ held_new before files
+    → held_in folder.path.now after (names_of files) ≡ held_new before files
 named_all folder made n [] before after all numbered apart names = refl
 named_all folder made n (its ∷ files) before after all numbered apart-names names =
     let at = folder.path.now in

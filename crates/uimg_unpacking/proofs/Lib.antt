@@ -8,7 +8,9 @@ pub mod FillingLaws
 pub mod MadeLaws
 pub mod NameLaws
 pub mod NamingLaws
+pub mod NumberLaws
 pub mod PartChanges
+pub mod PartFillingLaws
 pub mod PartLaws
 pub mod Placing
 pub mod Printed

@@ -11,19 +11,19 @@ use Rattle.std.proofs.lemmas.List.Folds.{list_all-append}
 use Rattle.std.proofs.lemmas.Slice.Eq.{bytes_eq-Decides}
 use Rattle.uimg_unpacking.specs.Allowing.{Allows, is_the_image, is_looked_at, Refused}
 use Rattle.uimg_unpacking.specs.Clearing.{RemovesEach, RemovesMade, Clears}
-use Rattle.uimg_unpacking.specs.Contents.{held, is_in, differ, HoldsAs}
+use Rattle.uimg_unpacking.specs.Contents.{held, held_in, is_in, differ, HoldsAs}
 use Rattle.uimg_unpacking.specs.Deeds.{Answer, Done, Exists, Failed, Deed, Creates, Closes, Removes, MakesFolder}
 use Rattle.uimg_unpacking.specs.FileNames.{is_file_name}
 use Rattle.uimg_unpacking.specs.Naming.{is_done, RemovesOld, not_forced, nothing_old, removed_old}
 use Rattle.uimg_unpacking.specs.NamingAll.{NamesFiles, SyncsNames, not_needed, waited, ForgetsOld, NamesAll, all_named, not_named, not_synced, NamesComplete, complete as all_complete, without_last as all_but_last, not_dropped}
 use Rattle.uimg_unpacking.specs.Places.{is_file_of, is_temporary_file, is_begun_in}
 use Rattle.uimg_unpacking.specs.Refusals.{DropsLast, no_file, dropped}
-use Rattle.uimg_unpacking.specs.Staged.{are_numbered, are_numbered_in, without_last, complete, held_new, staged, names_of, with_name, Completes, Drops, none_gone, last_gone, last_noted, uses_names, LeavesOthers}
+use Rattle.uimg_unpacking.specs.Staged.{are_numbered, are_numbered_in, without_last, complete, complete_names, held_new, staged, names_of, with_name, Completes, Drops, none_gone, last_gone, last_noted, uses_names, LeavesOthers}
 use Rattle.uimg_unpacking.specs.declared.begun.Begun.{Begun}
 use Rattle.uimg_unpacking.specs.declared.file_id.FileId.{FileId}
 use Rattle.uimg_unpacking.specs.declared.folder.Folder.{Folder}
 use Rattle.uimg_unpacking.specs.declared.trouble.Trouble.{Trouble}
-use Rattle.uimg_unpacking.proofs.ContentLaws.{HasPaths, Numbered, all_numbered, numbers_told, differs, never, flipped, removes_other, creates_other, closes_other, closes_it, temporary_other, two_new, named_all, held_named, cancel, not_or}
+use Rattle.uimg_unpacking.proofs.ContentLaws.{HasPaths, Numbered, all_numbered, numbers_told, differs, never, flipped, removes_other, creates_other, closes_other, closes_it, temporary_other, two_new, named_all, cancel, not_or}
 use Rattle.uimg_unpacking.proofs.Placing.{begun_new, begun_old, begun_named, begun_path, begun_whole, own_in}
 
 both : (a b : Bool) → a ≡ true → b ≡ true → (a && b) ≡ true
@@ -201,7 +201,7 @@ old_paths folder (its ∷ files) all =
     both _ _ (begun_old folder its h.0) (old_paths folder files h.1)
 
 -- the files hold at their names what they held
-pub held_by_names : (folder : List ℕ) (names : List (List ℕ)) (before after : List Deed) → list_all is_file_name names ≡ true → ((p : List ℕ) → is_file_of folder p ≡ true → held after p ≡ held before p) → held_named folder after names ≡ held_named folder before names
+pub held_by_names : (folder : List ℕ) (names : List (List ℕ)) (before after : List Deed) → list_all is_file_name names ≡ true → ((p : List ℕ) → is_file_of folder p ≡ true → held after p ≡ held before p) → held_in folder after names ≡ held_in folder before names
 held_by_names folder [] before after all leaves = refl
 held_by_names folder (name ∷ names) before after all leaves =
     let h = and_parts (is_file_name name) (list_all is_file_name names) all in
@@ -215,13 +215,13 @@ are_names folder (its ∷ files) all =
 
 -- all files that got their names hold there what they held
 all_held : (folder : Folder) (made : Option (List ℕ)) (files : List Begun) (before after : List Deed) → list_all (is_begun_in folder.path.now) files ≡ true → NumberedIn made files → differ (names_of files) ≡ true
-    → NamesFiles folder files (length files) true before after → held_named folder.path.now after (names_of files) ≡ held_new before files
+    → NamesFiles folder files (length files) true before after → held_in folder.path.now after (names_of files) ≡ held_new before files
 all_held folder None files before after all numbered unlike names =
-    subst (λ (fs : List Begun). held_named folder.path.now after (names_of fs) ≡ held_new before fs) (sym numbered) refl
+    subst (λ (fs : List Begun). held_in folder.path.now after (names_of fs) ≡ held_new before fs) (sym numbered) refl
 all_held folder (Some made) files before after all numbered unlike names = named_all folder made 0 files before after all numbered unlike names
 
 pub all_hold : (folder : Folder) (made : Option (List ℕ)) (files : List Begun) (before after : List Deed) → list_all (is_begun_in folder.path.now) files ≡ true → NumberedIn made files → differ (names_of files) ≡ true
-    → NamesAll folder files true before after → held_named folder.path.now after (names_of files) ≡ held_new before files
+    → NamesAll folder files true before after → held_in folder.path.now after (names_of files) ≡ held_new before files
 all_hold folder made files before after all numbered unlike (all_named seen synced e names syncs forgets) =
     let at = folder.path.now in
     held_by_names at (names_of files) synced after (are_names at files all) (λ p own. each_rest at (map (λ its. string_bytes its.old) files) synced after p (old_paths at files all) own forgets)
@@ -252,8 +252,8 @@ without : (p : Begun → Bool) (left : List Begun) (its : Begun) → list_all p 
 without p left its all = (and_parts (list_all p left) (list_all p (its ∷ [])) (sym (list_all-append p left (its ∷ [])) ∙ all)).0
 
 -- The same of the files that are complete: their names, and that they hold there what they held.
-pub complete_hold : (folder : Folder) (made : Option (List ℕ)) (files : List Begun) (is_writing : Bool) (before after : List Deed) → list_all (is_begun_in folder.path.now) files ≡ true → NumberedIn made files → differ (names_of files) ≡ true
-    → NamesComplete folder files is_writing true before after → held_named folder.path.now after (names_of (complete files is_writing)) ≡ staged before files is_writing
+pub complete_hold : (folder : Folder) (made : Option (List ℕ)) (files : List Begun) (is_writing : Bool) (before after : List Deed) → list_all (is_begun_in folder.path.now) files ≡ true → NumberedIn made files → differ (complete_names files is_writing) ≡ true
+    → NamesComplete folder files is_writing true before after → held_in folder.path.now after (complete_names files is_writing) ≡ staged before files is_writing
 complete_hold folder made files false before after all numbered unlike (all_complete e names) = all_hold folder made files before after all numbered unlike names
 complete_hold folder made files true before after all numbered unlike (all_complete e names) = absurd (true≢false e)
 complete_hold folder made files false before after all numbered unlike (all_but_last left seen e drops names) = absurd (true≢false (sym e))
@@ -261,9 +261,9 @@ complete_hold folder made files true before after all numbered unlike (all_but_l
 complete_hold folder made files true before after all numbered unlike (all_but_last left seen e (dropped its answer are done is) names) =
     let at = folder.path.now in
     let front : without_last files ≡ left = ap without_last are ∙ front_of left its in
-    ap (λ (fs : List Begun). held_named at after (names_of fs)) front
+    ap (λ (fs : List Begun). held_in at after (names_of fs)) front
     ∙ all_hold folder made left seen after (without (is_begun_in at) left its (ap (list_all (is_begun_in at)) (sym are) ∙ all)) (front_in made files left its are numbered)
-    (front_differs (names_of left) (string_bytes its.name) (ap differ (sym (names-append left its)) ∙ ap (λ (fs : List Begun). differ (names_of fs)) (sym are) ∙ unlike)) names
+    (ap (λ (fs : List Begun). differ (names_of fs)) (sym front) ∙ unlike) names
     ∙ removed_same made files left its answer before seen are numbered is
 complete_hold folder made files is_writing before after all numbered unlike (not_dropped left e f drops) = absurd (true≢false f)
 
@@ -405,7 +405,7 @@ old_leaves folder forced its name before after begun other removes =
     (differs (string_bytes its.whole) (folder ++ codes "/" ++ name)
     (λ e. never name (string_bytes its.name) (not_eq _ other) (sym (cancel (folder ++ codes "/") (string_bytes its.name) name (sym (begun_path folder its begun) ∙ e)))))
 
-held_by_others : (folder : List ℕ) (names others : List (List ℕ)) (before after : List Deed) → list_all is_file_name names ≡ true → list_all (λ name. not (is_in name others)) names ≡ true → LeavesOthers folder others before after → held_named folder after names ≡ held_named folder before names
+held_by_others : (folder : List ℕ) (names others : List (List ℕ)) (before after : List Deed) → list_all is_file_name names ≡ true → list_all (λ name. not (is_in name others)) names ≡ true → LeavesOthers folder others before after → held_in folder after names ≡ held_in folder before names
 held_by_others folder [] others before after all apart leaves = refl
 held_by_others folder (name ∷ names) others before after all apart leaves =
     let a = and_parts (is_file_name name) (list_all is_file_name names) all in
@@ -434,7 +434,7 @@ hold_named folder made files is_writing others used before seen after all number
       names = names_of some;
       are_names = named;
       apart = complete_unlike files is_writing uses.unlike;
-      hold = held_by_others at (names_of some) others seen after named apart leaves ∙ complete_hold folder made files is_writing before seen all numbered uses.unlike names;
+      hold = held_by_others at (names_of some) others seen after named apart leaves ∙ complete_hold folder made files is_writing before seen all numbered (complete_unlike files is_writing uses.unlike) names;
     }
 
 pub hold_cleared : (folder : List ℕ) (contents : List (Option (List ℕ))) (made : Option (List ℕ)) (paths : List (List ℕ)) (before after : List Deed) → list_all (is_temporary_file folder) paths ≡ true → Clears made paths before after → HoldsAs folder contents before → HoldsAs folder contents after
@@ -484,6 +484,9 @@ removed_staged made files left its answer before after are is removed = removed_
 pub added_staged : (calls : List Deed) (files now : List Begun) (its : Begun) → now ≡ files ++ its ∷ [] → staged calls now true ≡ staged calls files false
 added_staged calls files now its is = ap (held_new calls) (ap without_last is ∙ front_of files its)
 
+pub added_names : (files now : List Begun) (its : Begun) → now ≡ files ++ its ∷ [] → complete_names now true ≡ complete_names files false
+added_names files now its is = ap names_of (ap without_last is ∙ front_of files its)
+
 pub names_pushed : (files now : List Begun) (its : Begun) (is_pushed : Bool) → now ≡ (if is_pushed then files ++ its ∷ [] else files) → names_of now ≡ with_name is_pushed (names_of files) (string_bytes its.name)
 names_pushed files now its true is = ap names_of is ∙ names-append files its
 names_pushed files now its false is = ap names_of is
@@ -499,6 +502,11 @@ closed_staged made files left its is_synced contents before after are is closed 
 pub unclosed_staged : (made : Option (List ℕ)) (files left : List Begun) (its : Begun) (is_synced : Bool) (contents : Option (List ℕ)) (answer : Answer) (before after : List Deed) → files ≡ left ++ its ∷ [] → are_numbered_in made files ≡ true → after ≡ Closes (string_bytes its.new) is_synced contents answer ∷ before
     → staged after files true ≡ staged before files true
 unclosed_staged made files left its is_synced contents answer before after are is closed = closed_failed made files left its is_synced contents answer before after are (is_numbered made files is) closed
+
+-- the last one is complete, too
+pub closed_names : (files left : List Begun) (its : Begun) → files ≡ left ++ its ∷ [] → complete_names files false ≡ complete_names files true ++ string_bytes its.name ∷ []
+closed_names files left its are =
+    names_last files left its are ∙ ap (λ (l : List Begun). names_of l ++ string_bytes its.name ∷ []) (sym (ap without_last are ∙ front_of left its))
 
 -- the last of some files
 pub last_is : (files : List Begun) (its : Begun) → slice_get files (length files - 1) ≡ Some its → (left : List Begun) × (files ≡ left ++ its ∷ [])
@@ -522,6 +530,10 @@ pub dropped_staged : (made : Option (List ℕ)) (files left now : List Begun) (i
 dropped_staged made files left now is_writing its answer before middle after are is same removed now-left done =
     ap₂ (λ (fs : List Begun) (b : Bool). staged after fs b) now-left done
     ∙ removed_staged made files left its answer before after are is (removed ∙ ap (λ (t : List Deed). Removes (string_bytes its.new) answer ∷ t) same)
+
+pub dropped_names : (files left now : List Begun) (is_writing : Bool) (its : Begun) → files ≡ left ++ its ∷ [] → now ≡ left → is_writing ≡ false → complete_names now is_writing ≡ complete_names files true
+dropped_names files left now is_writing its are now-left done =
+    ap₂ complete_names now-left done ∙ ap names_of (sym (ap without_last are ∙ front_of left its))
 
 -- what is known stays known
 pub kept_known : (old new : Option (List ℕ)) (bytes : List ℕ) → Keeps old new → old ≡ Some bytes → new ≡ Some bytes

@@ -36,12 +36,16 @@ abbrev pub differ : List (List ℕ) → Bool
 differ [] = true
 differ (name ∷ names) = not (is_in name names) && differ names
 
+-- what the files of some names in a folder hold
+abbrev pub held_in : List ℕ → List Deed → List (List ℕ) → List (Option (List ℕ))
+held_in folder calls = map (λ name. held calls (folder ++ codes "/" ++ name))
+
 -- A folder has files of different names that hold this, one after another.
 pub record HoldsAs (folder : List ℕ) (contents : List (Option (List ℕ))) (calls : List Deed) : Type 0 where
   pub names : List (List ℕ)
   pub are_names : list_all is_file_name names ≡ true
   pub apart : differ names ≡ true
-  pub hold : map (λ name. held calls (folder ++ codes "/" ++ name)) names ≡ contents
+  pub hold : held_in folder calls names ≡ contents
 
 -- the same of files whose bytes are known
 abbrev pub Holds : List ℕ → List (List ℕ) → List Deed → Type 0

@@ -15,6 +15,7 @@ pub mod Naming
 pub mod NamingAll
 pub mod Objects
 pub mod PartEnds
+pub mod PartFilling
 pub mod Places
 pub mod Plan
 pub mod Refusals

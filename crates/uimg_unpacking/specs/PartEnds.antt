@@ -1,5 +1,5 @@
 -- What is read of a legacy image before its parts, and how its unpacking ends.
-use Rattle.std.specs.Prelude.{◌≡◌, ⊤, ℕ, ◌+◌, ◌*◌, nat_lt, ◌==◌, ◌&&◌, not, List, length, slice_index, take, drop, Bool, true, false, if◌then◌else◌, is_some, Option, Some, None, Result, Ok, Err}
+use Rattle.std.specs.Prelude.{◌≡◌, ⊤, ℕ, ◌+◌, ◌*◌, nat_lt, ◌==◌, ◌&&◌, not, List, length, slice_index, take, drop, Bool, true, false, if◌then◌else◌, Option, Some, None, Result, Ok, Err}
 use Rattle.std.specs.Char.{is_ascii_digit}
 use Rattle.std.specs.List.{list_all}
 use Rattle.std.specs.Int.{from_be_bytes, w32}
@@ -9,6 +9,7 @@ use Rattle.uimg_legacy.specs.Checking.{Checks}
 use Rattle.uimg_legacy.specs.Unpacking.{HasRightParts, unpack_of}
 use Rattle.uimg_legacy.specs.declared.fault.Fault.{Fault, TheVariants.{Legacy, Put}}
 use Rattle.uimg_legacy.specs.declared.fault.LegacyFault.TheVariants.{BadDataCrc}
+use Rattle.uimg_unpacking.specs.PartFilling.{Requests}
 use Rattle.uimg_unpacking.specs.declared.trouble.Trouble.{Trouble}
 use Rattle.uimg_unpacking.specs.declared.trouble.Trouble.TheVariants as of
 use Rattle.uimg_unpacking.specs.declared.unpacking.Unpacking.{Unpacking}
@@ -56,8 +57,8 @@ end_of_parts (Err Put) None = Troubled of.Put
 end_of_parts (Err fault) trouble = Stopped fault
 
 -- The parts are kept only if a CRC-32 is as strong as needed, the image has them, all of them if none is
--- requested by its name, and its data's CRC is right.
+-- requested by the name of its file, and its data's CRC is right.
 abbrev pub KeepsRight : Unpacking → List ℕ → PartsEnded → Type 0
 KeepsRight asked file Kept = (stands_by_crc32 asked.need ≡ true) × ((only : Option ℕ)
-    × (is_some only ≡ is_some asked.only) × HasRightParts (unpack_of only file))
+    × Requests asked.only only × HasRightParts (unpack_of only file))
 KeepsRight asked file _ = ⊤

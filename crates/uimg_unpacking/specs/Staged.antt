@@ -45,6 +45,10 @@ staged calls files is_writing = held_new calls (complete files is_writing)
 abbrev pub names_of : List Begun → List (List ℕ)
 names_of = map (λ its. string_bytes its.name)
 
+-- the names of those that are complete
+abbrev pub complete_names : List Begun → Bool → List (List ℕ)
+complete_names files is_writing = names_of (complete files is_writing)
+
 -- One name more, unless that failed.
 abbrev pub with_name : Bool → List (List ℕ) → List ℕ → List (List ℕ)
 with_name is_begun names name = if is_begun then names ++ name ∷ [] else names

@@ -1,10 +1,17 @@
 //! Writes the parts of a legacy image to a folder, with a line for each.
 
-ghost use Rattle.std.specs.Prelude.{◌≡◌, ◌++◌, ◌∷◌, [], IfOk, OnOk, string_bytes, true};
+ghost use Rattle.std.specs.Prelude.{◌≡◌, ◌++◌, ◌∷◌, ◌&&◌, ◌⊎◌, ℕ, List, Some, [], IfOk, IsTrue, OnErr, OnOk, bytes_eq, is_ok, nat_le, nat_lt, not, string_bytes, false, true};
+ghost use Rattle.std.specs.Io.Buffered.{writer_contents};
 ghost use Rattle.std.specs.Io.KnownBytes.{Appends};
+ghost use Rattle.std.specs.List.{list_all};
+ghost use Rattle.uimg_legacy.specs.Unpacking.{part_if};
+ghost use Rattle.uimg_unpacking.specs.Contents.{differ};
 ghost use Rattle.uimg_unpacking.specs.FileNames.{is_file_name};
 ghost use Rattle.uimg_unpacking.specs.Objects.{part_told, parts_told};
+ghost use Rattle.uimg_unpacking.specs.PartFilling.{held_parts, image_name, kept_parts, part_names, parts_in};
 ghost use Rattle.uimg_unpacking.specs.Places.{stays_within};
+ghost use Rattle.uimg_unpacking.specs.Refusals.{last_name};
+ghost use Rattle.uimg_unpacking.specs.Staged.{complete_names, names_of, staged, with_name};
 
 use crate::limits::Claimed;
 use crate::lines::Line;
@@ -28,8 +35,15 @@ pub(crate) struct PartFolder<'a, 'c, W: World, O: Write + Drop> {
     staging: Staging<'a, 'c, W>,
     // The number of each complete part, and its length in bytes.
     parts: Vec<(u32, u64)>,
+    // The least number that the next part may have.
+    next: u64,
+    // Whether the files have their names.
+    is_named: bool,
     claimed: Claimed,
     trouble: Option<Trouble>,
+    ghost names: { complete_names staging.files.items staging.is_writing ≡ part_names parts.items },
+    ghost below: { list_all (λ part. nat_lt part.0 next) parts.items ≡ true },
+    ghost apart: { differ (part_names parts.items) ≡ true },
 }
 
 impl<'a, 'c, W: World, O: Write + Drop> PartFolder<'a, 'c, W, O> {
@@ -43,7 +57,9 @@ impl<'a, 'c, W: World, O: Write + Drop> PartFolder<'a, 'c, W, O> {
         code: &'c ErrorCode,
     ) -> PartFolder<'a, 'c, W, O>
         requires { W.trace world ≡ [] }
-        ensures { result.staging.folder ≡ asked.now.folder }
+        ensures folder { result.staging.folder ≡ asked.now.folder }
+        ensures none { result.parts.items ≡ [] }
+        ensures unnamed { result.is_named ≡ false }
     {
         PartFolder {
             alloc,
@@ -51,6 +67,8 @@ impl<'a, 'c, W: World, O: Write + Drop> PartFolder<'a, 'c, W, O> {
             out,
             staging: Staging::new(world, alloc, asked.folder, code),
             parts: Vec::new(alloc),
+            next: 0,
+            is_named: false,
             claimed: Claimed::new(asked.limits),
             trouble: None,
         }
@@ -59,8 +77,11 @@ impl<'a, 'c, W: World, O: Write + Drop> PartFolder<'a, 'c, W, O> {
     /// Removes the files that did not get their names, and their folder. Returns the world, and the
     /// trouble, if it is known.
     pub(crate) fn end(self) -> (W, Option<Trouble>)
-        ensures { stays_within self.entry.staging.folder.path.now self.entry.staging.is_naming
-            (W.trace result.0) ≡ true }
+        ensures within { stays_within self.entry.staging.folder.path.now
+            self.entry.staging.is_naming (W.trace result.0) ≡ true }
+        ensures holds { parts_in self.entry.staging.folder.path.now (W.trace result.0)
+            self.entry.parts.items ≡ parts_in self.entry.staging.folder.path.now
+            (W.trace self.entry.staging.world) self.entry.parts.items }
     {
         let PartFolder {
             alloc: _alloc,
@@ -68,6 +89,8 @@ impl<'a, 'c, W: World, O: Write + Drop> PartFolder<'a, 'c, W, O> {
             out: _out,
             staging,
             parts: _parts,
+            next: _next,
+            is_named: _is_named,
             claimed: _claimed,
             trouble,
         } = self;
@@ -78,46 +101,118 @@ impl<'a, 'c, W: World, O: Write + Drop> PartFolder<'a, 'c, W, O> {
     // Returns the name of a part's file.
     #[tactic(auto, using(crate::proofs::Placing::image_name))]
     fn name_of(&self, number: u32) -> Result<String, Trouble>
-        ensures { IfOk result (λ name. is_file_name (string_bytes name) ≡ true) }
+        ensures named { IfOk result (λ name. string_bytes name ≡ image_name number) }
+        ensures is_name { IfOk result (λ name. is_file_name (string_bytes name) ≡ true) }
     {
         Ok(format!(in self.alloc; "image-{number}")?)
     }
 
     // Checks, before any part is written, whether the file of this one may be.
     fn look(&mut self, number: u32) -> Result<(), Trouble>
-        ensures { self.new.staging.folder ≡ self.old.staging.folder }
+        ensures folder { self.new.staging.folder ≡ self.old.staging.folder }
+        ensures held { ⟦<PartFolder<'a, 'c, W, O> as PartTaker>⟧.held self.new
+            ≡ ⟦<PartFolder<'a, 'c, W, O> as PartTaker>⟧.held self.old }
+        ensures kept { ⟦<PartFolder<'a, 'c, W, O> as PartTaker>⟧.kept self.new
+            ≡ ⟦<PartFolder<'a, 'c, W, O> as PartTaker>⟧.kept self.old }
     {
         self.claimed.claim(0)?;
         let name = self.name_of(number)?;
         self.staging.look(name.as_str())
     }
 
-    // Creates the file of a part, which gets its name later.
+    // Creates the file of a part, which gets its name later. Fails if the files have their names.
     fn begin(&mut self, number: u32) -> Result<NewFile<'c, W::File>, Trouble>
-        ensures { self.new.staging.folder ≡ self.old.staging.folder }
+        ensures folder { self.new.staging.folder ≡ self.old.staging.folder }
+        ensures name { names_of self.new.staging.files.items
+            ≡ with_name (is_ok result) (names_of self.old.staging.files.items) (image_name number) }
+        ensures held { ⟦<PartFolder<'a, 'c, W, O> as PartTaker>⟧.held self.new
+            ≡ ⟦<PartFolder<'a, 'c, W, O> as PartTaker>⟧.held self.old }
+        ensures kept { ⟦<PartFolder<'a, 'c, W, O> as PartTaker>⟧.kept self.new
+            ≡ ⟦<PartFolder<'a, 'c, W, O> as PartTaker>⟧.kept self.old }
+        ensures empty { IsTrue W.knows → IfOk result (λ new.
+            writer_contents W.File.contents new.file ≡ Some []) }
     {
+        if self.is_named {
+            return Err(Trouble::NoName);
+        }
         let name = self.name_of(number)?;
         self.staging.begin(name)
     }
 
-    // Completes the file of a part.
+    // Completes the file of a part. Fails if another one was begun, or if the files have their names.
     fn complete(&mut self, number: u32, file: NewFile<'c, W::File>) -> Result<(), Trouble>
         ensures folder { self.new.staging.folder ≡ self.old.staging.folder }
         ensures noted { OnOk result (self.new.parts.items
             ≡ self.old.parts.items ++ (number, file.entry.size) ∷ []) }
+        ensures held { IsTrue W.knows → (bytes : List ℕ) →
+            writer_contents W.File.contents file.entry.file ≡ Some bytes →
+            OnOk result (⟦<PartFolder<'a, 'c, W, O> as PartTaker>⟧.held self.new
+            ≡ ⟦<PartFolder<'a, 'c, W, O> as PartTaker>⟧.held self.old ++ part_if true number bytes) }
+        ensures kept { ⟦<PartFolder<'a, 'c, W, O> as PartTaker>⟧.kept self.new
+            ≡ ⟦<PartFolder<'a, 'c, W, O> as PartTaker>⟧.kept self.old }
     {
-        let size = self.staging.complete(file)?;
-        self.parts.push((number, size))?;
+        if !self.is_next(number)? {
+            return Err(Trouble::NoName);
+        }
+        let count = self.parts.len();
+        self.parts.push((number, file.size))?;
+        match self.staging.complete(file) {
+            Ok(_size) => {
+                self.next = number as u64 + 1;
+                Ok(())
+            }
+            Err(trouble) => {
+                self.parts.truncate(count);
+                Err(trouble)
+            }
+        }
+    }
+
+    // Returns whether the file that was begun last is that of a part which comes after all others,
+    // before files have their names.
+    fn is_next(&self, number: u32) -> Result<bool, Trouble>
+        ensures { IfOk result (λ is. is ≡ (not self.now.is_named && nat_le self.now.next number
+            && bytes_eq (last_name self.now.staging.files.items) (image_name number))) }
+    {
+        let name = self.name_of(number)?;
+        let is_next = !self.is_named && self.next <= number as u64;
+        Ok(is_next && self.staging.last_name() == name.as_str())
+    }
+
+    // Gives the files their names. Fails if they have them.
+    fn name_all(&mut self) -> Result<(), Trouble>
+        ensures folder { self.new.staging.folder ≡ self.old.staging.folder }
+        ensures parts { self.new.parts ≡ self.old.parts }
+        ensures same { self.new.json ≡ self.old.json × self.new.out ≡ self.old.out }
+        ensures kept { OnOk result (⟦<PartFolder<'a, 'c, W, O> as PartTaker>⟧.kept self.new
+            ≡ ⟦<PartFolder<'a, 'c, W, O> as PartTaker>⟧.kept self.old
+            ++ ⟦<PartFolder<'a, 'c, W, O> as PartTaker>⟧.held self.old) }
+        ensures unnamed { OnErr result (⟦<PartFolder<'a, 'c, W, O> as PartTaker>⟧.kept self.new
+            ≡ ⟦<PartFolder<'a, 'c, W, O> as PartTaker>⟧.kept self.old) }
+    {
+        if self.is_named {
+            return Err(Trouble::NoName);
+        }
+        self.staging.name_all()?;
+        self.is_named = true;
         Ok(())
     }
 
     // Gives the files their names, and prints the line of each.
     fn finish(&mut self, dcrc: u32) -> Result<(), Trouble>
         ensures folder { self.new.staging.folder ≡ self.old.staging.folder }
+        ensures kept { OnOk result (⟦<PartFolder<'a, 'c, W, O> as PartTaker>⟧.kept self.new
+            ≡ ⟦<PartFolder<'a, 'c, W, O> as PartTaker>⟧.kept self.old
+            ++ ⟦<PartFolder<'a, 'c, W, O> as PartTaker>⟧.held self.old) }
+        ensures perhaps { OnErr result ((⟦<PartFolder<'a, 'c, W, O> as PartTaker>⟧.kept self.new
+            ≡ ⟦<PartFolder<'a, 'c, W, O> as PartTaker>⟧.kept self.old)
+            ⊎ (⟦<PartFolder<'a, 'c, W, O> as PartTaker>⟧.kept self.new
+            ≡ ⟦<PartFolder<'a, 'c, W, O> as PartTaker>⟧.kept self.old
+            ++ ⟦<PartFolder<'a, 'c, W, O> as PartTaker>⟧.held self.old)) }
         ensures told { OnOk result (Appends (O.contents self.old.out) (O.contents self.new.out)
             (parts_told self.old.json dcrc self.old.parts.items)) }
     {
-        self.staging.name_all()?;
+        self.name_all()?;
         tell(
             self.alloc,
             self.json,
@@ -169,9 +264,13 @@ impl<'a, 'c, W: World, O: Write + Drop> PartTaker for PartFolder<'a, 'c, W, O> {
 
     ghost place = { λ t. t.staging.folder.path.now };
 
-    ghost held = { λ _. [] };
+    ghost honest = { W.knows };
 
-    ghost kept = { λ _. [] };
+    ghost held = { λ t. held_parts t.is_named t.parts.items (staged (W.trace t.staging.world)
+        t.staging.files.items t.staging.is_writing) };
+
+    ghost kept = { λ t. kept_parts t.is_named t.staging.folder.path.now
+        (W.trace t.staging.world) t.parts.items };
 
     fn claim(&mut self, number: u32) -> Result<(), PutFault> {
         let looked = self.look(number);

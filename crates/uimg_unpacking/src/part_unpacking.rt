@@ -1,6 +1,6 @@
 //! Unpacks a legacy image into a folder.
 
-ghost use Rattle.std.specs.Prelude.{◌≡◌, [], true, is_err, IfOk};
+ghost use Rattle.std.specs.Prelude.{◌≡◌, ◌++◌, [], true, codes, is_err, IfOk, IsTrue};
 ghost use Rattle.std.specs.Char.{is_ascii_digit};
 ghost use Rattle.std.specs.List.{list_all};
 ghost use Rattle.uimg_base.specs.Device.{SameDevice};
@@ -8,6 +8,7 @@ ghost use Rattle.uimg_base.specs.Honest.{HonestSource, IfHonest};
 ghost use Rattle.uimg_base.specs.Using.{Asks};
 ghost use Rattle.uimg_legacy.specs.Unpacking.{is_part_asked};
 ghost use Rattle.uimg_unpacking.specs.PartEnds.{KeepsRight, end_of_parts, has_leading_zero, is_number, stands_by_crc32, size_at, EndsUnlessRefused};
+ghost use Rattle.uimg_unpacking.specs.PartFilling.{FillsKept, IsNumberOf, Requests};
 ghost use Rattle.uimg_unpacking.specs.{Deeds.Follows, Places.{ChangesWithin, stays_within}};
 
 use crate::new_file::ErrorCode;
@@ -46,7 +47,9 @@ pub enum PartsEnded {
 /// The files are `image-0`, `image-1` and so on, by the parts' numbers; one of them can be
 /// requested alone. Nothing is written if something exists at one of these paths, unless files are
 /// replaced, if one leads to the image, or if there are more files or bytes than the limits allow.
-/// Files get their names once all are written; unless all get them, the folder is unchanged.
+/// Files get their names once all are written; unless all get them, the folder is unchanged. Where
+/// parts are kept, the source is honest and contracts know what new files hold, the file of each
+/// requested part holds exactly its bytes.
 #[tactic(auto, using(crate::proofs::PartChanges::within, crate::proofs::PartChanges::follows))]
 pub fn unpack_parts<W: World, S: Source, O: Write + Drop>(
     world: &mut W,
@@ -58,6 +61,8 @@ pub fn unpack_parts<W: World, S: Source, O: Write + Drop>(
     ensures later { Follows (W.trace world.old) (W.trace world.new) }
     ensures same { SameDevice (S.device source.old) (S.device source.new) }
     ensures kept { IfHonest S.device source (λ file. KeepsRight asked.now file result) }
+    ensures holds { IfHonest S.device source (λ file. IsTrue W.knows →
+        FillsKept asked.now file result (W.trace world.old) (W.trace world.new)) }
 {
     let (part, ended) = unpack_parts_in(world.part(), world.alloc(), asked, source, out);
     world.rejoin(part);
@@ -77,12 +82,14 @@ fn unpack_parts_in<W: World, S: Source, O: Write + Drop>(
     ensures within { stays_within asked.now.folder.path.now true (W.trace result.0) ≡ true }
     ensures same { SameDevice (S.device source.old) (S.device source.new) }
     ensures kept { IfHonest S.device source (λ file. KeepsRight asked.now file result.1) }
+    ensures holds { IfHonest S.device source (λ file. IsTrue W.knows →
+        FillsKept asked.now file result.1 [] (W.trace result.0)) }
 {
     let mut room = Room::new(alloc);
     if !stands_by_crc32(asked.need) {
         return (world, unless_refused(source, &mut room, PartsEnded::Weak));
     }
-    let only = asked.only.map(number_of);
+    let only = requested(asked.only);
     match excess(asked.limits.bytes, only, source) {
         Ok(Some(trouble)) => {
             let end = PartsEnded::Troubled(trouble);
@@ -200,11 +207,36 @@ fn stands_by_crc32(need: Option<Algo>) -> bool
     }
 }
 
+// Returns the number of the requested part, if one is requested by the name of its file.
+fn requested(only: Option<&str>) -> Option<u32>
+    ensures { Requests only.entry result }
+{
+    match only {
+        Some(name) => Some(number_of(name)),
+        None => None,
+    }
+}
+
 // Returns the number of the part whose file has this name, or else one that no image has.
-fn number_of(name: &str) -> u32 {
+fn number_of(name: &str) -> u32
+    ensures { IsNumberOf name.now result }
+{
     match name.strip_prefix("image-") {
-        Some(digits) if is_number(digits.as_bytes()) => digits.parse().unwrap_or(u32::MAX),
-        _ => u32::MAX,
+        Some(digits) => number_in(digits),
+        None => u32::MAX,
+    }
+}
+
+// Returns the same by what is after `image-` in the name.
+fn number_in(digits: &str) -> u32
+    ensures { IsNumberOf (codes "image-" ++ digits.now) result }
+{
+    if !is_number(digits.as_bytes()) {
+        return u32::MAX;
+    }
+    match digits.parse() {
+        Ok(number) => number,
+        Err(_) => u32::MAX,
     }
 }
 

@@ -9,7 +9,7 @@ ghost use Rattle.uimg_unpacking.specs.Contents.{held};
 ghost use Rattle.uimg_unpacking.specs.FileNames.{is_file_name};
 ghost use Rattle.uimg_unpacking.specs.Places.{is_temporary_folder, is_temporary_file, is_begun_in, stays_within};
 ghost use Rattle.uimg_unpacking.specs.Refusals.{last_of, last_name, DropsLast, RefusesLast, TellsUnwritten};
-ghost use Rattle.uimg_unpacking.specs.Staged.{ClosesLast, Completes, Drops, are_numbered_in, names_of, staged, with_name};
+ghost use Rattle.uimg_unpacking.specs.Staged.{ClosesLast, Completes, Drops, are_numbered_in, complete_names, names_of, staged, with_name};
 
 mod naming_all;
 
@@ -100,6 +100,8 @@ impl<'a, 'c, W: World> Staging<'a, 'c, W> {
         ensures naming { self.new.is_naming ≡ self.old.is_naming }
         ensures names { names_of self.new.files.items
             ≡ with_name (is_ok result) (names_of self.old.files.items) (string_bytes name) }
+        ensures complete { complete_names self.new.files.items self.new.is_writing
+            ≡ complete_names self.old.files.items self.old.is_writing }
         ensures outdated { self.new.outdated ≡ self.old.outdated }
         ensures staged { staged (W.trace self.new.world) self.new.files.items self.new.is_writing
             ≡ staged (W.trace self.old.world) self.old.files.items self.old.is_writing }
@@ -213,6 +215,8 @@ impl<'a, 'c, W: World> Staging<'a, 'c, W> {
         ensures naming { self.new.is_naming ≡ self.old.is_naming }
         ensures names { names_of self.new.files.items
             ≡ with_name (is_ok result) (names_of self.old.files.items) (string_bytes begun.name) }
+        ensures complete { complete_names self.new.files.items self.new.is_writing
+            ≡ complete_names self.old.files.items self.old.is_writing }
         ensures outdated { self.new.outdated ≡ self.old.outdated }
         ensures staged { staged (W.trace self.new.world) self.new.files.items self.new.is_writing
             ≡ staged (W.trace self.old.world) self.old.files.items self.old.is_writing }
@@ -231,6 +235,9 @@ impl<'a, 'c, W: World> Staging<'a, 'c, W> {
         ensures size { IfOk result (λ size. size ≡ file.entry.size) }
         ensures folder { self.new.folder ≡ self.old.folder }
         ensures files { self.new.files ≡ self.old.files }
+        ensures complete { complete_names self.new.files.items self.new.is_writing
+            ≡ with_name (is_ok result) (complete_names self.old.files.items self.old.is_writing)
+            (last_name self.old.files.items) }
         ensures outdated { self.new.outdated ≡ self.old.outdated }
         ensures naming { self.new.is_naming ≡ self.old.is_naming }
         ensures staged { IsTrue W.knows → (bytes : List ℕ) →
@@ -275,6 +282,9 @@ impl<'a, 'c, W: World> Staging<'a, 'c, W> {
         ensures files { self.new.files ≡ self.old.files }
         ensures outdated { self.new.outdated ≡ self.old.outdated }
         ensures naming { self.new.is_naming ≡ self.old.is_naming }
+        ensures complete { complete_names self.new.files.items self.new.is_writing
+            ≡ with_name (is_ok result) (complete_names self.old.files.items self.old.is_writing)
+            (last_name self.old.files.items) }
         ensures staged { IsTrue W.knows → Completes (is_ok result) (W.File.contents file)
             (staged (W.trace self.old.world) self.old.files.items self.old.is_writing)
             (staged (W.trace self.new.world) self.new.files.items self.new.is_writing) }
@@ -333,6 +343,9 @@ impl<'a, 'c, W: World> Staging<'a, 'c, W> {
         ensures staged { self.old.is_writing ≡ true →
             staged (W.trace self.new.world) self.new.files.items self.new.is_writing
             ≡ staged (W.trace self.old.world) self.old.files.items true }
+        ensures complete { self.old.is_writing ≡ true →
+            complete_names self.new.files.items self.new.is_writing
+            ≡ complete_names self.old.files.items true }
     {
         let Some(last) = self.pop() else {
             return Err(Trouble::NoName);

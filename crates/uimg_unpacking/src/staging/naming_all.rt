@@ -2,7 +2,7 @@
 
 ghost use Rattle.std.specs.Prelude.{◌≡◌, None, length, is_ok, is_some, not, string_bytes, true};
 ghost use Rattle.std.specs.Option.{option_map};
-ghost use Rattle.uimg_unpacking.specs.Staged.{LeavesOthers, names_of};
+ghost use Rattle.uimg_unpacking.specs.Staged.{LeavesOthers, complete_names, names_of};
 ghost use Rattle.uimg_unpacking.specs.NamingAll.{NamesFiles, SyncsNames, NamesAll, NamesComplete, TakesBack};
 ghost use Rattle.uimg_unpacking.specs.Troubles.{trouble_in};
 
@@ -29,6 +29,8 @@ impl<'a, 'c, W: World> Staging<'a, 'c, W> {
     pub(crate) fn name_all(&mut self) -> Result<(), Trouble>
         ensures told { NamesComplete self.old.folder self.old.files.items self.old.is_writing
             (is_ok result) (W.trace self.old.world) (W.trace self.new.world) }
+        ensures complete { complete_names self.new.files.items self.new.is_writing
+            ≡ complete_names self.old.files.items self.old.is_writing }
         ensures folder { self.new.folder ≡ self.old.folder }
         ensures outdated { self.new.outdated ≡ self.old.outdated }
         ensures naming { self.new.is_naming ≡ true }
@@ -46,6 +48,8 @@ impl<'a, 'c, W: World> Staging<'a, 'c, W> {
         requires { self.old.is_naming ≡ true }
         ensures told { NamesAll self.old.folder self.old.files.items (is_ok result)
             (W.trace self.old.world) (W.trace self.new.world) }
+        ensures files { self.new.files ≡ self.old.files }
+        ensures writing { self.new.is_writing ≡ self.old.is_writing }
         ensures folder { self.new.folder ≡ self.old.folder }
         ensures outdated { self.new.outdated ≡ self.old.outdated }
         ensures naming { self.new.is_naming ≡ self.old.is_naming }
@@ -82,6 +86,7 @@ impl<'a, 'c, W: World> Staging<'a, 'c, W> {
         ensures told { SyncsNames self.old.folder self.old.files.items (trouble_in result)
             (W.trace self.old.world) (W.trace self.new.world) }
         ensures files { self.new.files ≡ self.old.files }
+        ensures writing { self.new.is_writing ≡ self.old.is_writing }
         ensures folder { self.new.folder ≡ self.old.folder }
         ensures outdated { self.new.outdated ≡ self.old.outdated }
         ensures naming { self.new.is_naming ≡ self.old.is_naming }
@@ -106,6 +111,7 @@ impl<'a, 'c, W: World> Staging<'a, 'c, W> {
         ensures told { NamesFiles self.old.folder self.old.files.items result.0
             (not (is_some result.1)) (W.trace self.old.world) (W.trace self.new.world) }
         ensures files { self.new.files ≡ self.old.files }
+        ensures writing { self.new.is_writing ≡ self.old.is_writing }
         ensures folder { self.new.folder ≡ self.old.folder }
         ensures outdated { self.new.outdated ≡ self.old.outdated }
         ensures naming { self.new.is_naming ≡ self.old.is_naming }
@@ -126,6 +132,8 @@ impl<'a, 'c, W: World> Staging<'a, 'c, W> {
         ensures told { TakesBack self.old.files.items number
             (option_map string_bytes self.old.made) trouble result
             (W.trace self.old.world) (W.trace self.new.world) }
+        ensures files { self.new.files ≡ self.old.files }
+        ensures writing { self.new.is_writing ≡ self.old.is_writing }
         ensures folder { self.new.folder ≡ self.old.folder }
         ensures outdated { self.new.outdated ≡ self.old.outdated }
         ensures naming { self.new.is_naming ≡ self.old.is_naming }

@@ -1,10 +1,10 @@
 use Rattle.std.proofs.Common.{rules, ◌≡◌, ◌∙◌, List, Bool, true, false, is_ok, ap, sym, subst, string_bytes}
 use Rattle.std.specs.Option.{option_map}
 use Rattle.uimg_unpacking.specs.Places.{is_begun_in}
-use Rattle.uimg_unpacking.specs.Staged.{are_numbered_in, staged}
+use Rattle.uimg_unpacking.specs.Staged.{are_numbered_in, complete_names, staged}
 use Rattle.uimg_unpacking.specs.declared.begun.Begun.{Begun}
 use Rattle.uimg_unpacking.proofs.Placing.{pushed}
-use Rattle.uimg_unpacking.proofs.StagedLaws.{added_staged, names_pushed}
+use Rattle.uimg_unpacking.proofs.StagedLaws.{added_names, added_staged, names_pushed}
 use Rattle.uimg_unpacking.proofs.staging.Staging.add.Goals as goal
 
 pub returns-in-Ok-clause-staged : goal.returns-in-Ok-clause-staged
@@ -35,3 +35,11 @@ invariant_of-self g c =
       stays = it.stays;
       numbered = subst (λ (fs : List Begun). are_numbered_in (option_map string_bytes it.made) fs ≡ true) (sym c.in-Ok.ensures.items) c.requires.numbered;
     }
+
+pub returns-in-Ok-clause-complete : goal.returns-in-Ok-clause-complete
+returns-in-Ok-clause-complete g c =
+    let it = c.args.self.now in
+    added_names it.files.items c.push.new.self.items c.args.begun c.in-Ok.ensures.items ∙ ap (complete_names it.files.items) (sym c.requires.writing)
+
+pub returns-in-Err-clause-complete : goal.returns-in-Err-clause-complete
+returns-in-Err-clause-complete g c = ap (λ (fs : List Begun). complete_names fs c.args.self.now.is_writing) c.in-Err.ensures.items

@@ -1,10 +1,11 @@
 use Rattle.std.proofs.Common.{rules, ◌≡◌, ◌∙◌, ◌-◌, ◌∷◌, [], ◌++◌, ℕ, List, Option, Some, Bool, true, false, is_ok, ap, ap₂, sym, subst, length, slice_get, string_bytes}
-use Rattle.std.specs.Option.{option_map}
+use Rattle.std.specs.Option.{option_map, option_map_or}
 use Rattle.uimg_unpacking.specs.Deeds.{Answer, Deed, Closes, Done, answer_of}
 use Rattle.uimg_unpacking.specs.Places.{is_begun_in, is_temporary_file}
-use Rattle.uimg_unpacking.specs.Staged.{staged}
+use Rattle.uimg_unpacking.specs.Staged.{complete_names, staged}
+use Rattle.uimg_unpacking.specs.declared.begun.Begun.{Begun}
 use Rattle.uimg_unpacking.proofs.Placing.{begun_new, closed_within, the_last}
-use Rattle.uimg_unpacking.proofs.StagedLaws.{closed_staged, last_is, unclosed_staged}
+use Rattle.uimg_unpacking.proofs.StagedLaws.{closed_names, closed_staged, last_is, unclosed_staged}
 use Rattle.uimg_unpacking.proofs.staging.Staging.close_last.Goals as goal
 
 pub invariant_of-self-in-Ok : goal.invariant_of-self-in-Ok
@@ -74,3 +75,12 @@ returns-in-Err-clause-staged g c = λ knows.
     c.close.ensures.is ∙ ap (λ (p : List ℕ). Closes p it.folder.is_synced contents answer ∷ before) c.as_str-path.ensures.value in
     subst (λ (b : Bool). staged after files b ≡ staged before files b) (sym c.requires)
     (unclosed_staged (option_map string_bytes it.made) files last.0 its it.folder.is_synced contents answer before after last.1 it.numbered closed)
+
+pub returns-in-Ok-clause-complete : goal.returns-in-Ok-clause-complete
+returns-in-Ok-clause-complete g c =
+    let files = c.args.self.now.files.items in
+    let its = c.in-Some.last.now in
+    let got : slice_get files (length files - 1) ≡ Some its = search rules in
+    let last = last_is files its got in
+    closed_names files last.0 its last.1
+    ∙ ap₂ (λ (xs : List (List ℕ)) (x : List ℕ). xs ++ x ∷ []) (ap (complete_names files) (sym c.requires)) (sym (ap (λ (o : Option Begun). option_map_or (λ it. string_bytes it.name) o []) got))

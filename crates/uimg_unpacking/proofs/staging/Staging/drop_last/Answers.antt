@@ -4,7 +4,7 @@ use Rattle.uimg_unpacking.specs.Deeds.{answer_of}
 use Rattle.uimg_unpacking.specs.Refusals.{no_file, dropped}
 use Rattle.uimg_unpacking.specs.Staged.{last_gone, names_of, none_gone}
 use Rattle.uimg_unpacking.proofs.Answered.{done-ok}
-use Rattle.uimg_unpacking.proofs.StagedLaws.{dropped_staged, names_last}
+use Rattle.uimg_unpacking.proofs.StagedLaws.{dropped_names, dropped_staged, names_last}
 use Rattle.uimg_unpacking.proofs.staging.Staging.drop_last.Goals as goal
 
 pub returns-in_default-clause-dropped : goal.returns-in_default-clause-dropped
@@ -43,3 +43,17 @@ returns-in-Err-clause-staged g c = λ writing.
     let its = c.in-Some.last in
     let are : it.files.items ≡ c.pop.new.self.files.items ++ its ∷ [] = search rules in
     dropped_staged (option_map string_bytes it.made) it.files.items c.pop.new.self.files.items c.remove.new.self.files.items c.remove.new.self.is_writing its (answer_of c.remove.result) (g.W.World.trace it.world) (g.W.World.trace c.pop.new.self.world) (g.W.World.trace c.remove.new.self.world) are it.numbered (search rules) c.remove.ensures.removed (search rules) (search rules)
+
+pub returns-in-Ok-clause-complete : goal.returns-in-Ok-clause-complete
+returns-in-Ok-clause-complete g c = λ writing.
+    let it = c.args.self.now in
+    let its = c.in-Some.last in
+    let are : it.files.items ≡ c.pop.new.self.files.items ++ its ∷ [] = search rules in
+    dropped_names it.files.items c.pop.new.self.files.items c.remove.new.self.files.items c.remove.new.self.is_writing its are (search rules) (search rules)
+
+pub returns-in-Err-clause-complete : goal.returns-in-Err-clause-complete
+returns-in-Err-clause-complete g c = λ writing.
+    let it = c.args.self.now in
+    let its = c.in-Some.last in
+    let are : it.files.items ≡ c.pop.new.self.files.items ++ its ∷ [] = search rules in
+    dropped_names it.files.items c.pop.new.self.files.items c.remove.new.self.files.items c.remove.new.self.is_writing its are (search rules) (search rules)

@@ -1,0 +1,21 @@
+use Rattle.std.proofs.Common.{rules, ◌≡◌, ◌++◌, sym, subst, string_bytes, Bool, true, false, is_ok}
+use Rattle.std.specs.Option.{option_map}
+use Rattle.uimg_unpacking.specs.{NamingAll.NamesComplete, Staged.staged}
+use Rattle.uimg_unpacking.specs.PartFilling.{held_parts, kept_parts, parts_in}
+use Rattle.uimg_unpacking.specs.declared.folder.Folder.{Folder}
+use Rattle.uimg_unpacking.proofs.PartFillingLaws.{parts_named}
+use Rattle.uimg_unpacking.proofs.part_folder.PartFolder.name_all.Goals as goal
+
+pub returns-clause-kept : goal.returns-clause-kept
+returns-clause-kept g c =
+    let it = c.args.self.now in
+    let files = it.staging.files.items in
+    let parts = it.parts.items in
+    let before = g.W.World.trace it.staging.world in
+    let after = g.W.World.trace c.name_all.new.self.world in
+    let done : is_ok c.name_all.result ≡ true = search rules in
+    let unnamed : it.is_named ≡ false = search rules in
+    let told : NamesComplete it.staging.folder files it.staging.is_writing true before after =
+    subst (λ (b : Bool). NamesComplete it.staging.folder files it.staging.is_writing b before after) done c.name_all.ensures.told in
+    subst (λ (f : Folder). parts_in f.path.now after parts ≡ kept_parts it.is_named it.staging.folder.path.now before parts ++ held_parts it.is_named parts (staged before files it.staging.is_writing)) (sym c.name_all.ensures.folder)
+    (parts_named it.staging.folder (option_map string_bytes it.staging.made) files it.staging.is_writing it.is_named parts before after unnamed it.staging.files_inside it.staging.numbered it.names it.apart told)
