@@ -1,5 +1,5 @@
 -- What a map of paths has after a change.
-use Rattle.std.proofs.Common.{◌≡◌, ℕ, List, bytes_eq, string_bytes, Bool, true, false, Option, Some, None, refl, ap, subst, ◌∙◌, if◌then◌else◌, Vec, String}
+use Rattle.std.proofs.Common.{◌≡◌, ℕ, List, bytes_eq, string_bytes, Bool, true, false, Option, Some, refl, ap, subst, ◌∙◌, if◌then◌else◌, Vec, String}
 use Rattle.std.specs.BTreeMap.{BTreeMap, UpdatesBy, get_by_text}
 use Rattle.std.specs.Cmp.Lexicographic.{slice_cmp}
 use Rattle.std.specs.Option.{option_map}

@@ -1,5 +1,5 @@
 -- What is at the paths of files and folders that were made.
-use Rattle.std.specs.Prelude.{◌≡◌, ℕ, List, bytes_eq, Bool, true, if◌then◌else◌, Option, Some, None, String, Vec}
+use Rattle.std.specs.Prelude.{◌≡◌, ℕ, List, bytes_eq, if◌then◌else◌, Option, Some, None, String, Vec}
 use Rattle.std.specs.Option.{option_map}
 use Rattle.std.specs.BTreeMap.{BTreeMap, get_by_text}
 use Rattle.uimg_unpacking.specs.declared.kind.Kind.{Kind}
