@@ -18,7 +18,7 @@ use Rattle.uimg_requests.specs.declared.command.Form.TheVariants as form
 use Rattle.uimg_tool.specs.{CheckEnds.AnswersEnding, UnpackEnds.{end_of, end_of_parts}, Unpackings.{HoldsIn, HoldsPayloads, IsRight, IsRightIn, RightAt, UnpacksRight, unpacking_of}}
 use Rattle.uimg_tool.specs.declared.unpack_answers.Ending.{Ending}
 use Rattle.uimg_tool.specs.declared.unpack_answers.Ending.TheVariants as ending
-use Rattle.uimg_unpacking.specs.{Ends.EndsByFile, Filling.Fills, PartEnds.KeepsRight}
+use Rattle.uimg_unpacking.specs.{Ends.EndsByFile, Filling.Fills, PartEnds.KeepsRight, PartFilling.FillsKept}
 use Rattle.uimg_unpacking.specs.declared.part_unpacking.PartsEnded.{PartsEnded}
 use Rattle.uimg_unpacking.specs.declared.part_unpacking.PartsEnded.TheVariants as legacy
 use Rattle.uimg_unpacking.specs.declared.unpacking.Ended.{Ended}
@@ -84,8 +84,11 @@ fit_holds asked file is fit.NoImage old new right by fills told = differs ending
 fit_holds asked file is (fit.Stopped fault) old new right by fills told = differs (end_of (fit.Stopped fault)) refl told
 fit_holds asked file is (fit.Troubled trouble) old new right by fills told = differs (end_of (fit.Troubled trouble)) refl told
 
-pub parts_hold : (asked : Unpacking) (file : List ℕ) (is : Bool) (old new : List Deed) → is ≡ false → is ≡ is_fit form.Guess file → HoldsPayloads asked file old new
-parts_hold asked file is old new other by = subst (λ (b : Bool). HoldsIn b asked file old new) (sym other ∙ by) tt
+pub parts_hold : (asked : Unpacking) (file : List ℕ) (is : Bool) (ended : PartsEnded) (old new : List Deed) → is ≡ false → is ≡ is_fit form.Guess file → FillsKept asked file ended old new → end_of_parts ended ≡ ending.Told Done → HoldsPayloads asked file old new
+parts_hold asked file is legacy.Kept old new other by fills told = subst (λ (b : Bool). HoldsIn b asked file old new) (sym other ∙ by) fills
+parts_hold asked file is legacy.Weak old new other by fills told = differs ending.Weak refl told
+parts_hold asked file is (legacy.Stopped fault) old new other by fills told = differs (end_of_parts (legacy.Stopped fault)) refl told
+parts_hold asked file is (legacy.Troubled trouble) old new other by fills told = differs (end_of_parts (legacy.Troubled trouble)) refl told
 
 -- an end that is told as an object is none of status 0
 failed : {P : Type 0} (status : ℕ) → (status ≡ 1) ⊎ (status ≡ 3) → status ≡ 0 → P

@@ -35,9 +35,9 @@ pub struct Answered {
 ///
 /// Unless the status is 3, the words are refused by their definition, or a listing, a verification,
 /// a check, facts, the lines of a map, and the listing of an image that is made are exactly those
-/// that the definitions give for the bytes at the paths. If a FIT image is unpacked with status 0 and
-/// without `--clean`, new files hold exactly the requested payloads. The file of an extraction and an
-/// image that is made are not among the new files.
+/// that the definitions give for the bytes at the paths. If an image is unpacked with status 0 and
+/// without `--clean`, new files hold exactly the requested payloads or parts. The file of an extraction
+/// and an image that is made are not among the new files.
 pub fn answer_in_memory<'f, V: Write>(
     alloc: Global,
     words: &[&str],
