@@ -2,3 +2,4 @@ pub mod Codes
 pub mod Numbers
 pub mod Answers
 pub mod Strict
+pub mod Lines

@@ -14,7 +14,7 @@ ghost use Rattle.uimg_checks.specs.Counting.{count_of};
 ghost use Rattle.uimg_engine.specs.{Headline.is_fit, Locating.IsSpanOf};
 ghost use Rattle.uimg_fit_checking.specs.Named.{name_at, payload_named, place_named};
 ghost use Rattle.uimg_c.specs.Answers.{ReportsCheck, ReportsCount, HasBytes, FindsNamed, Located, ReportsOn, no_report, outcome_by, span_in, table_most};
-ghost use Rattle.uimg_c.specs.Numbers.{IsNoFault};
+ghost use Rattle.uimg_c.specs.{Lines.{PutsLine, line_of}, Numbers.IsNoFault};
 ghost use Rattle.uimg_c.specs.Strict.{ReportsStrict};
 ghost use Rattle.uimg_uboot.specs.Readings.{ReadAsChecked};
 
@@ -162,6 +162,7 @@ pub extern "C" fn uimg_payload_count(alloc: Global, image: &[u8], count: &mut Ui
 pub extern "C" fn uimg_fault_line(fault: u32, text: &mut [u8]) -> usize
     ensures length { result ≤ 64 }
     ensures none { IsNoFault fault → (result ≡ 0) × (text.new ≡ text.old) }
+    ensures line { PutsLine (line_of fault) result text.old text.new }
 {
     put_fault_line(fault, text)
 }

@@ -1,48 +1,29 @@
 //! The lines of faults, by their numbers.
 
-ghost use Rattle.std.specs.Prelude.{◌≡◌, ◌≤◌};
-ghost use Rattle.uimg_c.specs.Numbers.{IsNoFault};
+ghost use Rattle.std.specs.Prelude.{◌≡◌, ◌≢◌, ◌≤◌, ℕ, List, Some};
+ghost use Rattle.uimg_c.specs.{Lines.{PutsFront, PutsLine, line_of}, Numbers.IsNoFault};
 
 use crate::fronts::copy_front;
 use crate::numbered_faults::{blob_of, fit_of, legacy_of, loose_of, number_of_loose};
-use std::fmt;
+use arrayvec::ArrayString;
 use std::fmt::{Display, Write};
 
-// A line of at most 64 bytes.
-#[derive(Drop)]
-struct Line {
-    bytes: [u8; 64],
-    length: usize,
-    ghost within: { length ≤ 64 },
-}
+/// The most bytes of a line.
+const MOST: usize = 64;
 
-impl Write for Line {
-    fn write_str(&mut self, text: &str) -> fmt::Result {
-        let Some(to) = self.bytes.get_mut(self.length..) else {
-            return Err(fmt::Error);
-        };
-        if text.len() > to.len() {
-            return Err(fmt::Error);
-        }
-        to[..text.len()].copy_from_slice(text.as_bytes());
-        self.length += text.len();
-        Ok(())
-    }
-}
-
-// Writes the line of a fault.
+// Writes the line of a fault, and returns the length of the whole line in bytes; 0 if it is too long.
 fn put_line<F: Display>(fault: &F, text: &mut [u8]) -> usize
-    ensures { result ≤ 64 }
+    ensures length { result ≤ 64 }
+    ensures front { (line : List ℕ) → F.output fault.now ≡ Some line → result ≢ 0 →
+        PutsFront line result text.old text.new }
+    ensures nothing { result ≡ 0 → text.new ≡ text.old }
 {
-    let mut line = Line {
-        bytes: [0; 64],
-        length: 0,
-    };
+    let mut line = ArrayString::<MOST>::new();
     if write!(line, "{fault}").is_err() {
         return 0;
     }
-    copy_front(&line.bytes[..line.length], text);
-    line.length
+    copy_front(line.as_str().as_bytes(), text);
+    line.len()
 }
 
 /// Writes the line of a fault, by its letter and number, to `text`, and returns the length of the
@@ -50,6 +31,7 @@ fn put_line<F: Display>(fault: &F, text: &mut [u8]) -> usize
 pub(crate) fn put_fault_line(fault: u32, text: &mut [u8]) -> usize
     ensures length { result ≤ 64 }
     ensures none { IsNoFault fault → (result ≡ 0) × (text.new ≡ text.old) }
+    ensures line { PutsLine (line_of fault) result text.old text.new }
 {
     if let Some(own) = legacy_of(fault) {
         return put_line(&own, text);
