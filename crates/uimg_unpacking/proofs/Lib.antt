@@ -10,6 +10,7 @@ pub mod NameLaws
 pub mod NamingLaws
 pub mod NumberLaws
 pub mod PartChanges
+pub mod PartFillingExamples
 pub mod PartFillingLaws
 pub mod PartLaws
 pub mod Placing
