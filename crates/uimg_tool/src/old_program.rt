@@ -1,7 +1,9 @@
 //! The program with the names of mkimage and dumpimage.
 
-ghost use Rattle.std.specs.Prelude.{◌≡◌, ◌≤◌};
+ghost use Rattle.std.specs.Prelude.{◌≡◌, ◌≤◌, ◌⊎◌, OnOk};
+ghost use Rattle.std.specs.Io.KnownBytes.{Appends};
 ghost use Rattle.uimg_tool.specs.Complaints.{Ends};
+ghost use Rattle.uimg_tool.specs.OldTexts.{ShowsNames, ShowsText, name_line, names_text, shown_status, version_line};
 ghost use Rattle.uimg_tool.specs.{Programs.{OldAsksNothing, ReadsOld, epoch_of, words_of}, Statuses.old_words_status};
 
 use crate::auto_program::make_auto;
@@ -16,7 +18,7 @@ use std::alloc::Global;
 use std::io;
 use std::io::{BufWriter, Write};
 use std::rt::Files;
-use uimg_compat::{OldFault, OldRequest, Show, read_dumpimage, read_mkimage, title_of};
+use uimg_compat::{FitRequest, OldFault, OldRequest, Show, read_dumpimage, read_mkimage, title_of};
 use uimg_names::Field;
 use uimg_requests::{RunRequest, VERSION};
 use uimg_unpacking::DiskWorld;
@@ -42,11 +44,16 @@ pub(crate) fn run_as_tool<R: Files + AllocGlobal, W: Write, V: Write>(
             run_on_disk(rt, is_quiet, &request, out, complaints)
         }
         Ok(OldRequest::Make { request, is_quiet }) => {
-            make_image(rt, How::new(is_quiet), request, out, complaints)
+            let how = How::new(is_quiet, request.outfile);
+            make_image(&mut DiskWorld::new(rt), how, request, out, complaints)
         }
-        Ok(OldRequest::MakeFit(request)) => make_fit(rt, &request, out, complaints),
-        Ok(OldRequest::MakeAuto(request)) => make_auto(rt, &request, out, complaints),
-        Ok(OldRequest::Update(request)) => update_image(rt, &request, out, complaints),
+        Ok(OldRequest::MakeFit(request)) => make_fit_on_disk(rt, &request, out, complaints),
+        Ok(OldRequest::MakeAuto(request)) => {
+            make_auto(&mut DiskWorld::new(rt), &request, out, complaints)
+        }
+        Ok(OldRequest::Update(request)) => {
+            update_image(&mut DiskWorld::new(rt), &request, out, complaints)
+        }
         Ok(OldRequest::Show(show)) => show_text(tool, show, out, complaints),
         Err(fault) => tell_old_fault(&fault, complaints),
     }
@@ -70,6 +77,18 @@ fn run_on_disk<R: Files + AllocGlobal, W: Write, V: Write>(
     // A failed write leaves text in the buffer, which its drop would try to write again.
     let (_, _) = gathered.into_parts();
     status
+}
+
+// Makes a FIT image of a source, over the files of the system.
+fn make_fit_on_disk<'a, R: Files + AllocGlobal, W: Write, V: Write>(
+    rt: &'a R,
+    request: &'a FitRequest<'a>,
+    out: &mut W,
+    complaints: &mut Complaints<'_, V>,
+) -> u8
+    ensures { Ends result complaints.old.count complaints.new.count }
+{
+    make_fit(&mut DiskWorld::new(rt), request, out, complaints)
 }
 
 // Reads the words. Not inlined, so that what this takes of the stack is free when the request is
@@ -107,7 +126,11 @@ fn show_text<W: Write, V: Write>(
     out: &mut W,
     complaints: &mut Complaints<'_, V>,
 ) -> u8
-    ensures { Ends result complaints.old.count complaints.new.count }
+    ensures ends { Ends result complaints.old.count complaints.new.count }
+    ensures status { (result ≡ 3) ⊎ (result ≡ shown_status show) }
+    ensures text { (result ≡ 3) ⊎ ShowsText tool show (W.contents out.old) (W.contents out.new) }
+    ensures names { (result ≡ 3) ⊎ ShowsNames show (V.contents complaints.old.err.now)
+        (V.contents complaints.new.err.now) }
 {
     let written = match show {
         Show::Help(text) => write!(out, "{text}"),
@@ -122,7 +145,9 @@ fn show_text<W: Write, V: Write>(
 }
 
 // Prints the version, whose last word others take, and that of uimg to standard error.
-fn put_version<W: Write, V: Write>(tool: Tool, out: &mut W, err: &mut V) -> io::Result<()> {
+fn put_version<W: Write, V: Write>(tool: Tool, out: &mut W, err: &mut V) -> io::Result<()>
+    ensures { OnOk result (Appends (W.contents out.old) (W.contents out.new) (version_line tool)) }
+{
     writeln!(out, "{} version 2023.01", tool.name())?;
     let _ = writeln!(err, "uimg {VERSION}");
     Ok(())
@@ -130,12 +155,24 @@ fn put_version<W: Write, V: Write>(tool: Tool, out: &mut W, err: &mut V) -> io::
 
 // Prints the names of a field's codes, a line each. The originals leave out `ppc`, which is another
 // name of `powerpc`.
-fn put_names<V: Write>(field: Field, err: &mut V) -> io::Result<()> {
+fn put_names<V: Write>(field: Field, err: &mut V) -> io::Result<()>
+    ensures { OnOk result (Appends (V.contents err.old) (V.contents err.new) (names_text field)) }
+{
     writeln!(err, "\nInvalid {}, supported are:", title_of(field))?;
-    for (name, _, long) in field.rows() {
-        if *name != "ppc" {
-            writeln!(err, "\t{name:<15}  {long}")?;
-        }
+    let rows = field.rows();
+    for (name, _, long) in rows {
+        put_name(name, long, err)?;
     }
     writeln!(err)
+}
+
+// Prints a short and a long name.
+fn put_name<V: Write>(name: &str, long: &str, err: &mut V) -> io::Result<()>
+    ensures { OnOk result (Appends (V.contents err.old) (V.contents err.new)
+        (name_line name.now long.now)) }
+{
+    if name == "ppc" {
+        return Ok(());
+    }
+    writeln!(err, "\t{name:<15}  {long}")
 }
