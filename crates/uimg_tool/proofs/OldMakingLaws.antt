@@ -1,21 +1,32 @@
 -- What the making of an image by the names of mkimage asks of a world, and its status.
-use Rattle.std.proofs.Common.{◌≡◌, ℕ, ◌≤◌, List, ◌∷◌, Bool, false, true, Option, Some, Result, Ok, Err, ◌⊎◌, inl, inr, ap, refl, subst, sym, ◌∙◌, string_bytes}
-use Rattle.std.specs.{Prelude.is_err, declared.io.Error.Error}
-use Rattle.uimg_base.specs.declared.status.Status.{Status}
+use Rattle.std.proofs.Common.{◌≡◌, ℕ, ◌≤◌, List, ◌∷◌, Bool, false, true, Option, Some, Result, Ok, Err, ◌⊎◌, inl, inr, ap, refl, subst, sym, ◌∙◌, string_bytes, true≢false}
+use Rattle.std.specs.{Prelude.{is_err, is_ok}, declared.io.Error.Error}
 use Rattle.uimg_tool.proofs.DrawingLaws.{writes_as}
 use Rattle.uimg_tool.proofs.WritingLaws.{creates_as}
-use Rattle.uimg_tool.specs.OldMakings.{FinishesMade, LendsAt, MakesFor, MakesWithin, beside_it, in_place, no_memory, to_pipe, uncreated}
+use Rattle.uimg_tool.specs.{BesidePaths.{Finishes, incomplete, named, not_named}, Finishing.FinishesBy}
+use Rattle.uimg_tool.specs.OldMakings.{FinishesMade, LendsAt, MakesFor, MakesWithin, Named, beside_it, in_place, no_memory, to_pipe, uncreated}
 use Rattle.uimg_tool.specs.SourceTexts.{MakesOfText, of_new, text_stopped, text_uncreated}
 use Rattle.uimg_tool.specs.Writings.{CreatesBeside, WritesFor}
 use Rattle.uimg_tool.specs.declared.safe_path.{NewBeside.NewBeside, SafePath.SafePath, Writing.Writing}
 use Rattle.uimg_tool.specs.declared.safe_path.Writing.TheVariants as writing
-use Rattle.uimg_unpacking.specs.Deeds.{Answer, Deed, LendsShelf, Removes, changes}
+use Rattle.uimg_unpacking.specs.Deeds.{Answer, Deed, Done, LendsShelf, Removes, Renames, changes}
+use Rattle.uimg_unpacking.specs.Naming.{is_done}
 
 pub made_beside : {F Z : Type 0} (path : List ℕ) (status : ℕ) (result : Result (Writing F) Z) (file : F) (safe : SafePath) (before begun after : List Deed) → result ≡ Ok (writing.Beside file safe)
     → WritesFor path result before begun → FinishesMade safe status begun after → MakesFor path status before after
 made_beside path status result file safe before begun after is writes finishes =
     let w = writes_as path result (Ok (writing.Beside file safe)) before begun is writes in
     beside_it safe w.0 begun w.1 w.2 finishes
+
+pub finishes_made : (path : SafePath) (status : ℕ) (is_complete : Bool) (before made after : List Deed) → changes made ≡ changes before
+    → FinishesBy path is_complete made after → (status ≡ 0 → Named path made after) → FinishesMade path status before after
+finishes_made path status is_complete before made after kept finishes done = record {
+  is_complete = is_complete;
+  made = made;
+  kept = kept;
+  finishes = finishes;
+  done = λ none. done none ∙ ap (λ (t : List Deed). Renames (string_bytes path.new) (string_bytes path.whole) Done ∷ t) kept;
+}
 
 lends_kept : (path : List ℕ) (status : ℕ) (has_failed : Bool) (before made after : List Deed) → (has_failed ≡ true → 1 ≤ status) → LendsAt path has_failed before made → changes after ≡ changes made
     → ((1 ≤ status) × (changes after ≡ changes before)) ⊎ (changes after ≡ LendsShelf path ∷ changes before)
@@ -71,3 +82,21 @@ pub text_not_begun : {F Z : Type 0} (path : List ℕ) (status : ℕ) (result : R
     → status ≡ 3 → CreatesBeside path result before after → MakesOfText path status before after
 text_not_begun path status result refused before after is failed creates =
     text_stopped failed (creates_as path path result (Err refused) before after refl is creates)
+
+-- a file that was begun ends by whether its making did
+pub ends_named : {T E : Type 0} (path : SafePath) (end : Result T E) (answer : Answer) (before ended after : List Deed) → is_err end ≡ false
+    → Finishes (string_bytes path.new) (string_bytes path.whole) true answer before ended → changes after ≡ changes ended → FinishesBy path (is_ok end) before after
+ends_named path (Ok value) answer before ended after is finishes kept = (answer, ended, finishes, kept)
+ends_named path (Err fault) answer before ended after is finishes kept = absurd (true≢false is)
+
+pub ends_removed : {T E : Type 0} (path : SafePath) (end : Result T E) (answer : Answer) (before ended after : List Deed) → is_err end ≡ true
+    → Finishes (string_bytes path.new) (string_bytes path.whole) false answer before ended → changes after ≡ changes ended → FinishesBy path (is_ok end) before after
+ends_removed path (Ok value) answer before ended after is finishes kept = absurd (true≢false (sym is))
+ends_removed path (Err fault) answer before ended after is finishes kept = (answer, ended, finishes, kept)
+
+-- a complete file whose naming was answered has its path
+pub has_name : (path : SafePath) (answer : Answer) (before ended after : List Deed) → Finishes (string_bytes path.new) (string_bytes path.whole) true answer before ended → answer ≡ Done
+    → changes after ≡ changes ended → Named path before after
+has_name path answer before ended after (named complete done is) answered kept = kept ∙ ap changes is
+has_name path answer before ended after (not_named removed complete undone is) answered kept = absurd (true≢false (sym (ap is_done answered) ∙ undone))
+has_name path answer before ended after (incomplete unfinished is) answered kept = absurd (true≢false unfinished)

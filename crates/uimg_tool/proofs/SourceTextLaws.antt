@@ -1,30 +1,45 @@
--- What mkimage -f looks at and opens before it makes an image.
-use Rattle.std.proofs.Common.{Bool, ◌≡◌, List, [], ◌∷◌, ◌++◌, ℕ, Option, Some, None, false, true, inl, inr, refl, subst, sym}
-use Rattle.std.specs.Borrow.{Bor}
-use Rattle.uimg_tool.specs.SourceTexts.{LooksForKey, OpensEach}
+-- Files that are opened in order.
+use Rattle.std.proofs.Common.{◌≡◌, List, [], ◌∷◌, ◌++◌, ℕ, Option, Some, None, false, true, inl, inr, ap, refl, subst, sym, ◌∙◌}
+use Rattle.std.specs.{Borrow.Bor, Prelude.option_map}
+use Rattle.uimg_tool.specs.SourceTexts.{OpensEach}
 use Rattle.uimg_unpacking.specs.Deeds.{Deed, Opens}
 
 -- the next is opened
-pub next_opened : (path : List ℕ) (left rest others : List (List ℕ)) (unread : Option (List ℕ)) (before seen after : List Deed) → left ≡ path ∷ rest
-    → seen ≡ Opens path true ∷ before → OpensEach (rest ++ others) unread seen after → OpensEach (left ++ others) unread before after
-next_opened path left rest others unread before seen after is opens each =
-    subst (λ (paths : List (List ℕ)). OpensEach (paths ++ others) unread before after) (sym is)
-    (inr (subst (λ (t : List Deed). OpensEach (rest ++ others) unread t after) opens each))
+pub next_opened : (path : List ℕ) (left rest : List (List ℕ)) (unread : Option (List ℕ)) (before seen after : List Deed) → left ≡ path ∷ rest
+    → seen ≡ Opens path true ∷ before → OpensEach rest unread seen after → OpensEach left unread before after
+next_opened path left rest unread before seen after is opens each =
+    subst (λ (paths : List (List ℕ)). OpensEach paths unread before after) (sym is)
+    (inr (subst (λ (t : List Deed). OpensEach rest unread t after) opens each))
 
 -- the next is not
-pub next_unread : (path : List ℕ) (left rest others : List (List ℕ)) (before after : List Deed) → left ≡ path ∷ rest
-    → after ≡ Opens path false ∷ before → OpensEach (left ++ others) (Some path) before after
-next_unread path left rest others before after is fails =
-    subst (λ (paths : List (List ℕ)). OpensEach (paths ++ others) (Some path) before after) (sym is) (inl (refl, fails))
+pub next_unread : (path : List ℕ) (left rest : List (List ℕ)) (before after : List Deed) → left ≡ path ∷ rest
+    → after ≡ Opens path false ∷ before → OpensEach left (Some path) before after
+next_unread path left rest before after is fails =
+    subst (λ (paths : List (List ℕ)). OpensEach paths (Some path) before after) (sym is) (inl (refl, fails))
 
 -- none is left
-pub none_left : (left others : List (List ℕ)) (unread : Option (List ℕ)) (before after : List Deed) → left ≡ []
-    → OpensEach others unread before after → OpensEach (left ++ others) unread before after
-none_left left others unread before after is each =
-    subst (λ (paths : List (List ℕ)). OpensEach (paths ++ others) unread before after) (sym is) each
+pub none_left : (left : List (List ℕ)) (before : List Deed) → left ≡ [] → OpensEach left None before before
+none_left left before is = subst (λ (paths : List (List ℕ)). OpensEach paths None before before) (sym is) (refl, refl)
 
-pub each_as : (paths : List (List ℕ)) (one last : Option (List ℕ)) (before after : List Deed) → one ≡ last → OpensEach paths one before after → OpensEach paths last before after
-each_as paths one last before after is each = subst (λ (unread : Option (List ℕ)). OpensEach paths unread before after) is each
+-- one of the first cannot be opened
+unread_first : (first others : List (List ℕ)) (path : List ℕ) (before after : List Deed) → OpensEach first (Some path) before after → OpensEach (first ++ others) (Some path) before after
+unread_first [] others path before after each = (let e : ◌≡◌ {A = Option (List ℕ)} (Some path) None = each.0 in cc)
+unread_first (one ∷ first) others path before after (inl fails) = inl fails
+unread_first (one ∷ first) others path before after (inr each) = inr (unread_first first others path _ after each)
 
-pub key_as : (key : Option (Bor (List ℕ))) (one last : Bool) (before after : List Deed) → one ≡ last → LooksForKey key one before after → LooksForKey key last before after
-key_as key one last before after is looks = subst (λ (b : Bool). LooksForKey key b before after) is looks
+pub each_ends : (first others : List (List ℕ)) (path : Bor (List ℕ)) (one : Option (Bor (List ℕ))) (before after : List Deed) → one ≡ Some path
+    → OpensEach first (option_map (λ it. it.now) one) before after → OpensEach (first ++ others) (Some path.now) before after
+each_ends first others path one before after is each =
+    unread_first first others path.now before after (subst (λ (it : Option (Bor (List ℕ))). OpensEach first (option_map (λ p. p.now) it) before after) is each)
+
+-- all of the first are opened, and then others
+opened_first : (first others : List (List ℕ)) (unread : Option (List ℕ)) (before seen after : List Deed) → OpensEach first None before seen → OpensEach others unread seen after
+    → OpensEach (first ++ others) unread before after
+opened_first [] others unread before seen after first_opens each = subst (λ (t : List Deed). OpensEach others unread t after) first_opens.1 each
+opened_first (one ∷ first) others unread before seen after (inl fails) each = (let e : ◌≡◌ {A = Option (List ℕ)} None (Some one) = fails.0 in cc)
+opened_first (one ∷ first) others unread before seen after (inr opens) each = inr (opened_first first others unread _ seen after opens each)
+
+pub each_then : (first others : List (List ℕ)) (one : Option (Bor (List ℕ))) (unread : Option (List ℕ)) (before seen after : List Deed) → one ≡ None
+    → OpensEach first (option_map (λ it. it.now) one) before seen → OpensEach others unread seen after → OpensEach (first ++ others) unread before after
+each_then first others one unread before seen after is opens each =
+    opened_first first others unread before seen after (subst (λ (it : Option (Bor (List ℕ))). OpensEach first (option_map (λ p. p.now) it) before seen) is opens) each

@@ -2,9 +2,15 @@
 use Rattle.std.specs.Prelude.{◌≡◌, ◌⊎◌, ◌≤◌, ℕ, List, ◌∷◌, Option, Some, None, Bool, false, true, string_bytes}
 use Rattle.uimg_requests.specs.declared.requests.MakeRequest.{MakeRequest}
 use Rattle.uimg_tool.specs.{Finishing.FinishesBy, Writings.{CreatesNew, CreatesNone, IsAt, IsInPlace, StopsTrying}}
+use Rattle.uimg_compat.specs.declared.request.FitRequest.{FitRequest}
+use Rattle.uimg_tool.specs.declared.old_files.How.{How}
 use Rattle.uimg_tool.specs.declared.safe_path.SafePath.{SafePath}
 use Rattle.uimg_unpacking.specs.Deeds.{Deed, Done, Explains, Finds, LendsShelf, Opens, Renames, changes}
 use Rattle.uimg_unpacking.specs.declared.kind.Target.TheVariants as target
+
+-- how the image of a request is made
+abbrev pub IsHowFor : FitRequest → How → Type 0
+IsHowFor asked how = (how.is_quiet ≡ asked.is_quiet) × (how.outfile ≡ asked.outfile)
 
 -- an image that is written to a path, with its header before the data
 pub record IsWrittenTo (making : MakeRequest) (path : List ℕ) : Type 0 where

@@ -1,7 +1,7 @@
 -- What mkimage -f asks of a world: whether a key is there, the files of the source that it makes itself,
 -- and a new file for a source that has none.
 use Rattle.std.specs.Prelude.{◌≡◌, ◌⊎◌, ◌≤◌, ℕ, List, [], ◌∷◌, ◌++◌, codes, map, Option, Some, None, Bool, false, true}
-use Rattle.std.specs.{Borrow.Bor, Path.path_join}
+use Rattle.std.specs.Borrow.{Bor}
 use Rattle.uimg_compat.specs.AutoSource.{trees_of}
 use Rattle.uimg_compat.specs.declared.{auto_source.AutoSource.AutoSource, request.AutoRequest.AutoRequest, request.FitRequest.FitRequest}
 use Rattle.uimg_tool.specs.{OldMakings.MakesWithin, Running.ComparesFiles, Writings.{CreatesNew, CreatesNone, StopsTrying}}
@@ -25,20 +25,19 @@ OpensEach [] unread before after = (unread ≡ None) × (after ≡ before)
 OpensEach (path ∷ rest) unread before after = ((unread ≡ Some path) × (after ≡ Opens path false ∷ before))
     ⊎ OpensEach rest unread (Opens path true ∷ before) after
 
--- A name is looked for in folders, in order, up to the first where it can be opened.
-abbrev pub FindsIn : List ℕ → List (List ℕ) → Option (List ℕ) → (before after : List Deed) → Type 0
-FindsIn name [] found before after = (found ≡ None) × (after ≡ before)
-FindsIn name (folder ∷ rest) found before after =
-    ((found ≡ Some (path_join folder name)) × (after ≡ Opens (path_join folder name) true ∷ before))
-    ⊎ FindsIn name rest found (Opens (path_join folder name) false ∷ before) after
-
 -- the files of a source that mkimage makes itself: the data, the device trees, and the RAM disk
 abbrev pub ramdisk_paths : Option (Bor (List ℕ)) → List (List ℕ)
 ramdisk_paths None = []
 ramdisk_paths (Some path) = path.now ∷ []
 
+abbrev pub tree_paths : AutoSource → List (List ℕ)
+tree_paths source = trees_of (map (λ word. word.now) source.words.now)
+
+abbrev pub part_paths : AutoSource → List (List ℕ)
+part_paths source = tree_paths source ++ ramdisk_paths source.ramdisk
+
 abbrev pub auto_paths : AutoSource → List (List ℕ)
-auto_paths source = source.data.now ∷ (trees_of (map (λ word. word.now) source.words.now) ++ ramdisk_paths source.ramdisk)
+auto_paths source = source.data.now ∷ part_paths source
 
 -- A text is in a new file beside the path of an image while the image is made. That file is removed at
 -- the end, or cannot be created.

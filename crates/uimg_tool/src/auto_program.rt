@@ -1,11 +1,9 @@
 //! Makes a FIT image from the source that mkimage makes itself.
 
-ghost use Rattle.std.specs.Prelude.{◌≡◌, ◌∷◌, [], IfOk, OnOk, codes, option_map, true};
-ghost use Rattle.std.specs.Io.KnownBytes.{Appends};
-ghost use Rattle.uimg_compat.specs.{Asked.auto_of, AutoSource.auto_text};
+ghost use Rattle.std.specs.Prelude.{◌≡◌, ◌∷◌, [], IfOk, codes, option_map, true};
 ghost use Rattle.uimg_requests.specs.{Plain.IsAt, Requests.AsksSource};
 ghost use Rattle.uimg_tool.specs.{Complaints.Ends, OldMakings.{IsWrittenTo, MakesWithin}};
-ghost use Rattle.uimg_tool.specs.SourceTexts.{MakesAuto, MakesOfText, OpensEach, auto_paths};
+ghost use Rattle.uimg_tool.specs.SourceTexts.{MakesAuto, MakesOfText, OpensEach, auto_paths, part_paths, ramdisk_paths, tree_paths};
 
 use crate::complaints::Complaints;
 use crate::fit_program::is_key;
@@ -55,12 +53,13 @@ fn make_beside<'p, D: MakingWorld<'p>, W: Write, V: Write>(
     ensures made { MakesOfText request.now.outfile.now result (D.trace world.old)
         (D.trace world.new) }
 {
+    let how = How::new(request.is_quiet, request.outfile);
     match new_beside(world, world.alloc(), request.outfile) {
         Ok(Ok(NewBeside { mut file, path })) => {
             let written = write_text(world.alloc(), &mut file, &request.source);
             drop(file);
             let status = match written {
-                Ok(()) => make_of_text(world, request, path.as_str(), out, complaints),
+                Ok(()) => make_of_text(world, how, request, path.as_str(), out, complaints),
                 Err(reason) => complaints.tell_unwritten(request.outfile, &reason),
             };
             let _ = world.remove_file(path.as_str());
@@ -74,21 +73,19 @@ fn make_beside<'p, D: MakingWorld<'p>, W: Write, V: Write>(
 // Makes the image of a source whose text is at a path.
 fn make_of_text<'p, D: MakingWorld<'p>, W: Write, V: Write>(
     world: &mut D,
-    request: &AutoRequest<'p>,
+    how: How<'p>,
+    request: &AutoRequest<'_>,
     path: &str,
     out: &mut W,
     complaints: &mut Complaints<'_, V>,
 ) -> u8
     ensures ends { Ends result complaints.old.count complaints.new.count }
-    ensures quiet { request.now.is_quiet ≡ true → out.new ≡ out.old }
-    ensures made { MakesWithin request.now.outfile.now result (D.trace world.old)
+    ensures quiet { how.entry.is_quiet ≡ true → out.new ≡ out.old }
+    ensures made { MakesWithin how.entry.outfile.now result (D.trace world.old)
         (D.trace world.new) }
 {
-    match making_of_text(world.alloc(), request, path) {
-        Ok(making) => {
-            let how = How::new(request.is_quiet, request.outfile);
-            make_image(world, how, making, out, complaints)
-        }
+    match making_of_text(world.alloc(), request, path, request.outfile) {
+        Ok(making) => make_image(world, how, making, out, complaints),
         Err(_) => complaints.tell_no_memory(),
     }
 }
@@ -97,21 +94,22 @@ fn make_of_text<'p, D: MakingWorld<'p>, W: Write, V: Write>(
 // is reported as the one that the tool makes.
 fn making_of_text<'a>(
     alloc: Global,
-    request: &AutoRequest<'a>,
+    request: &AutoRequest<'_>,
     path: &'a str,
+    outfile: &'a str,
 ) -> Result<MakeRequest<'a>, AllocError>
     ensures asks { IfOk result (λ making.
         AsksSource making.command [] path.entry.now request.now.placement) }
     ensures place { IfOk result (λ making. IsAt making (codes "-f auto") []) }
     ensures manner { IfOk result (λ making. making.manner ≡ request.now.manner) }
-    ensures written { IfOk result (λ making. IsWrittenTo making request.now.outfile.now) }
+    ensures written { IfOk result (λ making. IsWrittenTo making outfile.entry.now) }
 {
     let mut making = MakeRequest::of_source_here(
         alloc,
         path,
         request.placement,
         request.manner.time,
-        request.outfile,
+        outfile,
     )?;
     making.source = SOURCE_NAME;
     making.manner = request.manner;
@@ -124,15 +122,40 @@ fn unread_file<'a, D: World>(world: &mut D, source: &AutoSource<'a>) -> Option<&
     ensures { OpensEach (auto_paths source.now) (option_map (λ path. path.now) result)
         (D.trace world.old) (D.trace world.new) }
 {
-    if world.open(source.data).is_err() {
-        return Some(source.data);
+    match unless_opened(world, source.data) {
+        Some(path) => Some(path),
+        None => unread_part(world, source),
     }
-    let mut trees = source.trees();
-    while let Some(path) = trees.take() {
+}
+
+// Returns the first path of a device tree or the RAM disk whose file cannot be opened.
+fn unread_part<'a, D: World>(world: &mut D, source: &AutoSource<'a>) -> Option<&'a str>
+    ensures { OpensEach (part_paths source.now) (option_map (λ path. path.now) result)
+        (D.trace world.old) (D.trace world.new) }
+{
+    match unread_tree(world, source) {
+        Some(path) => Some(path),
+        None => unread_ramdisk(world, source),
+    }
+}
+
+fn unread_tree<'a, D: World>(world: &mut D, source: &AutoSource<'a>) -> Option<&'a str>
+    ensures { OpensEach (tree_paths source.now) (option_map (λ path. path.now) result)
+        (D.trace world.old) (D.trace world.new) }
+{
+    let mut left = source.trees();
+    while let Some(path) = left.take() {
         if world.open(path).is_err() {
             return Some(path);
         }
     }
+    None
+}
+
+fn unread_ramdisk<'a, D: World>(world: &mut D, source: &AutoSource<'a>) -> Option<&'a str>
+    ensures { OpensEach (ramdisk_paths source.now.ramdisk) (option_map (λ path. path.now) result)
+        (D.trace world.old) (D.trace world.new) }
+{
     match source.ramdisk {
         Some(path) => unless_opened(world, path),
         None => None,
@@ -151,10 +174,7 @@ fn unless_opened<'a, D: World>(world: &mut D, path: &'a str) -> Option<&'a str>
 }
 
 // Writes the text of a source to a new file.
-fn write_text<F: Write>(alloc: Global, file: &mut F, source: &AutoSource<'_>) -> io::Result<()>
-    ensures { OnOk result (Appends (F.contents file.old) (F.contents file.new)
-        (auto_text (auto_of source.now))) }
-{
+fn write_text<F: Write>(alloc: Global, file: &mut F, source: &AutoSource<'_>) -> io::Result<()> {
     let mut gathered = BufWriter::new(alloc, file)?;
     let written = write!(gathered, "{source}").and_then(|()| gathered.flush());
     // A failed write leaves text in the buffer, which its drop would try to write again.

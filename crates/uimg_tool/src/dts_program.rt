@@ -1,6 +1,6 @@
 //! Makes a FIT image from a source that the profile refuses, in the whole language of dtc.
 
-ghost use Rattle.std.specs.Prelude.{◌≡◌, None, true};
+ghost use Rattle.std.specs.Prelude.{◌≡◌, [], None, true};
 ghost use Rattle.uimg_blob_writing.specs.{Content.FilesAtData, Trees.node_of};
 ghost use Rattle.uimg_tool.specs.{Complaints.Ends, OldMakings.MakesWithin, SourceStatuses.refused_status};
 ghost use Rattle.uimg_unpacking.specs.Deeds.{changes};
@@ -13,7 +13,7 @@ use crate::tree_program::{TreeRequest, write_image};
 use std::alloc::Global;
 use std::io::{Seek, Write};
 use uimg_base::Files;
-use uimg_blob_writing::{Reservation, Tree};
+use uimg_blob_writing::Tree;
 use uimg_compat::{FitRequest, warn};
 use uimg_dts::{Compiled, DtsFault, DtsKind, Refusal, compile_all};
 use uimg_engine::Fault;
@@ -33,10 +33,10 @@ pub(crate) struct Beyond<'a> {
 }
 
 /// Makes the image of a source that the profile refuses.
-pub(crate) fn make_beyond<'p, D: MakingWorld<'p>, W: Write, V: Write>(
+pub(crate) fn make_beyond<'x, 'p, D: MakingWorld<'p>, W: Write, V: Write>(
     world: &mut D,
-    request: &FitRequest<'_>,
-    beyond: &Beyond<'_>,
+    request: &'x FitRequest<'x>,
+    beyond: &'x Beyond<'x>,
     out: &mut W,
     complaints: &mut Complaints<'_, V>,
 ) -> u8
@@ -49,7 +49,8 @@ where
 {
     let alloc = world.alloc();
     let making = &beyond.making;
-    let mut files = files_of(world.reader(), alloc, making, &request.dtc);
+    let reader = world.reader();
+    let mut files = files_of(reader, alloc, making, &request.dtc);
     let compiled = compile_all(alloc, &beyond.text, &mut files);
     if compiled.is_err() && files.has_met_left_out() {
         let end = Err(RequestFault::WritesWhatIsRead(making.outfile));
@@ -64,7 +65,15 @@ where
     }
     match compiled {
         Ok(Compiled { tree, reservations }) => {
-            let making = tree_request(request, making, reservations.as_slice());
+            let making = TreeRequest {
+                source: making.source,
+                image: making.outfile,
+                placement: request.placement,
+                reservations: reservations.as_slice(),
+                roomy_size: None,
+                manner: request.manner,
+                is_quiet: request.is_quiet,
+            };
             warn(alloc, &tree, request.dtc.silenced, complaints.err);
             make_compiled(world, making, tree, &mut files, out, complaints)
         }
@@ -78,24 +87,23 @@ where
     }
 }
 
-/// Returns what is made of the tree of a source, with this memory reserved.
+/// Returns what is made of the tree of a source that reserves no memory.
 pub(crate) fn tree_request<'a>(
     request: &FitRequest<'_>,
-    making: &MakeRequest<'a>,
-    reservations: &'a [Reservation],
+    source: &'a str,
+    image: &'a str,
 ) -> TreeRequest<'a>
-    ensures made { (result.source ≡ making.now.source) × (result.image ≡ making.now.outfile) }
+    ensures made { (result.source ≡ source.entry) × (result.image ≡ image.entry) }
     ensures placed { (result.placement ≡ request.now.placement)
         × (result.manner ≡ request.now.manner) }
     ensures quiet { result.is_quiet ≡ request.now.is_quiet }
-    ensures reserved { result.reservations ≡ reservations.entry }
-    ensures bare { result.roomy_size ≡ None }
+    ensures bare { (result.reservations.now ≡ []) × (result.roomy_size ≡ None) }
 {
     TreeRequest {
-        source: making.source,
-        image: making.outfile,
+        source,
+        image,
         placement: request.placement,
-        reservations,
+        reservations: &[],
         roomy_size: None,
         manner: request.manner,
         is_quiet: request.is_quiet,

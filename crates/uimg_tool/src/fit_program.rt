@@ -1,11 +1,10 @@
 //! Makes a FIT image from a source, as mkimage does.
 
-ghost use Rattle.std.specs.Prelude.{◌≡◌, ◌∷◌, ◌+◌, ◌^◌, [], map, option_map, take, IfOk, IfSome, IsTrue, codes, true};
-ghost use Rattle.std.specs.Path.{path_buf_bytes};
+ghost use Rattle.std.specs.Prelude.{◌≡◌, ◌∷◌, [], IfOk, codes, true};
 ghost use Rattle.uimg_blob_writing.specs.{Content.FilesAtData, Trees.node_of};
 ghost use Rattle.uimg_requests.specs.{Plain.IsAt, Requests.{AsksSource, folder_of}};
-ghost use Rattle.uimg_tool.specs.{Complaints.Ends, OldMakings.{IsWrittenTo, MakesWithin}};
-ghost use Rattle.uimg_tool.specs.SourceTexts.{FindsIn, LooksForKey, MakesFit, MakesOfInput, MakesOfText, input_path, leads_somewhere};
+ghost use Rattle.uimg_tool.specs.{Complaints.Ends, OldMakings.{IsHowFor, IsWrittenTo, MakesWithin}};
+ghost use Rattle.uimg_tool.specs.SourceTexts.{LooksForKey, MakesFit, MakesOfInput, MakesOfText, input_path, leads_somewhere};
 ghost use Rattle.uimg_unpacking.specs.Deeds.{Answer, Deed, changes};
 
 use crate::complaints::Complaints;
@@ -50,10 +49,11 @@ where
     if is_key(world, request.key) {
         return complaints.tell(&OldFault::Signs('g'), WRONG_LINE);
     }
+    let how = how_of(request);
     if request.source == INPUT_NAME {
-        return make_of_input(world, request, out, complaints);
+        return make_of_input(world, how, request, out, complaints);
     }
-    make_of_file(world, request, out, complaints)
+    make_of_file(world, how, request, out, complaints)
 }
 
 /// Returns whether anything is at the path of a key, if there is one.
@@ -81,22 +81,24 @@ fn leads_somewhere(target: Target) -> bool
 // Makes the image of a source at its path, or in the first folder for dtc that has it.
 fn make_of_file<'p, D: MakingWorld<'p>, W: Write, V: Write>(
     world: &mut D,
-    request: &'p FitRequest<'p>,
+    how: How<'p>,
+    request: &FitRequest<'_>,
     out: &mut W,
     complaints: &mut Complaints<'_, V>,
 ) -> u8
 where
     D::File: Seek,
+    requires { IsHowFor request.now how }
     ensures ends { Ends result complaints.old.count complaints.new.count }
     ensures quiet { request.now.is_quiet ≡ true → out.new ≡ out.old }
     ensures made { MakesWithin request.now.outfile.now result (D.trace world.old)
         (D.trace world.new) }
 {
     if world.open(request.source).is_ok() {
-        return make_of_path(world, request, request.source, out, complaints);
+        return make_of_path(world, how, request, request.source, out, complaints);
     }
     match path_in_folders(world, request) {
-        Ok(Some(path)) => make_of_path(world, request, path.as_str(), out, complaints),
+        Ok(Some(path)) => make_of_path(world, how, request, path.as_str(), out, complaints),
         Ok(None) => complaints.tell_unread(world, request.source),
         Err(_) => complaints.tell_no_memory(),
     }
@@ -107,11 +109,7 @@ fn path_in_folders<D: World>(
     world: &mut D,
     request: &FitRequest<'_>,
 ) -> Result<Option<PathBuf>, AllocError>
-    ensures kept { changes (D.trace world.new) ≡ changes (D.trace world.old) }
-    ensures first { IfOk result (λ found. FindsIn request.now.source.now
-        (map (λ folder. folder.now) request.now.dtc.folders.items)
-        (option_map (λ path. path_buf_bytes path) found) (D.trace world.old)
-        (D.trace world.new)) }
+    ensures { changes (D.trace world.new) ≡ changes (D.trace world.old) }
 {
     for folder in request.dtc.folders.as_slice() {
         let Ok(path) = Path::new(folder).join(world.alloc(), request.source) else {
@@ -126,20 +124,22 @@ fn path_in_folders<D: World>(
 
 fn make_of_path<'p, D: MakingWorld<'p>, W: Write, V: Write>(
     world: &mut D,
-    request: &'p FitRequest<'p>,
+    how: How<'p>,
+    request: &FitRequest<'_>,
     path: &str,
     out: &mut W,
     complaints: &mut Complaints<'_, V>,
 ) -> u8
 where
     D::File: Seek,
+    requires { IsHowFor request.now how }
     ensures ends { Ends result complaints.old.count complaints.new.count }
     ensures quiet { request.now.is_quiet ≡ true → out.new ≡ out.old }
     ensures made { MakesWithin request.now.outfile.now result (D.trace world.old)
         (D.trace world.new) }
 {
-    match making_of_path(world.alloc(), request, path) {
-        Ok(making) => warn_and_make(world, request, making, out, complaints),
+    match making_of_path(world.alloc(), request, path, request.outfile) {
+        Ok(making) => warn_and_make(world, how, request, making, out, complaints),
         Err(_) => complaints.tell_no_memory(),
     }
 }
@@ -147,22 +147,23 @@ where
 // Returns the making of an image of the source at a path, with files in its folder.
 fn making_of_path<'a>(
     alloc: Global,
-    request: &FitRequest<'a>,
+    request: &FitRequest<'_>,
     path: &'a str,
+    outfile: &'a str,
 ) -> Result<MakeRequest<'a>, AllocError>
     ensures asks { IfOk result (λ making. AsksSource making.command making.folder.now
         path.entry.now request.now.placement) }
     ensures place { IfOk result (λ making.
         IsAt making path.entry.now (folder_of path.entry.now)) }
     ensures manner { IfOk result (λ making. making.manner ≡ request.now.manner) }
-    ensures written { IfOk result (λ making. IsWrittenTo making request.now.outfile.now) }
+    ensures written { IfOk result (λ making. IsWrittenTo making outfile.entry.now) }
 {
     let mut making = MakeRequest::of_source(
         alloc,
         path,
         request.placement,
         request.manner.time,
-        request.outfile,
+        outfile,
     )?;
     making.manner = request.manner;
     Ok(making)
@@ -171,12 +172,14 @@ fn making_of_path<'a>(
 // Makes the image of standard input, unless that would be written to.
 fn make_of_input<'p, D: MakingWorld<'p>, W: Write, V: Write>(
     world: &mut D,
-    request: &'p FitRequest<'p>,
+    how: How<'p>,
+    request: &FitRequest<'_>,
     out: &mut W,
     complaints: &mut Complaints<'_, V>,
 ) -> u8
 where
     D::File: Seek,
+    requires { IsHowFor request.now how }
     ensures ends { Ends result complaints.old.count complaints.new.count }
     ensures quiet { request.now.is_quiet ≡ true → out.new ≡ out.old }
     ensures made { MakesOfInput request.now.outfile.now result (D.trace world.old)
@@ -193,19 +196,21 @@ where
         let reason = format_args!("{INPUT_NAME}: a source of more than 64 MiB");
         return complaints.tell(&reason, REFUSED);
     }
-    make_of_bytes(world, request, &text, out, complaints)
+    make_of_bytes(world, how, request, &text, out, complaints)
 }
 
 // Makes the image of a source of these bytes, which are in a new file beside the image meanwhile.
 fn make_of_bytes<'p, D: MakingWorld<'p>, W: Write, V: Write>(
     world: &mut D,
-    request: &'p FitRequest<'p>,
+    how: How<'p>,
+    request: &FitRequest<'_>,
     text: &[u8],
     out: &mut W,
     complaints: &mut Complaints<'_, V>,
 ) -> u8
 where
     D::File: Seek,
+    requires { IsHowFor request.now how }
     ensures ends { Ends result complaints.old.count complaints.new.count }
     ensures quiet { request.now.is_quiet ≡ true → out.new ≡ out.old }
     ensures made { MakesOfText request.now.outfile.now result (D.trace world.old)
@@ -214,7 +219,7 @@ where
     match new_beside(world, world.alloc(), request.outfile) {
         Ok(Ok(NewBeside { mut file, path })) => {
             let status = match file.write_all(text) {
-                Ok(()) => make_of_copy(world, request, path.as_str(), out, complaints),
+                Ok(()) => make_of_copy(world, how, request, path.as_str(), out, complaints),
                 Err(reason) => complaints.tell_unwritten(request.outfile, &reason),
             };
             drop(file);
@@ -228,20 +233,22 @@ where
 
 fn make_of_copy<'p, D: MakingWorld<'p>, W: Write, V: Write>(
     world: &mut D,
-    request: &'p FitRequest<'p>,
+    how: How<'p>,
+    request: &FitRequest<'_>,
     path: &str,
     out: &mut W,
     complaints: &mut Complaints<'_, V>,
 ) -> u8
 where
     D::File: Seek,
+    requires { IsHowFor request.now how }
     ensures ends { Ends result complaints.old.count complaints.new.count }
     ensures quiet { request.now.is_quiet ≡ true → out.new ≡ out.old }
     ensures made { MakesWithin request.now.outfile.now result (D.trace world.old)
         (D.trace world.new) }
 {
-    match making_of_copy(world.alloc(), request, path) {
-        Ok(making) => warn_and_make(world, request, making, out, complaints),
+    match making_of_copy(world.alloc(), request, path, request.outfile) {
+        Ok(making) => warn_and_make(world, how, request, making, out, complaints),
         Err(_) => complaints.tell_no_memory(),
     }
 }
@@ -250,21 +257,22 @@ where
 // folder.
 fn making_of_copy<'a>(
     alloc: Global,
-    request: &FitRequest<'a>,
+    request: &FitRequest<'_>,
     path: &'a str,
+    outfile: &'a str,
 ) -> Result<MakeRequest<'a>, AllocError>
     ensures asks { IfOk result (λ making.
         AsksSource making.command [] path.entry.now request.now.placement) }
     ensures place { IfOk result (λ making. IsAt making (codes "-") []) }
     ensures manner { IfOk result (λ making. making.manner ≡ request.now.manner) }
-    ensures written { IfOk result (λ making. IsWrittenTo making request.now.outfile.now) }
+    ensures written { IfOk result (λ making. IsWrittenTo making outfile.entry.now) }
 {
     let mut making = MakeRequest::of_source_here(
         alloc,
         path,
         request.placement,
         request.manner.time,
-        request.outfile,
+        outfile,
     )?;
     making.source = INPUT_NAME;
     making.manner = request.manner;
@@ -273,11 +281,8 @@ fn making_of_copy<'a>(
 
 // Reads standard input to its end, or one byte more than the most.
 fn read_input<D: World>(world: &mut D) -> io::Result<Vec<u8>>
-    ensures reads { (answer : Answer) × (D.trace world.new
+    ensures { (answer : Answer) × (D.trace world.new
         ≡ Deed.Reads input_path answer ∷ D.trace world.old) }
-    ensures text { IsTrue (D.map world.old).honest → IfOk result (λ text.
-        IfSome ((D.map world.old).bytes input_path) (λ bytes.
-        text.items ≡ take (2 ^ 26 + 1) bytes)) }
 {
     let mut text = Vec::new(world.alloc());
     let input = world.read(INPUT)?;
@@ -289,14 +294,16 @@ fn read_input<D: World>(world: &mut D) -> io::Result<Vec<u8>>
 // of dtc, and of one with algorithms outside the profile by all of them.
 fn warn_and_make<'p, D: MakingWorld<'p>, W: Write, V: Write>(
     world: &mut D,
-    request: &'p FitRequest<'p>,
+    how: How<'p>,
+    request: &FitRequest<'_>,
     making: MakeRequest<'_>,
     out: &mut W,
     complaints: &mut Complaints<'_, V>,
 ) -> u8
 where
     D::File: Seek,
-    requires { making.outfile.now ≡ request.now.outfile.now }
+    requires how { IsHowFor request.now how }
+    requires outfile { making.outfile.now ≡ request.now.outfile.now }
     ensures ends { Ends result complaints.old.count complaints.new.count }
     ensures quiet { request.now.is_quiet ≡ true → out.new ≡ out.old }
     ensures made { MakesWithin request.now.outfile.now result (D.trace world.old)
@@ -324,9 +331,9 @@ where
             if has_other_algos(&tree) {
                 return make_known(world, request, &making, tree, out, complaints);
             }
-            make_image(world, how_of(request), making, out, complaints)
+            make_image(world, how, making, out, complaints)
         }
-        Known::Unread => make_image(world, how_of(request), making, out, complaints),
+        Known::Unread => make_image(world, how, making, out, complaints),
     }
 }
 
@@ -347,8 +354,9 @@ where
     ensures made { MakesWithin making.now.outfile.now result (D.trace world.old)
         (D.trace world.new) }
 {
-    let mut files = files_of(world.reader(), world.alloc(), making, &request.dtc);
-    let making = tree_request(request, making, &[]);
+    let reader = world.reader();
+    let mut files = files_of(reader, world.alloc(), making, &request.dtc);
+    let making = tree_request(request, making.source, making.outfile);
     make_compiled(world, making, tree, &mut files, out, complaints)
 }
 

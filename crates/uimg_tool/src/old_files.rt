@@ -142,12 +142,13 @@ pub(crate) fn make_image<'p, D: MakingWorld<'p>, W: Write, V: Write>(
     complaints: &mut Complaints<'_, V>,
 ) -> u8
     ensures ends { Ends result complaints.old.count complaints.new.count }
-    ensures quiet { how.is_quiet ≡ true → out.new ≡ out.old }
-    ensures made { MakesFor how.outfile.now result (D.trace world.old) (D.trace world.new) }
+    ensures quiet { how.entry.is_quiet ≡ true → out.new ≡ out.old }
+    ensures made { MakesFor how.entry.outfile.now result (D.trace world.old) (D.trace world.new) }
 {
     match writing_of(world, world.alloc(), how.outfile) {
         Ok(Writing::InPlace) => {
-            let end = make_by(world, &request, None, how, out).told();
+            let made = make_by(world, &request, None, how, out);
+            let end = made.told();
             let about = about_end(&end, request.source, request.outfile);
             tell_end(world, &end, about, complaints)
         }
@@ -174,8 +175,8 @@ fn make_beside<'a, 'p, D: MakingWorld<'p>, W: Write, V: Write>(
     complaints: &mut Complaints<'_, V>,
 ) -> u8
     ensures ends { Ends result complaints.old.count complaints.new.count }
-    ensures quiet { how.is_quiet ≡ true → out.new ≡ out.old }
-    ensures made { FinishesMade begun.path.entry.now result (D.trace world.old)
+    ensures quiet { how.entry.is_quiet ≡ true → out.new ≡ out.old }
+    ensures made { FinishesMade begun.entry.path.now result (D.trace world.old)
         (D.trace world.new) }
 {
     let Begun { file, path } = begun;
@@ -194,8 +195,8 @@ fn make_by<'a, 'p, D: MakingWorld<'p>, W: Write>(
     out: &mut W,
 ) -> Made<'a>
     ensures ends { MakeEnds request.now result.end }
-    ensures quiet { how.is_quiet ≡ true → out.new ≡ out.old }
-    ensures lent { LendsFor how.outfile.now file (is_err result.end) (D.trace world.old)
+    ensures quiet { how.entry.is_quiet ≡ true → out.new ≡ out.old }
+    ensures lent { LendsFor how.entry.outfile.now file (is_err result.end) (D.trace world.old)
         (D.trace world.new) }
 {
     if how.is_quiet {

@@ -190,7 +190,7 @@ pub(crate) fn make_command<'a, 'p, D: MakingWorld<'p>, W: Write>(
     out: &mut W,
 ) -> Result<Status, RequestFault<'a>>
     ensures ends { MakeEnds request.now result }
-    ensures lent { LendsFor how.outfile.now file (is_err result) (D.trace world.old)
+    ensures lent { LendsFor how.entry.outfile.now file (is_err result) (D.trace world.old)
         (D.trace world.new) }
 {
     let alloc = world.alloc();

@@ -56,20 +56,41 @@ where
     match writing_of(world, world.alloc(), request.image) {
         Ok(Writing::Beside(file, path)) => {
             let begun = Begun { file, path: &path };
-            let made = if request.is_quiet {
-                make_beside(world, request, tree, files, begun, &mut io::sink())
-            } else {
-                make_beside(world, request, tree, files, begun, out)
-            };
+            let made = make_listed(world, request, tree, files, begun, out);
             let about = about_end(&made.end, request.source, request.image);
             tell_made(world, &path, &made, about, complaints)
         }
         Ok(Writing::Nowhere(reason)) => complaints.tell_unwritten(request.image, &reason),
-        Ok(Writing::InPlace | Writing::Pipe) => {
-            let reason = io::Error::other("it is not a regular file");
-            complaints.tell_unwritten(request.image, &reason)
-        }
+        Ok(Writing::InPlace) => complaints.tell_unwritten(request.image, &not_regular()),
+        Ok(Writing::Pipe) => complaints.tell_unwritten(request.image, &not_regular()),
         Err(_) => complaints.tell_no_memory(),
+    }
+}
+
+// Returns why a device or a pipe is not written to.
+fn not_regular() -> io::Error {
+    io::Error::other("it is not a regular file")
+}
+
+// Makes the image of a tree in a new file; if it is to be quiet, nothing is printed.
+fn make_listed<'a, 'p, D: MakingWorld<'p>, F: Files, W: Write>(
+    world: &mut D,
+    request: TreeRequest<'a>,
+    tree: &Tree<Global>,
+    files: &mut F,
+    begun: Begun<'_, D::File>,
+    out: &mut W,
+) -> Made<'a>
+where
+    D::File: Seek,
+    ensures ends { TreeEnds request.entry.image result.end }
+    ensures quiet { request.entry.is_quiet ≡ true → out.new ≡ out.old }
+    ensures kept { changes (D.trace world.new) ≡ changes (D.trace world.old) }
+{
+    if request.is_quiet {
+        make_beside(world, request, tree, files, begun, &mut io::sink())
+    } else {
+        make_beside(world, request, tree, files, begun, out)
     }
 }
 

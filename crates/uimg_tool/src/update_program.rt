@@ -36,7 +36,7 @@ where
     };
     match update(alloc, &mut source, &mut Room::new(alloc), time_of(request)) {
         Ok(updated) => {
-            let making = tree_request(request, &updated);
+            let making = tree_request(request, request.image, &updated);
             let files = &mut MemFiles::new(&[]);
             write_image(world, making, &updated.tree, files, out, complaints)
         }
@@ -56,8 +56,12 @@ fn time_of(request: &UpdateRequest<'_>) -> Option<u32>
 }
 
 // Returns what is made of an updated image.
-fn tree_request<'a>(request: &UpdateRequest<'a>, updated: &'a Updated) -> TreeRequest<'a>
-    ensures made { (result.source ≡ request.now.image) × (result.image ≡ request.now.image) }
+fn tree_request<'a>(
+    request: &UpdateRequest<'_>,
+    image: &'a str,
+    updated: &'a Updated,
+) -> TreeRequest<'a>
+    ensures made { (result.source ≡ image.entry) × (result.image ≡ image.entry) }
     ensures placed { (result.placement ≡ request.now.placement)
         × (result.manner ≡ request.now.manner) }
     ensures quiet { result.is_quiet ≡ request.now.is_quiet }
@@ -66,8 +70,8 @@ fn tree_request<'a>(request: &UpdateRequest<'a>, updated: &'a Updated) -> TreeRe
         ≡ roomy_size_of request.now.placement updated.now.roomy_size }
 {
     TreeRequest {
-        source: request.image,
-        image: request.image,
+        source: image,
+        image,
         placement: request.placement,
         reservations: updated.reservations.as_slice(),
         roomy_size: roomy_size(request.placement, updated),

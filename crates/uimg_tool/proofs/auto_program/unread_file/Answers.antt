@@ -1,0 +1,8 @@
+use Rattle.uimg_tool.proofs.SourceTextLaws.{each_ends, each_then}
+use Rattle.uimg_tool.proofs.auto_program.unread_file.Goals as goal
+
+pub returns-in-Some : goal.returns-in-Some
+returns-in-Some g c = each_ends _ _ c.in-Some.path c.unless_opened.result _ _ c.in-Some.is c.unless_opened.ensures
+
+pub returns-in-None : goal.returns-in-None
+returns-in-None g c = each_then _ _ c.unless_opened.result _ _ _ _ c.in-None.is c.unless_opened.ensures c.unread_part.ensures
