@@ -1,7 +1,7 @@
 -- Files that are opened in order.
-use Rattle.std.proofs.Common.{◌≡◌, List, [], ◌∷◌, ◌++◌, ℕ, Option, Some, None, false, true, inl, inr, ap, refl, subst, sym, ◌∙◌}
+use Rattle.std.proofs.Common.{Bool, ◌≡◌, List, [], ◌∷◌, ◌++◌, ℕ, Option, Some, None, false, true, inl, inr, ap, refl, subst, sym, ◌∙◌}
 use Rattle.std.specs.{Borrow.Bor, Prelude.option_map}
-use Rattle.uimg_tool.specs.SourceTexts.{OpensEach}
+use Rattle.uimg_tool.specs.SourceTexts.{LooksForKey, OpensEach}
 use Rattle.uimg_unpacking.specs.Deeds.{Deed, Opens}
 
 -- the next is opened
@@ -43,3 +43,10 @@ pub each_then : (first others : List (List ℕ)) (one : Option (Bor (List ℕ)))
     → OpensEach first (option_map (λ it. it.now) one) before seen → OpensEach others unread seen after → OpensEach (first ++ others) unread before after
 each_then first others one unread before seen after is opens each =
     opened_first first others unread before seen after (subst (λ (it : Option (Bor (List ℕ))). OpensEach first (option_map (λ p. p.now) it) before seen) is opens) each
+
+pub each_of : (paths : List (List ℕ)) (one last : Option (Bor (List ℕ))) (before after : List Deed) → one ≡ last
+    → OpensEach paths (option_map (λ it. it.now) one) before after → OpensEach paths (option_map (λ it. it.now) last) before after
+each_of paths one last before after is each = subst (λ (it : Option (Bor (List ℕ))). OpensEach paths (option_map (λ p. p.now) it) before after) is each
+
+pub key_as : (key : Option (Bor (List ℕ))) (one last : Bool) (before after : List Deed) → one ≡ last → LooksForKey key one before after → LooksForKey key last before after
+key_as key one last before after is looks = subst (λ (b : Bool). LooksForKey key b before after) is looks

@@ -1,13 +1,10 @@
 -- What mkimage and dumpimage tell of the end of a request, the texts that they print, and the exit status
 -- of these.
-use Rattle.std.specs.Prelude.{◌≡◌, ⊤, ℕ, ◌-◌, ◌^◌, List, [], ◌++◌, codes, flat_map, Option, Some, None, Result, Ok, Err, false, if◌then◌else◌}
+use Rattle.std.specs.Prelude.{◌≡◌, ℕ, ◌-◌, ◌^◌, List, [], ◌++◌, codes, Option, Some, None, Result, Ok, Err, false, if◌then◌else◌}
 use Rattle.std.specs.{Fmt.{format_spec, padded}, Str.bytes_eq}
 use Rattle.std.specs.Io.KnownBytes.{Appends}
 use Rattle.uimg_compat.specs.declared.request.Show.{Show}
 use Rattle.uimg_compat.specs.declared.request.Show.TheVariants as show
-use Rattle.uimg_compat.specs.Warnings.{title_of}
-use Rattle.uimg_names.specs.Naming.{all_rows}
-use Rattle.uimg_names.specs.declared.field.Field.{Field}
 use Rattle.uimg_names.specs.declared.field.Field.TheVariants.{Kind}
 use Rattle.uimg_base.specs.declared.status.Status.{Status}
 use Rattle.uimg_engine.specs.FaultTexts.{text_of}
@@ -37,19 +34,6 @@ ShowsText tool (show.Names field) old new = new ≡ old
 abbrev pub name_line : (name long : List ℕ) → List ℕ
 name_line name long = if bytes_eq name (codes "ppc") then []
     else codes "\t" ++ padded (format_spec 32 1 0 15 (2 ^ 64 - 1)) name ++ codes "  " ++ long ++ codes "\n"
-
--- the names of a field's codes, a line each
-abbrev pub names_head : Field → List ℕ
-names_head field = codes "\nInvalid " ++ title_of field ++ codes ", supported are:\n"
-
-abbrev pub names_text : Field → List ℕ
-names_text field = names_head field ++ (flat_map (λ row. name_line row.short row.printed) (all_rows field) ++ codes "\n")
-
--- What is printed on standard error: of the names of a field, the list.
-abbrev pub ShowsNames : Show → (old new : Option (List ℕ)) → Type 0
-ShowsNames (show.Help text) old new = new ≡ old
-ShowsNames show.Version old new = ⊤
-ShowsNames (show.Names field) old new = Appends old new (names_text field)
 
 -- What is told of an end that is about the file at a path: nothing, or a fault. Where the text has the
 -- system's reason, it is not known.

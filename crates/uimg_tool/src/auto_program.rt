@@ -58,10 +58,8 @@ fn make_beside<'p, D: MakingWorld<'p>, W: Write, V: Write>(
         Ok(Ok(NewBeside { mut file, path })) => {
             let written = write_text(world.alloc(), &mut file, &request.source);
             drop(file);
-            let status = match written {
-                Ok(()) => make_of_text(world, how, request, path.as_str(), out, complaints),
-                Err(reason) => complaints.tell_unwritten(request.outfile, &reason),
-            };
+            let text = at_path(written, path.as_str());
+            let status = make_of_text(world, how, request, text, out, complaints);
             let _ = world.remove_file(path.as_str());
             status
         }
@@ -70,8 +68,36 @@ fn make_beside<'p, D: MakingWorld<'p>, W: Write, V: Write>(
     }
 }
 
-// Makes the image of a source whose text is at a path.
+// Returns the path of a text that was written.
+pub(crate) fn at_path(written: io::Result<()>, path: &str) -> io::Result<&str> {
+    match written {
+        Ok(()) => Ok(path),
+        Err(reason) => Err(reason),
+    }
+}
+
+// Makes the image of a text at a path, if it was written.
 fn make_of_text<'p, D: MakingWorld<'p>, W: Write, V: Write>(
+    world: &mut D,
+    how: How<'p>,
+    request: &AutoRequest<'_>,
+    text: io::Result<&str>,
+    out: &mut W,
+    complaints: &mut Complaints<'_, V>,
+) -> u8
+    ensures ends { Ends result complaints.old.count complaints.new.count }
+    ensures quiet { how.entry.is_quiet ≡ true → out.new ≡ out.old }
+    ensures made { MakesWithin how.entry.outfile.now result (D.trace world.old)
+        (D.trace world.new) }
+{
+    match text {
+        Ok(path) => make_at(world, how, request, path, out, complaints),
+        Err(reason) => complaints.tell_unwritten(how.outfile, &reason),
+    }
+}
+
+// Makes the image of a source whose text is at a path.
+fn make_at<'p, D: MakingWorld<'p>, W: Write, V: Write>(
     world: &mut D,
     how: How<'p>,
     request: &AutoRequest<'_>,

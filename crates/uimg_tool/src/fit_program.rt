@@ -7,6 +7,7 @@ ghost use Rattle.uimg_tool.specs.{Complaints.Ends, OldMakings.{IsHowFor, IsWritt
 ghost use Rattle.uimg_tool.specs.SourceTexts.{LooksForKey, MakesFit, MakesOfInput, MakesOfText, input_path, leads_somewhere};
 ghost use Rattle.uimg_unpacking.specs.Deeds.{Answer, Deed, changes};
 
+use crate::auto_program::at_path;
 use crate::complaints::Complaints;
 use crate::dts_program::{Beyond, make_beyond, make_compiled, tree_request};
 use crate::known_sources::{Known, files_of, known_source, source_has_labels};
@@ -218,11 +219,9 @@ where
 {
     match new_beside(world, world.alloc(), request.outfile) {
         Ok(Ok(NewBeside { mut file, path })) => {
-            let status = match file.write_all(text) {
-                Ok(()) => make_of_copy(world, how, request, path.as_str(), out, complaints),
-                Err(reason) => complaints.tell_unwritten(request.outfile, &reason),
-            };
+            let copy = at_path(file.write_all(text), path.as_str());
             drop(file);
+            let status = make_of_copy(world, how, request, copy, out, complaints);
             let _ = world.remove_file(path.as_str());
             status
         }
@@ -235,7 +234,7 @@ fn make_of_copy<'p, D: MakingWorld<'p>, W: Write, V: Write>(
     world: &mut D,
     how: How<'p>,
     request: &FitRequest<'_>,
-    path: &str,
+    copy: io::Result<&str>,
     out: &mut W,
     complaints: &mut Complaints<'_, V>,
 ) -> u8
@@ -247,6 +246,10 @@ where
     ensures made { MakesWithin request.now.outfile.now result (D.trace world.old)
         (D.trace world.new) }
 {
+    let path = match copy {
+        Ok(path) => path,
+        Err(reason) => return complaints.tell_unwritten(request.outfile, &reason),
+    };
     match making_of_copy(world.alloc(), request, path, request.outfile) {
         Ok(making) => warn_and_make(world, how, request, making, out, complaints),
         Err(_) => complaints.tell_no_memory(),
@@ -311,10 +314,12 @@ where
 {
     let alloc = world.alloc();
     let dtc = &request.dtc;
-    if dtc.has_symbols && source_has_labels(world.reader(), alloc, &making, dtc) {
+    let reader = world.reader();
+    if dtc.has_symbols && source_has_labels(reader, alloc, &making, dtc) {
         return complaints.tell(&OldFault::DtcSymbols, WRONG_LINE);
     }
-    match known_source(world.reader(), alloc, &making, dtc) {
+    let again = world.reader();
+    match known_source(again, alloc, &making, dtc) {
         Known::Beyond(_, _) if dtc.has_symbols => {
             complaints.tell(&OldFault::DtcSymbols, WRONG_LINE)
         }

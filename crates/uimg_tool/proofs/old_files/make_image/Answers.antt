@@ -7,7 +7,7 @@ use Rattle.uimg_tool.proofs.old_files.make_image.Goals as goal
 
 pub returns-in-Ok-InPlace-clause-made : goal.returns-in-Ok-InPlace-clause-made
 returns-in-Ok-InPlace-clause-made g c =
-    made_in_place c.args.how.outfile.now c.tell_end.result (is_err c.make_by-made.result.end) c.writing_of.result _ _ _ _ (c.in-Ok-InPlace.is ∙ ap (λ w. Ok w) c.in-Ok-InPlace.field-0-is) c.writing_of.ensures
+    made_in_place c.args.how.outfile.now c.tell_end.result (is_err c.make_by-made.result.end) c.writing_of.result (g.D.World.trace c.args.world.now) (g.D.World.trace c.writing_of.new.world) (g.D.World.trace c.make_by-made.new.world) (g.D.World.trace c.tell_end.new.world) (c.in-Ok-InPlace.is ∙ ap (λ w. Ok w) c.in-Ok-InPlace.field-0-is) c.writing_of.ensures
     (λ fails. subst (λ (s : ℕ). 1 ≤ s) (sym (c.tell_end.ensures.status ∙ ap end_status c.told-end.ensures)) (told_fails c.make_by-made.result.end c.make_by-made.result.printed fails))
     c.make_by-made.ensures.lent c.tell_end.ensures.kept
 
