@@ -1,6 +1,6 @@
 -- A request that was not carried out has another status than 0.
-use Rattle.std.proofs.Common.{◌≡◌, ◌≤◌, ◌<◌, ℕ, Bool, true, false, Result, Ok, Err, ⊤, arith, refl, subst, sym, ◌∙◌}
-use Rattle.std.specs.Prelude.{is_err, if◌then◌else◌}
+use Rattle.std.proofs.Common.{◌≡◌, ◌≤◌, ℕ, Bool, true, false, Result, Ok, Err, arith, sym, true≢false}
+use Rattle.std.specs.Prelude.{⊤, is_err, if◌then◌else◌}
 use Rattle.std.specs.declared.io.Error.{Error}
 use Rattle.uimg_base.specs.declared.status.Status.{Status}
 use Rattle.uimg_blob_reading.specs.Faults.{refuses_memory}
@@ -41,7 +41,7 @@ request_fails (request.Stopped fault) = fault_fails fault
 request_fails fault = omega arith
 
 pub end_fails : (end : Result Status RequestFault) → is_err end ≡ true → 1 ≤ end_status end
-end_fails (Ok status) is = cc
+end_fails (Ok status) is = absurd (true≢false (sym is))
 end_fails (Err fault) is = request_fails fault
 
 -- the same of an end whose text was flushed or not

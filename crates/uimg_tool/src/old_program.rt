@@ -18,9 +18,11 @@ use std::alloc::Global;
 use std::io;
 use std::io::{BufWriter, Write};
 use std::rt::Files;
-use uimg_compat::{FitRequest, OldFault, OldRequest, Show, read_dumpimage, read_mkimage, title_of};
+use uimg_compat::{
+    AutoRequest, FitRequest, OldFault, OldRequest, Show, read_dumpimage, read_mkimage, title_of,
+};
 use uimg_names::Field;
-use uimg_requests::{RunRequest, VERSION};
+use uimg_requests::{MakeRequest, RunRequest, VERSION};
 use uimg_unpacking::DiskWorld;
 
 /// Carries out the words of a tool of U-Boot 2023.01. An image is written to a new file and gets its
@@ -44,13 +46,10 @@ pub(crate) fn run_as_tool<R: Files + AllocGlobal, W: Write, V: Write>(
             run_on_disk(rt, is_quiet, &request, out, complaints)
         }
         Ok(OldRequest::Make { request, is_quiet }) => {
-            let how = How::new(is_quiet, request.outfile);
-            make_image(&mut DiskWorld::new(rt), how, request, out, complaints)
+            make_on_disk(rt, is_quiet, request, out, complaints)
         }
         Ok(OldRequest::MakeFit(request)) => make_fit_on_disk(rt, &request, out, complaints),
-        Ok(OldRequest::MakeAuto(request)) => {
-            make_auto(&mut DiskWorld::new(rt), &request, out, complaints)
-        }
+        Ok(OldRequest::MakeAuto(request)) => make_auto_on_disk(rt, &request, out, complaints),
         Ok(OldRequest::Update(request)) => {
             update_image(&mut DiskWorld::new(rt), &request, out, complaints)
         }
@@ -79,8 +78,47 @@ fn run_on_disk<R: Files + AllocGlobal, W: Write, V: Write>(
     status
 }
 
+// Makes a legacy image, over the files of the system.
+fn make_on_disk<R: Files + AllocGlobal, W: Write, V: Write>(
+    rt: &R,
+    is_quiet: bool,
+    request: MakeRequest<'_>,
+    out: &mut W,
+    complaints: &mut Complaints<'_, V>,
+) -> u8
+    ensures { Ends result complaints.old.count complaints.new.count }
+{
+    make_over(rt, is_quiet, request, out, complaints)
+}
+
+// The same, where the system and the request live equally long.
+fn make_over<'a, R: Files + AllocGlobal, W: Write, V: Write>(
+    rt: &'a R,
+    is_quiet: bool,
+    request: MakeRequest<'a>,
+    out: &mut W,
+    complaints: &mut Complaints<'_, V>,
+) -> u8
+    ensures { Ends result complaints.old.count complaints.new.count }
+{
+    let how = How::new(is_quiet, request.outfile);
+    make_image(&mut DiskWorld::new(rt), how, request, out, complaints)
+}
+
 // Makes a FIT image of a source, over the files of the system.
-fn make_fit_on_disk<'a, R: Files + AllocGlobal, W: Write, V: Write>(
+fn make_fit_on_disk<R: Files + AllocGlobal, W: Write, V: Write>(
+    rt: &R,
+    request: &FitRequest<'_>,
+    out: &mut W,
+    complaints: &mut Complaints<'_, V>,
+) -> u8
+    ensures { Ends result complaints.old.count complaints.new.count }
+{
+    make_fit_over(rt, request, out, complaints)
+}
+
+// The same, where the system and the request live equally long.
+fn make_fit_over<'a, R: Files + AllocGlobal, W: Write, V: Write>(
     rt: &'a R,
     request: &'a FitRequest<'a>,
     out: &mut W,
@@ -89,6 +127,30 @@ fn make_fit_on_disk<'a, R: Files + AllocGlobal, W: Write, V: Write>(
     ensures { Ends result complaints.old.count complaints.new.count }
 {
     make_fit(&mut DiskWorld::new(rt), request, out, complaints)
+}
+
+// Makes a FIT image of a source that the tool makes, over the files of the system.
+fn make_auto_on_disk<R: Files + AllocGlobal, W: Write, V: Write>(
+    rt: &R,
+    request: &AutoRequest<'_>,
+    out: &mut W,
+    complaints: &mut Complaints<'_, V>,
+) -> u8
+    ensures { Ends result complaints.old.count complaints.new.count }
+{
+    make_auto_over(rt, request, out, complaints)
+}
+
+// The same, where the system and the request live equally long.
+fn make_auto_over<'a, R: Files + AllocGlobal, W: Write, V: Write>(
+    rt: &'a R,
+    request: &'a AutoRequest<'a>,
+    out: &mut W,
+    complaints: &mut Complaints<'_, V>,
+) -> u8
+    ensures { Ends result complaints.old.count complaints.new.count }
+{
+    make_auto(&mut DiskWorld::new(rt), request, out, complaints)
 }
 
 // Reads the words. Not inlined, so that what this takes of the stack is free when the request is
