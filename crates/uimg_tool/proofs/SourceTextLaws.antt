@@ -1,8 +1,8 @@
 -- Files that are opened in order.
 use Rattle.std.proofs.Common.{Bool, ◌≡◌, List, [], ◌∷◌, ◌++◌, ℕ, Option, Some, None, false, true, inl, inr, ap, refl, subst, sym, ◌∙◌}
 use Rattle.std.specs.{Borrow.Bor, Prelude.option_map}
-use Rattle.uimg_tool.specs.SourceTexts.{LooksForKey, OpensEach}
-use Rattle.uimg_unpacking.specs.Deeds.{Deed, Opens}
+use Rattle.uimg_tool.specs.{Running.ComparesFiles, SourceTexts.{LooksForKey, MakesOfInput, MakesOfText, OpensEach, from_input, input_path}}
+use Rattle.uimg_unpacking.specs.Deeds.{Answer, Deed, Opens, Reads}
 
 -- the next is opened
 pub next_opened : (path : List ℕ) (left rest : List (List ℕ)) (unread : Option (List ℕ)) (before seen after : List Deed) → left ≡ path ∷ rest
@@ -50,3 +50,8 @@ each_of paths one last before after is each = subst (λ (it : Option (Bor (List 
 
 pub key_as : (key : Option (Bor (List ℕ))) (one last : Bool) (before after : List Deed) → one ≡ last → LooksForKey key one before after → LooksForKey key last before after
 key_as key one last before after is looks = subst (λ (b : Bool). LooksForKey key b before after) is looks
+
+pub input_made : (path : List ℕ) (status : ℕ) (same : Bool) (answer : Answer) (before seen read after : List Deed) → same ≡ false → ComparesFiles path input_path same before seen
+    → read ≡ Reads input_path answer ∷ seen → MakesOfText path status read after → MakesOfInput path status before after
+input_made path status same answer before seen read after differ compares is makes =
+    from_input answer seen (subst (λ (b : Bool). ComparesFiles path input_path b before seen) differ compares) (subst (λ (t : List Deed). MakesOfText path status t after) is makes)
