@@ -17,7 +17,7 @@ gives_as one two new whole is_forced answer last before after is to ends gives =
     subst (λ (a : Answer). GivesName new whole is_forced a before after) ends
     (subst (λ (w : List ℕ). GivesName new w is_forced answer before after) to (subst (λ (n : List ℕ). GivesName n two is_forced answer before after) is gives))
 
-writes_as : {F Z : Type 0} (path : List ℕ) (result last : Result (Writing F) Z) (before after : List Deed) → result ≡ last → WritesFor path result before after → WritesFor path last before after
+pub writes_as : {F Z : Type 0} (path : List ℕ) (result last : Result (Writing F) Z) (before after : List Deed) → result ≡ last → WritesFor path result before after → WritesFor path last before after
 writes_as {F = F} {Z = Z} path result last before after is writes = subst (λ (r : Result (Writing F) Z). WritesFor path r before after) is writes
 
 pub drawn_beside : {F Z : Type 0} (path : List ℕ) (is_forced : Bool) (result : Result (Writing F) Z) (file : F) (safe : SafePath) (before begun after : List Deed) → result ≡ Ok (writing.Beside file safe)

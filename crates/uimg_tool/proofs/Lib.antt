@@ -11,10 +11,13 @@ pub mod InfoLaws
 pub mod MakingLaws
 pub mod MapLaws
 pub mod MemoryLaws
+pub mod OldMakingLaws
 pub mod OldWordLaws
 pub mod PathLaws
 pub mod RunLaws
 pub mod SearchedLaws
+pub mod SourceTextLaws
+pub mod StatusLaws
 pub mod StrictLaws
 pub mod UnpackLaws
 pub mod UnpackTells

@@ -23,12 +23,16 @@ pub mod MadeEnds
 pub mod Makings
 pub mod MapAnswers
 pub mod MapEnds
+pub mod OldMakings
+pub mod OldTexts
 pub mod OtherAlgos
 pub mod Paths
 pub mod Programs
 pub mod RequestEnds
 pub mod Running
 pub mod SearchedNames
+pub mod SourceStatuses
+pub mod SourceTexts
 pub mod Statuses
 pub mod StrictEnds
 pub mod TreeSizes

@@ -1,7 +1,9 @@
 //! Makes a FIT image from the source that mkimage makes itself.
 
-ghost use Rattle.std.specs.Prelude.{◌≡◌, codes};
-ghost use Rattle.uimg_tool.specs.Complaints.{Ends};
+ghost use Rattle.std.specs.Prelude.{◌≡◌, ◌∷◌, [], IfOk, codes, option_map, true};
+ghost use Rattle.uimg_requests.specs.{Plain.IsAt, Requests.AsksSource};
+ghost use Rattle.uimg_tool.specs.{Complaints.Ends, OldMakings.{IsWrittenTo, MakesWithin}};
+ghost use Rattle.uimg_tool.specs.SourceTexts.{MakesAuto, MakesOfText, OpensEach, auto_paths, part_paths, ramdisk_paths, tree_paths};
 
 use crate::complaints::Complaints;
 use crate::fit_program::is_key;
@@ -9,39 +11,56 @@ use crate::old_files::{How, make_image};
 use crate::request_fault::WRONG_LINE;
 use crate::safe_path::NewBeside;
 use crate::writing::new_beside;
+use std::alloc::{AllocError, Global};
+use std::io;
 use std::io::{BufWriter, Write};
-use std::rt::Files;
-use std::{fs, io};
-use uimg_base::FileSource;
 use uimg_compat::{AutoRequest, AutoSource, OldFault};
 use uimg_requests::MakeRequest;
-use uimg_unpacking::DiskWorld;
+use uimg_unpacking::{MakingWorld, World};
 
 /// What faults call the source.
 const SOURCE_NAME: &str = "-f auto";
 
 /// Makes the requested image. The text of its source is beside the image meanwhile.
-pub(crate) fn make_auto<R: Files + AllocGlobal, W: Write, V: Write>(
-    rt: &R,
-    request: &AutoRequest<'_>,
+pub(crate) fn make_auto<'p, D: MakingWorld<'p>, W: Write, V: Write>(
+    world: &mut D,
+    request: &AutoRequest<'p>,
     out: &mut W,
     complaints: &mut Complaints<'_, V>,
 ) -> u8
-    ensures { Ends result complaints.old.count complaints.new.count }
+    ensures ends { Ends result complaints.old.count complaints.new.count }
+    ensures quiet { request.now.is_quiet ≡ true → out.new ≡ out.old }
+    ensures made { MakesAuto request.now result (D.trace world.old) (D.trace world.new) }
 {
-    if is_key(rt, request.key) {
+    if is_key(world, request.key) {
         return complaints.tell(&OldFault::Signs('g'), WRONG_LINE);
     }
-    if let Some(path) = unread_file(rt, &request.source) {
-        return complaints.tell_unread(&mut DiskWorld::new(rt), path);
+    match unread_file(world, &request.source) {
+        Some(path) => complaints.tell_unread(world, path),
+        None => make_beside(world, request, out, complaints),
     }
-    match new_beside(&mut DiskWorld::new(rt), rt.alloc(), request.outfile) {
-        Ok(Ok(NewBeside { file, path })) => {
-            let status = match write_text(rt, file, &request.source) {
-                Ok(()) => make_of_text(rt, request, path.as_str(), out, complaints),
-                Err(reason) => complaints.tell_unwritten(request.outfile, &reason),
-            };
-            let _ = fs::remove_file(rt, path.as_str());
+}
+
+// Makes the image. The text of its source is in a new file beside the image meanwhile.
+fn make_beside<'p, D: MakingWorld<'p>, W: Write, V: Write>(
+    world: &mut D,
+    request: &AutoRequest<'p>,
+    out: &mut W,
+    complaints: &mut Complaints<'_, V>,
+) -> u8
+    ensures ends { Ends result complaints.old.count complaints.new.count }
+    ensures quiet { request.now.is_quiet ≡ true → out.new ≡ out.old }
+    ensures made { MakesOfText request.now.outfile.now result (D.trace world.old)
+        (D.trace world.new) }
+{
+    let how = How::new(request.is_quiet, request.outfile);
+    match new_beside(world, world.alloc(), request.outfile) {
+        Ok(Ok(NewBeside { mut file, path })) => {
+            let written = write_text(world.alloc(), &mut file, &request.source);
+            drop(file);
+            let text = at_path(written, path.as_str());
+            let status = make_of_text(world, how, request, text, out, complaints);
+            let _ = world.remove_file(path.as_str());
             status
         }
         Ok(Err(reason)) => complaints.tell_unwritten(request.outfile, &reason),
@@ -49,67 +68,140 @@ pub(crate) fn make_auto<R: Files + AllocGlobal, W: Write, V: Write>(
     }
 }
 
+// Returns the path of a text that was written.
+pub(crate) fn at_path(written: io::Result<()>, path: &str) -> io::Result<&str> {
+    match written {
+        Ok(()) => Ok(path),
+        Err(reason) => Err(reason),
+    }
+}
+
+// Makes the image of a text at a path, if it was written.
+fn make_of_text<'p, D: MakingWorld<'p>, W: Write, V: Write>(
+    world: &mut D,
+    how: How<'p>,
+    request: &AutoRequest<'_>,
+    text: io::Result<&str>,
+    out: &mut W,
+    complaints: &mut Complaints<'_, V>,
+) -> u8
+    ensures ends { Ends result complaints.old.count complaints.new.count }
+    ensures quiet { how.entry.is_quiet ≡ true → out.new ≡ out.old }
+    ensures made { MakesWithin how.entry.outfile.now result (D.trace world.old)
+        (D.trace world.new) }
+{
+    match text {
+        Ok(path) => make_at(world, how, request, path, out, complaints),
+        Err(reason) => complaints.tell_unwritten(how.outfile, &reason),
+    }
+}
+
 // Makes the image of a source whose text is at a path.
-fn make_of_text<R: Files + AllocGlobal, W: Write, V: Write>(
-    rt: &R,
+fn make_at<'p, D: MakingWorld<'p>, W: Write, V: Write>(
+    world: &mut D,
+    how: How<'p>,
     request: &AutoRequest<'_>,
     path: &str,
     out: &mut W,
     complaints: &mut Complaints<'_, V>,
 ) -> u8
-    ensures { Ends result complaints.old.count complaints.new.count }
+    ensures ends { Ends result complaints.old.count complaints.new.count }
+    ensures quiet { how.entry.is_quiet ≡ true → out.new ≡ out.old }
+    ensures made { MakesWithin how.entry.outfile.now result (D.trace world.old)
+        (D.trace world.new) }
 {
-    let made = MakeRequest::of_source_here(
-        rt.alloc(),
-        path,
-        request.placement,
-        request.manner.time,
-        request.outfile,
-    );
-    match made {
-        Ok(making) => {
-            let mut making = named_source(making);
-            making.manner = request.manner;
-            make_image(rt, How::new(request.is_quiet), making, out, complaints)
-        }
+    match making_of_text(world.alloc(), request, path, request.outfile) {
+        Ok(making) => make_image(world, how, making, out, complaints),
         Err(_) => complaints.tell_no_memory(),
     }
 }
 
-// Returns a request whose source is reported as the one that the tool makes.
-fn named_source<'a>(making: MakeRequest<'a>) -> MakeRequest<'a>
-    ensures { result.source.now ≡ codes "-f auto" }
+// Returns the making of an image of the text at a path, with files in the current folder. The source
+// is reported as the one that the tool makes.
+fn making_of_text<'a>(
+    alloc: Global,
+    request: &AutoRequest<'_>,
+    path: &'a str,
+    outfile: &'a str,
+) -> Result<MakeRequest<'a>, AllocError>
+    ensures asks { IfOk result (λ making.
+        AsksSource making.command [] path.entry.now request.now.placement) }
+    ensures place { IfOk result (λ making. IsAt making (codes "-f auto") []) }
+    ensures manner { IfOk result (λ making. making.manner ≡ request.now.manner) }
+    ensures written { IfOk result (λ making. IsWrittenTo making outfile.entry.now) }
 {
-    let mut named = making;
-    named.source = SOURCE_NAME;
-    named
+    let mut making = MakeRequest::of_source_here(
+        alloc,
+        path,
+        request.placement,
+        request.manner.time,
+        outfile,
+    )?;
+    making.source = SOURCE_NAME;
+    making.manner = request.manner;
+    Ok(making)
 }
 
 // Returns the first path of a source whose file cannot be opened: the data, a device tree or the
 // RAM disk.
-fn unread_file<'a, R: Files + AllocGlobal>(rt: &R, source: &AutoSource<'a>) -> Option<&'a str> {
-    if FileSource::open(rt, source.data).is_err() {
-        return Some(source.data);
+fn unread_file<'a, D: World>(world: &mut D, source: &AutoSource<'a>) -> Option<&'a str>
+    ensures { OpensEach (auto_paths source.now) (option_map (λ path. path.now) result)
+        (D.trace world.old) (D.trace world.new) }
+{
+    match unless_opened(world, source.data) {
+        Some(path) => Some(path),
+        None => unread_part(world, source),
     }
-    let mut trees = source.trees();
-    while let Some(path) = trees.take() {
-        if FileSource::open(rt, path).is_err() {
+}
+
+// Returns the first path of a device tree or the RAM disk whose file cannot be opened.
+fn unread_part<'a, D: World>(world: &mut D, source: &AutoSource<'a>) -> Option<&'a str>
+    ensures { OpensEach (part_paths source.now) (option_map (λ path. path.now) result)
+        (D.trace world.old) (D.trace world.new) }
+{
+    match unread_tree(world, source) {
+        Some(path) => Some(path),
+        None => unread_ramdisk(world, source),
+    }
+}
+
+fn unread_tree<'a, D: World>(world: &mut D, source: &AutoSource<'a>) -> Option<&'a str>
+    ensures { OpensEach (tree_paths source.now) (option_map (λ path. path.now) result)
+        (D.trace world.old) (D.trace world.new) }
+{
+    let mut left = source.trees();
+    while let Some(path) = left.take() {
+        if world.open(path).is_err() {
             return Some(path);
         }
     }
+    None
+}
+
+fn unread_ramdisk<'a, D: World>(world: &mut D, source: &AutoSource<'a>) -> Option<&'a str>
+    ensures { OpensEach (ramdisk_paths source.now.ramdisk) (option_map (λ path. path.now) result)
+        (D.trace world.old) (D.trace world.new) }
+{
     match source.ramdisk {
-        Some(path) if FileSource::open(rt, path).is_err() => Some(path),
-        _ => None,
+        Some(path) => unless_opened(world, path),
+        None => None,
+    }
+}
+
+// Returns a path if the file at it cannot be opened.
+fn unless_opened<'a, D: World>(world: &mut D, path: &'a str) -> Option<&'a str>
+    ensures { OpensEach (path.entry.now ∷ []) (option_map (λ path. path.now) result)
+        (D.trace world.old) (D.trace world.new) }
+{
+    match world.open(path) {
+        Ok(_) => None,
+        Err(_) => Some(path),
     }
 }
 
 // Writes the text of a source to a new file.
-fn write_text<R: Files + AllocGlobal>(
-    rt: &R,
-    mut file: R::File,
-    source: &AutoSource<'_>,
-) -> io::Result<()> {
-    let mut gathered = BufWriter::new(rt.alloc(), &mut file)?;
+fn write_text<F: Write>(alloc: Global, file: &mut F, source: &AutoSource<'_>) -> io::Result<()> {
+    let mut gathered = BufWriter::new(alloc, file)?;
     let written = write!(gathered, "{source}").and_then(|()| gathered.flush());
     // A failed write leaves text in the buffer, which its drop would try to write again.
     let (_, _) = gathered.into_parts();

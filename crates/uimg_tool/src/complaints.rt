@@ -1,6 +1,6 @@
 //! Standard error, where a fault is told in one line.
 
-ghost use Rattle.std.specs.{Prelude.{◌≡◌, ◌∷◌, ◌+◌, ◌-◌, ◌^◌, ◌≤◌, Some, false, min}, IoError.error_kind};
+ghost use Rattle.std.specs.{Prelude.{◌≡◌, ◌∷◌, ◌+◌, ◌-◌, ◌^◌, ◌≤◌, None, Some, codes, false, min}, IoError.error_kind};
 ghost use Rattle.uimg_tool.specs.Complaints.{AddsText, Complains, is_closed_pipe};
 ghost use Rattle.uimg_unpacking.specs.Deeds.{Deed};
 
@@ -68,6 +68,7 @@ impl<'a, V: Write> Complaints<'a, V> {
     pub(crate) fn tell_no_memory(&mut self) -> u8
         ensures status { result ≡ 3 }
         ensures once { self.new.count ≤ self.old.count + 1 }
+        ensures line { Complains V.contents (Some (Some (codes "out of memory"))) self }
     {
         self.tell(&RequestFault::OutOfMemory, FAILED)
     }
@@ -76,6 +77,7 @@ impl<'a, V: Write> Complaints<'a, V> {
     pub(crate) fn tell_unread<D: World>(&mut self, world: &mut D, path: &str) -> u8
         ensures status { result ≡ 3 }
         ensures once { self.new.count ≤ self.old.count + 1 }
+        ensures line { Complains V.contents (Some None) self }
         ensures asked { D.trace world.new ≡ Deed.Explains path.now ∷ D.trace world.old }
     {
         let reason = world.reason_unread(path);
@@ -90,6 +92,7 @@ impl<'a, V: Write> Complaints<'a, V> {
     pub(crate) fn tell_unwritten(&mut self, path: &str, reason: &io::Error) -> u8
         ensures status { result ≡ 3 }
         ensures once { self.new.count ≤ self.old.count + 1 }
+        ensures line { Complains V.contents (Some None) self }
     {
         let path = Printed(path.as_bytes());
         self.tell(&format_args!("cannot write {path}: {reason}"), FAILED)
@@ -99,6 +102,7 @@ impl<'a, V: Write> Complaints<'a, V> {
     pub(crate) fn tell_unprinted(&mut self, error: &io::Error) -> u8
         ensures status { result ≡ 3 }
         ensures once { self.new.count ≤ self.old.count + 1 }
+        ensures line { Complains V.contents (Some None) self }
     {
         if is_closed(error) {
             return FAILED;

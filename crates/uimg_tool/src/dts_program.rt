@@ -1,16 +1,17 @@
 //! Makes a FIT image from a source that the profile refuses, in the whole language of dtc.
 
+ghost use Rattle.std.specs.Prelude.{◌≡◌, [], None, true};
 ghost use Rattle.uimg_blob_writing.specs.{Content.FilesAtData, Trees.node_of};
-ghost use Rattle.uimg_tool.specs.Complaints.{Ends};
+ghost use Rattle.uimg_tool.specs.{Complaints.Ends, OldMakings.MakesWithin, SourceStatuses.refused_status};
+ghost use Rattle.uimg_unpacking.specs.Deeds.{changes};
 
 use crate::complaints::Complaints;
+use crate::known_sources::files_of;
 use crate::old_files::{about_end, tell_end};
 use crate::request_fault::{FAILED, REFUSED, RequestFault};
-use crate::searched_files::SearchedFiles;
 use crate::tree_program::{TreeRequest, write_image};
 use std::alloc::Global;
-use std::io::Write;
-use std::rt;
+use std::io::{Seek, Write};
 use uimg_base::Files;
 use uimg_blob_writing::Tree;
 use uimg_compat::{FitRequest, warn};
@@ -21,7 +22,7 @@ use uimg_its::{FaultKind, ItsFault};
 use uimg_names::Naming;
 use uimg_printing::Printed;
 use uimg_requests::MakeRequest;
-use uimg_unpacking::DiskWorld;
+use uimg_unpacking::{MakingWorld, World};
 
 /// A source that the profile refuses: its request, its text, and the fault.
 #[derive(Drop)]
@@ -32,22 +33,28 @@ pub(crate) struct Beyond<'a> {
 }
 
 /// Makes the image of a source that the profile refuses.
-pub(crate) fn make_beyond<'x, R: rt::Files + AllocGlobal, W: Write, V: Write>(
-    rt: &'x R,
+pub(crate) fn make_beyond<'x, 'p, D: MakingWorld<'p>, W: Write, V: Write>(
+    world: &mut D,
     request: &'x FitRequest<'x>,
     beyond: &'x Beyond<'x>,
     out: &mut W,
     complaints: &mut Complaints<'_, V>,
 ) -> u8
-    ensures { Ends result complaints.old.count complaints.new.count }
+where
+    D::File: Seek,
+    ensures ends { Ends result complaints.old.count complaints.new.count }
+    ensures quiet { request.now.is_quiet ≡ true → out.new ≡ out.old }
+    ensures made { MakesWithin beyond.now.making.outfile.now result (D.trace world.old)
+        (D.trace world.new) }
 {
+    let alloc = world.alloc();
     let making = &beyond.making;
-    let folders = request.dtc.folders.as_slice();
-    let mut files = SearchedFiles::new(rt, making.folder, folders, making.outfile);
-    let compiled = compile_all(rt.alloc(), &beyond.text, &mut files);
+    let reader = world.reader();
+    let mut files = files_of(reader, alloc, making, &request.dtc);
+    let compiled = compile_all(alloc, &beyond.text, &mut files);
     if compiled.is_err() && files.has_met_left_out() {
         let end = Err(RequestFault::WritesWhatIsRead(making.outfile));
-        return tell_end(&mut DiskWorld::new(rt), &end, making.outfile, complaints);
+        return tell_end(world, &end, making.outfile, complaints);
     }
     if files.is_ambiguous() {
         let source = Printed(making.source.as_bytes());
@@ -67,8 +74,8 @@ pub(crate) fn make_beyond<'x, R: rt::Files + AllocGlobal, W: Write, V: Write>(
                 manner: request.manner,
                 is_quiet: request.is_quiet,
             };
-            warn(rt.alloc(), &tree, request.dtc.silenced, complaints.err);
-            make_compiled(rt, making, tree, &mut files, out, complaints)
+            warn(alloc, &tree, request.dtc.silenced, complaints.err);
+            make_compiled(world, making, tree, &mut files, out, complaints)
         }
         Err(fault) if fault.kind == DtsKind::NoFile => {
             let (source, name) = (Printed(making.source.as_bytes()), Printed(files.missing()));
@@ -76,41 +83,70 @@ pub(crate) fn make_beyond<'x, R: rt::Files + AllocGlobal, W: Write, V: Write>(
             let reason = format_args!("{source}: cannot read {name}, which line {line} names");
             complaints.tell(&reason, FAILED)
         }
-        Err(fault) => tell_refused(rt, beyond, fault, complaints),
+        Err(fault) => tell_refused(world, beyond, fault, complaints),
+    }
+}
+
+/// Returns what is made of the tree of a source that reserves no memory.
+pub(crate) fn tree_request<'a>(
+    request: &FitRequest<'_>,
+    source: &'a str,
+    image: &'a str,
+) -> TreeRequest<'a>
+    ensures made { (result.source ≡ source.entry) × (result.image ≡ image.entry) }
+    ensures placed { (result.placement ≡ request.now.placement)
+        × (result.manner ≡ request.now.manner) }
+    ensures quiet { result.is_quiet ≡ request.now.is_quiet }
+    ensures bare { (result.reservations.now ≡ []) × (result.roomy_size ≡ None) }
+{
+    TreeRequest {
+        source,
+        image,
+        placement: request.placement,
+        reservations: &[],
+        roomy_size: None,
+        manner: request.manner,
+        is_quiet: request.is_quiet,
     }
 }
 
 /// Fills the tree of a source by all algorithms, and makes its image.
-pub(crate) fn make_compiled<R: rt::Files + AllocGlobal, F: Files, W: Write, V: Write>(
-    rt: &R,
+pub(crate) fn make_compiled<'p, D: MakingWorld<'p>, F: Files, W: Write, V: Write>(
+    world: &mut D,
     making: TreeRequest<'_>,
     tree: Tree<Global>,
     files: &mut F,
     out: &mut W,
     complaints: &mut Complaints<'_, V>,
 ) -> u8
+where
+    D::File: Seek,
     requires { FilesAtData (node_of tree.root) }
-    ensures { Ends result complaints.old.count complaints.new.count }
+    ensures ends { Ends result complaints.old.count complaints.new.count }
+    ensures quiet { making.entry.is_quiet ≡ true → out.new ≡ out.old }
+    ensures made { MakesWithin making.entry.image.now result (D.trace world.old) (D.trace world.new) }
 {
-    match fill_by(rt.alloc(), tree, making.manner.time, Naming::All, files) {
-        Ok(tree) => write_image(rt, making, &tree, files, out, complaints),
+    match fill_by(world.alloc(), tree, making.manner.time, Naming::All, files) {
+        Ok(tree) => write_image(world, making, &tree, files, out, complaints),
         Err(fault) => {
             let end = Err(RequestFault::Stopped(Fault::Fit(fault)));
             let about = about_end(&end, making.source, making.image);
-            tell_end(&mut DiskWorld::new(rt), &end, about, complaints)
+            tell_end(world, &end, about, complaints)
         }
     }
 }
 
 // Reports why a source is refused: by the fault of the profile if that is for the same line and not
 // for a construct of the whole language.
-fn tell_refused<R: rt::Files + AllocGlobal, V: Write>(
-    rt: &R,
+fn tell_refused<D: World, V: Write>(
+    world: &mut D,
     beyond: &Beyond<'_>,
     fault: DtsFault,
     complaints: &mut Complaints<'_, V>,
 ) -> u8
-    ensures { Ends result complaints.old.count complaints.new.count }
+    ensures status { result ≡ refused_status fault.kind }
+    ensures ends { Ends result complaints.old.count complaints.new.count }
+    ensures kept { changes (D.trace world.new) ≡ changes (D.trace world.old) }
 {
     let source = beyond.making.source;
     let status = match fault.kind {
@@ -121,7 +157,7 @@ fn tell_refused<R: rt::Files + AllocGlobal, V: Write>(
         FaultKind::BadToken | FaultKind::BadSyntax | FaultKind::BadNumber
             if status == REFUSED && beyond.fault.line == fault.line => {
             let end = Err(RequestFault::Stopped(Fault::Its(beyond.fault)));
-            tell_end(&mut DiskWorld::new(rt), &end, source, complaints)
+            tell_end(world, &end, source, complaints)
         }
         _ => {
             let path = Printed(source.as_bytes());

@@ -1,26 +1,30 @@
 //! Makes a FIT image from a source, as mkimage does.
 
-ghost use Rattle.std.specs.Prelude.{◌≡◌, [], None, codes};
-ghost use Rattle.uimg_tool.specs.Complaints.{Ends};
+ghost use Rattle.std.specs.Prelude.{◌≡◌, ◌∷◌, [], IfOk, codes, true};
+ghost use Rattle.uimg_blob_writing.specs.{Content.FilesAtData, Trees.node_of};
+ghost use Rattle.uimg_requests.specs.{Plain.IsAt, Requests.{AsksSource, folder_of}};
+ghost use Rattle.uimg_tool.specs.{Complaints.Ends, OldMakings.{IsHowFor, IsWrittenTo, MakesWithin}};
+ghost use Rattle.uimg_tool.specs.SourceTexts.{LooksForKey, MakesFit, MakesOfInput, MakesOfText, input_path, leads_somewhere};
+ghost use Rattle.uimg_unpacking.specs.Deeds.{Answer, Deed, changes};
 
+use crate::auto_program::at_path;
 use crate::complaints::Complaints;
-use crate::dts_program::{Beyond, make_beyond, make_compiled};
+use crate::dts_program::{Beyond, make_beyond, make_compiled, tree_request};
 use crate::known_sources::{Known, files_of, known_source, source_has_labels};
 use crate::old_files::{How, make_image, tell_end};
 use crate::other_algos::has_other_algos;
 use crate::request_fault::{REFUSED, RequestFault, WRONG_LINE};
+use crate::requests::is_same_file;
 use crate::safe_path::NewBeside;
-use crate::tree_program::TreeRequest;
 use crate::writing::new_beside;
-use std::alloc::AllocError;
-use std::io::{Read, Write};
+use std::alloc::{AllocError, Global};
+use std::io;
+use std::io::{Read, Seek, Write};
 use std::path::{Path, PathBuf};
-use std::rt::Files;
-use std::{fs, io};
-use uimg_base::FileSource;
+use uimg_blob_writing::Tree;
 use uimg_compat::{FitRequest, OldFault, warn};
 use uimg_requests::MakeRequest;
-use uimg_unpacking::{DiskWorld, FileId, World};
+use uimg_unpacking::{MakingWorld, Target, World};
 
 /// The name of standard input as a source, and its path.
 const INPUT_NAME: &str = "-";
@@ -31,105 +35,194 @@ const INPUT: &str = "/dev/stdin";
 const MOST_INPUT: u64 = 1 << 26;
 
 /// Makes the requested image. A source from standard input is beside the image meanwhile.
-pub(crate) fn make_fit<R: Files + AllocGlobal, W: Write, V: Write>(
-    rt: &R,
-    request: &FitRequest<'_>,
+pub(crate) fn make_fit<'p, D: MakingWorld<'p>, W: Write, V: Write>(
+    world: &mut D,
+    request: &'p FitRequest<'p>,
     out: &mut W,
     complaints: &mut Complaints<'_, V>,
 ) -> u8
-    ensures { Ends result complaints.old.count complaints.new.count }
+where
+    D::File: Seek,
+    ensures ends { Ends result complaints.old.count complaints.new.count }
+    ensures quiet { request.now.is_quiet ≡ true → out.new ≡ out.old }
+    ensures made { MakesFit request.now result (D.trace world.old) (D.trace world.new) }
 {
-    if is_key(rt, request.key) {
+    if is_key(world, request.key) {
         return complaints.tell(&OldFault::Signs('g'), WRONG_LINE);
     }
+    let how = how_of(request);
     if request.source == INPUT_NAME {
-        return make_of_input(rt, request, out, complaints);
+        return make_of_input(world, how, request, out, complaints);
     }
-    if FileSource::open(rt, request.source).is_ok() {
-        return make_of_path(rt, request, request.source, out, complaints);
-    }
-    match path_in_folders(rt, request) {
-        Ok(Some(path)) => make_of_path(rt, request, path.as_str(), out, complaints),
-        Ok(None) => complaints.tell_unread(&mut DiskWorld::new(rt), request.source),
-        Err(_) => complaints.tell_no_memory(),
-    }
+    make_of_file(world, how, request, out, complaints)
 }
 
-/// Returns whether a file is at a path of a key, if there is one.
-pub(crate) fn is_key<R: Files>(rt: &R, key: Option<&str>) -> bool {
+/// Returns whether anything is at the path of a key, if there is one.
+pub(crate) fn is_key<D: World>(world: &mut D, key: Option<&str>) -> bool
+    ensures { LooksForKey key.entry result (D.trace world.old) (D.trace world.new) }
+{
     match key {
-        Some(path) => fs::metadata(rt, path).is_ok(),
+        Some(path) => leads_somewhere(world.target_of(path)),
         None => false,
     }
 }
 
-// Returns the path of the source in the first folder for dtc that has it.
-fn path_in_folders<R: Files + AllocGlobal>(
-    rt: &R,
+// Returns whether a path leads to anything.
+fn leads_somewhere(target: Target) -> bool
+    ensures { result ≡ leads_somewhere target }
+{
+    match target {
+        Target::Nothing => false,
+        Target::File => true,
+        Target::Pipe => true,
+        Target::Other => true,
+    }
+}
+
+// Makes the image of a source at its path, or in the first folder for dtc that has it.
+fn make_of_file<'p, D: MakingWorld<'p>, W: Write, V: Write>(
+    world: &mut D,
+    how: How<'p>,
     request: &FitRequest<'_>,
-) -> Result<Option<PathBuf<R::A>>, AllocError> {
+    out: &mut W,
+    complaints: &mut Complaints<'_, V>,
+) -> u8
+where
+    D::File: Seek,
+    requires { IsHowFor request.now how }
+    ensures ends { Ends result complaints.old.count complaints.new.count }
+    ensures quiet { request.now.is_quiet ≡ true → out.new ≡ out.old }
+    ensures made { MakesWithin request.now.outfile.now result (D.trace world.old)
+        (D.trace world.new) }
+{
+    if world.open(request.source).is_ok() {
+        return make_of_path(world, how, request, request.source, out, complaints);
+    }
+    match path_in_folders(world, request) {
+        Ok(Some(path)) => make_of_path(world, how, request, path.as_str(), out, complaints),
+        Ok(None) => complaints.tell_unread(world, request.source),
+        Err(_) => complaints.tell_no_memory(),
+    }
+}
+
+// Returns the path of the source in the first folder for dtc that has it.
+fn path_in_folders<D: World>(
+    world: &mut D,
+    request: &FitRequest<'_>,
+) -> Result<Option<PathBuf>, AllocError>
+    ensures { changes (D.trace world.new) ≡ changes (D.trace world.old) }
+{
     for folder in request.dtc.folders.as_slice() {
-        let Ok(path) = Path::new(folder).join(rt.alloc(), request.source) else {
+        let Ok(path) = Path::new(folder).join(world.alloc(), request.source) else {
             return Err(AllocError);
         };
-        if DiskWorld::new(rt).open(path.as_str()).is_ok() {
+        if world.open(path.as_str()).is_ok() {
             return Ok(Some(path));
         }
     }
     Ok(None)
 }
 
-fn make_of_path<R: Files + AllocGlobal, W: Write, V: Write>(
-    rt: &R,
+fn make_of_path<'p, D: MakingWorld<'p>, W: Write, V: Write>(
+    world: &mut D,
+    how: How<'p>,
     request: &FitRequest<'_>,
     path: &str,
     out: &mut W,
     complaints: &mut Complaints<'_, V>,
 ) -> u8
-    ensures { Ends result complaints.old.count complaints.new.count }
+where
+    D::File: Seek,
+    requires { IsHowFor request.now how }
+    ensures ends { Ends result complaints.old.count complaints.new.count }
+    ensures quiet { request.now.is_quiet ≡ true → out.new ≡ out.old }
+    ensures made { MakesWithin request.now.outfile.now result (D.trace world.old)
+        (D.trace world.new) }
 {
-    let made = MakeRequest::of_source(
-        rt.alloc(),
-        path,
-        request.placement,
-        request.manner.time,
-        request.outfile,
-    );
-    match made {
-        Ok(making) => warn_and_make(rt, request, making, out, complaints),
+    match making_of_path(world.alloc(), request, path, request.outfile) {
+        Ok(making) => warn_and_make(world, how, request, making, out, complaints),
         Err(_) => complaints.tell_no_memory(),
     }
 }
 
-// Makes the image of standard input, which is copied to a new file first.
-fn make_of_input<R: Files + AllocGlobal, W: Write, V: Write>(
-    rt: &R,
+// Returns the making of an image of the source at a path, with files in its folder.
+fn making_of_path<'a>(
+    alloc: Global,
+    request: &FitRequest<'_>,
+    path: &'a str,
+    outfile: &'a str,
+) -> Result<MakeRequest<'a>, AllocError>
+    ensures asks { IfOk result (λ making. AsksSource making.command making.folder.now
+        path.entry.now request.now.placement) }
+    ensures place { IfOk result (λ making.
+        IsAt making path.entry.now (folder_of path.entry.now)) }
+    ensures manner { IfOk result (λ making. making.manner ≡ request.now.manner) }
+    ensures written { IfOk result (λ making. IsWrittenTo making outfile.entry.now) }
+{
+    let mut making = MakeRequest::of_source(
+        alloc,
+        path,
+        request.placement,
+        request.manner.time,
+        outfile,
+    )?;
+    making.manner = request.manner;
+    Ok(making)
+}
+
+// Makes the image of standard input, unless that would be written to.
+fn make_of_input<'p, D: MakingWorld<'p>, W: Write, V: Write>(
+    world: &mut D,
+    how: How<'p>,
     request: &FitRequest<'_>,
     out: &mut W,
     complaints: &mut Complaints<'_, V>,
 ) -> u8
-    ensures { Ends result complaints.old.count complaints.new.count }
+where
+    D::File: Seek,
+    requires { IsHowFor request.now how }
+    ensures ends { Ends result complaints.old.count complaints.new.count }
+    ensures quiet { request.now.is_quiet ≡ true → out.new ≡ out.old }
+    ensures made { MakesOfInput request.now.outfile.now result (D.trace world.old)
+        (D.trace world.new) }
 {
-    let outfile = FileId::of(rt, request.outfile);
-    if outfile.is_some() && outfile == FileId::of(rt, INPUT) {
+    if is_same_file(world, request.outfile, INPUT) {
         let end = Err(RequestFault::WritesWhatIsRead(request.outfile));
-        return tell_end(&mut DiskWorld::new(rt), &end, request.outfile, complaints);
+        return tell_end(world, &end, request.outfile, complaints);
     }
-    let Ok(text) = read_input(rt) else {
-        return complaints.tell_unread(&mut DiskWorld::new(rt), INPUT);
+    let Ok(text) = read_input(world) else {
+        return complaints.tell_unread(world, INPUT);
     };
     if text.len() as u64 > MOST_INPUT {
         let reason = format_args!("{INPUT_NAME}: a source of more than 64 MiB");
         return complaints.tell(&reason, REFUSED);
     }
-    match new_beside(&mut DiskWorld::new(rt), rt.alloc(), request.outfile) {
+    make_of_bytes(world, how, request, &text, out, complaints)
+}
+
+// Makes the image of a source of these bytes, which are in a new file beside the image meanwhile.
+fn make_of_bytes<'p, D: MakingWorld<'p>, W: Write, V: Write>(
+    world: &mut D,
+    how: How<'p>,
+    request: &FitRequest<'_>,
+    text: &[u8],
+    out: &mut W,
+    complaints: &mut Complaints<'_, V>,
+) -> u8
+where
+    D::File: Seek,
+    requires { IsHowFor request.now how }
+    ensures ends { Ends result complaints.old.count complaints.new.count }
+    ensures quiet { request.now.is_quiet ≡ true → out.new ≡ out.old }
+    ensures made { MakesOfText request.now.outfile.now result (D.trace world.old)
+        (D.trace world.new) }
+{
+    match new_beside(world, world.alloc(), request.outfile) {
         Ok(Ok(NewBeside { mut file, path })) => {
-            let status = match file.write_all(&text) {
-                Ok(()) => make_of_copy(rt, request, path.as_str(), out, complaints),
-                Err(reason) => complaints.tell_unwritten(request.outfile, &reason),
-            };
+            let copy = at_path(file.write_all(text), path.as_str());
             drop(file);
-            let _ = fs::remove_file(rt, path.as_str());
+            let status = make_of_copy(world, how, request, copy, out, complaints);
+            let _ = world.remove_file(path.as_str());
             status
         }
         Ok(Err(reason)) => complaints.tell_unwritten(request.outfile, &reason),
@@ -137,63 +230,98 @@ fn make_of_input<R: Files + AllocGlobal, W: Write, V: Write>(
     }
 }
 
-fn make_of_copy<R: Files + AllocGlobal, W: Write, V: Write>(
-    rt: &R,
+fn make_of_copy<'p, D: MakingWorld<'p>, W: Write, V: Write>(
+    world: &mut D,
+    how: How<'p>,
     request: &FitRequest<'_>,
-    path: &str,
+    copy: io::Result<&str>,
     out: &mut W,
     complaints: &mut Complaints<'_, V>,
 ) -> u8
-    ensures { Ends result complaints.old.count complaints.new.count }
+where
+    D::File: Seek,
+    requires { IsHowFor request.now how }
+    ensures ends { Ends result complaints.old.count complaints.new.count }
+    ensures quiet { request.now.is_quiet ≡ true → out.new ≡ out.old }
+    ensures made { MakesWithin request.now.outfile.now result (D.trace world.old)
+        (D.trace world.new) }
 {
-    let made = MakeRequest::of_source_here(
-        rt.alloc(),
-        path,
-        request.placement,
-        request.manner.time,
-        request.outfile,
-    );
-    match made {
-        Ok(making) => warn_and_make(rt, request, named_input(making), out, complaints),
+    let path = match copy {
+        Ok(path) => path,
+        Err(reason) => return complaints.tell_unwritten(request.outfile, &reason),
+    };
+    match making_of_copy(world.alloc(), request, path, request.outfile) {
+        Ok(making) => warn_and_make(world, how, request, making, out, complaints),
         Err(_) => complaints.tell_no_memory(),
     }
 }
 
-// Returns a request whose source is reported as standard input.
-fn named_input<'a>(making: MakeRequest<'a>) -> MakeRequest<'a>
-    ensures { result.source.now ≡ codes "-" }
+// Returns the making of an image of the copy of standard input at a path, with files in the current
+// folder.
+fn making_of_copy<'a>(
+    alloc: Global,
+    request: &FitRequest<'_>,
+    path: &'a str,
+    outfile: &'a str,
+) -> Result<MakeRequest<'a>, AllocError>
+    ensures asks { IfOk result (λ making.
+        AsksSource making.command [] path.entry.now request.now.placement) }
+    ensures place { IfOk result (λ making. IsAt making (codes "-") []) }
+    ensures manner { IfOk result (λ making. making.manner ≡ request.now.manner) }
+    ensures written { IfOk result (λ making. IsWrittenTo making outfile.entry.now) }
 {
-    let mut named = making;
-    named.source = INPUT_NAME;
-    named
+    let mut making = MakeRequest::of_source_here(
+        alloc,
+        path,
+        request.placement,
+        request.manner.time,
+        outfile,
+    )?;
+    making.source = INPUT_NAME;
+    making.manner = request.manner;
+    Ok(making)
 }
 
 // Reads standard input to its end, or one byte more than the most.
-fn read_input<R: Files + AllocGlobal>(rt: &R) -> io::Result<Vec<u8>> {
-    let mut text = Vec::new(rt.alloc());
-    let input = fs::File::open(rt, INPUT)?;
+fn read_input<D: World>(world: &mut D) -> io::Result<Vec<u8>>
+    ensures { (answer : Answer) × (D.trace world.new
+        ≡ Deed.Reads input_path answer ∷ D.trace world.old) }
+{
+    let mut text = Vec::new(world.alloc());
+    let input = world.read(INPUT)?;
     input.take(MOST_INPUT + 1).read_to_end(&mut text)?;
     Ok(text)
 }
 
 // Warns about the source, and makes the image: of a source that the profile refuses by the language
 // of dtc, and of one with algorithms outside the profile by all of them.
-fn warn_and_make<R: Files + AllocGlobal, W: Write, V: Write>(
-    rt: &R,
+fn warn_and_make<'p, D: MakingWorld<'p>, W: Write, V: Write>(
+    world: &mut D,
+    how: How<'p>,
     request: &FitRequest<'_>,
-    mut making: MakeRequest<'_>,
+    making: MakeRequest<'_>,
     out: &mut W,
     complaints: &mut Complaints<'_, V>,
 ) -> u8
-    ensures { Ends result complaints.old.count complaints.new.count }
+where
+    D::File: Seek,
+    requires how { IsHowFor request.now how }
+    requires outfile { making.outfile.now ≡ request.now.outfile.now }
+    ensures ends { Ends result complaints.old.count complaints.new.count }
+    ensures quiet { request.now.is_quiet ≡ true → out.new ≡ out.old }
+    ensures made { MakesWithin request.now.outfile.now result (D.trace world.old)
+        (D.trace world.new) }
 {
-    if request.dtc.has_symbols && source_has_labels(rt, &making, &request.dtc) {
+    let alloc = world.alloc();
+    let dtc = &request.dtc;
+    let reader = world.reader();
+    if dtc.has_symbols && source_has_labels(reader, alloc, &making, dtc) {
         return complaints.tell(&OldFault::DtcSymbols, WRONG_LINE);
     }
-    making.manner = request.manner;
-    match known_source(rt, &making, &request.dtc) {
-        Known::Beyond(_, _) if request.dtc.has_symbols => {
-            return complaints.tell(&OldFault::DtcSymbols, WRONG_LINE);
+    let again = world.reader();
+    match known_source(again, alloc, &making, dtc) {
+        Known::Beyond(_, _) if dtc.has_symbols => {
+            complaints.tell(&OldFault::DtcSymbols, WRONG_LINE)
         }
         Known::Beyond(text, fault) => {
             let beyond = Beyond {
@@ -201,39 +329,51 @@ fn warn_and_make<R: Files + AllocGlobal, W: Write, V: Write>(
                 text,
                 fault,
             };
-            return make_beyond(rt, request, &beyond, out, complaints);
+            make_beyond(world, request, &beyond, out, complaints)
         }
         Known::Tree(tree) => {
-            warn(rt.alloc(), &tree, request.dtc.silenced, complaints.err);
+            warn(alloc, &tree, dtc.silenced, complaints.err);
             if has_other_algos(&tree) {
-                let mut files = files_of(rt, &making, &request.dtc);
-                let making = tree_request(request, &making);
-                return make_compiled(rt, making, tree, &mut files, out, complaints);
+                return make_known(world, request, &making, tree, out, complaints);
             }
+            make_image(world, how, making, out, complaints)
         }
-        Known::Unread => {}
+        Known::Unread => make_image(world, how, making, out, complaints),
     }
-    let how = How {
-        is_quiet: request.is_quiet,
-        folders: request.dtc.folders.as_slice(),
-    };
-    make_image(rt, how, making, out, complaints)
 }
 
-// Returns what is made of the tree of a source.
-fn tree_request<'a>(request: &FitRequest<'_>, making: &MakeRequest<'a>) -> TreeRequest<'a>
-    ensures made { (result.source ≡ making.now.source) × (result.image ≡ making.now.outfile) }
-    ensures placed { (result.placement ≡ request.now.placement) × (result.manner ≡ request.now.manner) }
-    ensures quiet { result.is_quiet ≡ request.now.is_quiet }
-    ensures bare { (result.reservations.now ≡ []) × (result.roomy_size ≡ None) }
+// Makes the image of a compiled source by all algorithms.
+fn make_known<'p, D: MakingWorld<'p>, W: Write, V: Write>(
+    world: &mut D,
+    request: &FitRequest<'_>,
+    making: &MakeRequest<'_>,
+    tree: Tree<Global>,
+    out: &mut W,
+    complaints: &mut Complaints<'_, V>,
+) -> u8
+where
+    D::File: Seek,
+    requires { FilesAtData (node_of tree.root) }
+    ensures ends { Ends result complaints.old.count complaints.new.count }
+    ensures quiet { request.now.is_quiet ≡ true → out.new ≡ out.old }
+    ensures made { MakesWithin making.now.outfile.now result (D.trace world.old)
+        (D.trace world.new) }
 {
-    TreeRequest {
-        source: making.source,
-        image: making.outfile,
-        placement: request.placement,
-        reservations: &[],
-        roomy_size: None,
-        manner: request.manner,
+    let reader = world.reader();
+    let mut files = files_of(reader, world.alloc(), making, &request.dtc);
+    let making = tree_request(request, making.source, making.outfile);
+    make_compiled(world, making, tree, &mut files, out, complaints)
+}
+
+// Returns how the image of a source is made.
+fn how_of<'a>(request: &'a FitRequest<'a>) -> How<'a>
+    ensures quiet { result.is_quiet ≡ request.now.is_quiet }
+    ensures folders { result.folders.now ≡ request.now.dtc.folders.items }
+    ensures outfile { result.outfile ≡ request.now.outfile }
+{
+    How {
         is_quiet: request.is_quiet,
+        folders: request.dtc.folders.as_slice(),
+        outfile: request.outfile,
     }
 }

@@ -120,9 +120,9 @@ impl<'a, R: Reader, L: LeftOut> Files for FolderFiles<'a, R, L> {
     }
 }
 
-// Opens the file of a name in a folder, unless it is the one that is left out. Notes whether it is,
-// if there is a path of this name and memory for it.
-fn open_in<R: Reader>(
+/// Opens the file of a name in a folder, unless it is the one that is left out. Notes whether it is,
+/// if there is a path of this name and memory for it.
+pub(crate) fn open_in<R: Reader>(
     reader: &mut R,
     alloc: Global,
     folder: &str,

@@ -6,12 +6,12 @@ ghost use Rattle.uimg_tool.specs.KnownSources.{HasFilesAtData};
 
 use crate::searched_files::SearchedFiles;
 use std::alloc::Global;
-use std::rt::Files;
-use uimg_base::{Files as _, Out, Source, WINDOW, copy_through};
+use uimg_base::{Files, Out, Source, WINDOW, copy_through};
 use uimg_blob_writing::Tree;
 use uimg_compat::{DtcWords, has_labels};
 use uimg_its::{FaultKind, ItsFault, compile};
 use uimg_requests::{MakeCommand, MakeRequest};
+use uimg_unpacking::Reader;
 
 /// The source of a request, as far as it is known before its image is made.
 #[derive(Drop)]
@@ -26,8 +26,9 @@ pub(crate) enum Known {
 }
 
 /// Compiles the source of a request with these words for dtc.
-pub(crate) fn known_source<R: Files + AllocGlobal>(
-    rt: &R,
+pub(crate) fn known_source<R: Reader>(
+    reader: R,
+    alloc: Global,
     request: &MakeRequest<'_>,
     dtc: &DtcWords<'_>,
 ) -> Known
@@ -36,14 +37,14 @@ pub(crate) fn known_source<R: Files + AllocGlobal>(
     let MakeCommand::Tree { source, .. } = &request.command else {
         return Known::Unread;
     };
-    let mut files = files_of(rt, request, dtc);
+    let mut files = files_of(reader, alloc, request, dtc);
     let Ok(mut source) = files.open(source) else {
         return Known::Unread;
     };
-    let Some(text) = text_of(rt.alloc(), &mut source) else {
+    let Some(text) = text_of(alloc, &mut source) else {
         return Known::Unread;
     };
-    match compile(rt.alloc(), &text, &mut files) {
+    match compile(alloc, &text, &mut files) {
         Ok(tree) => Known::Tree(tree),
         Err(fault) if is_of_text(fault.kind) => Known::Beyond(text, fault),
         Err(_) => Known::Unread,
@@ -51,12 +52,14 @@ pub(crate) fn known_source<R: Files + AllocGlobal>(
 }
 
 /// Returns the files of the source of a request.
-pub(crate) fn files_of<'a, R: Files + AllocGlobal>(
-    rt: &'a R,
+pub(crate) fn files_of<'a, R: Reader>(
+    reader: R,
+    alloc: Global,
     request: &MakeRequest<'a>,
     dtc: &'a DtcWords<'_>,
 ) -> SearchedFiles<'a, R> {
-    SearchedFiles::new(rt, request.folder, dtc.folders.as_slice(), request.outfile)
+    let others = dtc.folders.as_slice();
+    SearchedFiles::new(reader, alloc, request.folder, others, request.outfile)
 }
 
 // Returns whether a fault is of the text alone.
@@ -71,17 +74,18 @@ fn is_of_text(kind: FaultKind) -> bool
 }
 
 /// Returns whether the source of a request has labels. One that cannot be read has none.
-pub(crate) fn source_has_labels<R: Files + AllocGlobal>(
-    rt: &R,
+pub(crate) fn source_has_labels<R: Reader>(
+    reader: R,
+    alloc: Global,
     request: &MakeRequest<'_>,
     dtc: &DtcWords<'_>,
 ) -> bool {
     let MakeCommand::Tree { source, .. } = &request.command else {
         return false;
     };
-    let mut files = files_of(rt, request, dtc);
+    let mut files = files_of(reader, alloc, request, dtc);
     match files.open(source) {
-        Ok(mut source) => text_of(rt.alloc(), &mut source).is_some_and(|text| has_labels(&text)),
+        Ok(mut source) => text_of(alloc, &mut source).is_some_and(|text| has_labels(&text)),
         Err(_) => false,
     }
 }

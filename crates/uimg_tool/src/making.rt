@@ -13,11 +13,11 @@ use crate::searched_files::SearchedFiles;
 use crate::xip_files::XipFiles;
 use std::alloc::Global;
 use std::cell::Cell;
+use std::io;
 use std::io::Write;
 use std::marker::Brand;
-use std::{io, rt};
 use uimg_base::{Files, Out, Room, Shelf, Status};
-use uimg_engine::{DiskFiles, Fault, make_by};
+use uimg_engine::{Fault, make_by};
 use uimg_requests::{MakeCommand, MakeRequest};
 use uimg_unpacking::{MakingWorld, Reader};
 
@@ -64,37 +64,33 @@ fn make_among<'a, R: Reader, H: Shelf, W: Write, L: LeftOut>(
     end_of(request, made, has_met_outfile)
 }
 
-/// Makes the requested image on a shelf. Files that are not in the folder of the request are looked
-/// for in the others.
-pub(crate) fn make_image<'a, R: rt::Files + AllocGlobal, H: Shelf, W: Write>(
-    rt: &'a R,
+/// Makes the requested image on a shelf, of files that a reader opens. Those that are not in the
+/// folder of the request are looked for in the others.
+pub(crate) fn make_image<'a, R: Reader, H: Shelf, W: Write>(
+    alloc: Global,
     request: &'a MakeRequest<'a>,
-    others: &'a [&'a str],
+    reader: R,
+    others: &[&str],
     shelf: H,
     out: &mut W,
 ) -> Result<Status, RequestFault<'a>>
     ensures { MakeEnds request.now result }
 {
     if request.is_xip {
-        let files = DiskFiles::without(rt, request.folder, request.outfile);
-        return make_xip(rt, request, files, shelf, out);
+        let files = SearchedFiles::new(reader, alloc, request.folder, &[], request.outfile);
+        return make_xip(alloc, request, files, shelf, out);
     }
-    let mut files = SearchedFiles::new(rt, request.folder, others, request.outfile);
-    let made = make_over(
-        rt.alloc(),
-        request,
-        &mut files,
-        shelf,
-        &mut Out::new(&mut *out),
-    );
+    let mut files = SearchedFiles::new(reader, alloc, request.folder, others, request.outfile);
+    let out = &mut Out::new(&mut *out);
+    let made = make_over(alloc, request, &mut files, shelf, out);
     end_of(request, made, files.has_met_left_out())
 }
 
 // Makes an image whose header replaces the beginning of its file.
-fn make_xip<'a, R: rt::Files + AllocGlobal, H: Shelf, W: Write>(
-    rt: &'a R,
+fn make_xip<'a, R: Reader, H: Shelf, W: Write>(
+    alloc: Global,
     request: &'a MakeRequest<'a>,
-    files: DiskFiles<'a, R>,
+    files: SearchedFiles<'_, R>,
     shelf: H,
     out: &mut W,
 ) -> Result<Status, RequestFault<'a>>
@@ -102,13 +98,8 @@ fn make_xip<'a, R: rt::Files + AllocGlobal, H: Shelf, W: Write>(
     ensures { MakeEnds request.now result }
 {
     let mut files = XipFiles::new(files);
-    match make_over(
-        rt.alloc(),
-        request,
-        &mut files,
-        shelf,
-        &mut Out::new(&mut *out),
-    ) {
+    let out = &mut Out::new(&mut *out);
+    match make_over(alloc, request, &mut files, shelf, out) {
         Err(Fault::NoFile(number)) if files.has_met_no_room() => {
             Err(RequestFault::NoRoom(file_path(request, number)))
         }

@@ -1,86 +1,90 @@
 //! A shelf in a file that was created for it.
 
-ghost use Rattle.std.specs.Prelude.{◌≡◌, [], ◌∷◌, false, IfOk, OnOk};
+ghost use Rattle.std.specs.Prelude.{◌≡◌, [], false, IfOk, OnOk};
 ghost use Rattle.std.specs.Io.{WritesAtMost};
 ghost use Rattle.std.specs.Io.Buffered.{writer_buffer, writer_contents};
 ghost use Rattle.std.specs.Io.KnownBytes.{Keeps, WriteAppends};
-ghost use Rattle.uimg_base.specs.Device.{IsFresh};
+ghost use Rattle.uimg_base.specs.Named.{Opens};
 
 use std::alloc::{AllocError, Global};
 use std::io;
 use std::io::{BufWriter, Write};
-use std::rt::Files;
-use uimg_base::{FileSource, Shelf, Source, SourceFault};
+use uimg_base::{Shelf, Source, SourceFault};
+use uimg_unpacking::Reader;
 
 /// A shelf in a new file, which is open already, so that nothing that gets its path meanwhile is
-/// written to. It is like a `FileShelf` otherwise.
+/// written to. A reader reopens it. It is like a `FileShelf` otherwise.
 #[derive(Drop)]
-pub(crate) struct NewShelf<'a, R: Files + AllocGlobal> {
-    rt: &'a R,
+pub(crate) struct NewShelf<'a, R: Reader, F: Write + Drop> {
+    reader: R,
     path: &'a str,
-    file: BufWriter<R::File, Global>,
+    file: BufWriter<F, Global>,
 }
 
-impl<'a, R: Files + AllocGlobal> NewShelf<'a, R> {
+impl<'a, R: Reader, F: Write + Drop> NewShelf<'a, R, F> {
     /// Returns a shelf in a file to which nothing was written, at this path. Fails if memory for its
     /// buffer is refused.
     pub(crate) fn new(
-        rt: &'a R,
+        alloc: Global,
+        reader: R,
         path: &'a str,
-        file: R::File,
-    ) -> Result<NewShelf<'a, R>, AllocError>
+        file: F,
+    ) -> Result<NewShelf<'a, R, F>, AllocError>
         ensures { IfOk result (λ shelf. shelf.path ≡ path.entry) }
     {
-        match BufWriter::new(rt.alloc(), file) {
-            Ok(file) => Ok(NewShelf { rt, path, file }),
+        match BufWriter::new(alloc, file) {
+            Ok(file) => Ok(NewShelf { reader, path, file }),
             Err(_) => Err(AllocError),
         }
     }
 
     // Writes the buffered bytes, closes the file and reopens it at the shelf's path.
-    fn reopen(self) -> Result<FileSource<R::File>, SourceFault>
-        ensures fresh { IfOk result (λ kept.
-            IsFresh (⟦<FileSource<R::File> as Source>⟧.device kept)) }
-        ensures path { IfOk result (λ kept. kept.paths.names ≡ self.entry.path.now ∷ []) }
+    fn reopen(self) -> Result<R::Opened, SourceFault>
+        ensures { IfOk result (λ kept. Opens (R.map self.entry.reader) self.entry.path.now
+            (R.Opened.device kept)) }
     {
-        let NewShelf { rt, path, mut file } = self;
+        let NewShelf {
+            mut reader,
+            path,
+            mut file,
+        } = self;
         if file.flush().is_err() {
             return Err(SourceFault);
         }
         drop(file);
-        FileSource::open(rt, path)
+        reader.open(path)
     }
 }
 
-impl<'a, R: Files + AllocGlobal> Write for NewShelf<'a, R> {
-    ghost contents = { λ s. writer_contents R.File.contents s.file };
+impl<'a, R: Reader, F: Write + Drop> Write for NewShelf<'a, R, F> {
+    ghost contents = { λ s. writer_contents F.contents s.file };
 
     fn write(&mut self, buf: &[u8]) -> io::Result<usize>
         ensures bound { WritesAtMost result buf.now }
-        ensures bytes { WriteAppends (writer_contents R.File.contents self.old.file)
-            (writer_contents R.File.contents self.new.file) result buf.now }
+        ensures bytes { WriteAppends (writer_contents F.contents self.old.file)
+            (writer_contents F.contents self.new.file) result buf.now }
     {
         self.file.write(buf)
     }
 
     fn flush(&mut self) -> io::Result<()>
-        ensures bytes { Keeps (writer_contents R.File.contents self.old.file)
-            (writer_contents R.File.contents self.new.file) }
+        ensures bytes { Keeps (writer_contents F.contents self.old.file)
+            (writer_contents F.contents self.new.file) }
         ensures written { OnOk result (writer_buffer self.new.file ≡ []) }
     {
         self.file.flush()
     }
 }
 
-impl<'a, R: Files + AllocGlobal> Shelf for NewShelf<'a, R> {
-    type Kept = FileSource<R::File>;
+impl<'a, R: Reader, F: Write + Drop> Shelf for NewShelf<'a, R, F> {
+    type Kept = R::Opened;
 
     ghost honest = { false };
 
     /// Writes the buffered bytes, closes the file and reopens it as a source.
     ///
-    /// Returns `SourceFault` if the last piece cannot be written, or as `FileSource::open` does.
-    fn keep(self) -> Result<FileSource<R::File>, SourceFault> {
+    /// Returns `SourceFault` if the last piece cannot be written, or as the reader does.
+    fn keep(self) -> Result<R::Opened, SourceFault> {
         self.reopen()
     }
 }

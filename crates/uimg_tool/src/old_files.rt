@@ -1,45 +1,48 @@
 //! The files of mkimage and dumpimage: what they write is beside its name until it is complete.
 
-ghost use Rattle.std.specs.Prelude.{◌≡◌, ◌≢◌, [], IsTrue, None, is_ok, if◌then◌else◌};
+ghost use Rattle.std.specs.Prelude.{◌≡◌, ◌≢◌, [], IsTrue, None, is_err, is_ok, true, if◌then◌else◌};
 ghost use Rattle.std.specs.Io.Buffered.{writer_buffer, writer_contents};
-ghost use Rattle.uimg_tool.specs.{Complaints.Ends, Finishing.FinishesBy, RequestEnds.{MakeEnds, is_about_source}};
+ghost use Rattle.uimg_tool.specs.{Complaints.{Complains, Ends}, Finishing.FinishesBy, RequestEnds.{MakeEnds, is_about_source}};
+ghost use Rattle.uimg_tool.specs.{OldMakings.{FinishesMade, LendsFor, MakesFor, Named}, OldTexts.told_of_old};
 ghost use Rattle.uimg_tool.specs.{Running.AnswersRun, Statuses.end_status};
 ghost use Rattle.uimg_unpacking.specs.Deeds.{changes};
 
 use crate::complaints::Complaints;
 use crate::request_fault::{DONE, FAILED, REFUSED, RequestFault, status_of, status_of_fault};
-use crate::requests::{Made, Way, make_command, run_command};
+use crate::requests::{Made, make_command, run_command};
 use crate::safe_path::{SafePath, Writing};
 use crate::writing::writing_of;
 use std::alloc::Global;
 use std::io;
 use std::io::{BufWriter, Write};
-use std::rt::Files;
 use uimg_base::{Out, Status};
 use uimg_compat::OldFault;
 use uimg_engine::Fault;
 use uimg_fit_base::FitFault;
 use uimg_printing::Printed;
 use uimg_requests::{MakeRequest, RunRequest};
-use uimg_unpacking::{DiskWorld, World};
+use uimg_unpacking::{MakingWorld, World};
 
-/// Whether a command prints nothing, and the folders where it looks for files that are not in the
-/// folder of a source.
+/// Whether a making prints nothing, the folders where it looks for files that are not in the folder
+/// of a source, and the path of its image.
 #[derive(Clone, Copy)]
 pub(crate) struct How<'a> {
     pub(crate) is_quiet: bool,
     pub(crate) folders: &'a [&'a str],
+    pub(crate) outfile: &'a str,
 }
 
 impl<'a> How<'a> {
-    /// Returns how a command is carried out that looks in no other folder.
-    pub(crate) fn new(is_quiet: bool) -> How<'a>
+    /// Returns how an image is made for a path if no other folder is looked in.
+    pub(crate) fn new(is_quiet: bool, outfile: &'a str) -> How<'a>
         ensures quiet { result.is_quiet ≡ is_quiet }
         ensures folders { result.folders.now ≡ [] }
+        ensures outfile { result.outfile ≡ outfile.entry }
     {
         How {
             is_quiet,
             folders: &[],
+            outfile,
         }
     }
 }
@@ -131,80 +134,84 @@ fn run_beside<D: World, V: Write>(
 }
 
 /// Makes an image beside its name, which it gets when it is complete.
-pub(crate) fn make_image<R: Files + AllocGlobal, W: Write, V: Write>(
-    rt: &R,
-    how: How<'_>,
+pub(crate) fn make_image<'p, D: MakingWorld<'p>, W: Write, V: Write>(
+    world: &mut D,
+    how: How<'p>,
     request: MakeRequest<'_>,
     out: &mut W,
     complaints: &mut Complaints<'_, V>,
 ) -> u8
-    ensures { Ends result complaints.old.count complaints.new.count }
+    ensures ends { Ends result complaints.old.count complaints.new.count }
+    ensures quiet { how.entry.is_quiet ≡ true → out.new ≡ out.old }
+    ensures made { MakesFor how.entry.outfile.now result (D.trace world.old) (D.trace world.new) }
 {
-    let world = &mut DiskWorld::new(rt);
-    match writing_of(world, rt.alloc(), request.outfile) {
+    match writing_of(world, world.alloc(), how.outfile) {
         Ok(Writing::InPlace) => {
-            let end = make_by(rt, &request, Way::within(how.folders), how, out).told();
+            let made = make_by(world, &request, None, how, out);
+            let end = made.told();
             let about = about_end(&end, request.source, request.outfile);
             tell_end(world, &end, about, complaints)
         }
         Ok(Writing::Beside(file, path)) => {
             let begun = Begun { file, path: &path };
-            make_beside(rt, how, request, begun, out, complaints)
+            make_beside(world, how, request, begun, out, complaints)
         }
         Ok(Writing::Pipe) => {
-            let path = Printed(request.outfile.as_bytes());
+            let path = Printed(how.outfile.as_bytes());
             complaints.tell(&OldFault::MadeAsPipe(path), FAILED)
         }
-        Ok(Writing::Nowhere(reason)) => complaints.tell_unwritten(request.outfile, &reason),
+        Ok(Writing::Nowhere(reason)) => complaints.tell_unwritten(how.outfile, &reason),
         Err(_) => complaints.tell_no_memory(),
     }
 }
 
 // Makes an image at one path, and moves it to another, even if its listing could not be printed.
-fn make_beside<'a, R: Files + AllocGlobal, W: Write, V: Write>(
-    rt: &'a R,
-    how: How<'a>,
+fn make_beside<'a, 'p, D: MakingWorld<'p>, W: Write, V: Write>(
+    world: &mut D,
+    how: How<'p>,
     mut request: MakeRequest<'a>,
-    begun: Begun<'a, R::File>,
+    begun: Begun<'a, D::File>,
     out: &mut W,
     complaints: &mut Complaints<'_, V>,
 ) -> u8
-    ensures { Ends result complaints.old.count complaints.new.count }
+    ensures ends { Ends result complaints.old.count complaints.new.count }
+    ensures quiet { how.entry.is_quiet ≡ true → out.new ≡ out.old }
+    ensures made { FinishesMade begun.entry.path.now result (D.trace world.old)
+        (D.trace world.new) }
 {
     let Begun { file, path } = begun;
     request.written = path.new.as_str();
-    let way = Way {
-        file: Some(file),
-        folders: how.folders,
-    };
-    let made = make_by(rt, &request, way, how, out);
+    let made = make_by(world, &request, Some(file), how, out);
     let about = about_end(&made.end, request.source, request.outfile);
-    tell_made(&mut DiskWorld::new(rt), path, &made, about, complaints)
+    tell_made(world, path, &made, about, complaints)
 }
 
 // Makes an image; if it is to be quiet, nothing is printed.
-fn make_by<'a, R: Files + AllocGlobal, W: Write>(
-    rt: &'a R,
+fn make_by<'a, 'p, D: MakingWorld<'p>, W: Write>(
+    world: &mut D,
     request: &'a MakeRequest<'a>,
-    way: Way<'a, R::File>,
-    how: How<'_>,
+    file: Option<D::File>,
+    how: How<'p>,
     out: &mut W,
 ) -> Made<'a>
-    ensures { MakeEnds request.now result.end }
+    ensures ends { MakeEnds request.now result.end }
+    ensures quiet { how.entry.is_quiet ≡ true → out.new ≡ out.old }
+    ensures lent { LendsFor how.entry.outfile.now file (is_err result.end) (D.trace world.old)
+        (D.trace world.new) }
 {
     if how.is_quiet {
         return Made {
-            end: make_command(rt, request, way, &mut io::sink()),
+            end: make_command(world, request, file, how, &mut io::sink()),
             printed: Ok(()),
         };
     }
-    let Ok(mut gathered) = BufWriter::new(rt.alloc(), out) else {
+    let Ok(mut gathered) = BufWriter::new(world.alloc(), out) else {
         return Made {
             end: Err(RequestFault::OutOfMemory),
             printed: Ok(()),
         };
     };
-    let end = make_command(rt, request, way, &mut gathered);
+    let end = make_command(world, request, file, how, &mut gathered);
     let printed = gathered.flush();
     // A failed write leaves text in the buffer, which its drop would try to write again.
     let (_, _) = gathered.into_parts();
@@ -223,6 +230,7 @@ pub(crate) fn tell_made<D: World, V: Write>(
     ensures ends { Ends result complaints.old.count complaints.new.count }
     ensures named { FinishesBy path.now (is_ok made.now.end) (D.trace world.old)
         (D.trace world.new) }
+    ensures done { result ≡ 0 → Named path.now (D.trace world.old) (D.trace world.new) }
 {
     if let (Err(RequestFault::Stopped(Fault::Put)), Err(error)) = (&made.end, &made.printed) {
         let _ = path.finish(world, false);
@@ -263,11 +271,15 @@ fn tell_written<D: World, V: Write>(
 ) -> u8
     ensures ends { Ends result complaints.old.count complaints.new.count }
     ensures named { FinishesBy path.now (is_ok end.now) (D.trace world.old) (D.trace world.new) }
+    ensures done { result ≡ 0 → Named path.now (D.trace world.old) (D.trace world.new) }
 {
-    let finished = path.finish(world, end.is_ok());
-    match (end, finished) {
-        (Ok(_), Err(reason)) => complaints.tell_unwritten(path.whole.as_str(), &reason),
-        _ => tell_end(world, end, about, complaints),
+    if end.is_err() {
+        let _ = path.finish(world, false);
+        return tell_end(world, end, about, complaints);
+    }
+    match path.finish(world, true) {
+        Ok(()) => tell_end(world, end, about, complaints),
+        Err(reason) => complaints.tell_unwritten(path.whole.as_str(), &reason),
     }
 }
 
@@ -280,6 +292,7 @@ pub(crate) fn tell_end<D: World, V: Write>(
 ) -> u8
     ensures status { result ≡ end_status end.now }
     ensures ends { Ends result complaints.old.count complaints.new.count }
+    ensures line { Complains V.contents (told_of_old path.now end.now) complaints }
     ensures kept { changes (D.trace world.new) ≡ changes (D.trace world.old) }
 {
     match end {

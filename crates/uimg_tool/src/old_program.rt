@@ -1,7 +1,9 @@
 //! The program with the names of mkimage and dumpimage.
 
-ghost use Rattle.std.specs.Prelude.{◌≡◌, ◌≤◌};
+ghost use Rattle.std.specs.Prelude.{◌≡◌, ◌≤◌, ◌⊎◌, OnOk};
+ghost use Rattle.std.specs.Io.KnownBytes.{Appends};
 ghost use Rattle.uimg_tool.specs.Complaints.{Ends};
+ghost use Rattle.uimg_tool.specs.OldTexts.{ShowsText, name_line, shown_status, version_line};
 ghost use Rattle.uimg_tool.specs.{Programs.{OldAsksNothing, ReadsOld, epoch_of, words_of}, Statuses.old_words_status};
 
 use crate::auto_program::make_auto;
@@ -16,9 +18,11 @@ use std::alloc::Global;
 use std::io;
 use std::io::{BufWriter, Write};
 use std::rt::Files;
-use uimg_compat::{OldFault, OldRequest, Show, read_dumpimage, read_mkimage, title_of};
+use uimg_compat::{
+    AutoRequest, FitRequest, OldFault, OldRequest, Show, read_dumpimage, read_mkimage, title_of,
+};
 use uimg_names::Field;
-use uimg_requests::{RunRequest, VERSION};
+use uimg_requests::{MakeRequest, RunRequest, VERSION};
 use uimg_unpacking::DiskWorld;
 
 /// Carries out the words of a tool of U-Boot 2023.01. An image is written to a new file and gets its
@@ -42,11 +46,13 @@ pub(crate) fn run_as_tool<R: Files + AllocGlobal, W: Write, V: Write>(
             run_on_disk(rt, is_quiet, &request, out, complaints)
         }
         Ok(OldRequest::Make { request, is_quiet }) => {
-            make_image(rt, How::new(is_quiet), request, out, complaints)
+            make_on_disk(rt, is_quiet, request, out, complaints)
         }
-        Ok(OldRequest::MakeFit(request)) => make_fit(rt, &request, out, complaints),
-        Ok(OldRequest::MakeAuto(request)) => make_auto(rt, &request, out, complaints),
-        Ok(OldRequest::Update(request)) => update_image(rt, &request, out, complaints),
+        Ok(OldRequest::MakeFit(request)) => make_fit_on_disk(rt, &request, out, complaints),
+        Ok(OldRequest::MakeAuto(request)) => make_auto_on_disk(rt, &request, out, complaints),
+        Ok(OldRequest::Update(request)) => {
+            update_image(&mut DiskWorld::new(rt), &request, out, complaints)
+        }
         Ok(OldRequest::Show(show)) => show_text(tool, show, out, complaints),
         Err(fault) => tell_old_fault(&fault, complaints),
     }
@@ -70,6 +76,81 @@ fn run_on_disk<R: Files + AllocGlobal, W: Write, V: Write>(
     // A failed write leaves text in the buffer, which its drop would try to write again.
     let (_, _) = gathered.into_parts();
     status
+}
+
+// Makes a legacy image, over the files of the system.
+fn make_on_disk<R: Files + AllocGlobal, W: Write, V: Write>(
+    rt: &R,
+    is_quiet: bool,
+    request: MakeRequest<'_>,
+    out: &mut W,
+    complaints: &mut Complaints<'_, V>,
+) -> u8
+    ensures { Ends result complaints.old.count complaints.new.count }
+{
+    make_over(rt, is_quiet, request, out, complaints)
+}
+
+// The same, where the system and the request live equally long.
+fn make_over<'a, R: Files + AllocGlobal, W: Write, V: Write>(
+    rt: &'a R,
+    is_quiet: bool,
+    request: MakeRequest<'a>,
+    out: &mut W,
+    complaints: &mut Complaints<'_, V>,
+) -> u8
+    ensures { Ends result complaints.old.count complaints.new.count }
+{
+    let how = How::new(is_quiet, request.outfile);
+    make_image(&mut DiskWorld::new(rt), how, request, out, complaints)
+}
+
+// Makes a FIT image of a source, over the files of the system.
+fn make_fit_on_disk<R: Files + AllocGlobal, W: Write, V: Write>(
+    rt: &R,
+    request: &FitRequest<'_>,
+    out: &mut W,
+    complaints: &mut Complaints<'_, V>,
+) -> u8
+    ensures { Ends result complaints.old.count complaints.new.count }
+{
+    make_fit_over(rt, request, out, complaints)
+}
+
+// The same, where the system and the request live equally long.
+fn make_fit_over<'a, R: Files + AllocGlobal, W: Write, V: Write>(
+    rt: &'a R,
+    request: &'a FitRequest<'a>,
+    out: &mut W,
+    complaints: &mut Complaints<'_, V>,
+) -> u8
+    ensures { Ends result complaints.old.count complaints.new.count }
+{
+    make_fit(&mut DiskWorld::new(rt), request, out, complaints)
+}
+
+// Makes a FIT image of a source that the tool makes, over the files of the system.
+fn make_auto_on_disk<R: Files + AllocGlobal, W: Write, V: Write>(
+    rt: &R,
+    request: &AutoRequest<'_>,
+    out: &mut W,
+    complaints: &mut Complaints<'_, V>,
+) -> u8
+    ensures { Ends result complaints.old.count complaints.new.count }
+{
+    make_auto_over(rt, request, out, complaints)
+}
+
+// The same, where the system and the request live equally long.
+fn make_auto_over<'a, R: Files + AllocGlobal, W: Write, V: Write>(
+    rt: &'a R,
+    request: &'a AutoRequest<'a>,
+    out: &mut W,
+    complaints: &mut Complaints<'_, V>,
+) -> u8
+    ensures { Ends result complaints.old.count complaints.new.count }
+{
+    make_auto(&mut DiskWorld::new(rt), request, out, complaints)
 }
 
 // Reads the words. Not inlined, so that what this takes of the stack is free when the request is
@@ -107,7 +188,9 @@ fn show_text<W: Write, V: Write>(
     out: &mut W,
     complaints: &mut Complaints<'_, V>,
 ) -> u8
-    ensures { Ends result complaints.old.count complaints.new.count }
+    ensures ends { Ends result complaints.old.count complaints.new.count }
+    ensures status { (result ≡ 3) ⊎ (result ≡ shown_status show) }
+    ensures text { (result ≡ 3) ⊎ ShowsText tool show (W.contents out.old) (W.contents out.new) }
 {
     let written = match show {
         Show::Help(text) => write!(out, "{text}"),
@@ -122,7 +205,9 @@ fn show_text<W: Write, V: Write>(
 }
 
 // Prints the version, whose last word others take, and that of uimg to standard error.
-fn put_version<W: Write, V: Write>(tool: Tool, out: &mut W, err: &mut V) -> io::Result<()> {
+fn put_version<W: Write, V: Write>(tool: Tool, out: &mut W, err: &mut V) -> io::Result<()>
+    ensures { OnOk result (Appends (W.contents out.old) (W.contents out.new) (version_line tool)) }
+{
     writeln!(out, "{} version 2023.01", tool.name())?;
     let _ = writeln!(err, "uimg {VERSION}");
     Ok(())
@@ -133,9 +218,18 @@ fn put_version<W: Write, V: Write>(tool: Tool, out: &mut W, err: &mut V) -> io::
 fn put_names<V: Write>(field: Field, err: &mut V) -> io::Result<()> {
     writeln!(err, "\nInvalid {}, supported are:", title_of(field))?;
     for (name, _, long) in field.rows() {
-        if *name != "ppc" {
-            writeln!(err, "\t{name:<15}  {long}")?;
-        }
+        put_name(name, long, err)?;
     }
     writeln!(err)
+}
+
+// Prints a short and a long name.
+fn put_name<V: Write>(name: &str, long: &str, err: &mut V) -> io::Result<()>
+    ensures { OnOk result (Appends (V.contents err.old) (V.contents err.new)
+        (name_line name.now long.now)) }
+{
+    if name == "ppc" {
+        return Ok(());
+    }
+    writeln!(err, "\t{name:<15}  {long}")
 }

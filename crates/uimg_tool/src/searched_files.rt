@@ -5,12 +5,11 @@ ghost use Rattle.std.specs.Option.{option_map_or};
 ghost use Rattle.uimg_base.specs.Device.{IsFresh};
 ghost use Rattle.uimg_tool.specs.SearchedNames.{folder_in, or_own, own_in};
 
+use crate::folder_files::open_in;
 use std::alloc::Global;
 use std::path::Path;
-use std::rt;
-use uimg_base::{FileSource, Files, OpenedNames, Source, SourceFault};
-use uimg_engine::DiskFiles;
-use uimg_unpacking::FileId;
+use uimg_base::{Files, OpenedNames, Source, SourceFault};
+use uimg_unpacking::{FileId, Reader};
 
 /// The files of a folder, and of others for what is not there. The file that is left out is found
 /// in none of them.
@@ -21,10 +20,10 @@ use uimg_unpacking::FileId;
 ///
 /// No contract says what a file has, so the files are not claimed to be honest.
 #[derive(Drop)]
-pub(crate) struct SearchedFiles<'a, R: rt::Files + AllocGlobal> {
-    rt: &'a R,
+pub(crate) struct SearchedFiles<'a, R: Reader> {
+    reader: R,
+    alloc: Global,
     folder: &'a str,
-    files: DiskFiles<'a, R>,
     others: &'a [&'a str],
     left_out: &'a str,
     has_met_left_out: bool,
@@ -38,23 +37,24 @@ pub(crate) struct SearchedFiles<'a, R: rt::Files + AllocGlobal> {
     opened: OpenedNames,
 }
 
-impl<'a, R: rt::Files + AllocGlobal> SearchedFiles<'a, R> {
+impl<'a, R: Reader> SearchedFiles<'a, R> {
     /// Returns the files of a folder, then of others in order, without the file at a path, whose
     /// open is refused.
     pub(crate) fn new(
-        rt: &'a R,
+        reader: R,
+        alloc: Global,
         folder: &'a str,
         others: &'a [&'a str],
         left_out: &'a str,
     ) -> SearchedFiles<'a, R> {
         SearchedFiles {
-            rt,
+            reader,
+            alloc,
             folder,
-            files: DiskFiles::without(rt, folder, left_out),
             others,
             left_out,
             has_met_left_out: false,
-            searched: Vec::new(rt.alloc()),
+            searched: Vec::new(alloc),
             is_ambiguous: false,
             missing: None,
             refusals: 0,
@@ -81,8 +81,10 @@ impl<'a, R: rt::Files + AllocGlobal> SearchedFiles<'a, R> {
     }
 
     /// Returns whether the file that is left out was requested, and so refused.
-    pub(crate) fn has_met_left_out(&self) -> bool {
-        self.files.has_met_left_out() || self.has_met_left_out
+    pub(crate) fn has_met_left_out(&self) -> bool
+        ensures { result ≡ self.now.has_met_left_out }
+    {
+        self.has_met_left_out
     }
 
     // Returns whether a file of this folder was found in one of the others.
@@ -96,12 +98,20 @@ impl<'a, R: rt::Files + AllocGlobal> SearchedFiles<'a, R> {
     // Opens a file in the first folder. Not inlined, as the next one, so that only one of them is on
     // the stack.
     #[inline(never)]
-    fn open_here(&mut self, name: &[u8]) -> Result<FileSource<R::File>, SourceFault>
-        ensures fresh { IfOk result (λ source. IsFresh (⟦<FileSource<R::File> as Source>⟧.device source)) }
+    fn open_here(&mut self, name: &[u8]) -> Result<R::Opened, SourceFault>
+        ensures fresh { IfOk result (λ source. IsFresh (R.Opened.device source)) }
         ensures same { self.new.refusals ≡ self.old.refusals }
         ensures noted { self.new.opened ≡ self.old.opened }
     {
-        self.files.open(name)
+        let met = &mut self.has_met_left_out;
+        open_in(
+            &mut self.reader,
+            self.alloc,
+            self.folder,
+            name,
+            self.left_out,
+            met,
+        )
     }
 
     // Opens a file in one of the others, by what the source calls it, or, if a file that was found
@@ -112,20 +122,18 @@ impl<'a, R: rt::Files + AllocGlobal> SearchedFiles<'a, R> {
         name: &[u8],
         own: &[u8],
         is_by_searched: bool,
-    ) -> Result<FileSource<R::File>, SourceFault>
-        ensures fresh { IfOk result (λ source. IsFresh (⟦<FileSource<R::File> as Source>⟧.device source)) }
+    ) -> Result<R::Opened, SourceFault>
+        ensures fresh { IfOk result (λ source. IsFresh (R.Opened.device source)) }
         ensures same { self.new.refusals ≡ self.old.refusals }
         ensures noted { self.new.opened ≡ self.old.opened }
     {
-        let left_out = self.left_out;
-        let met = &mut self.has_met_left_out;
-        let found = match open_in_others(self.rt, self.others, own, left_out, met) {
-            Err(_) if is_by_searched => open_in_others(self.rt, self.others, name, left_out, met),
+        let found = match self.open_in_others(own) {
+            Err(_) if is_by_searched => self.open_in_others(name),
             found => found,
         }?;
         let folder = folder_of(name);
         if !self.has_searched(folder) {
-            let Some(folder) = copied(self.rt.alloc(), folder) else {
+            let Some(folder) = copied(self.alloc, folder) else {
                 return Err(SourceFault);
             };
             if self.searched.push(folder).is_err() {
@@ -134,10 +142,26 @@ impl<'a, R: rt::Files + AllocGlobal> SearchedFiles<'a, R> {
         }
         Ok(found)
     }
+
+    // Opens the file of a name in the first of the others that has one.
+    fn open_in_others(&mut self, name: &[u8]) -> Result<R::Opened, SourceFault>
+        ensures fresh { IfOk result (λ source. IsFresh (R.Opened.device source)) }
+        ensures same { self.new.refusals ≡ self.old.refusals }
+        ensures noted { self.new.opened ≡ self.old.opened }
+    {
+        open_first(
+            &mut self.reader,
+            self.alloc,
+            self.others,
+            name,
+            self.left_out,
+            &mut self.has_met_left_out,
+        )
+    }
 }
 
-impl<'a, R: rt::Files + AllocGlobal> Files for SearchedFiles<'a, R> {
-    type Opened = FileSource<R::File>;
+impl<'a, R: Reader> Files for SearchedFiles<'a, R> {
+    type Opened = R::Opened;
 
     ghost map = { λ s. record {
       bytes = λ _. None;
@@ -148,12 +172,21 @@ impl<'a, R: rt::Files + AllocGlobal> Files for SearchedFiles<'a, R> {
     } };
 
     /// Opens the file of this name in the first folder that has one. Returns `SourceFault` if none
-    /// has, or as `DiskFiles::open` does.
-    fn open(&mut self, name: &[u8]) -> Result<FileSource<R::File>, SourceFault> {
+    /// has, or as `FolderFiles::open` does.
+    fn open(&mut self, name: &[u8]) -> Result<R::Opened, SourceFault> {
         self.opened.note(name);
         let own = own_name(name);
         let is_by_searched = self.has_searched(folder_before(name, own));
-        if is_by_searched && is_in_several(self.rt, self.folder, self.others, name, own) {
+        if is_by_searched
+            && is_in_several(
+                &mut self.reader,
+                self.alloc,
+                self.folder,
+                self.others,
+                name,
+                own,
+            )
+        {
             self.is_ambiguous = true;
         }
         let opened = match self.open_here(name) {
@@ -161,33 +194,11 @@ impl<'a, R: rt::Files + AllocGlobal> Files for SearchedFiles<'a, R> {
             Err(_) => self.search(name, own, is_by_searched),
         };
         if opened.is_err() {
-            self.missing = copied(self.rt.alloc(), own);
+            self.missing = copied(self.alloc, own);
             self.refusals = self.refusals.saturating_add(1);
         }
         opened
     }
-}
-
-// Opens the file of a name in the first of these folders that has one.
-fn open_in_others<R: rt::Files + AllocGlobal>(
-    rt: &R,
-    folders: &[&str],
-    name: &[u8],
-    left_out: &str,
-    has_met_left_out: &mut bool,
-) -> Result<FileSource<R::File>, SourceFault>
-    ensures { IfOk result (λ source. IsFresh (⟦<FileSource<R::File> as Source>⟧.device source)) }
-{
-    for folder in folders {
-        let mut files = DiskFiles::without(rt, folder, left_out);
-        if let Ok(source) = files.open(name) {
-            return Ok(source);
-        }
-        if files.has_met_left_out() {
-            *has_met_left_out = true;
-        }
-    }
-    Err(SourceFault)
 }
 
 // Returns what the source calls a file: the name after the last `/./`.
@@ -227,20 +238,40 @@ fn folder_before<'n>(name: &'n [u8], own: &[u8]) -> &'n [u8]
     name.get(..length).unwrap_or(&[])
 }
 
+// Opens the file of a name in the first of these folders that has one.
+fn open_first<R: Reader>(
+    reader: &mut R,
+    alloc: Global,
+    folders: &[&str],
+    name: &[u8],
+    left_out: &str,
+    has_met_left_out: &mut bool,
+) -> Result<R::Opened, SourceFault>
+    ensures { IfOk result (λ source. IsFresh (R.Opened.device source)) }
+{
+    for folder in folders {
+        if let Ok(source) = open_in(reader, alloc, folder, name, left_out, has_met_left_out) {
+            return Ok(source);
+        }
+    }
+    Err(SourceFault)
+}
+
 // Returns whether a name in a folder, and both names in others, are those of several files. A file
 // that is met again, by another path of its folder, is one.
 #[inline(never)]
-fn is_in_several<R: rt::Files + AllocGlobal>(
-    rt: &R,
+fn is_in_several<R: Reader>(
+    reader: &mut R,
+    alloc: Global,
     folder: &str,
     others: &[&str],
     name: &[u8],
     own: &[u8],
 ) -> bool {
-    let mut first = file_in(rt, folder, name);
+    let mut first = file_in(reader, alloc, folder, name);
     for other in others {
         for name in [name, own] {
-            let found = file_in(rt, other, name);
+            let found = file_in(reader, alloc, other, name);
             if first.is_none() {
                 first = found;
             } else if found.is_some() && found != first {
@@ -252,11 +283,11 @@ fn is_in_several<R: rt::Files + AllocGlobal>(
 }
 
 // Returns the file of a name in a folder, if one is there that can be opened.
-fn file_in<R: rt::Files + AllocGlobal>(rt: &R, folder: &str, name: &[u8]) -> Option<FileId> {
+fn file_in<R: Reader>(reader: &mut R, alloc: Global, folder: &str, name: &[u8]) -> Option<FileId> {
     let name = str::from_utf8(name).ok()?;
-    let path = Path::new(folder).join(rt.alloc(), name).ok()?;
-    FileSource::open(rt, path.as_str()).ok()?;
-    FileId::of(rt, path.as_str())
+    let path = Path::new(folder).join(alloc, name).ok()?;
+    reader.open(path.as_str()).ok()?;
+    reader.file_at(path.as_str())
 }
 
 // Copies a name, if there is memory for it.

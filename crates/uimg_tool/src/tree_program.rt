@@ -1,7 +1,8 @@
 //! Writes the image of a tree, as mkimage does.
 
-ghost use Rattle.std.specs.Prelude.{◌≡◌, Err};
-ghost use Rattle.uimg_tool.specs.{Complaints.Ends, RequestEnds.TreeEnds};
+ghost use Rattle.std.specs.Prelude.{◌≡◌, Err, true};
+ghost use Rattle.uimg_tool.specs.{Complaints.Ends, OldMakings.MakesFor, RequestEnds.TreeEnds};
+ghost use Rattle.uimg_unpacking.specs.Deeds.{changes};
 
 use crate::blob_room::set_blob_size;
 use crate::complaints::Complaints;
@@ -15,14 +16,14 @@ use crate::writing::writing_of;
 use std::alloc::Global;
 use std::cell::Cell;
 use std::fs::OpenFile;
-use std::io::{BufWriter, Write};
-use std::{fs, io, rt};
-use uimg_base::{Files, Out, Room, Status};
+use std::io;
+use std::io::{BufWriter, Seek, Write};
+use uimg_base::{Files, Out, Room, Shelf, Status};
 use uimg_blob_writing::{Reservation, Tree};
 use uimg_engine::{Fault, TreeManner, make_tree};
 use uimg_fit_base::Placement;
 use uimg_requests::Manner;
-use uimg_unpacking::DiskWorld;
+use uimg_unpacking::MakingWorld;
 
 /// The image that is made of a tree: of the file at which path, at which path and how,
 /// the memory that it reserves, and the size of its blob if that has free room.
@@ -38,51 +39,78 @@ pub(crate) struct TreeRequest<'a> {
 }
 
 /// Writes the image of a tree over its files beside its name, which it gets when it is complete.
-pub(crate) fn write_image<R: rt::Files + AllocGlobal, F: Files, W: Write, V: Write>(
-    rt: &R,
+pub(crate) fn write_image<'p, D: MakingWorld<'p>, F: Files, W: Write, V: Write>(
+    world: &mut D,
     request: TreeRequest<'_>,
     tree: &Tree<Global>,
     files: &mut F,
     out: &mut W,
     complaints: &mut Complaints<'_, V>,
 ) -> u8
-    ensures { Ends result complaints.old.count complaints.new.count }
+where
+    D::File: Seek,
+    ensures ends { Ends result complaints.old.count complaints.new.count }
+    ensures quiet { request.entry.is_quiet ≡ true → out.new ≡ out.old }
+    ensures made { MakesFor request.entry.image.now result (D.trace world.old) (D.trace world.new) }
 {
-    let world = &mut DiskWorld::new(rt);
-    match writing_of(world, rt.alloc(), request.image) {
+    match writing_of(world, world.alloc(), request.image) {
         Ok(Writing::Beside(file, path)) => {
             let begun = Begun { file, path: &path };
-            let made = if request.is_quiet {
-                make_beside(rt, request, tree, files, begun, &mut io::sink())
-            } else {
-                make_beside(rt, request, tree, files, begun, out)
-            };
+            let made = make_listed(world, request, tree, files, begun, out);
             let about = about_end(&made.end, request.source, request.image);
             tell_made(world, &path, &made, about, complaints)
         }
         Ok(Writing::Nowhere(reason)) => complaints.tell_unwritten(request.image, &reason),
-        Ok(Writing::InPlace | Writing::Pipe) => {
-            let reason = io::Error::other("it is not a regular file");
-            complaints.tell_unwritten(request.image, &reason)
-        }
+        Ok(Writing::InPlace) => complaints.tell_unwritten(request.image, &not_regular()),
+        Ok(Writing::Pipe) => complaints.tell_unwritten(request.image, &not_regular()),
         Err(_) => complaints.tell_no_memory(),
+    }
+}
+
+// Returns why a device or a pipe is not written to.
+fn not_regular() -> io::Error {
+    io::Error::other("it is not a regular file")
+}
+
+// Makes the image of a tree in a new file; if it is to be quiet, nothing is printed.
+fn make_listed<'a, 'p, D: MakingWorld<'p>, F: Files, W: Write>(
+    world: &mut D,
+    request: TreeRequest<'a>,
+    tree: &Tree<Global>,
+    files: &mut F,
+    begun: Begun<'_, D::File>,
+    out: &mut W,
+) -> Made<'a>
+where
+    D::File: Seek,
+    ensures ends { TreeEnds request.entry.image result.end }
+    ensures quiet { request.entry.is_quiet ≡ true → out.new ≡ out.old }
+    ensures kept { changes (D.trace world.new) ≡ changes (D.trace world.old) }
+{
+    if request.is_quiet {
+        make_beside(world, request, tree, files, begun, &mut io::sink())
+    } else {
+        make_beside(world, request, tree, files, begun, out)
     }
 }
 
 // Makes the image of a tree in a new file. Returns how that ended, and how the flush of the buffered
 // listing did.
-fn make_beside<'a, R: rt::Files + AllocGlobal, F: Files, W: Write>(
-    rt: &R,
+fn make_beside<'a, 'p, D: MakingWorld<'p>, F: Files, W: Write>(
+    world: &mut D,
     request: TreeRequest<'a>,
     tree: &Tree<Global>,
     files: &mut F,
-    begun: Begun<'_, R::File>,
+    begun: Begun<'_, D::File>,
     out: &mut W,
 ) -> Made<'a>
-    ensures { TreeEnds request.entry.image result.end }
+where
+    D::File: Seek,
+    ensures ends { TreeEnds request.entry.image result.end }
+    ensures kept { changes (D.trace world.new) ≡ changes (D.trace world.old) }
 {
     let Begun { file, path } = begun;
-    let Ok(mut gathered) = BufWriter::new(rt.alloc(), out) else {
+    let Ok(mut gathered) = BufWriter::new(world.alloc(), out) else {
         return unprinted(RequestFault::OutOfMemory);
     };
     let again = match request.roomy_size {
@@ -92,8 +120,8 @@ fn make_beside<'a, R: rt::Files + AllocGlobal, F: Files, W: Write>(
         },
         None => None,
     };
-    let end = match NewShelf::new(rt, path.new.as_str(), file) {
-        Ok(shelf) => make_on(rt, request, tree, files, shelf, &mut gathered),
+    let end = match NewShelf::new(world.alloc(), world.reader(), path.new.as_str(), file) {
+        Ok(shelf) => make_on(world.alloc(), request, tree, files, shelf, &mut gathered),
         Err(_) => Err(RequestFault::OutOfMemory),
     };
     let end = match (end, again) {
@@ -120,12 +148,12 @@ fn unprinted<'a>(fault: RequestFault<'a>) -> Made<'a>
 }
 
 // Makes the image of a tree on a shelf.
-fn make_on<'a, R: rt::Files + AllocGlobal, F: Files, W: Write>(
-    rt: &R,
+fn make_on<'a, F: Files, H: Shelf, W: Write>(
+    alloc: Global,
     request: TreeRequest<'a>,
     tree: &Tree<Global>,
     files: &mut F,
-    shelf: NewShelf<'_, R>,
+    shelf: H,
     out: &mut W,
 ) -> Result<Status, RequestFault<'a>>
     ensures { TreeEnds request.entry.image result }
@@ -137,12 +165,12 @@ fn make_on<'a, R: rt::Files + AllocGlobal, F: Files, W: Write>(
         naming: request.manner.naming,
     };
     let made = make_tree(
-        rt.alloc(),
+        alloc,
         tree,
         manner,
         files,
         Watched::new(shelf, &code),
-        &mut Room::new(rt.alloc()),
+        &mut Room::new(alloc),
         &mut Out::new(out),
     );
     match (made, code.get()) {

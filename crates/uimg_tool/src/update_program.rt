@@ -1,57 +1,82 @@
 //! Updates a FIT image.
 
-ghost use Rattle.std.specs.Prelude.{◌≡◌};
-ghost use Rattle.uimg_tool.specs.{Complaints.Ends, TreeSizes.roomy_size_of};
+ghost use Rattle.std.specs.Prelude.{◌≡◌, None, Some, if◌then◌else◌, true};
+ghost use Rattle.uimg_tool.specs.{Complaints.Ends, OldMakings.UpdatesFor, SourceStatuses.update_status, TreeSizes.roomy_size_of};
+ghost use Rattle.uimg_unpacking.specs.Deeds.{changes};
 
 use crate::complaints::Complaints;
 use crate::old_files::tell_end;
 use crate::request_fault::{FAILED, REFUSED, RequestFault};
 use crate::tree_program::{TreeRequest, write_image};
-use std::io::Write;
-use std::rt::Files;
+use std::io::{Seek, Write};
 use uimg_base::{MemFiles, Room};
 use uimg_compat::UpdateRequest;
 use uimg_engine::Fault;
 use uimg_fit_base::Placement;
 use uimg_fit_updating::{UpdateFault, Updated, update};
 use uimg_printing::Printed;
-use uimg_unpacking::{DiskWorld, World};
+use uimg_unpacking::{MakingWorld, World};
 
 /// Updates an image: makes the new one beside its name, which it gets when it is complete.
-pub(crate) fn update_image<R: Files + AllocGlobal, W: Write, V: Write>(
-    rt: &R,
+pub(crate) fn update_image<'p, D: MakingWorld<'p>, W: Write, V: Write>(
+    world: &mut D,
     request: &UpdateRequest<'_>,
     out: &mut W,
     complaints: &mut Complaints<'_, V>,
 ) -> u8
-    ensures { Ends result complaints.old.count complaints.new.count }
+where
+    D::File: Seek,
+    ensures ends { Ends result complaints.old.count complaints.new.count }
+    ensures quiet { request.now.is_quiet ≡ true → out.new ≡ out.old }
+    ensures made { UpdatesFor request.now.image.now result (D.trace world.old) (D.trace world.new) }
 {
-    let world = &mut DiskWorld::new(rt);
+    let alloc = world.alloc();
     let Ok(mut source) = world.open(request.image) else {
         return complaints.tell_unread(world, request.image);
     };
-    let time = request.sets_time.then_some(request.manner.time);
-    match update(rt.alloc(), &mut source, &mut Room::new(rt.alloc()), time) {
+    match update(alloc, &mut source, &mut Room::new(alloc), time_of(request)) {
         Ok(updated) => {
-            let making = TreeRequest {
-                source: request.image,
-                image: request.image,
-                placement: request.placement,
-                reservations: updated.reservations.as_slice(),
-                roomy_size: roomy_size(request.placement, &updated),
-                manner: request.manner,
-                is_quiet: request.is_quiet,
-            };
-            write_image(
-                rt,
-                making,
-                &updated.tree,
-                &mut MemFiles::new(&[]),
-                out,
-                complaints,
-            )
+            let making = tree_request(request, request.image, &updated);
+            let files = &mut MemFiles::new(&[]);
+            write_image(world, making, &updated.tree, files, out, complaints)
         }
         Err(fault) => tell_fault(world, request.image, fault, complaints),
+    }
+}
+
+// Returns the time that the image gets, if it gets one.
+fn time_of(request: &UpdateRequest<'_>) -> Option<u32>
+    ensures { result ≡ (if request.now.sets_time then Some request.now.manner.time else None) }
+{
+    if request.sets_time {
+        Some(request.manner.time)
+    } else {
+        None
+    }
+}
+
+// Returns what is made of an updated image.
+fn tree_request<'a>(
+    request: &UpdateRequest<'_>,
+    image: &'a str,
+    updated: &'a Updated,
+) -> TreeRequest<'a>
+    ensures made { (result.source ≡ image.entry) × (result.image ≡ image.entry) }
+    ensures placed { (result.placement ≡ request.now.placement)
+        × (result.manner ≡ request.now.manner) }
+    ensures quiet { result.is_quiet ≡ request.now.is_quiet }
+    ensures reserved { result.reservations.now ≡ updated.now.reservations.items }
+    ensures roomy { result.roomy_size
+        ≡ roomy_size_of request.now.placement updated.now.roomy_size }
+{
+    TreeRequest {
+        source: image,
+        image,
+        placement: request.placement,
+        reservations: updated.reservations.as_slice(),
+        roomy_size: roomy_size(request.placement, updated),
+        manner: request.manner,
+        is_quiet: request.is_quiet,
     }
 }
 
@@ -73,7 +98,9 @@ fn tell_fault<D: World, V: Write>(
     fault: UpdateFault,
     complaints: &mut Complaints<'_, V>,
 ) -> u8
-    ensures { Ends result complaints.old.count complaints.new.count }
+    ensures status { result ≡ update_status fault }
+    ensures ends { Ends result complaints.old.count complaints.new.count }
+    ensures kept { changes (D.trace world.new) ≡ changes (D.trace world.old) }
 {
     match fault {
         UpdateFault::Fit(fault) => {

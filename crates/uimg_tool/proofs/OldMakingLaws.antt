@@ -1,0 +1,102 @@
+-- What the making of an image by the names of mkimage asks of a world, and its status.
+use Rattle.std.proofs.Common.{◌≡◌, ℕ, ◌≤◌, List, ◌∷◌, Bool, false, true, Option, Some, Result, Ok, Err, ◌⊎◌, inl, inr, ap, refl, subst, sym, ◌∙◌, string_bytes, true≢false}
+use Rattle.std.specs.{Prelude.{is_err, is_ok}, declared.io.Error.Error}
+use Rattle.uimg_tool.proofs.DrawingLaws.{writes_as}
+use Rattle.uimg_tool.proofs.WritingLaws.{creates_as}
+use Rattle.uimg_tool.specs.{BesidePaths.{Finishes, incomplete, named, not_named}, Finishing.FinishesBy}
+use Rattle.uimg_tool.specs.OldMakings.{FinishesMade, LendsAt, MakesFor, MakesWithin, Named, beside_it, in_place, no_memory, to_pipe, uncreated}
+use Rattle.uimg_tool.specs.SourceTexts.{MakesOfText, of_new, text_stopped, text_uncreated}
+use Rattle.uimg_tool.specs.Writings.{CreatesBeside, WritesFor}
+use Rattle.uimg_tool.specs.declared.safe_path.{NewBeside.NewBeside, SafePath.SafePath, Writing.Writing}
+use Rattle.uimg_tool.specs.declared.safe_path.Writing.TheVariants as writing
+use Rattle.uimg_unpacking.specs.Deeds.{Answer, Deed, Done, LendsShelf, Removes, Renames, changes}
+use Rattle.uimg_unpacking.specs.Naming.{is_done}
+
+pub made_beside : {F Z : Type 0} (path : List ℕ) (status : ℕ) (result : Result (Writing F) Z) (file : F) (safe : SafePath) (before begun after : List Deed) → result ≡ Ok (writing.Beside file safe)
+    → WritesFor path result before begun → FinishesMade safe status begun after → MakesFor path status before after
+made_beside path status result file safe before begun after is writes finishes =
+    let w = writes_as path result (Ok (writing.Beside file safe)) before begun is writes in
+    beside_it safe w.0 begun w.1 w.2 finishes
+
+pub finishes_made : (path : SafePath) (status : ℕ) (is_complete : Bool) (before made after : List Deed) → changes made ≡ changes before
+    → FinishesBy path is_complete made after → (status ≡ 0 → Named path made after) → FinishesMade path status before after
+finishes_made path status is_complete before made after kept finishes done = record {
+  is_complete = is_complete;
+  made = made;
+  kept = kept;
+  finishes = finishes;
+  done = λ none. done none ∙ ap (λ (t : List Deed). Renames (string_bytes path.new) (string_bytes path.whole) Done ∷ t) kept;
+}
+
+lends_kept : (path : List ℕ) (status : ℕ) (has_failed : Bool) (before made after : List Deed) → (has_failed ≡ true → 1 ≤ status) → LendsAt path has_failed before made → changes after ≡ changes made
+    → ((1 ≤ status) × (changes after ≡ changes before)) ⊎ (changes after ≡ LendsShelf path ∷ changes before)
+lends_kept path status has_failed before made after fails (inl same) kept = inl (fails same.0, kept ∙ same.1)
+lends_kept path status has_failed before made after fails (inr lent) kept = inr (kept ∙ lent)
+
+pub made_in_place : {F Z : Type 0} (path : List ℕ) (status : ℕ) (has_failed : Bool) (result : Result (Writing F) Z) (before seen made after : List Deed) → result ≡ Ok writing.InPlace
+    → WritesFor path result before seen → (has_failed ≡ true → 1 ≤ status) → LendsAt path has_failed seen made → changes after ≡ changes made → MakesFor path status before after
+made_in_place path status has_failed result before seen made after is writes fails lends kept =
+    in_place seen (writes_as path result (Ok writing.InPlace) before seen is writes) (lends_kept path status has_failed seen made after fails lends kept)
+
+-- what exists there is not written to
+pub left_in_place : {F Z : Type 0} (path : List ℕ) (status : ℕ) (result : Result (Writing F) Z) (before after : List Deed) → result ≡ Ok writing.InPlace
+    → WritesFor path result before after → 1 ≤ status → MakesFor path status before after
+left_in_place path status result before after is writes fails =
+    in_place after (writes_as path result (Ok writing.InPlace) before after is writes) (inl (fails, refl))
+
+pub not_to_pipe : {F Z : Type 0} (path : List ℕ) (status : ℕ) (result : Result (Writing F) Z) (before after : List Deed) → result ≡ Ok writing.Pipe
+    → WritesFor path result before after → 1 ≤ status → MakesFor path status before after
+not_to_pipe path status result before after is writes fails = to_pipe fails (writes_as path result (Ok writing.Pipe) before after is writes)
+
+pub not_created : {F Z : Type 0} (path : List ℕ) (status : ℕ) (result : Result (Writing F) Z) (reason : Error) (before after : List Deed) → result ≡ Ok (writing.Nowhere reason)
+    → WritesFor path result before after → 1 ≤ status → MakesFor path status before after
+not_created path status result reason before after is writes fails =
+    let w = writes_as path result (Ok (writing.Nowhere reason)) before after is writes in uncreated w.0 w.1 fails w.2 w.3
+
+pub not_begun : {F Z : Type 0} (path : List ℕ) (status : ℕ) (result : Result (Writing F) Z) (refused : Z) (before after : List Deed) → result ≡ Err refused
+    → WritesFor path result before after → 1 ≤ status → MakesFor path status before after
+not_begun path status result refused before after is writes fails =
+    let w = writes_as path result (Err refused) before after is writes in no_memory w.0 w.1 fails w.2 w.3
+
+-- after calls that change no file
+pub within : (one path : List ℕ) (status : ℕ) (before seen after : List Deed) → one ≡ path → changes seen ≡ changes before → MakesFor one status seen after → MakesWithin path status before after
+within one path status before seen after is kept makes = inr (seen, kept, subst (λ (p : List ℕ). MakesFor p status seen after) is makes)
+
+pub within_more : (one path : List ℕ) (status : ℕ) (before seen after : List Deed) → one ≡ path → changes seen ≡ changes before → MakesWithin one status seen after → MakesWithin path status before after
+within_more one path status before seen after is kept (inl same) = inl (same.0, same.1 ∙ kept)
+within_more one path status before seen after is kept (inr made) = inr (made.0, made.1 ∙ kept, subst (λ (p : List ℕ). MakesFor p status made.0 after) is made.2)
+
+-- a new file that is removed at the end
+pub text_made : {F Z : Type 0} (path : List ℕ) (status : ℕ) (result : Result (Result (NewBeside F) Error) Z) (new : NewBeside F) (removed : List ℕ) (answer : Answer) (before begun made after : List Deed) → result ≡ Ok (Ok new)
+    → removed ≡ string_bytes new.path → CreatesBeside path result before begun → MakesWithin path status begun made → after ≡ Removes removed answer ∷ made → MakesOfText path status before after
+text_made path status result new removed answer before begun made after is same creates makes removes =
+    of_new (string_bytes new.path) begun made answer (creates_as path path result (Ok (Ok new)) before begun refl is creates) makes
+    (removes ∙ ap (λ (p : List ℕ). Removes p answer ∷ made) same)
+
+pub text_not_created : {F Z : Type 0} (path : List ℕ) (status : ℕ) (result : Result (Result (NewBeside F) Error) Z) (reason : Error) (before after : List Deed) → result ≡ Ok (Err reason)
+    → status ≡ 3 → CreatesBeside path result before after → MakesOfText path status before after
+text_not_created path status result reason before after is failed creates =
+    text_uncreated failed (creates_as path path result (Ok (Err reason)) before after refl is creates)
+
+pub text_not_begun : {F Z : Type 0} (path : List ℕ) (status : ℕ) (result : Result (Result (NewBeside F) Error) Z) (refused : Z) (before after : List Deed) → result ≡ Err refused
+    → status ≡ 3 → CreatesBeside path result before after → MakesOfText path status before after
+text_not_begun path status result refused before after is failed creates =
+    text_stopped failed (creates_as path path result (Err refused) before after refl is creates)
+
+-- a file that was begun ends by whether its making did
+pub ends_named : {T E : Type 0} (path : SafePath) (end : Result T E) (answer : Answer) (before ended after : List Deed) → is_err end ≡ false
+    → Finishes (string_bytes path.new) (string_bytes path.whole) true answer before ended → changes after ≡ changes ended → FinishesBy path (is_ok end) before after
+ends_named path (Ok value) answer before ended after is finishes kept = (answer, ended, finishes, kept)
+ends_named path (Err fault) answer before ended after is finishes kept = absurd (true≢false is)
+
+pub ends_removed : {T E : Type 0} (path : SafePath) (end : Result T E) (answer : Answer) (before ended after : List Deed) → is_err end ≡ true
+    → Finishes (string_bytes path.new) (string_bytes path.whole) false answer before ended → changes after ≡ changes ended → FinishesBy path (is_ok end) before after
+ends_removed path (Ok value) answer before ended after is finishes kept = absurd (true≢false (sym is))
+ends_removed path (Err fault) answer before ended after is finishes kept = (answer, ended, finishes, kept)
+
+-- a complete file whose naming was answered has its path
+pub has_name : (path : SafePath) (answer : Answer) (before ended after : List Deed) → Finishes (string_bytes path.new) (string_bytes path.whole) true answer before ended → answer ≡ Done
+    → changes after ≡ changes ended → Named path before after
+has_name path answer before ended after (named complete done is) answered kept = kept ∙ ap changes is
+has_name path answer before ended after (not_named removed complete undone is) answered kept = absurd (true≢false (sym (ap is_done answered) ∙ undone))
+has_name path answer before ended after (incomplete unfinished is) answered kept = absurd (true≢false unfinished)

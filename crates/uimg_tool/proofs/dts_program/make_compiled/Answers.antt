@@ -1,0 +1,7 @@
+use Rattle.std.proofs.Common.{refl}
+use Rattle.uimg_tool.proofs.OldMakingLaws.{within}
+use Rattle.uimg_tool.proofs.dts_program.make_compiled.Goals as goal
+
+pub returns-in-Ok-clause-made : goal.returns-in-Ok-clause-made
+returns-in-Ok-clause-made g c =
+    within c.args.making.image.now c.args.making.image.now c.write_image.result (g.D.World.trace c.args.world.now) (g.D.World.trace c.args.world.now) (g.D.World.trace c.write_image.new.world) refl refl c.write_image.ensures.made

@@ -1,0 +1,9 @@
+use Rattle.std.proofs.Common.{◌∷◌, ap, inr, true}
+use Rattle.uimg_unpacking.specs.Deeds.{Opens, changes}
+use Rattle.uimg_tool.proofs.OldMakingLaws.{within}
+use Rattle.uimg_tool.proofs.update_program.update_image.Goals as goal
+
+pub returns-in-Ok-update-clause-made : goal.returns-in-Ok-update-clause-made
+returns-in-Ok-update-clause-made g c =
+    inr (within c.tree_request-making.result.image.now c.args.request.now.image.now c.write_image.result (Opens c.args.request.now.image.now true ∷ g.D.World.trace c.args.world.now) (g.D.World.trace c.open.new.self) (g.D.World.trace c.write_image.new.world)
+    (ap (λ b. b.now) c.tree_request-making.ensures.made.1) (ap changes c.open.ensures.noted) c.write_image.ensures.made)
