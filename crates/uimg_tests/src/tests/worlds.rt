@@ -182,7 +182,12 @@ const UNPACKS: [(&str, u8, &str, &str); 8] = [
         "abc",
     ),
     ("uimg unpack -C out fit", 0, "out/.uimg-new1/new-0", ""),
-    ("uimg unpack -C out --only kernel fit", 0, "out/kernel", "abc"),
+    (
+        "uimg unpack -C out --only kernel fit",
+        0,
+        "out/kernel",
+        "abc",
+    ),
     ("uimg unpack -C out bad", 1, "out/kernel", ""),
     ("uimg unpack -C out abc", 0, "out/image-0", "abc"),
     ("uimg unpack -C out data", 1, "out/image-0", ""),
