@@ -1,5 +1,5 @@
 -- What the making of an image by the names of mkimage asks of a world, and its status.
-use Rattle.std.proofs.Common.{◌≡◌, ℕ, ◌≤◌, List, ◌∷◌, Bool, false, true, Option, Some, Result, Ok, Err, ◌⊎◌, inl, inr, ap, refl, subst, sym, ◌∙◌, string_bytes, true≢false}
+use Rattle.std.proofs.Common.{◌≡◌, ℕ, ◌≤◌, List, ◌∷◌, Bool, false, true, Result, Ok, Err, ◌⊎◌, inl, inr, ap, refl, subst, sym, ◌∙◌, string_bytes, true≢false}
 use Rattle.std.specs.{Prelude.{is_err, is_ok}, declared.io.Error.Error}
 use Rattle.uimg_tool.proofs.DrawingLaws.{writes_as}
 use Rattle.uimg_tool.proofs.WritingLaws.{creates_as}

@@ -1,5 +1,5 @@
 -- Files that are opened in order.
-use Rattle.std.proofs.Common.{Bool, ◌≡◌, List, [], ◌∷◌, ◌++◌, ℕ, Option, Some, None, false, true, inl, inr, ap, refl, subst, sym, ◌∙◌}
+use Rattle.std.proofs.Common.{Bool, ◌≡◌, List, [], ◌∷◌, ◌++◌, ℕ, Option, Some, None, false, true, inl, inr, refl, subst, sym}
 use Rattle.std.specs.{Borrow.Bor, Prelude.option_map}
 use Rattle.uimg_tool.specs.{Running.ComparesFiles, SourceTexts.{LooksForKey, MakesOfInput, MakesOfText, OpensEach, from_input, input_path}}
 use Rattle.uimg_unpacking.specs.Deeds.{Answer, Deed, Opens, Reads}

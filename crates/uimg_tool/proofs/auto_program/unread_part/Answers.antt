@@ -1,4 +1,3 @@
-use Rattle.std.proofs.Common.{[], ◌∷◌}
 use Rattle.std.specs.Prelude.{option_map}
 use Rattle.uimg_tool.specs.SourceTexts.{ramdisk_paths, tree_paths}
 use Rattle.uimg_tool.proofs.SourceTextLaws.{each_ends, each_then}
