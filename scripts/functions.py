@@ -105,3 +105,27 @@ def function_at(functions, text, place):
     inside = text[found.begin : min(ends, default=len(text))]
     alone = re.search(r"^ *\{$", inside, re.M) or re.search(r"\{$", inside, re.M)
     return found if alone and found.begin + alone.end() <= place else None
+
+
+def without_bodies(text, name, kept):
+    """Returns a file's text with `loop {}` as the body of each function except those whose paths are
+    kept, those of cycles of calls, and those that the compiler runs or takes a type from."""
+    found = functions_of_text(text, name)
+    ends = [*(after.begin for after in found[1:]), len(text)]
+    parts = [text[: found[0].begin]] if found else [text]
+    for it, end in zip(found, ends):
+        inside = text[it.begin : end]
+        is_left = not it.path or it.path in kept or it.is_in_cycle
+        parts.append(inside if is_left else without_body(inside))
+    return "".join(parts)
+
+
+def without_body(inside):
+    """Returns the text of a function, up to the next item, with `loop {}` as its body."""
+    indent = re.match(" *", inside)[0]
+    alone = re.search(rf"^{indent}\{{$", inside, re.M) or re.search(r"\{$", inside, re.M)
+    # The text of a function outside of impls ends before its last brace.
+    end = alone and re.search(rf"^{indent}\}}$" if indent else r"\Z", inside[alone.end() :], re.M)
+    if not end or re.search(r"\bconst .*fn |-> impl\b", inside[: alone.end()]):
+        return inside
+    return f"{inside[: alone.end()]}\n{indent}    loop {{}}\n{inside[alone.end() + end.start() :]}"

@@ -8,7 +8,8 @@ exists.
 A function is proved from its own body and the contracts of those that it calls. So only the
 functions with wrong bodies are proved, several in one check, each with one wrong body; for each
 other function of the crate its contract is assumed, by a hole in place of its proof
-(`--allow-holes`). A wrong body is refused if its own function is: if an answer of its own does not
+(`--allow-holes`), and its body is `loop {}`, since the prover reads all that a function to be
+proved leads to. A wrong body is refused if its own function is: if an answer of its own does not
 hold, or no search finds a goal of its own. One that fails only since it calls a refused function is
 tried again in a later round. If a check refuses a function without a wrong body, or a lemma, it
 counts for nothing, and each half is tried by itself, down to a single one. A wrong body outside of
@@ -121,13 +122,22 @@ class Trials:
         for path, text in texts.items():
             with open(f"{crate}/{path}", "w", encoding="utf-8") as file:
                 file.write(text)
-        for it in (it for file in self.known.values() for it in file if it.path and not it.is_in_cycle):
-            if proved and it.path not in proved:
-                self.put_hole(f"{crate}/proofs/{it.path.replace('::', '/')}", it)
+        for path in self.known if proved else ():
+            self.assume_others(crate, path, proved)
         for it in bare:
             with contextlib.suppress(FileNotFoundError):
                 os.remove(f"{crate}/proofs/{it.replace('::', '/')}/Answers.antt")
         return crate
+
+    def assume_others(self, crate, path, proved):
+        """Puts holes for the functions of a file that are not to be proved. They get no body either,
+        so what they call is not read: the prover reads all that a function to be proved leads to."""
+        for it in (it for it in self.known[path] if it.path and it.path not in proved and not it.is_in_cycle):
+            self.put_hole(f"{crate}/proofs/{it.path.replace('::', '/')}", it)
+        with open(f"{crate}/{path}", encoding="utf-8") as file:
+            text = functions.without_bodies(file.read(), path, proved)
+        with open(f"{crate}/{path}", "w", encoding="utf-8") as file:
+            file.write(text)
 
     def put_hole(self, folder, function):
         os.makedirs(folder, exist_ok=True)

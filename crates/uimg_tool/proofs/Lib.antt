@@ -11,6 +11,7 @@ pub mod InfoLaws
 pub mod MakingLaws
 pub mod MapLaws
 pub mod MemoryLaws
+pub mod OldAnswerLaws
 pub mod OldMakingLaws
 pub mod OldWordLaws
 pub mod PathLaws

@@ -132,18 +132,28 @@ made_end device identities asked files start last made met end leads s t honest 
       tells = made_tells asked made met end as_made;
     }
 
--- the same over the world that lent what opens the files, with the reason of a failed write
-pub made_in : {K : Type 0} (device : K → Device) (first identities : List ℕ → Option FileId) (asked : MakeRequest) (world files : FileMap) (end last : Result Status RequestFault) (s t : Sink)
-    → first ≡ identities → SameFiles world files → MakesAt device first asked files end s t → end_status last ≡ end_status end → (end_status end ≡ 3) ⊎ (last ≡ end)
-    → MakesAt device identities asked world last s t
-made_in device first identities asked world files end last s t same_ids same makes is stays = record {
+-- the same over the world that lent what opens the files
+pub made_in : {K : Type 0} (device : K → Device) (first identities : List ℕ → Option FileId) (asked : MakeRequest) (world files : FileMap) (end : Result Status RequestFault) (s t : Sink)
+    → first ≡ identities → SameFiles world files → MakesAt device first asked files end s t → MakesAt device identities asked world end s t
+made_in device first identities asked world files end s t same_ids same makes = record {
   made = makes.made;
   makes = subst (λ (b : List ℕ → Option (List ℕ)). MakesRequested device asked b makes.made s t) same.bytes makes.makes;
   last = makes.last;
   opens = subst (λ (b : List ℕ → Option (List ℕ)). OpensRequested asked makes.made (record world { bytes = b }) makes.last) same.bytes
       (subst (λ (h : Bool). OpensRequested asked makes.made (record files { honest = h }) makes.last) same.honest makes.opens);
-  is = subst (λ (n : ℕ). IsMadeStatus makes.made (opens_outfile identities asked makes.last) n) (sym is)
-      (subst (λ (ids : List ℕ → Option FileId). IsMadeStatus makes.made (opens_outfile ids asked makes.last) (end_status end)) same_ids makes.is);
+  is = subst (λ (ids : List ℕ → Option FileId). IsMadeStatus makes.made (opens_outfile ids asked makes.last) (end_status end)) same_ids makes.is;
+  tells = makes.tells;
+}
+
+-- with the reason of a failed write
+pub made_written : {K : Type 0} (device : K → Device) (identities : List ℕ → Option FileId) (asked : MakeRequest) (files : FileMap) (end last : Result Status RequestFault) (s t : Sink)
+    → end_status last ≡ end_status end → (end_status end ≡ 3) ⊎ (last ≡ end) → MakesAt device identities asked files end s t → MakesAt device identities asked files last s t
+made_written device identities asked files end last s t is stays makes = record {
+  made = makes.made;
+  makes = makes.makes;
+  last = makes.last;
+  opens = makes.opens;
+  is = subst (λ (n : ℕ). IsMadeStatus makes.made (opens_outfile identities asked makes.last) n) (sym is) makes.is;
   tells = written_tells asked makes.made end last makes.tells is stays;
 }
 

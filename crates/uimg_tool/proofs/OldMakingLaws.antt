@@ -18,14 +18,32 @@ made_beside path status result file safe before begun after is writes finishes =
     let w = writes_as path result (Ok (writing.Beside file safe)) before begun is writes in
     beside_it safe w.0 begun w.1 w.2 finishes
 
-pub finishes_made : (path : SafePath) (status : ℕ) (is_complete : Bool) (before made after : List Deed) → changes made ≡ changes before
-    → FinishesBy path is_complete made after → (status ≡ 0 → Named path made after) → FinishesMade path status before after
-finishes_made path status is_complete before made after kept finishes done = record {
-  is_complete = is_complete;
+-- A file that is removed did not get its name.
+abbrev is_removal : List Deed → Bool
+is_removal (Removes path answer ∷ trace) = true
+is_removal trace = false
+
+not_both : (path : SafePath) (made after : List Deed) → FinishesBy path false made after → Named path made after → ⊥
+not_both path made after (answer, ended, named complete done is, kept) got = true≢false (sym complete)
+not_both path made after (answer, ended, not_named removed complete undone is, kept) got = true≢false (sym complete)
+not_both path made after (answer, ended, incomplete unfinished is, kept) got = true≢false (ap is_removal (sym (kept ∙ ap changes is) ∙ got))
+
+pub finishes_made : {T E : Type 0} (path : SafePath) (status : ℕ) (end : Result T E) (before made after : List Deed) → LendsAt (string_bytes path.new) (is_err end) before made
+    → FinishesBy path (is_ok end) made after → (status ≡ 0 → Named path made after) → FinishesMade path status before after
+finishes_made path status (Ok value) before made after (inl failed) finishes done = absurd (true≢false (sym failed.0))
+finishes_made path status (Ok value) before made after (inr lent) finishes done = record {
+  is_complete = true;
   made = made;
-  kept = kept;
+  lent = inr lent;
   finishes = finishes;
-  done = λ none. done none ∙ ap (λ (t : List Deed). Renames (string_bytes path.new) (string_bytes path.whole) Done ∷ t) kept;
+  done = λ none. done none ∙ ap (λ (t : List Deed). Renames (string_bytes path.new) (string_bytes path.whole) Done ∷ t) lent;
+}
+finishes_made path status (Err fault) before made after lent finishes done = record {
+  is_complete = false;
+  made = made;
+  lent = lent;
+  finishes = finishes;
+  done = λ none. absurd (not_both path made after finishes (done none));
 }
 
 lends_kept : (path : List ℕ) (status : ℕ) (has_failed : Bool) (before made after : List Deed) → (has_failed ≡ true → 1 ≤ status) → LendsAt path has_failed before made → changes after ≡ changes made

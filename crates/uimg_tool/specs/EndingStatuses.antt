@@ -1,7 +1,7 @@
 -- The exit status of an unpacking.
-use Rattle.std.specs.Prelude.{◌≡◌, ◌⊎◌, ℕ}
+use Rattle.std.specs.Prelude.{◌≡◌, ⊤, ◌⊎◌, ℕ, true}
 use Rattle.uimg_base.specs.declared.status.Status.TheVariants.{Done, NotRight}
-use Rattle.uimg_tool.specs.Statuses.{fault_status, trouble_status}
+use Rattle.uimg_tool.specs.Statuses.{fault_status, is_of_command, trouble_status}
 use Rattle.uimg_tool.specs.declared.unpack_answers.Ending.{Ending}
 use Rattle.uimg_tool.specs.declared.unpack_answers.Ending.TheVariants as ending
 
@@ -17,3 +17,8 @@ ending_status (ending.Troubled trouble) = trouble_status trouble
 -- The status is that of the end, or that of a failure to tell it.
 abbrev pub HasEndingStatus : Ending → ℕ → Type 0
 HasEndingStatus end status = (status ≡ ending_status end) ⊎ (status ≡ 3)
+
+-- A trouble of the command line has its status, and nothing is printed of it, as JSON neither.
+abbrev pub TellsCommand : {W : Type 0} → Ending → ℕ → (old new : W) → Type 0
+TellsCommand (ending.Troubled trouble) status old new = is_of_command trouble ≡ true → (status ≡ trouble_status trouble) × (new ≡ old)
+TellsCommand end status old new = ⊤

@@ -1,11 +1,15 @@
 -- What the making of an image by the names of mkimage asks of a world, and which files it changes.
-use Rattle.std.specs.Prelude.{◌≡◌, ◌⊎◌, ◌≤◌, ℕ, List, ◌∷◌, Option, Some, None, Bool, false, true, string_bytes}
-use Rattle.uimg_requests.specs.declared.requests.MakeRequest.{MakeRequest}
-use Rattle.uimg_tool.specs.{Finishing.FinishesBy, Writings.{CreatesNew, CreatesNone, IsAt, IsInPlace, StopsTrying}}
+use Rattle.std.specs.Prelude.{◌≡◌, ⊤, ◌⊎◌, ◌≤◌, ℕ, List, [], ◌∷◌, Option, Some, None, Bool, false, true, not, Result, string_bytes}
+use Rattle.uimg_base.specs.{Device.Device, Named.FileMap, Sink.Sink}
+use Rattle.uimg_base.specs.declared.status.Status.{Status}
 use Rattle.uimg_compat.specs.declared.request.FitRequest.{FitRequest}
-use Rattle.uimg_tool.specs.declared.old_files.How.{How}
-use Rattle.uimg_tool.specs.declared.safe_path.SafePath.{SafePath}
+use Rattle.uimg_engine.specs.declared.fault.Fault.{Fault}
+use Rattle.uimg_requests.specs.declared.requests.MakeRequest.{MakeRequest}
+use Rattle.uimg_tool.specs.{Finishing.FinishesBy, Makings.{IsMadeStatus, MakesAt, MakesRequested, OpensRequested, opens_outfile}, Statuses.end_status}
+use Rattle.uimg_tool.specs.Writings.{CreatesNew, CreatesNone, IsAt, IsInPlace, StopsTrying}
+use Rattle.uimg_tool.specs.declared.{old_files.{Begun.Begun, How.How}, request_fault.RequestFault.RequestFault, safe_path.SafePath.SafePath}
 use Rattle.uimg_unpacking.specs.Deeds.{Deed, Done, Explains, Finds, LendsShelf, Opens, Renames, changes}
+use Rattle.uimg_unpacking.specs.declared.file_id.FileId.{FileId}
 use Rattle.uimg_unpacking.specs.declared.kind.Target.TheVariants as target
 
 -- how the image of a request is made
@@ -23,23 +27,23 @@ abbrev pub LendsAt : List ℕ → (has_failed : Bool) → (before after : List D
 LendsAt path has_failed before after = ((has_failed ≡ true) × (changes after ≡ changes before))
     ⊎ (changes after ≡ LendsShelf path ∷ changes before)
 
--- No file is changed if the image is written to one that is given.
-abbrev pub LendsFor : {F : Type 0} → List ℕ → Option F → (has_failed : Bool) → (before after : List Deed) → Type 0
-LendsFor path None has_failed before after = LendsAt path has_failed before after
-LendsFor path (Some file) has_failed before after = changes after ≡ changes before
+-- the path of the file that is written: the new one, or that of the image
+abbrev pub path_for : {F : Type 0} → List ℕ → Option (Begun F) → List ℕ
+path_for outfile None = outfile
+path_for outfile (Some begun) = string_bytes begun.path.now.new
 
 -- a new file got its path, and no file was changed otherwise
 abbrev pub Named : SafePath → (before after : List Deed) → Type 0
 Named path before after = changes after ≡ Renames (string_bytes path.new) (string_bytes path.whole) Done ∷ changes before
 
--- A new file gets its path or is removed, and no file is changed before that. If the status is 0, it
--- has its path.
+-- A shelf is lent in a new file, which then gets its path or is removed; or a making failed before that.
+-- If the status is 0, it has its path.
 pub record FinishesMade (path : SafePath) (status : ℕ) (before after : List Deed) : Type 0 where
   pub is_complete : Bool
   pub made : List Deed
-  pub kept : changes made ≡ changes before
+  pub lent : LendsAt (string_bytes path.new) (not is_complete) before made
   pub finishes : FinishesBy path is_complete made after
-  pub done : status ≡ 0 → Named path before after
+  pub done : status ≡ 0 → Named path (LendsShelf (string_bytes path.new) ∷ before) after
 
 -- An image is made for a path: in a new file beside the one that the path leads to, or in place, where
 -- a shelf is lent. If the path leads to a pipe, or the new file cannot be created, the status is not 0.
@@ -59,3 +63,37 @@ MakesWithin path status before after = ((1 ≤ status) × (changes after ≡ cha
 abbrev pub UpdatesFor : List ℕ → ℕ → (before after : List Deed) → Type 0
 UpdatesFor image status before after = ((status ≡ 3) × (after ≡ Explains image ∷ Opens image false ∷ before))
     ⊎ MakesWithin image status (Opens image true ∷ before) after
+
+-- The image is a whole file, and its files are looked for in one folder.
+abbrev pub IsPlain : How → MakeRequest → Type 0
+IsPlain how asked = (how.folders.now ≡ []) × (asked.is_xip ≡ false)
+
+-- Nothing was written to a new file, if there is one.
+abbrev pub IsNew : {F : Type 0} → (F → Option (List ℕ)) → Option (Begun F) → Type 0
+IsNew contents None = ⊤
+IsNew contents (Some begun) = contents begun.file ≡ Some []
+
+-- the end of a making, in a new file or in place, unless its status is 3
+abbrev pub MakesIn : {F K N : Type 0} → Option (Begun F) → (K → Device) → (N → Device) → (List ℕ → Option FileId) → MakeRequest → FileMap → Result Status RequestFault → Type 0
+MakesIn None kept_there kept_new identities asked files end =
+    (end_status end ≡ 3) ⊎ ((s t : Sink) × MakesAt kept_there identities asked files end s t)
+MakesIn (Some begun) kept_there kept_new identities asked files end =
+    (end_status end ≡ 3) ⊎ ((s t : Sink) × MakesAt kept_new identities asked files end s t)
+
+-- The definition's image of the files is kept, with status 0; or the making is refused, and the status is
+-- that of its fault; or a name that was opened leads to the file of the image, and the status is 2 or 3.
+pub record MakesImage {K : Type 0} (device : K → Device) (identities : List ℕ → Option FileId) (asked : MakeRequest)
+    (files : FileMap) (status : ℕ) : Type 0 where
+  pub made : Result K Fault
+  pub before : Sink
+  pub after : Sink
+  pub makes : MakesRequested device asked files.bytes made before after
+  -- the files of the folder after it
+  pub last : FileMap
+  pub opens : OpensRequested asked made files last
+  pub is : IsMadeStatus made (opens_outfile identities asked last) status
+
+-- in place, or in a new file
+abbrev pub AnswersOldMaking : {K N : Type 0} → (K → Device) → (N → Device) → (List ℕ → Option FileId) → MakeRequest → FileMap → ℕ → Type 0
+AnswersOldMaking kept_there kept_new identities asked files status =
+    (status ≡ 3) ⊎ MakesImage kept_there identities asked files status ⊎ MakesImage kept_new identities asked files status

@@ -1,5 +1,5 @@
 -- Where the file for a path is written, and what is asked of the world to find that.
-use Rattle.std.specs.Prelude.{◌≡◌, ⊤, ◌⊎◌, ◌<◌, ◌+◌, ℕ, zero, suc, List, ◌∷◌, ◌++◌, codes, decimal, Option, Some, None, Result, Ok, Err, Bool, true, false, string_bytes}
+use Rattle.std.specs.Prelude.{◌≡◌, ⊤, ◌⊎◌, ◌<◌, ◌+◌, ℕ, zero, suc, List, [], ◌∷◌, ◌++◌, codes, decimal, Option, Some, None, Result, Ok, Err, Bool, true, false, string_bytes}
 use Rattle.std.specs.declared.io.Error.{Error}
 use Rattle.uimg_unpacking.specs.Deeds.{Deed, Creates, Done, Exists, Failed, Finds, Looks, Resolves}
 use Rattle.uimg_unpacking.specs.Kinds.{is_something}
@@ -83,3 +83,8 @@ WritesFor path (Ok (writing.Nowhere reason)) before after = (whole : List ℕ) �
     × IsAt path whole before seen × CreatesNone whole seen after
 WritesFor path (Err refused) before after = (whole : List ℕ) × (seen : List Deed)
     × IsAt path whole before seen × ((seen ≡ after) ⊎ StopsTrying whole seen after)
+
+-- Nothing is in a new file.
+abbrev pub WritesNew : {F Z : Type 0} → (F → Option (List ℕ)) → Result (Writing F) Z → Type 0
+WritesNew contents (Ok (writing.Beside file safe)) = contents file ≡ Some []
+WritesNew contents result = ⊤

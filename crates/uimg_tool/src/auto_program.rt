@@ -111,7 +111,7 @@ fn make_at<'p, D: MakingWorld<'p>, W: Write, V: Write>(
         (D.trace world.new) }
 {
     match making_of_text(world.alloc(), request, path, request.outfile) {
-        Ok(making) => make_image(world, how, making, out, complaints),
+        Ok(making) => make_image(world, how, &making, out, complaints),
         Err(_) => complaints.tell_no_memory(),
     }
 }

@@ -336,9 +336,9 @@ where
             if has_other_algos(&tree) {
                 return make_known(world, request, &making, tree, out, complaints);
             }
-            make_image(world, how, making, out, complaints)
+            make_image(world, how, &making, out, complaints)
         }
-        Known::Unread => make_image(world, how, making, out, complaints),
+        Known::Unread => make_image(world, how, &making, out, complaints),
     }
 }
 

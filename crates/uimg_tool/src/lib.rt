@@ -20,7 +20,6 @@ mod main_program;
 mod making;
 mod map_program;
 mod moments;
-mod new_shelf;
 mod old_files;
 mod old_program;
 mod old_tools;

@@ -1,12 +1,14 @@
 //! Makes an image, over a world of files or on a disk.
 
-ghost use Rattle.std.specs.Prelude.{◌≡◌, ◌∷◌, ◌⊎◌, [], Some, IsTrue, is_err, true};
+ghost use Rattle.std.specs.Prelude.{◌≡◌, ◌∷◌, ◌⊎◌, [], Some, IsTrue, false, is_err, true};
 ghost use Rattle.uimg_engine.specs.{Commands.{HonestFiles, MakesCommand, OpensToBuild}, OpenedFiles.OpensCommand};
 ghost use Rattle.uimg_tool.specs.{LeavingOut.leads_to, Makings.MakesAt, Statuses.end_status};
+ghost use Rattle.uimg_tool.specs.OldMakings.{IsNew, IsPlain, MakesIn, path_for};
 ghost use Rattle.uimg_tool.specs.RequestEnds.{AsMade, IsFileAt, MakeEnds, StoppedAs};
 ghost use Rattle.uimg_unpacking.specs.Deeds.{Deed};
 
 use crate::folder_files::{FolderFiles, LeftOut};
+use crate::old_files::{Begun, How};
 use crate::reasons::Watched;
 use crate::request_fault::RequestFault;
 use crate::searched_files::SearchedFiles;
@@ -64,24 +66,64 @@ fn make_among<'a, R: Reader, H: Shelf, W: Write, L: LeftOut>(
     end_of(request, made, has_met_outfile)
 }
 
-/// Makes the requested image on a shelf, of files that a reader opens. Those that are not in the
-/// folder of the request are looked for in the others.
-pub(crate) fn make_image<'a, R: Reader, H: Shelf, W: Write>(
+/// Makes the requested image by the names of mkimage, of files that a reader opens: in a file that
+/// was begun, or else at the path of the image.
+pub(crate) fn make_command<'a, 'p, D: MakingWorld<'p>, W: Write>(
+    world: &mut D,
+    request: &'a MakeRequest<'a>,
+    reader: D::Reader,
+    begun: Option<Begun<'_, D::File>>,
+    how: How<'p>,
+    out: &mut Out<W>,
+) -> Result<Status, RequestFault<'a>>
+    ensures ends { MakeEnds request.now result }
+    ensures lent { D.trace world.new
+        ≡ Deed.LendsShelf (path_for how.entry.outfile.now begun.entry) ∷ D.trace world.old }
+    ensures told { IsTrue D.knows → IsTrue (D.Reader.map reader).honest →
+        IsNew D.File.contents begun.entry → IsPlain how.entry request.now →
+        MakesIn begun.entry D.Shelf.Kept.device D.NewShelf.Kept.device
+        (D.Reader.identities reader) request.now (D.Reader.map reader) result }
+{
+    let alloc = world.alloc();
+    let code = Cell::new(None);
+    let made = match begun {
+        Some(Begun { file, path }) => match world.shelf_in(path.new.as_str(), file) {
+            Ok(shelf) => {
+                let shelf = Watched::new(shelf, &code);
+                make_image(alloc, request, reader, how.folders, shelf, out)
+            }
+            Err(_) => Err(RequestFault::OutOfMemory),
+        },
+        None => {
+            let shelf = Watched::new(world.shelf_at(how.outfile), &code);
+            make_image(alloc, request, reader, how.folders, shelf, out)
+        }
+    };
+    end_written(request, made, code.get())
+}
+
+// Makes the requested image on a shelf, of files that a reader opens. Those that are not in the
+// folder of the request are looked for in the others.
+fn make_image<'a, R: Reader, H: Shelf, W: Write>(
     alloc: Global,
     request: &'a MakeRequest<'a>,
     reader: R,
     others: &[&str],
     shelf: H,
-    out: &mut W,
+    out: &mut Out<W>,
 ) -> Result<Status, RequestFault<'a>>
-    ensures { MakeEnds request.now result }
+    ensures ends { MakeEnds request.now result }
+    ensures told { IsTrue (R.map reader).honest → IsTrue H.honest → H.contents shelf ≡ Some [] →
+        others.now ≡ [] → request.now.is_xip ≡ false → MakesAt H.Kept.device
+        (R.identities reader) request.now (R.map reader) result out.old out.new }
 {
     if request.is_xip {
-        let files = SearchedFiles::new(reader, alloc, request.folder, &[], request.outfile);
-        return make_xip(alloc, request, files, shelf, out);
+        return make_xip(alloc, request, reader, shelf, out);
+    }
+    if others.is_empty() {
+        return make_among::<_, _, _, Brand>(alloc, request, reader, shelf, out);
     }
     let mut files = SearchedFiles::new(reader, alloc, request.folder, others, request.outfile);
-    let out = &mut Out::new(&mut *out);
     let made = make_over(alloc, request, &mut files, shelf, out);
     end_of(request, made, files.has_met_left_out())
 }
@@ -90,15 +132,15 @@ pub(crate) fn make_image<'a, R: Reader, H: Shelf, W: Write>(
 fn make_xip<'a, R: Reader, H: Shelf, W: Write>(
     alloc: Global,
     request: &'a MakeRequest<'a>,
-    files: SearchedFiles<'_, R>,
+    reader: R,
     shelf: H,
-    out: &mut W,
+    out: &mut Out<W>,
 ) -> Result<Status, RequestFault<'a>>
     requires { request.now.is_xip ≡ true }
     ensures { MakeEnds request.now result }
 {
+    let files = SearchedFiles::new(reader, alloc, request.folder, &[], request.outfile);
     let mut files = XipFiles::new(files);
-    let out = &mut Out::new(&mut *out);
     match make_over(alloc, request, &mut files, shelf, out) {
         Err(Fault::NoFile(number)) if files.has_met_no_room() => {
             Err(RequestFault::NoRoom(file_path(request, number)))
@@ -149,9 +191,9 @@ fn end_of<'a, K: Drop>(
     }
 }
 
-/// Returns how a making ended that wrote to a file: a failed write is told with the image's path
-/// and the system's reason, if there is one.
-pub(crate) fn end_written<'a>(
+// Returns how a making ended that wrote to a file: a failed write is told with the image's path and
+// the system's reason, if there is one.
+fn end_written<'a>(
     request: &'a MakeRequest<'a>,
     made: Result<Status, RequestFault<'a>>,
     code: Option<i32>,

@@ -1,15 +1,17 @@
 //! The files of mkimage and dumpimage: what they write is beside its name until it is complete.
 
-ghost use Rattle.std.specs.Prelude.{◌≡◌, ◌≢◌, [], IsTrue, None, is_err, is_ok, true, if◌then◌else◌};
+ghost use Rattle.std.specs.Prelude.{◌≡◌, ◌≢◌, ◌∷◌, ◌⊎◌, [], IsTrue, None, is_err, is_ok, true, if◌then◌else◌};
 ghost use Rattle.std.specs.Io.Buffered.{writer_buffer, writer_contents};
 ghost use Rattle.uimg_tool.specs.{Complaints.{Complains, Ends}, Finishing.FinishesBy, RequestEnds.{MakeEnds, is_about_source}};
-ghost use Rattle.uimg_tool.specs.{OldMakings.{FinishesMade, LendsFor, MakesFor, Named}, OldTexts.told_of_old};
+ghost use Rattle.uimg_tool.specs.OldMakings.{AnswersOldMaking, IsNew, IsPlain, LendsAt, MakesFor, MakesIn, Named, path_for};
+ghost use Rattle.uimg_tool.specs.{OldTexts.told_of_old};
 ghost use Rattle.uimg_tool.specs.{Running.AnswersRun, Statuses.end_status};
-ghost use Rattle.uimg_unpacking.specs.Deeds.{changes};
+ghost use Rattle.uimg_unpacking.specs.Deeds.{Deed, changes};
 
 use crate::complaints::Complaints;
+use crate::making::make_command;
 use crate::request_fault::{DONE, FAILED, REFUSED, RequestFault, status_of, status_of_fault};
-use crate::requests::{Made, make_command, run_command};
+use crate::requests::{Made, run_command};
 use crate::safe_path::{SafePath, Writing};
 use crate::writing::writing_of;
 use std::alloc::Global;
@@ -115,6 +117,7 @@ fn run_in_place<D: World, W: Write + Drop, V: Write>(
 }
 
 /// A file that is written beside its name, and its paths.
+#[derive(Drop)]
 pub(crate) struct Begun<'a, F: Drop> {
     pub(crate) file: F,
     pub(crate) path: &'a SafePath,
@@ -133,28 +136,36 @@ fn run_beside<D: World, V: Write>(
     tell_written(world, path, &end, request.image, complaints)
 }
 
-/// Makes an image beside its name, which it gets when it is complete.
-pub(crate) fn make_image<'p, D: MakingWorld<'p>, W: Write, V: Write>(
+/// Makes an image beside its name, which it gets when it is complete, even if its listing could not
+/// be printed.
+pub(crate) fn make_image<'a, 'p, D: MakingWorld<'p>, W: Write, V: Write>(
     world: &mut D,
     how: How<'p>,
-    request: MakeRequest<'_>,
+    request: &'a MakeRequest<'a>,
     out: &mut W,
     complaints: &mut Complaints<'_, V>,
 ) -> u8
     ensures ends { Ends result complaints.old.count complaints.new.count }
     ensures quiet { how.entry.is_quiet ≡ true → out.new ≡ out.old }
-    ensures made { MakesFor how.entry.outfile.now result (D.trace world.old) (D.trace world.new) }
+    ensures made { MakesFor how.entry.outfile.now result (Deed.LendsReader ∷ D.trace world.old)
+        (D.trace world.new) }
+    ensures told { IsTrue (D.map world.old).honest → IsPlain how.entry request.now →
+        AnswersOldMaking D.Shelf.Kept.device D.NewShelf.Kept.device (D.identities world.old)
+        request.now (D.map world.old) result }
 {
+    let reader = world.reader();
     match writing_of(world, world.alloc(), how.outfile) {
         Ok(Writing::InPlace) => {
-            let made = make_by(world, &request, None, how, out);
+            let made = make_by(world, request, reader, None, how, out);
             let end = made.told();
             let about = about_end(&end, request.source, request.outfile);
             tell_end(world, &end, about, complaints)
         }
         Ok(Writing::Beside(file, path)) => {
             let begun = Begun { file, path: &path };
-            make_beside(world, how, request, begun, out, complaints)
+            let made = make_by(world, request, reader, Some(begun), how, out);
+            let about = about_end(&made.end, request.source, request.outfile);
+            tell_made(world, &path, &made, about, complaints)
         }
         Ok(Writing::Pipe) => {
             let path = Printed(how.outfile.as_bytes());
@@ -165,53 +176,40 @@ pub(crate) fn make_image<'p, D: MakingWorld<'p>, W: Write, V: Write>(
     }
 }
 
-// Makes an image at one path, and moves it to another, even if its listing could not be printed.
-fn make_beside<'a, 'p, D: MakingWorld<'p>, W: Write, V: Write>(
-    world: &mut D,
-    how: How<'p>,
-    mut request: MakeRequest<'a>,
-    begun: Begun<'a, D::File>,
-    out: &mut W,
-    complaints: &mut Complaints<'_, V>,
-) -> u8
-    ensures ends { Ends result complaints.old.count complaints.new.count }
-    ensures quiet { how.entry.is_quiet ≡ true → out.new ≡ out.old }
-    ensures made { FinishesMade begun.entry.path.now result (D.trace world.old)
-        (D.trace world.new) }
-{
-    let Begun { file, path } = begun;
-    request.written = path.new.as_str();
-    let made = make_by(world, &request, Some(file), how, out);
-    let about = about_end(&made.end, request.source, request.outfile);
-    tell_made(world, path, &made, about, complaints)
-}
-
-// Makes an image; if it is to be quiet, nothing is printed.
+// Makes an image in a new file or in place; if it is to be quiet, nothing is printed.
 fn make_by<'a, 'p, D: MakingWorld<'p>, W: Write>(
     world: &mut D,
     request: &'a MakeRequest<'a>,
-    file: Option<D::File>,
+    reader: D::Reader,
+    begun: Option<Begun<'_, D::File>>,
     how: How<'p>,
     out: &mut W,
 ) -> Made<'a>
     ensures ends { MakeEnds request.now result.end }
     ensures quiet { how.entry.is_quiet ≡ true → out.new ≡ out.old }
-    ensures lent { LendsFor how.entry.outfile.now file (is_err result.end) (D.trace world.old)
-        (D.trace world.new) }
+    ensures lent { LendsAt (path_for how.entry.outfile.now begun.entry) (is_err result.end)
+        (D.trace world.old) (D.trace world.new) }
+    ensures told { IsTrue D.knows → IsTrue (D.Reader.map reader).honest →
+        IsNew D.File.contents begun.entry → IsPlain how.entry request.now →
+        MakesIn begun.entry D.Shelf.Kept.device D.NewShelf.Kept.device
+        (D.Reader.identities reader) request.now (D.Reader.map reader) result.end }
 {
     if how.is_quiet {
+        let out = &mut Out::new(io::sink());
         return Made {
-            end: make_command(world, request, file, how, &mut io::sink()),
+            end: make_command(world, request, reader, begun, how, out),
             printed: Ok(()),
         };
     }
-    let Ok(mut gathered) = BufWriter::new(world.alloc(), out) else {
+    let Ok(gathered) = BufWriter::new(world.alloc(), out) else {
         return Made {
             end: Err(RequestFault::OutOfMemory),
             printed: Ok(()),
         };
     };
-    let end = make_command(world, request, file, how, &mut gathered);
+    let mut out = Out::new(gathered);
+    let end = make_command(world, request, reader, begun, how, &mut out);
+    let mut gathered = out.into_inner();
     let printed = gathered.flush();
     // A failed write leaves text in the buffer, which its drop would try to write again.
     let (_, _) = gathered.into_parts();
@@ -231,6 +229,8 @@ pub(crate) fn tell_made<D: World, V: Write>(
     ensures named { FinishesBy path.now (is_ok made.now.end) (D.trace world.old)
         (D.trace world.new) }
     ensures done { result ≡ 0 → Named path.now (D.trace world.old) (D.trace world.new) }
+    ensures status { (result ≡ 3) ⊎ (result ≡ end_status made.now.end) }
+    ensures printed { result ≡ 0 → is_ok made.now.printed ≡ true }
 {
     if let (Err(RequestFault::Stopped(Fault::Put)), Err(error)) = (&made.end, &made.printed) {
         let _ = path.finish(world, false);
@@ -272,6 +272,7 @@ fn tell_written<D: World, V: Write>(
     ensures ends { Ends result complaints.old.count complaints.new.count }
     ensures named { FinishesBy path.now (is_ok end.now) (D.trace world.old) (D.trace world.new) }
     ensures done { result ≡ 0 → Named path.now (D.trace world.old) (D.trace world.new) }
+    ensures status { (result ≡ 3) ⊎ (result ≡ end_status end.now) }
 {
     if end.is_err() {
         let _ = path.finish(world, false);

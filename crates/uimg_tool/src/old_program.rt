@@ -102,7 +102,7 @@ fn make_over<'a, R: Files + AllocGlobal, W: Write, V: Write>(
     ensures { Ends result complaints.old.count complaints.new.count }
 {
     let how = How::new(is_quiet, request.outfile);
-    make_image(&mut DiskWorld::new(rt), how, request, out, complaints)
+    make_image(&mut DiskWorld::new(rt), how, &request, out, complaints)
 }
 
 // Makes a FIT image of a source, over the files of the system.

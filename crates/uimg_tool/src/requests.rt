@@ -1,17 +1,13 @@
-//! Carries out a request: a command on one image, the making of one, or the printing of a text.
+//! Carries out a request: a command on one image, or the printing of a text.
 
-ghost use Rattle.std.specs.Prelude.{◌≡◌, ◌∷◌, ◌⊎◌, [], OnOk, IfErr, IfOk, IfSome, IsTrue, None, Some, is_err, is_some, true};
+ghost use Rattle.std.specs.Prelude.{◌≡◌, ◌∷◌, ◌⊎◌, [], OnOk, IfErr, IfOk, IfSome, IsTrue, None, Some, is_some, true};
 ghost use Rattle.std.specs.Io.KnownBytes.{Appends};
 ghost use Rattle.uimg_base.specs.{Honest.IfHonest, Named.SameFiles, Outcome.Tells};
 ghost use Rattle.uimg_tool.specs.RequestEnds.{IsUnwritten, MakeEnds, OverEnds, RunEnds, ShowEnds};
 ghost use Rattle.uimg_tool.specs.Extracting.{AsksToRun, Overwrites, ExtractsAt, ExtractsTo, IfSame, IsApart, IsSame};
 ghost use Rattle.uimg_tool.specs.Running.{ComparesFiles, IntoEnds, OnlyOverwrites, TellsAt, is_opened, meant_end, outcome_on};
-ghost use Rattle.uimg_tool.specs.OldMakings.{LendsFor};
 ghost use Rattle.uimg_unpacking.specs.Deeds.{Deed};
 
-use crate::making::{end_written, make_image};
-use crate::new_shelf::NewShelf;
-use crate::old_files::How;
 use crate::reasons::{Watched, reason_of_code};
 use crate::request_fault::RequestFault;
 use std::alloc::Global;
@@ -21,8 +17,8 @@ use std::io;
 use std::io::Write;
 use uimg_base::{Out, Room, Source, Status};
 use uimg_engine::{Fault, run_by};
-use uimg_requests::{MakeRequest, RunRequest};
-use uimg_unpacking::{MakingWorld, World};
+use uimg_requests::RunRequest;
+use uimg_unpacking::World;
 
 /// How a request ended, and how the flush of the buffer with what it printed did.
 #[derive(Drop)]
@@ -178,36 +174,4 @@ pub(crate) fn is_same_file<D: World>(world: &mut D, path: &str, other: &str) -> 
         (Some(one), Some(two)) => one == two,
         _ => false,
     }
-}
-
-/// Makes the requested image in the file that is given, which is at the path where it is written, or
-/// else at the path of the image.
-pub(crate) fn make_command<'a, 'p, D: MakingWorld<'p>, W: Write>(
-    world: &mut D,
-    request: &'a MakeRequest<'a>,
-    file: Option<D::File>,
-    how: How<'p>,
-    out: &mut W,
-) -> Result<Status, RequestFault<'a>>
-    ensures ends { MakeEnds request.now result }
-    ensures lent { LendsFor how.entry.outfile.now file (is_err result) (D.trace world.old)
-        (D.trace world.new) }
-{
-    let alloc = world.alloc();
-    let reader = world.reader();
-    let code = Cell::new(None);
-    let made = match file {
-        Some(file) => match NewShelf::new(alloc, world.reader(), request.written, file) {
-            Ok(shelf) => {
-                let shelf = Watched::new(shelf, &code);
-                make_image(alloc, request, reader, how.folders, shelf, out)
-            }
-            Err(_) => Err(RequestFault::OutOfMemory),
-        },
-        None => {
-            let shelf = Watched::new(world.shelf_at(how.outfile), &code);
-            make_image(alloc, request, reader, how.folders, shelf, out)
-        }
-    };
-    end_written(request, made, code.get())
 }

@@ -1,12 +1,10 @@
 //! Writes the image of a tree, as mkimage does.
 
-ghost use Rattle.std.specs.Prelude.{◌≡◌, Err, true};
-ghost use Rattle.uimg_tool.specs.{Complaints.Ends, OldMakings.MakesFor, RequestEnds.TreeEnds};
-ghost use Rattle.uimg_unpacking.specs.Deeds.{changes};
+ghost use Rattle.std.specs.Prelude.{◌≡◌, Err, is_err, true, string_bytes};
+ghost use Rattle.uimg_tool.specs.{Complaints.Ends, OldMakings.{LendsAt, MakesFor}, RequestEnds.TreeEnds};
 
 use crate::blob_room::set_blob_size;
 use crate::complaints::Complaints;
-use crate::new_shelf::NewShelf;
 use crate::old_files::{Begun, about_end, tell_made};
 use crate::reasons::{Watched, reason_of_code};
 use crate::request_fault::RequestFault;
@@ -85,7 +83,8 @@ where
     D::File: Seek,
     ensures ends { TreeEnds request.entry.image result.end }
     ensures quiet { request.entry.is_quiet ≡ true → out.new ≡ out.old }
-    ensures kept { changes (D.trace world.new) ≡ changes (D.trace world.old) }
+    ensures lent { LendsAt (string_bytes begun.entry.path.now.new) (is_err result.end)
+        (D.trace world.old) (D.trace world.new) }
 {
     if request.is_quiet {
         make_beside(world, request, tree, files, begun, &mut io::sink())
@@ -107,7 +106,8 @@ fn make_beside<'a, 'p, D: MakingWorld<'p>, F: Files, W: Write>(
 where
     D::File: Seek,
     ensures ends { TreeEnds request.entry.image result.end }
-    ensures kept { changes (D.trace world.new) ≡ changes (D.trace world.old) }
+    ensures lent { LendsAt (string_bytes begun.entry.path.now.new) (is_err result.end)
+        (D.trace world.old) (D.trace world.new) }
 {
     let Begun { file, path } = begun;
     let Ok(mut gathered) = BufWriter::new(world.alloc(), out) else {
@@ -120,7 +120,7 @@ where
         },
         None => None,
     };
-    let end = match NewShelf::new(world.alloc(), world.reader(), path.new.as_str(), file) {
+    let end = match world.shelf_in(path.new.as_str(), file) {
         Ok(shelf) => make_on(world.alloc(), request, tree, files, shelf, &mut gathered),
         Err(_) => Err(RequestFault::OutOfMemory),
     };

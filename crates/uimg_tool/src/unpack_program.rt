@@ -2,7 +2,7 @@
 
 ghost use Rattle.std.specs.Prelude.{◌≡◌, ◌⊎◌, IsTrue, None, OnErr, Some, true, false};
 ghost use Rattle.uimg_base.specs.Honest.{IfHonest};
-ghost use Rattle.uimg_tool.specs.{Complaining.ComplainsNot, Complaints.{Complains, Ends}, EndingStatuses.HasEndingStatus, Statuses.{is_of_command, trouble_status}};
+ghost use Rattle.uimg_tool.specs.{Complaining.ComplainsNot, Complaints.{Complains, Ends}, EndingStatuses.{HasEndingStatus, TellsCommand}, Statuses.{is_of_command, trouble_status}};
 ghost use Rattle.uimg_tool.specs.UnpackComplaints.{ComplainsImage, ComplainsUnpack, EndsAt, EndsOver, told_of_unpacking};
 ghost use Rattle.uimg_tool.specs.Unpackings.{AnswersUnpacking, HoldsPayloads, IsRight, RightAt, unpacking_of};
 ghost use Rattle.uimg_unpacking.specs.{Deeds.{Follows, changes}, Places.ChangesWithin};
@@ -191,6 +191,7 @@ fn tell_ending<D: World, W: Write + Drop, V: Write>(
     ensures status { as_json ≡ false → HasEndingStatus ending result }
     ensures line { (result ≡ 3)
         ⊎ Complains V.contents (told_of_unpacking as_json ending) complaints }
+    ensures command { TellsCommand ending result out.old out.new }
     ensures done { result ≡ 0 → ending ≡ Ending.Told Status.Done }
     ensures unasked { result ≡ 0 → D.trace world.new ≡ D.trace world.old }
     ensures kept { changes (D.trace world.new) ≡ changes (D.trace world.old) }

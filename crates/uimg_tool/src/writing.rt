@@ -1,7 +1,7 @@
 //! Where the file for a path is written.
 
-ghost use Rattle.std.specs.Prelude.{◌≡◌, ◌++◌, codes, decimal, true, IfOk, string_bytes};
-ghost use Rattle.uimg_tool.specs.{BesidePaths.is_beside, Writings.{CreatesBeside, IsFile, LeadsTo, WritesFor}};
+ghost use Rattle.std.specs.Prelude.{◌≡◌, ◌++◌, [], Some, codes, decimal, true, IfOk, IsTrue, string_bytes};
+ghost use Rattle.uimg_tool.specs.{BesidePaths.is_beside, Writings.{CreatesBeside, IsFile, LeadsTo, WritesFor, WritesNew}};
 
 use crate::safe_path::{NewBeside, SafePath, Writing};
 use std::alloc::{AllocError, Global};
@@ -32,7 +32,8 @@ pub(crate) fn writing_of<D: World>(
     alloc: Global,
     path: &str,
 ) -> Result<Writing<D::File>, AllocError>
-    ensures { WritesFor path.now result (D.trace world.old) (D.trace world.new) }
+    ensures writes { WritesFor path.now result (D.trace world.old) (D.trace world.new) }
+    ensures empty { IsTrue D.knows → WritesNew D.File.contents result }
 {
     match lead_of(world, alloc, path) {
         Ok(Lead::Pipe) => Ok(Writing::Pipe),
@@ -94,6 +95,8 @@ pub(crate) fn new_beside<W: World>(
     ensures made { IfOk result (λ tried. IfOk tried (λ new.
         is_beside path.now (string_bytes new.path) ≡ true)) }
     ensures tries { CreatesBeside path.now result (W.trace world.old) (W.trace world.new) }
+    ensures empty { IsTrue W.knows → IfOk result (λ tried. IfOk tried (λ new.
+        W.File.contents new.file ≡ Some [])) }
 {
     for number in 0..TRIED {
         let path = path_beside(alloc, path, number + 1)?;

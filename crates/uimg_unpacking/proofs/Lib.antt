@@ -7,6 +7,7 @@ pub mod EndLaws
 pub mod FillingLaws
 pub mod MadeLaws
 pub mod NameLaws
+pub mod NameUses
 pub mod NamingLaws
 pub mod NumberLaws
 pub mod PartChanges

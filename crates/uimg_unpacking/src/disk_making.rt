@@ -7,6 +7,8 @@ use crate::disk_looks::open_source;
 use crate::disk_world::DiskWorld;
 use crate::file_id::FileId;
 use crate::making_world::{MakingWorld, Reader};
+use crate::new_shelf::NewShelf;
+use std::alloc::AllocError;
 use std::rt::Files;
 use uimg_base::{FileShelf, FileSource, SourceFault};
 
@@ -44,6 +46,8 @@ impl<'a, R: Files + AllocGlobal> MakingWorld<'a> for DiskWorld<'a, R> {
 
     type Shelf = FileShelf<'a, R>;
 
+    type NewShelf = NewShelf<DiskReader<'a, R>, R::File>;
+
     ghost identities = { λ _ _. None };
 
     fn reader(&mut self) -> DiskReader<'a, R> {
@@ -54,5 +58,14 @@ impl<'a, R: Files + AllocGlobal> MakingWorld<'a> for DiskWorld<'a, R> {
     fn shelf_at(&mut self, path: &'a str) -> FileShelf<'a, R> {
         self.record.note(&[LENDS_SHELF], path.as_bytes(), b"");
         FileShelf::new(self.rt, path)
+    }
+
+    fn shelf_in(
+        &mut self,
+        path: &str,
+        file: R::File,
+    ) -> Result<NewShelf<DiskReader<'a, R>, R::File>, AllocError> {
+        self.record.note(&[LENDS_SHELF], path.as_bytes(), b"");
+        NewShelf::new(self.rt.alloc(), DiskReader { rt: self.rt }, path, file)
     }
 }

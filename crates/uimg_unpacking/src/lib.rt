@@ -22,6 +22,7 @@ mod names;
 mod naming;
 mod new_file;
 mod new_files;
+mod new_shelf;
 mod objects;
 mod part_folder;
 mod part_unpacking;

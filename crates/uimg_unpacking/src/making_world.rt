@@ -2,6 +2,7 @@
 
 use crate::file_id::FileId;
 use crate::world::World;
+use std::alloc::AllocError;
 use uimg_base::{Shelf, Source, SourceFault};
 
 /// What opens the files of a world, and finds which they are. It changes none, and so is lent to
@@ -40,7 +41,7 @@ pub trait Reader: Drop {
 
 /// A world in which images are made. It lends a reader of its files, and shelves for new ones.
 pub trait MakingWorld<'p>: World {
-    ghost use Rattle.std.specs.Prelude.{◌≡◌, ◌∷◌, ℕ, List, [], Option, Some, IsTrue};
+    ghost use Rattle.std.specs.Prelude.{◌≡◌, ◌∷◌, ℕ, List, [], Option, Some, IfOk, IsTrue};
     ghost use Rattle.uimg_base.specs.Named.{SameFiles};
     ghost use Rattle.uimg_unpacking.specs.Deeds.{Deed};
     ghost use Rattle.uimg_unpacking.specs.declared.file_id.FileId.{FileId};
@@ -50,6 +51,9 @@ pub trait MakingWorld<'p>: World {
 
     /// What an image is written to.
     type Shelf: Shelf;
+
+    /// What an image is written to in a file that was created for it.
+    type NewShelf: Shelf;
 
     /// The file at each path, as its readers find it; links are followed.
     ghost identities: { Self → List ℕ → Option FileId };
@@ -61,10 +65,20 @@ pub trait MakingWorld<'p>: World {
         ensures map { SameFiles (Self.map self.old) (Self.Reader.map result) }
         ensures identities { Self.Reader.identities result ≡ identities self.old };
 
-    /// Lends a shelf in the file at a path, which the first write creates or empties. In an honest
-    /// world it is honest, and nothing is on it yet.
+    /// Lends a shelf in the file at a path, which the first write creates or empties. If contracts
+    /// know what new files hold, it is honest, and nothing is on it yet.
     fn shelf_at(&mut self, path: &'p str) -> Self::Shelf
         ensures noted { Self.trace self.new ≡ Deed.LendsShelf path.now ∷ Self.trace self.old }
-        ensures honest { IsTrue (Self.map self.old).honest → IsTrue Self.Shelf.honest }
-        ensures empty { IsTrue (Self.map self.old).honest → Self.Shelf.contents result ≡ Some [] };
+        ensures honest { IsTrue Self.knows → IsTrue Self.Shelf.honest }
+        ensures empty { IsTrue Self.knows → Self.Shelf.contents result ≡ Some [] };
+
+    /// Lends a shelf in a file that was created at a path, to which nothing was written. If
+    /// contracts know what new files hold, it is honest, and nothing is on it yet.
+    ///
+    /// Fails if memory for it is refused.
+    fn shelf_in(&mut self, path: &str, file: Self::File) -> Result<Self::NewShelf, AllocError>
+        ensures noted { Self.trace self.new ≡ Deed.LendsShelf path.now ∷ Self.trace self.old }
+        ensures honest { IsTrue Self.knows → IsTrue Self.NewShelf.honest }
+        ensures empty { IsTrue Self.knows → Self.File.contents file ≡ Some [] →
+            IfOk result (λ shelf. Self.NewShelf.contents shelf ≡ Some []) };
 }

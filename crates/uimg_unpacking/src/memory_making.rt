@@ -6,8 +6,9 @@ ghost use Rattle.uimg_base.specs.Named.{bytes_named};
 use crate::call_codes::*;
 use crate::file_id::FileId;
 use crate::making_world::{MakingWorld, Reader};
+use crate::memory_file::MemoryFile;
 use crate::memory_world::{MemoryWorld, bytes_at};
-use std::alloc::Global;
+use std::alloc::{AllocError, Global};
 use uimg_base::{MemShelf, MemSource, SourceFault};
 
 /// What opens files in memory. No file is found by which it is.
@@ -47,6 +48,8 @@ impl<'a> MakingWorld<'a> for MemoryWorld<'a> {
 
     type Shelf = MemShelf<Global>;
 
+    type NewShelf = MemShelf<Global>;
+
     ghost identities = { λ _ _. None };
 
     fn reader(&mut self) -> MemoryReader<'a> {
@@ -57,5 +60,14 @@ impl<'a> MakingWorld<'a> for MemoryWorld<'a> {
     fn shelf_at(&mut self, path: &'a str) -> MemShelf<Global> {
         self.record.note(&[LENDS_SHELF], path.as_bytes(), b"");
         MemShelf::new(self.alloc)
+    }
+
+    fn shelf_in(
+        &mut self,
+        path: &str,
+        _file: MemoryFile<'a>,
+    ) -> Result<MemShelf<Global>, AllocError> {
+        self.record.note(&[LENDS_SHELF], path.as_bytes(), b"");
+        Ok(MemShelf::new(self.alloc))
     }
 }

@@ -4,4 +4,4 @@ use Rattle.uimg_tool.proofs.auto_program.make_at.Goals as goal
 
 pub returns-in-Ok-clause-made : goal.returns-in-Ok-clause-made
 returns-in-Ok-clause-made g c =
-    within c.args.how.outfile.now c.args.how.outfile.now c.make_image.result (g.D.World.trace c.args.world.now) (g.D.World.trace c.args.world.now) (g.D.World.trace c.make_image.new.world) refl refl c.make_image.ensures.made
+    within c.args.how.outfile.now c.args.how.outfile.now c.make_image.result (g.D.World.trace c.args.world.now) _ (g.D.World.trace c.make_image.new.world) refl refl c.make_image.ensures.made

@@ -5,29 +5,29 @@ use Rattle.uimg_tool.proofs.map_program.draw.Goals as goal
 pub returns-in-Ok-Beside : goal.returns-in-Ok-Beside
 returns-in-Ok-Beside g c = record {
   ends = c.name_picture.ensures.ends (c.close-drawn.ensures _ c.draw_into.ensures.ends);
-  asks = drawn_beside c.args.path.now c.args.request.now.is_forced c.writing_of.result c.in-Ok-Beside.file c.in-Ok-Beside.safe _ _ _ (c.in-Ok-Beside.is ∙ ap (λ w. Ok w) c.in-Ok-Beside.field-0-is) c.writing_of.ensures c.name_picture.ensures.asks;
+  asks = drawn_beside c.args.path.now c.args.request.now.is_forced c.writing_of.result c.in-Ok-Beside.file c.in-Ok-Beside.safe _ _ _ (c.in-Ok-Beside.is ∙ ap (λ w. Ok w) c.in-Ok-Beside.field-0-is) c.writing_of.ensures.writes c.name_picture.ensures.asks;
 }
 
 pub returns-in-Ok-InPlace : goal.returns-in-Ok-InPlace
 returns-in-Ok-InPlace g c = record {
   ends = c.draw_in_place.ensures.ends;
-  asks = drawn_in_place c.args.path.now c.args.request.now.is_forced c.writing_of.result _ _ _ (c.in-Ok-InPlace.is ∙ ap (λ w. Ok w) c.in-Ok-InPlace.field-0-is) c.writing_of.ensures c.draw_in_place.ensures.asks;
+  asks = drawn_in_place c.args.path.now c.args.request.now.is_forced c.writing_of.result _ _ _ (c.in-Ok-InPlace.is ∙ ap (λ w. Ok w) c.in-Ok-InPlace.field-0-is) c.writing_of.ensures.writes c.draw_in_place.ensures.asks;
 }
 
 pub returns-in-Ok-Pipe : goal.returns-in-Ok-Pipe
 returns-in-Ok-Pipe g c = record {
   ends = c.draw_in_place-in-Ok-Pipe.ensures.ends;
-  asks = drawn_to_pipe c.args.path.now c.args.request.now.is_forced c.writing_of.result _ _ _ (c.in-Ok-Pipe.is ∙ ap (λ w. Ok w) c.in-Ok-Pipe.field-0-is) c.writing_of.ensures c.draw_in_place-in-Ok-Pipe.ensures.asks;
+  asks = drawn_to_pipe c.args.path.now c.args.request.now.is_forced c.writing_of.result _ _ _ (c.in-Ok-Pipe.is ∙ ap (λ w. Ok w) c.in-Ok-Pipe.field-0-is) c.writing_of.ensures.writes c.draw_in_place-in-Ok-Pipe.ensures.asks;
 }
 
 pub returns-in-Ok-Nowhere : goal.returns-in-Ok-Nowhere
 returns-in-Ok-Nowhere g c = record {
   ends = refl;
-  asks = not_created c.args.path.now c.args.request.now.is_forced c.writing_of.result c.in-Ok-Nowhere.reason _ _ (c.in-Ok-Nowhere.is ∙ ap (λ w. Ok w) c.in-Ok-Nowhere.field-0-is) c.writing_of.ensures;
+  asks = not_created c.args.path.now c.args.request.now.is_forced c.writing_of.result c.in-Ok-Nowhere.reason _ _ (c.in-Ok-Nowhere.is ∙ ap (λ w. Ok w) c.in-Ok-Nowhere.field-0-is) c.writing_of.ensures.writes;
 }
 
 pub returns-in-Err : goal.returns-in-Err
 returns-in-Err g c = record {
   ends = tt;
-  asks = not_begun c.args.path.now c.args.request.now.is_forced c.writing_of.result c.in-Err.field-0 _ _ c.in-Err.is c.writing_of.ensures;
+  asks = not_begun c.args.path.now c.args.request.now.is_forced c.writing_of.result c.in-Err.field-0 _ _ c.in-Err.is c.writing_of.ensures.writes;
 }

@@ -1,26 +1,25 @@
 use Rattle.std.proofs.Common.{Ok, ◌∙◌, ap}
-use Rattle.std.specs.Prelude.{is_ok}
 use Rattle.uimg_tool.proofs.OldMakingLaws.{finishes_made, left_in_place, made_beside, not_begun, not_created, not_to_pipe}
 use Rattle.uimg_tool.proofs.StatusLaws.{failed}
 use Rattle.uimg_tool.proofs.tree_program.write_image.Goals as goal
 
 pub returns-in-Ok-Beside-clause-made : goal.returns-in-Ok-Beside-clause-made
 returns-in-Ok-Beside-clause-made g c =
-    made_beside c.args.request.image.now c.tell_made.result c.writing_of.result c.in-Ok-Beside.file c.in-Ok-Beside.path _ _ _ (c.in-Ok-Beside.is ∙ ap (λ w. Ok w) c.in-Ok-Beside.field-0-is) c.writing_of.ensures
-    (finishes_made c.in-Ok-Beside.path c.tell_made.result (is_ok c.make_listed-made.result.end) (g.D.World.trace c.writing_of.new.world) (g.D.World.trace c.make_listed-made.new.world) (g.D.World.trace c.tell_made.new.world) c.make_listed-made.ensures.kept c.tell_made.ensures.named c.tell_made.ensures.done)
+    made_beside c.args.request.image.now c.tell_made.result c.writing_of.result c.in-Ok-Beside.file c.in-Ok-Beside.path _ _ _ (c.in-Ok-Beside.is ∙ ap (λ w. Ok w) c.in-Ok-Beside.field-0-is) c.writing_of.ensures.writes
+    (finishes_made c.in-Ok-Beside.path c.tell_made.result c.make_listed-made.result.end (g.D.World.trace c.writing_of.new.world) (g.D.World.trace c.make_listed-made.new.world) (g.D.World.trace c.tell_made.new.world) c.make_listed-made.ensures.lent c.tell_made.ensures.named c.tell_made.ensures.done)
 
 pub returns-in-Ok-InPlace-clause-made : goal.returns-in-Ok-InPlace-clause-made
 returns-in-Ok-InPlace-clause-made g c =
-    left_in_place c.args.request.image.now _ c.writing_of.result _ _ (c.in-Ok-InPlace.is ∙ ap (λ w. Ok w) c.in-Ok-InPlace.field-0-is) c.writing_of.ensures (failed _ c.tell_unwritten-in-Ok-InPlace.ensures.status)
+    left_in_place c.args.request.image.now _ c.writing_of.result _ _ (c.in-Ok-InPlace.is ∙ ap (λ w. Ok w) c.in-Ok-InPlace.field-0-is) c.writing_of.ensures.writes (failed _ c.tell_unwritten-in-Ok-InPlace.ensures.status)
 
 pub returns-in-Ok-Nowhere-clause-made : goal.returns-in-Ok-Nowhere-clause-made
 returns-in-Ok-Nowhere-clause-made g c =
-    not_created c.args.request.image.now _ c.writing_of.result c.in-Ok-Nowhere.reason _ _ (c.in-Ok-Nowhere.is ∙ ap (λ w. Ok w) c.in-Ok-Nowhere.field-0-is) c.writing_of.ensures (failed _ c.tell_unwritten.ensures.status)
+    not_created c.args.request.image.now _ c.writing_of.result c.in-Ok-Nowhere.reason _ _ (c.in-Ok-Nowhere.is ∙ ap (λ w. Ok w) c.in-Ok-Nowhere.field-0-is) c.writing_of.ensures.writes (failed _ c.tell_unwritten.ensures.status)
 
 pub returns-in-Err-clause-made : goal.returns-in-Err-clause-made
 returns-in-Err-clause-made g c =
-    not_begun c.args.request.image.now _ c.writing_of.result c.in-Err.field-0 _ _ c.in-Err.is c.writing_of.ensures (failed _ c.tell_no_memory.ensures.status)
+    not_begun c.args.request.image.now _ c.writing_of.result c.in-Err.field-0 _ _ c.in-Err.is c.writing_of.ensures.writes (failed _ c.tell_no_memory.ensures.status)
 
 pub returns-in-Ok-Pipe-clause-made : goal.returns-in-Ok-Pipe-clause-made
 returns-in-Ok-Pipe-clause-made g c =
-    not_to_pipe c.args.request.image.now _ c.writing_of.result _ _ (c.in-Ok-Pipe.is ∙ ap (λ w. Ok w) c.in-Ok-Pipe.field-0-is) c.writing_of.ensures (failed _ c.tell_unwritten-in-Ok-Pipe.ensures.status)
+    not_to_pipe c.args.request.image.now _ c.writing_of.result _ _ (c.in-Ok-Pipe.is ∙ ap (λ w. Ok w) c.in-Ok-Pipe.field-0-is) c.writing_of.ensures.writes (failed _ c.tell_unwritten-in-Ok-Pipe.ensures.status)

@@ -2,7 +2,7 @@ use Rattle.std.proofs.Common.{rules, ◌≡◌, ◌∙◌, sym, subst, string_by
 use Rattle.std.specs.declared.alloc.Global.{Global}
 use Rattle.uimg_unpacking.specs.{Names.is_used, Staged.{names_of, uses_names}}
 use Rattle.uimg_unpacking.specs.declared.begun.Begun.{Begun}
-use Rattle.uimg_unpacking.proofs.StagedLaws.{uses_more, uses_next}
+use Rattle.uimg_unpacking.proofs.NameUses.{uses_more, uses_next}
 use Rattle.uimg_unpacking.proofs.folder_taker.FolderTaker.begin.Goals as goal
 
 pub invariant_of-self : goal.invariant_of-self

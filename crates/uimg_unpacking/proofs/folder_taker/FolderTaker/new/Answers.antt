@@ -1,7 +1,7 @@
 use Rattle.std.proofs.Common.{◌∙◌, List, ap₂}
 use Rattle.uimg_unpacking.specs.{Names.is_used, Staged.{names_of, uses_names}}
 use Rattle.uimg_unpacking.specs.declared.begun.Begun.{Begun}
-use Rattle.uimg_unpacking.proofs.StagedLaws.{none_used}
+use Rattle.uimg_unpacking.proofs.NameUses.{none_used}
 use Rattle.uimg_unpacking.proofs.folder_taker.FolderTaker.new.Goals as goal
 
 pub invariant_of-result : goal.invariant_of-result

@@ -1,6 +1,6 @@
 use Rattle.std.proofs.Common.{◌∙◌}
 use Rattle.uimg_unpacking.specs.{Names.is_used, Staged.names_of}
-use Rattle.uimg_unpacking.proofs.StagedLaws.{uses_fewer}
+use Rattle.uimg_unpacking.proofs.NameUses.{uses_fewer}
 use Rattle.uimg_unpacking.proofs.folder_taker.FolderTaker.throw_away.Goals as goal
 
 pub invariant_of-self : goal.invariant_of-self

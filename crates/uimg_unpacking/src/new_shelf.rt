@@ -1,37 +1,38 @@
 //! A shelf in a file that was created for it.
 
-ghost use Rattle.std.specs.Prelude.{◌≡◌, [], false, IfOk, OnOk};
+ghost use Rattle.std.specs.Prelude.{◌≡◌, [], false, IfOk, OnOk, string_bytes};
 ghost use Rattle.std.specs.Io.{WritesAtMost};
 ghost use Rattle.std.specs.Io.Buffered.{writer_buffer, writer_contents};
 ghost use Rattle.std.specs.Io.KnownBytes.{Keeps, WriteAppends};
 ghost use Rattle.uimg_base.specs.Named.{Opens};
 
+use crate::making_world::Reader;
 use std::alloc::{AllocError, Global};
 use std::io;
 use std::io::{BufWriter, Write};
 use uimg_base::{Shelf, Source, SourceFault};
-use uimg_unpacking::Reader;
 
 /// A shelf in a new file, which is open already, so that nothing that gets its path meanwhile is
 /// written to. A reader reopens it. It is like a `FileShelf` otherwise.
 #[derive(Drop)]
-pub(crate) struct NewShelf<'a, R: Reader, F: Write + Drop> {
+pub struct NewShelf<R: Reader, F: Write + Drop> {
     reader: R,
-    path: &'a str,
+    path: String,
     file: BufWriter<F, Global>,
 }
 
-impl<'a, R: Reader, F: Write + Drop> NewShelf<'a, R, F> {
+impl<R: Reader, F: Write + Drop> NewShelf<R, F> {
     /// Returns a shelf in a file to which nothing was written, at this path. Fails if memory for its
-    /// buffer is refused.
+    /// path or its buffer is refused.
     pub(crate) fn new(
         alloc: Global,
         reader: R,
-        path: &'a str,
+        path: &str,
         file: F,
-    ) -> Result<NewShelf<'a, R, F>, AllocError>
-        ensures { IfOk result (λ shelf. shelf.path ≡ path.entry) }
+    ) -> Result<NewShelf<R, F>, AllocError>
+        ensures { IfOk result (λ shelf. string_bytes shelf.path ≡ path.now) }
     {
+        let path = String::from_str(alloc, path)?;
         match BufWriter::new(alloc, file) {
             Ok(file) => Ok(NewShelf { reader, path, file }),
             Err(_) => Err(AllocError),
@@ -40,7 +41,7 @@ impl<'a, R: Reader, F: Write + Drop> NewShelf<'a, R, F> {
 
     // Writes the buffered bytes, closes the file and reopens it at the shelf's path.
     fn reopen(self) -> Result<R::Opened, SourceFault>
-        ensures { IfOk result (λ kept. Opens (R.map self.entry.reader) self.entry.path.now
+        ensures { IfOk result (λ kept. Opens (R.map self.reader) (string_bytes self.path)
             (R.Opened.device kept)) }
     {
         let NewShelf {
@@ -52,11 +53,11 @@ impl<'a, R: Reader, F: Write + Drop> NewShelf<'a, R, F> {
             return Err(SourceFault);
         }
         drop(file);
-        reader.open(path)
+        reader.open(path.as_str())
     }
 }
 
-impl<'a, R: Reader, F: Write + Drop> Write for NewShelf<'a, R, F> {
+impl<R: Reader, F: Write + Drop> Write for NewShelf<R, F> {
     ghost contents = { λ s. writer_contents F.contents s.file };
 
     fn write(&mut self, buf: &[u8]) -> io::Result<usize>
@@ -76,7 +77,7 @@ impl<'a, R: Reader, F: Write + Drop> Write for NewShelf<'a, R, F> {
     }
 }
 
-impl<'a, R: Reader, F: Write + Drop> Shelf for NewShelf<'a, R, F> {
+impl<R: Reader, F: Write + Drop> Shelf for NewShelf<R, F> {
     type Kept = R::Opened;
 
     ghost honest = { false };
