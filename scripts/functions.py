@@ -58,7 +58,7 @@ def functions_in(file, module, homes):
         if header is not None and "{" not in header:
             header += line
         elif BLOCK.match(line):
-            header = line
+            header, owner = line, None
             yield Function(begin, None, None, False)
         elif ITEM.match(line) or line.startswith("}"):
             header = header if ITEM.match(line) else None

@@ -59,7 +59,8 @@ class WrongBodies:
         for name, its in files.items():
             count = -(-len(its) // LOT)
             self.left[name] = [Lot(name, its[at::count], kept, at == 0) for at in range(count)]
-            self.left[name] += [Lot(name, its, kept, is_right=True)] * with_right
+            # A function that is proved beside a wrong body here may have no body there.
+            self.left[name] += [Lot(name, its[at::count], kept, is_right=True) for at in range(count if with_right else 0)]
         self.begin_ready()
 
     def begin(self, line):

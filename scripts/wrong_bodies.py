@@ -310,9 +310,13 @@ def right(trials, edits):
     """Yields for each function with a wrong body whether it is proved without it, and a line
     about it."""
     places = {place for edit in edits for place in edit.places}
-    proved = proved_in(trials.check({}, places), trials.name)
+    lines = trials.check({}, places)
+    proved = proved_in(lines, trials.name)
     for place in sorted(places):
         yield place in proved, f"right {trials.name}::{place}: {'proved' if place in proved else 'NOT PROVED'}"
+    for lemma, why in sorted(refused_in(lines or [], trials.name).items()):
+        if lemma not in places:
+            yield False, f"right {trials.name}::{lemma}: NOT PROVED: {why[:200]}"
 
 
 def words():
