@@ -4,6 +4,7 @@ ghost use Rattle.std.specs.Prelude.{◌<◌, length};
 use super::super::answers::is_said;
 use super::made::{made, shown};
 use std::alloc::{AllocError, Global};
+use std::process::Abort;
 use std::test::Fail;
 use uimg_base::{MemSource, Room, Span};
 use uimg_blob_reading::{Blob, Key, index};
@@ -104,8 +105,11 @@ fn looked_up(
     }
 }
 
+// A blob in which nodes at other depths have the names of roles.
+const ALIKE: &str = "+images,|hash,+images,+images,+hash@1,|hash,-,-,-,+images,|hash,-,-";
+
 // A name, a blob, the number of a node, the query, and its result.
-const ROWS: [(&str, &str, usize, &str, &str); 95] = [
+const ROWS: [(&str, &str, usize, &str, &str); 45] = [
     ("four-hash-fit", "demo", 0, "links", "1 - -"),
     ("four-hash-fit", "demo", 1, "links", "2 7 -"),
     ("four-hash-fit", "demo", 2, "links", "3 - -"),
@@ -134,358 +138,14 @@ const ROWS: [(&str, &str, usize, &str, &str); 95] = [
     ("four-hash-fit", "demo", 8, "description", "616+2"),
     ("four-hash-fit", "demo", 8, "kernel", "632+7"),
     ("four-hash-fit", "demo", 8, "fdt", "none"),
-    (
-        "roles that look alike",
-        "+images,|hash,+images,+images,+hash@1,|hash,-,-,-,+images,|hash,-,-",
-        0,
-        "links",
-        "1 - -",
-    ),
-    (
-        "roles that look alike",
-        "+images,|hash,+images,+images,+hash@1,|hash,-,-,-,+images,|hash,-,-",
-        1,
-        "links",
-        "- 2 -",
-    ),
-    (
-        "roles that look alike",
-        "+images,|hash,+images,+images,+hash@1,|hash,-,-,-,+images,|hash,-,-",
-        2,
-        "links",
-        "3 6 -",
-    ),
-    (
-        "roles that look alike",
-        "+images,|hash,+images,+images,+hash@1,|hash,-,-,-,+images,|hash,-,-",
-        3,
-        "links",
-        "4 - -",
-    ),
-    (
-        "roles that look alike",
-        "+images,|hash,+images,+images,+hash@1,|hash,-,-,-,+images,|hash,-,-",
-        4,
-        "links",
-        "5 - hash",
-    ),
-    (
-        "roles that look alike",
-        "+images,|hash,+images,+images,+hash@1,|hash,-,-,-,+images,|hash,-,-",
-        5,
-        "links",
-        "- - -",
-    ),
-    (
-        "roles that look alike",
-        "+images,|hash,+images,+images,+hash@1,|hash,-,-,-,+images,|hash,-,-",
-        6,
-        "links",
-        "7 - -",
-    ),
-    (
-        "roles that look alike",
-        "+images,|hash,+images,+images,+hash@1,|hash,-,-,-,+images,|hash,-,-",
-        7,
-        "links",
-        "- - -",
-    ),
-    ("each key", "+,0=x,-/description;", 0, "description", "76+1"),
-    ("each key", "+,0=x,-/timestamp;", 0, "timestamp", "76+1"),
-    (
-        "each key",
-        "+,+images,+a,0=x,-,-,-/description;",
-        2,
-        "description",
-        "96+1",
-    ),
-    (
-        "each key",
-        "+,+images,+a,0=x,-,-,-/data;",
-        2,
-        "data",
-        "96+1",
-    ),
-    (
-        "each key",
-        "+,+images,+a,0=x,-,-,-/type;",
-        2,
-        "type",
-        "96+1",
-    ),
-    (
-        "each key",
-        "+,+images,+a,0=x,-,-,-/arch;",
-        2,
-        "arch",
-        "96+1",
-    ),
-    ("each key", "+,+images,+a,0=x,-,-,-/os;", 2, "os", "96+1"),
-    (
-        "each key",
-        "+,+images,+a,0=x,-,-,-/compression;",
-        2,
-        "compression",
-        "96+1",
-    ),
-    (
-        "each key",
-        "+,+images,+a,0=x,-,-,-/load;",
-        2,
-        "load",
-        "96+1",
-    ),
-    (
-        "each key",
-        "+,+images,+a,0=x,-,-,-/entry;",
-        2,
-        "entry",
-        "96+1",
-    ),
-    (
-        "each key",
-        "+,+images,+a,0=x,-,-,-/data-size;",
-        2,
-        "data-size",
-        "96+1",
-    ),
-    (
-        "each key",
-        "+,+images,+a,0=x,-,-,-/data-offset;",
-        2,
-        "data-offset",
-        "96+1",
-    ),
-    (
-        "each key",
-        "+,+images,+a,0=x,-,-,-/data-position;",
-        2,
-        "data-position",
-        "96+1",
-    ),
-    (
-        "each key",
-        "+,+images,+a,+hash,0=x,-,-,-,-/algo;",
-        3,
-        "algo",
-        "108+1",
-    ),
-    (
-        "each key",
-        "+,+images,+a,+hash,0=x,-,-,-,-/value;",
-        3,
-        "value",
-        "108+1",
-    ),
-    (
-        "each key",
-        "+,+configurations,0=x,-,-/default;",
-        1,
-        "default",
-        "96+1",
-    ),
-    (
-        "each key",
-        "+,+configurations,+a,0=x,-,-,-/description;",
-        2,
-        "description",
-        "104+1",
-    ),
-    (
-        "each key",
-        "+,+configurations,+a,0=x,-,-,-/kernel;",
-        2,
-        "kernel",
-        "104+1",
-    ),
-    (
-        "each key",
-        "+,+configurations,+a,0=x,-,-,-/ramdisk;",
-        2,
-        "ramdisk",
-        "104+1",
-    ),
-    (
-        "each key",
-        "+,+configurations,+a,0=x,-,-,-/fdt;",
-        2,
-        "fdt",
-        "104+1",
-    ),
-    (
-        "each key",
-        "+,+configurations,+a,0=x,-,-,-/loadables;",
-        2,
-        "loadables",
-        "104+1",
-    ),
-    (
-        "each key",
-        "+,+configurations,+a,0=x,-,-,-/firmware;",
-        2,
-        "firmware",
-        "104+1",
-    ),
-    (
-        "each key",
-        "+,+configurations,+a,0=x,-,-,-/fpga;",
-        2,
-        "fpga",
-        "104+1",
-    ),
-    (
-        "each key",
-        "+,+configurations,+a,0=x,-,-,-/setup;",
-        2,
-        "setup",
-        "104+1",
-    ),
-    (
-        "each key",
-        "+,+configurations,+a,0=x,-,-,-/standalone;",
-        2,
-        "standalone",
-        "104+1",
-    ),
-    (
-        "each key",
-        "+,+configurations,+a,0=x,-,-,-/script;",
-        2,
-        "script",
-        "104+1",
-    ),
-    ("other names", "+,+images,+a,0=x,-,-,-/;", 2, "kept", ""),
-    ("other names", "+,+images,+a,0=x,-,-,-/Data;", 2, "kept", ""),
-    ("other names", "+,+images,+a,0=x,-,-,-/dat;", 2, "kept", ""),
-    (
-        "other names",
-        "+,+images,+a,0=x,-,-,-/data-;",
-        2,
-        "kept",
-        "",
-    ),
-    (
-        "other names",
-        "+,+images,+a,0=x,-,-,-/loadable;",
-        2,
-        "kept",
-        "",
-    ),
-    (
-        "other names",
-        "+,+configurations,+a,0=x,-,-,-/firm;",
-        2,
-        "kept",
-        "",
-    ),
-    (
-        "other names",
-        "+,+configurations,+a,0=x,-,-,-/scripts;",
-        2,
-        "kept",
-        "",
-    ),
-    (
-        "other names",
-        "+,+images,+a,0=x,-,-,-/images;",
-        2,
-        "kept",
-        "",
-    ),
-    (
-        "other names",
-        "+,+images,+a,0=x,-,-,-/hash-1;",
-        2,
-        "kept",
-        "",
-    ),
-    (
-        "what a role keeps",
-        "+,ALL,-/KEYS",
-        0,
-        "kept",
-        "description timestamp ",
-    ),
-    ("what a role keeps", "+,+images,ALL,-,-/KEYS", 1, "kept", ""),
-    (
-        "what a role keeps",
-        "+,+images,+a,ALL,-,-,-/KEYS",
-        2,
-        "kept",
-        "description data type arch os compression load entry data-size data-offset data-position ",
-    ),
-    (
-        "what a role keeps",
-        "+,+images,+a,+hash,ALL,-,-,-,-/KEYS",
-        3,
-        "kept",
-        "algo value ",
-    ),
-    (
-        "what a role keeps",
-        "+,+configurations,ALL,-,-/KEYS",
-        1,
-        "kept",
-        "default ",
-    ),
-    (
-        "what a role keeps",
-        "+,+configurations,+a,ALL,-,-,-/KEYS",
-        2,
-        "kept",
-        "description kernel ramdisk fdt loadables firmware fpga setup standalone script ",
-    ),
-    ("what a role keeps", "+,+a,ALL,-,-/KEYS", 1, "kept", ""),
-    (
-        "what a role keeps",
-        "+,+images,+a,+b,ALL,-,-,-,-/KEYS",
-        3,
-        "kept",
-        "",
-    ),
-    (
-        "a hash node",
-        "+,+images,+a,|hash,-,-,-",
-        3,
-        "links",
-        "- - hash",
-    ),
-    (
-        "a hash node",
-        "+,+images,+a,|hash-1,-,-,-",
-        3,
-        "links",
-        "- - hash",
-    ),
-    (
-        "a hash node",
-        "+,+images,+a,|hash@1,-,-,-",
-        3,
-        "links",
-        "- - hash",
-    ),
-    ("no hash node", "+,+images,+a,|,-,-,-", 3, "links", "- - -"),
-    (
-        "no hash node",
-        "+,+images,+a,|has,-,-,-",
-        3,
-        "links",
-        "- - -",
-    ),
-    (
-        "no hash node",
-        "+,+images,+a,|a-hash,-,-,-",
-        3,
-        "links",
-        "- - -",
-    ),
-    (
-        "no hash node",
-        "+,+images,+a,|Hash,-,-,-",
-        3,
-        "links",
-        "- - -",
-    ),
+    ("roles that look alike", ALIKE, 0, "links", "1 - -"),
+    ("roles that look alike", ALIKE, 1, "links", "- 2 -"),
+    ("roles that look alike", ALIKE, 2, "links", "3 6 -"),
+    ("roles that look alike", ALIKE, 3, "links", "4 - -"),
+    ("roles that look alike", ALIKE, 4, "links", "5 - hash"),
+    ("roles that look alike", ALIKE, 5, "links", "- - -"),
+    ("roles that look alike", ALIKE, 6, "links", "7 - -"),
+    ("roles that look alike", ALIKE, 7, "links", "- - -"),
     (
         "a name of 255 bytes",
         "+,+images,+~,-,-,-",
@@ -527,6 +187,91 @@ const ROWS: [(&str, &str, usize, &str, &str); 95] = [
     ("mixed-values", "mixed", 0, "name", "60+0"),
 ];
 
+// Blobs with one property, of a node of each role.
+const ROOT: &str = "+,0=x,-";
+
+const IMAGE: &str = "+,+images,+a,0=x,-,-,-";
+
+const HASH: &str = "+,+images,+a,+hash,0=x,-,-,-,-";
+
+const CONFIGURATIONS: &str = "+,+configurations,0=x,-,-";
+
+const CONFIGURATION: &str = "+,+configurations,+a,0=x,-,-,-";
+
+// A blob with one property, the number of its node, the property's name, and its value's place.
+const PROPERTIES: [(&str, usize, &str, &str); 26] = [
+    (ROOT, 0, "description", "76+1"),
+    (ROOT, 0, "timestamp", "76+1"),
+    (IMAGE, 2, "description", "96+1"),
+    (IMAGE, 2, "data", "96+1"),
+    (IMAGE, 2, "type", "96+1"),
+    (IMAGE, 2, "arch", "96+1"),
+    (IMAGE, 2, "os", "96+1"),
+    (IMAGE, 2, "compression", "96+1"),
+    (IMAGE, 2, "load", "96+1"),
+    (IMAGE, 2, "entry", "96+1"),
+    (IMAGE, 2, "data-size", "96+1"),
+    (IMAGE, 2, "data-offset", "96+1"),
+    (IMAGE, 2, "data-position", "96+1"),
+    (HASH, 3, "algo", "108+1"),
+    (HASH, 3, "value", "108+1"),
+    (CONFIGURATIONS, 1, "default", "96+1"),
+    (CONFIGURATION, 2, "description", "104+1"),
+    (CONFIGURATION, 2, "kernel", "104+1"),
+    (CONFIGURATION, 2, "ramdisk", "104+1"),
+    (CONFIGURATION, 2, "fdt", "104+1"),
+    (CONFIGURATION, 2, "loadables", "104+1"),
+    (CONFIGURATION, 2, "firmware", "104+1"),
+    (CONFIGURATION, 2, "fpga", "104+1"),
+    (CONFIGURATION, 2, "setup", "104+1"),
+    (CONFIGURATION, 2, "standalone", "104+1"),
+    (CONFIGURATION, 2, "script", "104+1"),
+];
+
+// The same with a property that has no key, so no value is kept.
+const OTHERS: [(&str, usize, &str); 9] = [
+    (IMAGE, 2, ""),
+    (IMAGE, 2, "Data"),
+    (IMAGE, 2, "dat"),
+    (IMAGE, 2, "data-"),
+    (IMAGE, 2, "loadable"),
+    (CONFIGURATION, 2, "firm"),
+    (CONFIGURATION, 2, "scripts"),
+    (IMAGE, 2, "images"),
+    (IMAGE, 2, "hash-1"),
+];
+
+// A blob with all properties, the number of their node, and the keys whose values are kept.
+const KEPT: [(&str, usize, &str); 8] = [
+    ("+,ALL,-", 0, "description timestamp "),
+    ("+,+images,ALL,-,-", 1, ""),
+    (
+        "+,+images,+a,ALL,-,-,-",
+        2,
+        "description data type arch os compression load entry data-size data-offset data-position ",
+    ),
+    ("+,+images,+a,+hash,ALL,-,-,-,-", 3, "algo value "),
+    ("+,+configurations,ALL,-,-", 1, "default "),
+    (
+        "+,+configurations,+a,ALL,-,-,-",
+        2,
+        "description kernel ramdisk fdt loadables firmware fpga setup standalone script ",
+    ),
+    ("+,+a,ALL,-,-", 1, ""),
+    ("+,+images,+a,+b,ALL,-,-,-,-", 3, ""),
+];
+
+// The name of a node in an image, and what is said of the node.
+const IN_IMAGE: [(&str, &str); 7] = [
+    ("hash", "- - hash"),
+    ("hash-1", "- - hash"),
+    ("hash@1", "- - hash"),
+    ("", "- - -"),
+    ("has", "- - -"),
+    ("a-hash", "- - -"),
+    ("Hash", "- - -"),
+];
+
 // Returns the result of a query on the blob with these bytes.
 fn found_in(alloc: Global, bytes: &[u8], node: usize, what: &str) -> Result<String, AllocError> {
     let mut room = Room::new(alloc);
@@ -536,12 +281,51 @@ fn found_in(alloc: Global, bytes: &[u8], node: usize, what: &str) -> Result<Stri
     }
 }
 
+// Asserts what a query on the blob that a text spells finds.
+fn is_found<R: AllocGlobal + Abort>(
+    rt: &R,
+    name: &str,
+    text: &str,
+    node: usize,
+    what: &str,
+    wanted: &str,
+) -> Result<(), Fail> {
+    let bytes = made(rt.alloc(), text)?;
+    let found = found_in(rt.alloc(), &bytes, node, what);
+    is_said(rt, found, wanted, name, node as u64);
+    Ok(())
+}
+
 #[test]
 fn node_rows(rt: HostRuntime) -> Result<(), Fail> {
     for (name, text, node, what, wanted) in &ROWS {
-        let bytes = made(rt.alloc(), text)?;
-        let found = found_in(rt.alloc(), &bytes, *node, what);
-        is_said(&rt, found, wanted, name, *node as u64);
+        is_found(&rt, name, text, *node, what, wanted)?;
+    }
+    Ok(())
+}
+
+#[test]
+fn each_property(rt: HostRuntime) -> Result<(), Fail> {
+    for (blob, node, name, wanted) in &PROPERTIES {
+        let text = format!(in rt.alloc(); "{blob}/{name};")?;
+        is_found(&rt, name, text.as_str(), *node, name, wanted)?;
+    }
+    for (blob, node, name) in &OTHERS {
+        let text = format!(in rt.alloc(); "{blob}/{name};")?;
+        is_found(&rt, name, text.as_str(), *node, "kept", "")?;
+    }
+    Ok(())
+}
+
+#[test]
+fn each_role(rt: HostRuntime) -> Result<(), Fail> {
+    for (blob, node, wanted) in &KEPT {
+        let text = format!(in rt.alloc(); "{blob}/KEYS")?;
+        is_found(&rt, blob, text.as_str(), *node, "kept", wanted)?;
+    }
+    for (name, wanted) in &IN_IMAGE {
+        let text = format!(in rt.alloc(); "+,+images,+a,|{name},-,-,-")?;
+        is_found(&rt, name, text.as_str(), 3, "links", wanted)?;
     }
     Ok(())
 }
