@@ -12,7 +12,7 @@ use Rattle.uimg_cli.specs.Makings.{Material, making_of, material_of, path_of, pa
 made : (request : MakeRequest) (material : Material) (moment : ℕ) (path : List ℕ) → material_of request.folder.now request.command ≡ material
     → IsAt request (path_of material) (folder_of (path_of material)) → IsPlain request moment path → making_of request ≡ plain_making material moment path
 made request material moment path is place plain =
-    rw (is, place.source, place.folder, plain.time, plain.naming, plain.align, plain.outfile, plain.written, plain.whole) refl
+    rw (is, place.source, place.folder, plain.time, plain.naming, plain.align, plain.outfile, plain.whole) refl
 
 -- data have no source
 no_folder : (request : MakeRequest) → IsAt request [] [] → IsAt request [] (folder_of [])

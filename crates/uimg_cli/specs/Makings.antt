@@ -24,7 +24,6 @@ pub record Making : Type 0 where
   pub naming : Naming
   pub align : ℕ
   pub outfile : Text
-  pub written : Text
   pub is_xip : Bool
 
 -- a source's path is its folder and its name
@@ -42,7 +41,6 @@ making_of request = record {
   naming = request.manner.naming;
   align = request.manner.align;
   outfile = request.outfile.now;
-  written = request.written.now;
   is_xip = request.is_xip;
 }
 
@@ -62,6 +60,5 @@ plain_making material time path = record {
   naming = Profile;
   align = 4;
   outfile = path;
-  written = path;
   is_xip = false;
 }

@@ -13,7 +13,6 @@ pub record Run : Type 0 where
   pub naming : Naming
   pub image : Text
   pub outfile : Option Text
-  pub written : Option Text
 
 abbrev pub run_of : RunRequest → Run
 run_of request = record {
@@ -22,7 +21,6 @@ run_of request = record {
   naming = request.naming;
   image = request.image.now;
   outfile = option_map (λ path. path.now) request.outfile;
-  written = option_map (λ path. path.now) request.written;
 }
 
 -- A command on an image by the names of the profile, with the file that it writes.
@@ -33,5 +31,4 @@ plain_run action form image outfile = record {
   naming = Profile;
   image = image;
   outfile = outfile;
-  written = outfile;
 }

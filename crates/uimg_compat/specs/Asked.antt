@@ -21,7 +21,6 @@ pub record Run : Type 0 where
   pub naming : Naming
   pub image : Text
   pub outfile : Option Text
-  pub written : Option Text
 
 abbrev pub run_of : RunRequest → Run
 run_of request = record {
@@ -30,7 +29,6 @@ run_of request = record {
   naming = request.naming;
   image = request.image.now;
   outfile = option_map (λ path. path.now) request.outfile;
-  written = option_map (λ path. path.now) request.written;
 }
 
 -- A command on an image by all names, with the file that it writes.
@@ -41,7 +39,6 @@ plain_run action form image outfile = record {
   naming = All;
   image = image;
   outfile = outfile;
-  written = outfile;
 }
 
 -- What an image is made from: a header's fields with the files of its data, or a source with where
@@ -54,7 +51,6 @@ pub record Making : Type 0 where
   pub material : Material
   pub manner : Manner
   pub outfile : Text
-  pub written : Text
   pub is_xip : Bool
 
 abbrev pub material_of : Text → MakeCommand → Material
@@ -67,7 +63,6 @@ making_of request = record {
   material = material_of request.folder.now request.command;
   manner = request.manner;
   outfile = request.outfile.now;
-  written = request.written.now;
   is_xip = request.is_xip;
 }
 

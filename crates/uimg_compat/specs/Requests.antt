@@ -146,7 +146,6 @@ making_by options word time is_xip image = record {
   material = parts options (part_names options.kind word);
   manner = manner_by time 4;
   outfile = image;
-  written = image;
   is_xip = is_xip;
 }
 

@@ -131,7 +131,6 @@ impl<'a> Settings<'a> {
                 naming: Naming::All,
                 image,
                 outfile,
-                written: outfile,
             },
             is_quiet: false,
         })

@@ -11,7 +11,6 @@ pub record IsPlain (request : MakeRequest) (moment : ℕ) (path : List ℕ) : Ty
   pub align : request.manner.align ≡ 4
   pub whole : request.is_xip ≡ false
   pub outfile : request.outfile.now ≡ path
-  pub written : request.written.now ≡ path
 
 -- The source is at a path, and the files are in a folder.
 pub record IsAt (request : MakeRequest) (path dir : List ℕ) : Type 0 where

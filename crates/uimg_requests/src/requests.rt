@@ -26,9 +26,6 @@ pub struct RunRequest<'a> {
 
     /// The path of an extraction's file.
     pub outfile: Option<&'a str>,
-
-    /// The path that an extraction is written to: its file's, or a temporary one until the end.
-    pub written: Option<&'a str>,
 }
 
 /// The making of an image.
@@ -48,9 +45,6 @@ pub struct MakeRequest<'a> {
 
     /// The path of the image.
     pub outfile: &'a str,
-
-    /// The path that the image is written to: its own, or a temporary one until the end.
-    pub written: &'a str,
 
     /// Whether the header replaces the first 64 bytes of the file, which are 0xff.
     pub is_xip: bool,
@@ -87,7 +81,6 @@ impl<'a> MakeRequest<'a> {
             source: "",
             folder: "",
             outfile,
-            written: outfile,
             is_xip: false,
         })
     }
@@ -140,7 +133,6 @@ impl<'a> MakeRequest<'a> {
             source: path,
             folder: "",
             outfile,
-            written: outfile,
             is_xip: false,
         })
     }

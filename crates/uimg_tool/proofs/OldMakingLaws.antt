@@ -1,12 +1,17 @@
 -- What the making of an image by the names of mkimage asks of a world, and its status.
 use Rattle.std.proofs.Common.{◌≡◌, ℕ, ◌≤◌, List, ◌∷◌, Bool, false, true, Result, Ok, Err, ◌⊎◌, inl, inr, ap, refl, subst, sym, ◌∙◌, string_bytes, true≢false}
 use Rattle.std.specs.{Prelude.{is_err, is_ok}, declared.io.Error.Error}
+use Rattle.std.specs.Borrow.{Bor}
+use Rattle.uimg_base.specs.declared.status.Status.{Status}
+use Rattle.uimg_requests.specs.declared.requests.MakeRequest.{MakeRequest}
 use Rattle.uimg_tool.proofs.DrawingLaws.{writes_as}
 use Rattle.uimg_tool.proofs.WritingLaws.{creates_as}
 use Rattle.uimg_tool.specs.{BesidePaths.{Finishes, incomplete, named, not_named}, Finishing.FinishesBy}
 use Rattle.uimg_tool.specs.OldMakings.{FinishesMade, LendsAt, MakesFor, MakesWithin, Named, beside_it, in_place, no_memory, to_pipe, uncreated}
+use Rattle.uimg_tool.specs.{RequestEnds.{MakeEnds, TreeEnds}, Statuses.end_status}
 use Rattle.uimg_tool.specs.SourceTexts.{MakesOfText, of_new, text_stopped, text_uncreated}
 use Rattle.uimg_tool.specs.Writings.{CreatesBeside, WritesFor}
+use Rattle.uimg_tool.specs.declared.request_fault.RequestFault.{RequestFault}
 use Rattle.uimg_tool.specs.declared.safe_path.{NewBeside.NewBeside, SafePath.SafePath, Writing.Writing}
 use Rattle.uimg_tool.specs.declared.safe_path.Writing.TheVariants as writing
 use Rattle.uimg_unpacking.specs.Deeds.{Answer, Deed, Done, LendsShelf, Removes, Renames, changes}
@@ -28,22 +33,37 @@ not_both path made after (answer, ended, named complete done is, kept) got = tru
 not_both path made after (answer, ended, not_named removed complete undone is, kept) got = true≢false (sym complete)
 not_both path made after (answer, ended, incomplete unfinished is, kept) got = true≢false (ap is_removal (sym (kept ∙ ap changes is) ∙ got))
 
-pub finishes_made : {T E : Type 0} (path : SafePath) (status : ℕ) (end : Result T E) (before made after : List Deed) → LendsAt (string_bytes path.new) (is_err end) before made
-    → FinishesBy path (is_ok end) made after → (status ≡ 0 → Named path made after) → FinishesMade path status before after
-finishes_made path status (Ok value) before made after (inl failed) finishes done = absurd (true≢false (sym failed.0))
-finishes_made path status (Ok value) before made after (inr lent) finishes done = record {
+pub made_is_done : (asked : MakeRequest) (end : Result Status RequestFault) → MakeEnds asked end → is_ok end ≡ true → end_status end ≡ 0
+made_is_done asked (Ok status) ends ok = ap (λ (s : Status). end_status (Ok s)) ends
+made_is_done asked (Err fault) ends ok = absurd (true≢false (sym ok))
+
+pub tree_is_done : (image : Bor (List ℕ)) (end : Result Status RequestFault) → TreeEnds image end → is_ok end ≡ true → end_status end ≡ 0
+tree_is_done image (Ok status) ends ok = ap (λ (s : Status). end_status (Ok s)) ends
+tree_is_done image (Err fault) ends ok = absurd (true≢false (sym ok))
+
+done_or_failed : (status end : ℕ) → end ≡ 0 → (status ≡ 3) ⊎ (status ≡ end) → (status ≡ 0) ⊎ (status ≡ 3)
+done_or_failed status end done (inl failed) = inr failed
+done_or_failed status end done (inr is) = inl (is ∙ done)
+
+pub finishes_made : (path : SafePath) (status : ℕ) (end : Result Status RequestFault) (before made after : List Deed) → LendsAt (string_bytes path.new) (is_err end) before made
+    → FinishesBy path (is_ok end) made after → (status ≡ 0 → Named path made after) → (is_ok end ≡ true → end_status end ≡ 0) → (status ≡ 3) ⊎ (status ≡ end_status end)
+    → FinishesMade path status before after
+finishes_made path status (Ok value) before made after (inl failed) finishes done is_done told = absurd (true≢false (sym failed.0))
+finishes_made path status (Ok value) before made after (inr lent) finishes done is_done told = record {
   is_complete = true;
   made = made;
   lent = inr lent;
   finishes = finishes;
   done = λ none. done none ∙ ap (λ (t : List Deed). Renames (string_bytes path.new) (string_bytes path.whole) Done ∷ t) lent;
+  complete = λ ok. done_or_failed status (end_status (Ok value)) (is_done refl) told;
 }
-finishes_made path status (Err fault) before made after lent finishes done = record {
+finishes_made path status (Err fault) before made after lent finishes done is_done told = record {
   is_complete = false;
   made = made;
   lent = lent;
   finishes = finishes;
   done = λ none. absurd (not_both path made after finishes (done none));
+  complete = λ ok. absurd (true≢false (sym ok));
 }
 
 lends_kept : (path : List ℕ) (status : ℕ) (has_failed : Bool) (before made after : List Deed) → (has_failed ≡ true → 1 ≤ status) → LendsAt path has_failed before made → changes after ≡ changes made

@@ -49,7 +49,7 @@ Flushes it status left = status ≢ 3 → left ≡ []
 -- its image, and changes the picture's file alone.
 abbrev pub ChangesOne : Request → List Deed → List Deed → Type 0
 ChangesOne (asked.Run it) old new = AsksToRun it it.outfile old new
-ChangesOne (asked.Make it) old new = new ≡ LendsShelf it.written.now ∷ LendsReader ∷ old
+ChangesOne (asked.Make it) old new = new ≡ LendsShelf it.outfile.now ∷ LendsReader ∷ old
 ChangesOne (asked.Show text) old new = new ≡ old
 
 abbrev pub Changes : Asked → List Deed → List Deed → Type 0

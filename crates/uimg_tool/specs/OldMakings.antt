@@ -1,11 +1,12 @@
--- What the making of an image by the names of mkimage asks of a world, and which files it changes.
+-- What the making of an image by the names of mkimage asks of a world, which files it changes, and
+-- what it answers.
 use Rattle.std.specs.Prelude.{◌≡◌, ⊤, ◌⊎◌, ◌≤◌, ℕ, List, [], ◌∷◌, Option, Some, None, Bool, false, true, not, Result, string_bytes}
+use Rattle.std.specs.Io.KnownBytes.{Keeps}
 use Rattle.uimg_base.specs.{Device.Device, Named.FileMap, Sink.Sink}
 use Rattle.uimg_base.specs.declared.status.Status.{Status}
 use Rattle.uimg_compat.specs.declared.request.FitRequest.{FitRequest}
-use Rattle.uimg_engine.specs.declared.fault.Fault.{Fault}
 use Rattle.uimg_requests.specs.declared.requests.MakeRequest.{MakeRequest}
-use Rattle.uimg_tool.specs.{Finishing.FinishesBy, Makings.{IsMadeStatus, MakesAt, MakesRequested, OpensRequested, opens_outfile}, Statuses.end_status}
+use Rattle.uimg_tool.specs.{Finishing.FinishesBy, Makings.{AnswersMade, MakesAt}, Statuses.end_status}
 use Rattle.uimg_tool.specs.Writings.{CreatesNew, CreatesNone, IsAt, IsInPlace, StopsTrying}
 use Rattle.uimg_tool.specs.declared.{old_files.{Begun.Begun, How.How}, request_fault.RequestFault.RequestFault, safe_path.SafePath.SafePath}
 use Rattle.uimg_unpacking.specs.Deeds.{Deed, Done, Explains, Finds, LendsShelf, Opens, Renames, changes}
@@ -19,7 +20,6 @@ IsHowFor asked how = (how.is_quiet ≡ asked.is_quiet) × (how.outfile ≡ asked
 -- an image that is written to a path, with its header before the data
 pub record IsWrittenTo (making : MakeRequest) (path : List ℕ) : Type 0 where
   pub outfile : making.outfile.now ≡ path
-  pub written : making.written.now ≡ path
   pub whole : making.is_xip ≡ false
 
 -- A shelf is lent in the file at a path, and no file is changed otherwise; or a making failed before that.
@@ -37,13 +37,14 @@ abbrev pub Named : SafePath → (before after : List Deed) → Type 0
 Named path before after = changes after ≡ Renames (string_bytes path.new) (string_bytes path.whole) Done ∷ changes before
 
 -- A shelf is lent in a new file, which then gets its path or is removed; or a making failed before that.
--- If the status is 0, it has its path.
+-- If the status is 0, it has its path. Only with status 0 or 3 may it be given its path.
 pub record FinishesMade (path : SafePath) (status : ℕ) (before after : List Deed) : Type 0 where
   pub is_complete : Bool
   pub made : List Deed
   pub lent : LendsAt (string_bytes path.new) (not is_complete) before made
   pub finishes : FinishesBy path is_complete made after
   pub done : status ≡ 0 → Named path (LendsShelf (string_bytes path.new) ∷ before) after
+  pub complete : is_complete ≡ true → (status ≡ 0) ⊎ (status ≡ 3)
 
 -- An image is made for a path: in a new file beside the one that the path leads to, or in place, where
 -- a shelf is lent. If the path leads to a pipe, or the new file cannot be created, the status is not 0.
@@ -65,8 +66,8 @@ UpdatesFor image status before after = ((status ≡ 3) × (after ≡ Explains im
     ⊎ MakesWithin image status (Opens image true ∷ before) after
 
 -- The image is a whole file, and its files are looked for in one folder.
-abbrev pub IsPlain : How → MakeRequest → Type 0
-IsPlain how asked = (how.folders.now ≡ []) × (asked.is_xip ≡ false)
+abbrev pub IsWholeOfFolder : How → MakeRequest → Type 0
+IsWholeOfFolder how asked = (how.folders.now ≡ []) × (asked.is_xip ≡ false)
 
 -- Nothing was written to a new file, if there is one.
 abbrev pub IsNew : {F : Type 0} → (F → Option (List ℕ)) → Option (Begun F) → Type 0
@@ -74,26 +75,25 @@ IsNew contents None = ⊤
 IsNew contents (Some begun) = contents begun.file ≡ Some []
 
 -- the end of a making, in a new file or in place, unless its status is 3
-abbrev pub MakesIn : {F K N : Type 0} → Option (Begun F) → (K → Device) → (N → Device) → (List ℕ → Option FileId) → MakeRequest → FileMap → Result Status RequestFault → Type 0
-MakesIn None kept_there kept_new identities asked files end =
-    (end_status end ≡ 3) ⊎ ((s t : Sink) × MakesAt kept_there identities asked files end s t)
-MakesIn (Some begun) kept_there kept_new identities asked files end =
-    (end_status end ≡ 3) ⊎ ((s t : Sink) × MakesAt kept_new identities asked files end s t)
+abbrev pub MakesIn : {F K N : Type 0} → Option (Begun F) → (K → Device) → (N → Device) → (List ℕ → Option FileId) → MakeRequest → FileMap → Result Status RequestFault → (s t : Sink) → Type 0
+MakesIn None kept_there kept_new identities asked files end s t =
+    (end_status end ≡ 3) ⊎ MakesAt kept_there identities asked files end s t
+MakesIn (Some begun) kept_there kept_new identities asked files end s t =
+    (end_status end ≡ 3) ⊎ MakesAt kept_new identities asked files end s t
 
--- The definition's image of the files is kept, with status 0; or the making is refused, and the status is
--- that of its fault; or a name that was opened leads to the file of the image, and the status is 2 or 3.
-pub record MakesImage {K : Type 0} (device : K → Device) (identities : List ℕ → Option FileId) (asked : MakeRequest)
-    (files : FileMap) (status : ℕ) : Type 0 where
-  pub made : Result K Fault
-  pub before : Sink
-  pub after : Sink
-  pub makes : MakesRequested device asked files.bytes made before after
-  -- the files of the folder after it
-  pub last : FileMap
-  pub opens : OpensRequested asked made files last
-  pub is : IsMadeStatus made (opens_outfile identities asked last) status
+-- The same where the listing goes to an output, unless it is to be quiet.
+abbrev pub ListsIn : {F K N : Type 0} → (is_quiet : Bool) → Option (Begun F) → (K → Device) → (N → Device) → (List ℕ → Option FileId) → MakeRequest → FileMap → Result Status RequestFault → (old new : Option (List ℕ)) → Type 0
+ListsIn is_quiet begun kept_there kept_new identities asked files end old new =
+    (s t : Sink) × MakesIn begun kept_there kept_new identities asked files end s t
+    × (is_quiet ≡ false → (s.contents ≡ old) × Keeps t.contents new)
+
+-- A making is answered, and its listing is printed to an output, unless it is to be quiet.
+abbrev pub AnswersListed : {K : Type 0} → (is_quiet : Bool) → (K → Device) → (List ℕ → Option FileId) → MakeRequest → FileMap → ℕ → (old new : Option (List ℕ)) → Type 0
+AnswersListed false device identities asked files status old new = AnswersMade device identities asked files status old new
+AnswersListed true device identities asked files status old new = (s t : Option (List ℕ)) × AnswersMade device identities asked files status s t
 
 -- in place, or in a new file
-abbrev pub AnswersOldMaking : {K N : Type 0} → (K → Device) → (N → Device) → (List ℕ → Option FileId) → MakeRequest → FileMap → ℕ → Type 0
-AnswersOldMaking kept_there kept_new identities asked files status =
-    (status ≡ 3) ⊎ MakesImage kept_there identities asked files status ⊎ MakesImage kept_new identities asked files status
+abbrev pub AnswersOldMaking : {K N : Type 0} → (is_quiet : Bool) → (K → Device) → (N → Device) → (List ℕ → Option FileId) → MakeRequest → FileMap → ℕ → (old new : Option (List ℕ)) → Type 0
+AnswersOldMaking is_quiet kept_there kept_new identities asked files status old new = (status ≡ 3)
+    ⊎ AnswersListed is_quiet kept_there identities asked files status old new
+    ⊎ AnswersListed is_quiet kept_new identities asked files status old new

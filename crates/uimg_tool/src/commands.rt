@@ -151,7 +151,7 @@ fn make_one<'a, D: MakingWorld<'a>, W: Write + Drop, V: Write>(
         (writer_contents W.contents out) (writer_contents W.contents result.1) }
     ensures flushed { result.0 ≢ 3 → writer_buffer result.1 ≡ [] }
     ensures lent { D.trace world.new
-        ≡ Deed.LendsShelf request.now.written.now ∷ Deed.LendsReader ∷ D.trace world.old }
+        ≡ Deed.LendsShelf request.now.outfile.now ∷ Deed.LendsReader ∷ D.trace world.old }
     ensures line { IsTrue (D.map world.old).honest → ComplainsMake V.contents
         D.Shelf.Kept.device request.now (D.map world.old) result.0 complaints.old
         complaints.new }

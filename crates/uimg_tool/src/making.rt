@@ -3,7 +3,7 @@
 ghost use Rattle.std.specs.Prelude.{◌≡◌, ◌∷◌, ◌⊎◌, [], Some, IsTrue, false, is_err, true};
 ghost use Rattle.uimg_engine.specs.{Commands.{HonestFiles, MakesCommand, OpensToBuild}, OpenedFiles.OpensCommand};
 ghost use Rattle.uimg_tool.specs.{LeavingOut.leads_to, Makings.MakesAt, Statuses.end_status};
-ghost use Rattle.uimg_tool.specs.OldMakings.{IsNew, IsPlain, MakesIn, path_for};
+ghost use Rattle.uimg_tool.specs.OldMakings.{IsNew, IsWholeOfFolder, MakesIn, path_for};
 ghost use Rattle.uimg_tool.specs.RequestEnds.{AsMade, IsFileAt, MakeEnds, StoppedAs};
 ghost use Rattle.uimg_unpacking.specs.Deeds.{Deed};
 
@@ -34,12 +34,12 @@ pub(crate) fn make_in<'a, D: MakingWorld<'a>, W: Write>(
     ensures told { IsTrue (D.map world.old).honest → MakesAt D.Shelf.Kept.device
         (D.identities world.old) request.now (D.map world.old) result out.old out.new }
     ensures lent { D.trace world.new
-        ≡ Deed.LendsShelf request.now.written.now ∷ Deed.LendsReader ∷ D.trace world.old }
+        ≡ Deed.LendsShelf request.now.outfile.now ∷ Deed.LendsReader ∷ D.trace world.old }
 {
     let alloc = world.alloc();
     let reader = world.reader();
     let code = Cell::new(None);
-    let shelf = Watched::new(world.shelf_at(request.written), &code);
+    let shelf = Watched::new(world.shelf_at(request.outfile), &code);
     let end = make_among::<_, _, _, Brand>(alloc, request, reader, shelf, out);
     end_written(request, end, code.get())
 }
@@ -80,9 +80,9 @@ pub(crate) fn make_command<'a, 'p, D: MakingWorld<'p>, W: Write>(
     ensures lent { D.trace world.new
         ≡ Deed.LendsShelf (path_for how.entry.outfile.now begun.entry) ∷ D.trace world.old }
     ensures told { IsTrue D.knows → IsTrue (D.Reader.map reader).honest →
-        IsNew D.File.contents begun.entry → IsPlain how.entry request.now →
+        IsNew D.File.contents begun.entry → IsWholeOfFolder how.entry request.now →
         MakesIn begun.entry D.Shelf.Kept.device D.NewShelf.Kept.device
-        (D.Reader.identities reader) request.now (D.Reader.map reader) result }
+        (D.Reader.identities reader) request.now (D.Reader.map reader) result out.old out.new }
 {
     let alloc = world.alloc();
     let code = Cell::new(None);

@@ -3,7 +3,7 @@
 ghost use Rattle.std.specs.Prelude.{◌≡◌, ◌≢◌, ◌∷◌, ◌⊎◌, [], IsTrue, None, is_err, is_ok, true, if◌then◌else◌};
 ghost use Rattle.std.specs.Io.Buffered.{writer_buffer, writer_contents};
 ghost use Rattle.uimg_tool.specs.{Complaints.{Complains, Ends}, Finishing.FinishesBy, RequestEnds.{MakeEnds, is_about_source}};
-ghost use Rattle.uimg_tool.specs.OldMakings.{AnswersOldMaking, IsNew, IsPlain, LendsAt, MakesFor, MakesIn, Named, path_for};
+ghost use Rattle.uimg_tool.specs.OldMakings.{AnswersOldMaking, IsNew, IsWholeOfFolder, LendsAt, ListsIn, MakesFor, MakesWithin, Named, path_for};
 ghost use Rattle.uimg_tool.specs.{OldTexts.told_of_old};
 ghost use Rattle.uimg_tool.specs.{Running.AnswersRun, Statuses.end_status};
 ghost use Rattle.uimg_unpacking.specs.Deeds.{Deed, changes};
@@ -136,8 +136,7 @@ fn run_beside<D: World, V: Write>(
     tell_written(world, path, &end, request.image, complaints)
 }
 
-/// Makes an image beside its name, which it gets when it is complete, even if its listing could not
-/// be printed.
+/// Makes an image, whose listing goes to a lent output.
 pub(crate) fn make_image<'a, 'p, D: MakingWorld<'p>, W: Write, V: Write>(
     world: &mut D,
     how: How<'p>,
@@ -147,73 +146,98 @@ pub(crate) fn make_image<'a, 'p, D: MakingWorld<'p>, W: Write, V: Write>(
 ) -> u8
     ensures ends { Ends result complaints.old.count complaints.new.count }
     ensures quiet { how.entry.is_quiet ≡ true → out.new ≡ out.old }
-    ensures made { MakesFor how.entry.outfile.now result (Deed.LendsReader ∷ D.trace world.old)
+    ensures made { MakesWithin how.entry.outfile.now result (D.trace world.old)
         (D.trace world.new) }
-    ensures told { IsTrue (D.map world.old).honest → IsPlain how.entry request.now →
-        AnswersOldMaking D.Shelf.Kept.device D.NewShelf.Kept.device (D.identities world.old)
-        request.now (D.map world.old) result }
+{
+    if how.is_quiet {
+        let Ok(unused) = BufWriter::with_capacity(world.alloc(), 0, io::sink()) else {
+            return complaints.tell_no_memory();
+        };
+        return make_old(world, how, request, unused, complaints).0;
+    }
+    let Ok(gathered) = BufWriter::new(world.alloc(), out) else {
+        return complaints.tell_no_memory();
+    };
+    let (status, gathered) = make_old(world, how, request, gathered, complaints);
+    // A failed write leaves text in the buffer, which its drop would try to write again.
+    let (_, _) = gathered.into_parts();
+    status
+}
+
+/// Makes an image beside its name, which it gets when it is complete, even if its listing could not
+/// be printed. Returns `out`, too, to which nothing is printed if it is to be quiet.
+pub(crate) fn make_old<'a, 'p, D: MakingWorld<'p>, W: Write + Drop, V: Write>(
+    world: &mut D,
+    how: How<'p>,
+    request: &'a MakeRequest<'a>,
+    out: BufWriter<W, Global>,
+    complaints: &mut Complaints<'_, V>,
+) -> (u8, BufWriter<W, Global>)
+    ensures ends { Ends result.0 complaints.old.count complaints.new.count }
+    ensures quiet { how.entry.is_quiet ≡ true → result.1 ≡ out }
+    ensures made { MakesFor how.entry.outfile.now result.0
+        (Deed.LendsReader ∷ D.trace world.old) (D.trace world.new) }
+    ensures told { IsTrue (D.map world.old).honest → IsWholeOfFolder how.entry request.now →
+        AnswersOldMaking how.entry.is_quiet D.Shelf.Kept.device D.NewShelf.Kept.device
+        (D.identities world.old) request.now (D.map world.old) result.0
+        (writer_contents W.contents out) (writer_contents W.contents result.1) }
+    ensures flushed { result.0 ≡ 0 → writer_buffer out ≡ [] → writer_buffer result.1 ≡ [] }
 {
     let reader = world.reader();
     match writing_of(world, world.alloc(), how.outfile) {
         Ok(Writing::InPlace) => {
-            let made = make_by(world, request, reader, None, how, out);
+            let (made, out) = make_by(world, request, reader, None, how, out);
             let end = made.told();
             let about = about_end(&end, request.source, request.outfile);
-            tell_end(world, &end, about, complaints)
+            (tell_end(world, &end, about, complaints), out)
         }
         Ok(Writing::Beside(file, path)) => {
             let begun = Begun { file, path: &path };
-            let made = make_by(world, request, reader, Some(begun), how, out);
+            let (made, out) = make_by(world, request, reader, Some(begun), how, out);
             let about = about_end(&made.end, request.source, request.outfile);
-            tell_made(world, &path, &made, about, complaints)
+            (tell_made(world, &path, &made, about, complaints), out)
         }
         Ok(Writing::Pipe) => {
             let path = Printed(how.outfile.as_bytes());
-            complaints.tell(&OldFault::MadeAsPipe(path), FAILED)
+            (complaints.tell(&OldFault::MadeAsPipe(path), FAILED), out)
         }
-        Ok(Writing::Nowhere(reason)) => complaints.tell_unwritten(how.outfile, &reason),
-        Err(_) => complaints.tell_no_memory(),
+        Ok(Writing::Nowhere(reason)) => (complaints.tell_unwritten(how.outfile, &reason), out),
+        Err(_) => (complaints.tell_no_memory(), out),
     }
 }
 
 // Makes an image in a new file or in place; if it is to be quiet, nothing is printed.
-fn make_by<'a, 'p, D: MakingWorld<'p>, W: Write>(
+fn make_by<'a, 'p, D: MakingWorld<'p>, W: Write + Drop>(
     world: &mut D,
     request: &'a MakeRequest<'a>,
     reader: D::Reader,
     begun: Option<Begun<'_, D::File>>,
     how: How<'p>,
-    out: &mut W,
-) -> Made<'a>
-    ensures ends { MakeEnds request.now result.end }
-    ensures quiet { how.entry.is_quiet ≡ true → out.new ≡ out.old }
-    ensures lent { LendsAt (path_for how.entry.outfile.now begun.entry) (is_err result.end)
+    out: BufWriter<W, Global>,
+) -> (Made<'a>, BufWriter<W, Global>)
+    ensures ends { MakeEnds request.now result.0.end }
+    ensures quiet { how.entry.is_quiet ≡ true → result.1 ≡ out }
+    ensures lent { LendsAt (path_for how.entry.outfile.now begun.entry) (is_err result.0.end)
         (D.trace world.old) (D.trace world.new) }
     ensures told { IsTrue D.knows → IsTrue (D.Reader.map reader).honest →
-        IsNew D.File.contents begun.entry → IsPlain how.entry request.now →
-        MakesIn begun.entry D.Shelf.Kept.device D.NewShelf.Kept.device
-        (D.Reader.identities reader) request.now (D.Reader.map reader) result.end }
+        IsNew D.File.contents begun.entry → IsWholeOfFolder how.entry request.now →
+        ListsIn how.entry.is_quiet begun.entry D.Shelf.Kept.device D.NewShelf.Kept.device
+        (D.Reader.identities reader) request.now (D.Reader.map reader) result.0.end
+        (writer_contents W.contents out) (writer_contents W.contents result.1) }
+    ensures flushed { is_ok result.0.printed ≡ true → writer_buffer out ≡ [] →
+        writer_buffer result.1 ≡ [] }
 {
     if how.is_quiet {
-        let out = &mut Out::new(io::sink());
-        return Made {
-            end: make_command(world, request, reader, begun, how, out),
-            printed: Ok(()),
-        };
+        let mut sink = Out::new(io::sink());
+        let end = make_command(world, request, reader, begun, how, &mut sink);
+        let printed = Ok(());
+        return (Made { end, printed }, out);
     }
-    let Ok(gathered) = BufWriter::new(world.alloc(), out) else {
-        return Made {
-            end: Err(RequestFault::OutOfMemory),
-            printed: Ok(()),
-        };
-    };
-    let mut out = Out::new(gathered);
-    let end = make_command(world, request, reader, begun, how, &mut out);
-    let mut gathered = out.into_inner();
-    let printed = gathered.flush();
-    // A failed write leaves text in the buffer, which its drop would try to write again.
-    let (_, _) = gathered.into_parts();
-    Made { end, printed }
+    let mut listing = Out::new(out);
+    let end = make_command(world, request, reader, begun, how, &mut listing);
+    let mut out = listing.into_inner();
+    let printed = out.flush();
+    (Made { end, printed }, out)
 }
 
 /// Gives an image that was made its name, even if its listing could not be printed, or removes its

@@ -10,7 +10,7 @@ use crate::auto_program::make_auto;
 use crate::command_line::CommandLine;
 use crate::complaints::Complaints;
 use crate::fit_program::make_fit;
-use crate::old_files::{How, make_image, run_old};
+use crate::old_files::{How, make_old, run_old};
 use crate::old_tools::Tool;
 use crate::request_fault::{DONE, WRONG_LINE};
 use crate::update_program::update_image;
@@ -101,8 +101,15 @@ fn make_over<'a, R: Files + AllocGlobal, W: Write, V: Write>(
 ) -> u8
     ensures { Ends result complaints.old.count complaints.new.count }
 {
+    let Ok(gathered) = BufWriter::new(rt.alloc(), out) else {
+        return complaints.tell_no_memory();
+    };
+    let world = &mut DiskWorld::new(rt);
     let how = How::new(is_quiet, request.outfile);
-    make_image(&mut DiskWorld::new(rt), how, &request, out, complaints)
+    let (status, gathered) = make_old(world, how, &request, gathered, complaints);
+    // A failed write leaves text in the buffer, which its drop would try to write again.
+    let (_, _) = gathered.into_parts();
+    status
 }
 
 // Makes a FIT image of a source, over the files of the system.

@@ -65,7 +65,6 @@ fn listing<'a>(matches: &ArgMatches<'a>) -> Result<RunRequest<'a>, WordsFault>
         naming: Naming::Profile,
         image: text_or(matches, "image", ""),
         outfile: None,
-        written: None,
     })
 }
 
@@ -82,7 +81,6 @@ fn extraction<'a>(matches: &ArgMatches<'a>, outfile: &'a str) -> Result<RunReque
         naming: Naming::Profile,
         image: text_or(matches, "image", ""),
         outfile: Some(outfile),
-        written: Some(outfile),
     })
 }
 

@@ -184,7 +184,8 @@ Examples:
 
 Exit status:
   0  The map was written
-  1  It was written, but the image is refused, or an item ends outside the file
+  1  It was written, but the image is refused, or a payload, a part or the data
+     end outside the file
   2  The command line is wrong, or the picture would replace the image
   3  A file cannot be opened or written, or the picture exists, a read failed, or
      memory ran out";

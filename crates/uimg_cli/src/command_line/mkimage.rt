@@ -157,7 +157,6 @@ fn listing<'a>(matches: &ArgMatches<'a>) -> RunRequest<'a>
         naming: Naming::Profile,
         image: text_or(matches, "image", ""),
         outfile: None,
-        written: None,
     }
 }
 

@@ -38,6 +38,5 @@ pub(super) fn request<'a>(matches: &ArgMatches<'a>) -> RunRequest<'a>
         naming: Naming::Profile,
         image: text_or(matches, "image", ""),
         outfile: None,
-        written: None,
     }
 }

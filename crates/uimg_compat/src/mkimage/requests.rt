@@ -133,7 +133,6 @@ impl<'a> Settings<'a> {
                 naming: Naming::All,
                 image,
                 outfile: None,
-                written: None,
             },
             is_quiet: self.is_quiet,
         })

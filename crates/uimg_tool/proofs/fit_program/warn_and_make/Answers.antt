@@ -1,6 +1,6 @@
 use Rattle.std.proofs.Common.{◌∙◌, ap}
 use Rattle.uimg_unpacking.specs.Deeds.{changes}
-use Rattle.uimg_tool.proofs.OldMakingLaws.{within, within_more}
+use Rattle.uimg_tool.proofs.OldMakingLaws.{within_more}
 use Rattle.uimg_tool.proofs.fit_program.warn_and_make.Goals as goal
 
 pub returns-then-has_other_algos-clause-made : goal.returns-then-has_other_algos-clause-made
@@ -13,8 +13,8 @@ returns-in-Beyond-2-clause-made g c =
 
 pub returns-else-has_other_algos-clause-made : goal.returns-else-has_other_algos-clause-made
 returns-else-has_other_algos-clause-made g c =
-    within c.args.how.outfile.now c.args.request.now.outfile.now c.make_image.result (g.D.World.trace c.args.world.now) _ (g.D.World.trace c.make_image.new.world) (ap (λ b. b.now) c.requires.how.1) (ap changes c.reader-again.ensures.noted ∙ ap changes c.reader-reader.ensures.noted) c.make_image.ensures.made
+    within_more c.args.how.outfile.now c.args.request.now.outfile.now c.make_image.result (g.D.World.trace c.args.world.now) (g.D.World.trace c.reader-again.new.self) (g.D.World.trace c.make_image.new.world) (ap (λ b. b.now) c.requires.how.1) (ap changes c.reader-again.ensures.noted ∙ ap changes c.reader-reader.ensures.noted) c.make_image.ensures.made
 
 pub returns-in-Unread-clause-made : goal.returns-in-Unread-clause-made
 returns-in-Unread-clause-made g c =
-    within c.args.how.outfile.now c.args.request.now.outfile.now c.make_image-in-Unread.result (g.D.World.trace c.args.world.now) _ (g.D.World.trace c.make_image-in-Unread.new.world) (ap (λ b. b.now) c.requires.how.1) (ap changes c.reader-again.ensures.noted ∙ ap changes c.reader-reader.ensures.noted) c.make_image-in-Unread.ensures.made
+    within_more c.args.how.outfile.now c.args.request.now.outfile.now c.make_image-in-Unread.result (g.D.World.trace c.args.world.now) (g.D.World.trace c.reader-again.new.self) (g.D.World.trace c.make_image-in-Unread.new.world) (ap (λ b. b.now) c.requires.how.1) (ap changes c.reader-again.ensures.noted ∙ ap changes c.reader-reader.ensures.noted) c.make_image-in-Unread.ensures.made

@@ -1,6 +1,23 @@
-use Rattle.std.proofs.Common.{refl}
-use Rattle.uimg_tool.proofs.OldAnswerLaws.{failed_in}
+use Rattle.std.proofs.Common.{List, ℕ, Option, ap, subst, sym, ◌∙◌, true≢false}
+use Rattle.uimg_tool.proofs.OldAnswerLaws.{when_ok}
+use Rattle.std.specs.Io.{Buffered.writer_contents, KnownBytes.Keeps}
+use Rattle.uimg_base.specs.Sink.{Sink}
 use Rattle.uimg_tool.proofs.old_files.make_by.Goals as goal
 
-pub returns-in_default-clause-told : goal.returns-in_default-clause-told
-returns-in_default-clause-told g c = λ knows honest is_new plain. failed_in c.args.begun _ _ _ c.args.request.now _ _ refl
+pub returns-then-how-clause-told : goal.returns-then-how-clause-told
+returns-then-how-clause-told g c = λ knows honest is_new plain.
+    (c.new-sink.result, c.make_command-end.new.out, c.make_command-end.ensures.told knows honest is_new plain, λ loud. absurd (true≢false (sym c.if-how.true ∙ loud)))
+
+pub returns-clause-told : goal.returns-clause-told
+returns-clause-told g c = λ knows honest is_new plain. (
+  c.new-listing.result,
+  c.make_command-end-2.new.out,
+  c.make_command-end-2.ensures.told knows honest is_new plain,
+  λ loud. (
+    ap (λ (s : Sink). s.contents) c.new-listing.ensures,
+    subst (λ (known : Option (List ℕ)). Keeps known (writer_contents g.W.Write.contents c.flush-printed.new.self)) c.into_inner-out.ensures c.flush-printed.ensures.bytes,
+  ),
+)
+
+pub returns-clause-flushed : goal.returns-clause-flushed
+returns-clause-flushed g c = λ ok empty. when_ok c.flush-printed.result ok c.flush-printed.ensures.ok

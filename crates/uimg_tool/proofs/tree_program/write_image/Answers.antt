@@ -1,12 +1,13 @@
 use Rattle.std.proofs.Common.{Ok, ◌∙◌, ap}
-use Rattle.uimg_tool.proofs.OldMakingLaws.{finishes_made, left_in_place, made_beside, not_begun, not_created, not_to_pipe}
+use Rattle.uimg_tool.proofs.OldMakingLaws.{finishes_made, left_in_place, made_beside, not_begun, not_created, not_to_pipe, tree_is_done}
 use Rattle.uimg_tool.proofs.StatusLaws.{failed}
 use Rattle.uimg_tool.proofs.tree_program.write_image.Goals as goal
 
 pub returns-in-Ok-Beside-clause-made : goal.returns-in-Ok-Beside-clause-made
 returns-in-Ok-Beside-clause-made g c =
     made_beside c.args.request.image.now c.tell_made.result c.writing_of.result c.in-Ok-Beside.file c.in-Ok-Beside.path _ _ _ (c.in-Ok-Beside.is ∙ ap (λ w. Ok w) c.in-Ok-Beside.field-0-is) c.writing_of.ensures.writes
-    (finishes_made c.in-Ok-Beside.path c.tell_made.result c.make_listed-made.result.end (g.D.World.trace c.writing_of.new.world) (g.D.World.trace c.make_listed-made.new.world) (g.D.World.trace c.tell_made.new.world) c.make_listed-made.ensures.lent c.tell_made.ensures.named c.tell_made.ensures.done)
+    (finishes_made c.in-Ok-Beside.path c.tell_made.result c.make_listed-made.result.end (g.D.World.trace c.writing_of.new.world) (g.D.World.trace c.make_listed-made.new.world) (g.D.World.trace c.tell_made.new.world) c.make_listed-made.ensures.lent c.tell_made.ensures.named c.tell_made.ensures.done
+    (tree_is_done c.args.request.image c.make_listed-made.result.end c.make_listed-made.ensures.ends) c.tell_made.ensures.status)
 
 pub returns-in-Ok-InPlace-clause-made : goal.returns-in-Ok-InPlace-clause-made
 returns-in-Ok-InPlace-clause-made g c =
