@@ -45,7 +45,7 @@ test:
 	@scripts/needs.sh rt python3
 	@python3 scripts/test.py
 
-## make gate     what a change has to pass: make test, proofs from nothing, wrong bodies, examples
+## make gate     what a change has to pass: make test, all proofs, wrong bodies, command lines, the library
 gate:
 	@scripts/needs.sh rt python3
 	@python3 scripts/gate.py
