@@ -1,7 +1,8 @@
 #!/usr/bin/env python3
 """gate.py: the gate. It runs the tests, which need no proof (test.py). Then `rt ci` proves every
-crate except those of tests, over what an earlier run on this machine kept; beside it the sentinels (scripts/sentinels.txt), some of
-the wrong bodies, are tried, those of a crate once the crates below it are proved. The command lines
+crate except those of tests, over what an earlier run on this machine kept; beside it the sentinels
+(scripts/sentinels.txt), some of the wrong bodies, are tried, those of a crate once the crates below
+it are proved. The command lines
 are played again with the program that `rt ci` built, and with a C compiler the library for C is
 linked and tested, which counts as one; with a cross compiler and qemu, program and library are
 tested for 64-bit ARM. What is left out for want of a tool has a line at the end. The last line,
