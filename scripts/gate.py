@@ -2,11 +2,10 @@
 """gate.py: the gate. It runs the tests, which need no proof (test.py). Then `rt ci` proves every
 crate except those of tests, over what an earlier run on this machine kept; beside it the sentinels
 (scripts/sentinels.txt), some of the wrong bodies, are tried, those of a crate once the crates below
-it are proved. The command lines
-are played again with the program that `rt ci` built, and with a C compiler the library for C is
-linked and tested, which counts as one; with a cross compiler and qemu, program and library are
-tested for 64-bit ARM. What is left out for want of a tool has a line at the end. The last line,
-'N passed, M failed', counts all; the status is 0 if nothing failed.
+it are proved. The command lines are played again with the program that `rt ci` built, and with a C
+compiler the library for C is linked and tested, which counts as one; with a cross compiler and
+qemu, program and library are tested for 64-bit ARM. What is left out for want of a tool has a line
+at the end. The last line, 'N passed, M failed', counts all; the status is 0 if nothing failed.
 
 It works on a copy of the tree without the crates of tests and the wrong bodies. `rt ci` would prove
 each test function too, and try each wrong body with a check of the whole crate; wrong_bodies.py
