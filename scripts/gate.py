@@ -32,6 +32,8 @@ import test
 MEMORY = 5_000_000_000
 SENTINELS = "scripts/sentinels.txt"
 PROGRAM = "crates/uimg/out/uimg"
+# Where programs and libraries are made for the tests for 64-bit ARM (release.py).
+MADE = "out/release/x86_64"
 # What the tests for 64-bit ARM need.
 ARM_TOOLS = ("gcc", "ld", "objcopy", "ar", "prlimit", "aarch64-linux-gnu-gcc", "qemu-aarch64-static")
 # Built files are not copied, and the wrong bodies go to a folder of their own.
@@ -109,11 +111,11 @@ class Library(threading.Thread):
 
     def run(self):
         """Runs the steps, up to the first that fails."""
-        os.makedirs("out", exist_ok=True)
-        (compile_it,) = kit.Crates().compilation("uimg_c", os.path.abspath("out"))
+        os.makedirs(MADE, exist_ok=True)
+        (compile_it,) = kit.Crates().compilation("uimg_c", os.path.abspath(MADE))
         steps = (
             ("crates/uimg_c", compile_it),
-            (".", ["scripts/link.sh", "out/libuimg_c.a", "out/lib"]),
+            (".", ["scripts/link.sh", f"{MADE}/libuimg_c.a", "out/lib"]),
             (".", ["python3", "scripts/lib_test.py", PROGRAM, "out/lib"]),
         )
         for folder, words in steps:
@@ -125,9 +127,13 @@ class Library(threading.Thread):
 
 def arm64():
     """Tests the program and the library for 64-bit ARM beside those for x86-64, compiled over the
-    libraries of `rt ci`. Returns how many passed and failed."""
+    libraries of `rt ci`, which also compiled the program for x86-64, unless it was kept. Returns how
+    many passed and failed."""
     if is_left_out("64-bit ARM", ARM_TOOLS):
         return 0, 0
+    os.makedirs(MADE, exist_ok=True)
+    if os.path.isfile(f"{PROGRAM}.o"):
+        shutil.copy2(f"{PROGRAM}.o", MADE)
     status, lines = test.run(["python3", "scripts/release.py", "--compile"])
     print("\n".join(lines[-12:]), flush=True)
     return (0, 1) if status else counted(["scripts/arm64_test.py", "out/release"], dict(os.environ))

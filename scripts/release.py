@@ -5,7 +5,8 @@
 of both; PROVED.txt, with the commit, the kit and the prover's statement on each crate; SHA256SUMS.
 
 What is proved already is skipped. With --programs it stops once the programs and libraries are in
-out/release; with --compile it makes these over libraries that are there. All files have the time
+out/release; with --compile it makes these over libraries that are there, and compiles what is not
+in out/release yet. All files have the time
 of the commit and no path of this machine: the same commit gives the same bytes in another folder,
 and elsewhere with the same compilers. The files get into release/ once all are made.
 
@@ -102,9 +103,11 @@ def log_of(crate, machine):
 
 
 def compile_one(crate, machine):
-    """Proves and compiles a crate for a machine. Returns whether it is proved."""
+    """Proves and compiles a crate for a machine, unless that is done. Returns whether it is proved."""
     os.makedirs(machine.folder, exist_ok=True)
-    _, words = kit.Crates().object(crate, machine.folder, machine.target, machine.cpu)
+    made, words = kit.Crates().object(crate, machine.folder, machine.target, machine.cpu)
+    if os.path.isfile(made):
+        return True
     how = {"cwd": f"crates/{crate}", "stdin": subprocess.DEVNULL, "stderr": subprocess.STDOUT}
     with open(log_of(crate, machine), "w", encoding="utf-8") as log:
         return subprocess.run(words, stdout=log, **how).returncode == 0
@@ -207,7 +210,6 @@ def prove_below():
 
 def programs(machines):
     """Makes the program and the library for each machine, in its folder, over proved crates."""
-    shutil.rmtree(WORK, ignore_errors=True)
     compile_all(machines)
     for machine in machines:
         link(machine)
@@ -236,6 +238,7 @@ def release():
         fail("a release is made of a commit: commit the changes first")
     check_version()
     commit, time = run(["git", "log", "-1", "--format=%H %ct"]).split()
+    shutil.rmtree(WORK, ignore_errors=True)
     prove_below()
     programs(MACHINES)
     pack(commit, int(time))
@@ -248,6 +251,7 @@ def main(words):
         release()
         return
     if words == ["--programs"]:
+        shutil.rmtree(WORK, ignore_errors=True)
         prove_below()
     programs((X86, ARM))
 

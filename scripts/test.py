@@ -1,6 +1,6 @@
 #!/usr/bin/env python3
 """test.py: the tests, which need no proof. The crates of tests are compiled with run-time checks,
-and run, side by side (`rt try --test`). So is the program, against which the command lines of
+and run, side by side. So is the program, against which the command lines of
 cases/, README.md, docs/GUIDE.md, docs/JSON.md and the manual page are played; those that set limits
 which its checks exceed are named, and left to the proved program. With it agree_test.py holds the
 commands together.
@@ -24,10 +24,10 @@ COUNTS = r"^(\d+) passed, (\d+) failed$"
 PLAYED = [*sorted(glob.glob("cases/*.t")), "README.md", "docs/GUIDE.md", "docs/JSON.md", "docs/uimg.1"]
 
 
-def run(words, folder="."):
+def run(words, folder=".", **environment):
     """Runs a command. Returns its status, and the lines that it prints."""
     how = {"stdin": subprocess.DEVNULL, "stdout": subprocess.PIPE, "stderr": subprocess.STDOUT}
-    ended = subprocess.run(words, cwd=folder, text=True, errors="replace", **how)
+    ended = subprocess.run(words, cwd=folder, env={**os.environ, **environment}, text=True, errors="replace", **how)
     return ended.returncode, ended.stdout.rstrip("\n").split("\n")
 
 
@@ -40,8 +40,8 @@ def counted(lines, pattern):
 
 def tests_of(name):
     """Runs the tests of a crate. Returns how many passed and failed, and the lines to print."""
-    # With checks, beside other work, some tests take longer than the kit's limit of a minute.
-    status, lines = run(["env", "RT_SECONDS=300", kit.RT, "try", "--test"], f"crates/{name}")
+    with tempfile.TemporaryDirectory(prefix="uimg-tests-") as room:
+        status, lines = run(kit.Crates().trial(name), f"crates/{name}", TMPDIR=room)
     passed, failed = counted(lines, r"^test result: \w+\. (\d+) passed; (\d+) failed")
     if status and not failed:
         failed = 1

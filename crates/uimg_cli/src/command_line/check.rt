@@ -63,7 +63,6 @@ const FILES_FROM: &str = "Also check the images whose paths are in this file, on
 
 const NULS: &str = "Paths in that file end with NUL, not with a newline";
 
-#[tactic(auto, unfolding(crate::specs::Check::check))]
 pub(super) fn command<'a>(alloc: Global) -> Result<clap::Command<'a>, AllocError>
     ensures app { IfOk result (λ command. app_of command ≡ check) }
     ensures local { IfOk result (λ command. (fields_of command).has_globals ≡ false) }

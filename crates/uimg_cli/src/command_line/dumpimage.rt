@@ -30,7 +30,6 @@ const POSITION: &str = "Extract the part or payload at this position, counted fr
 
 const OUTFILE: &str = "Write the part or payload to this file";
 
-#[tactic(auto, unfolding(crate::specs::Dumpimage::dumpimage))]
 pub(super) fn command<'a>(alloc: Global) -> Result<clap::Command<'a>, AllocError>
     ensures app { IfOk result (λ command. app_of command ≡ dumpimage) }
     ensures local { IfOk result (λ command. (fields_of command).has_globals ≡ false) }

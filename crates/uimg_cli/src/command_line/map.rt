@@ -36,7 +36,6 @@ const SVG: &str = "Write a picture to this file instead of printing lines";
 
 const FORCE: &str = "Replace a file that exists by the picture";
 
-#[tactic(auto, unfolding(crate::specs::Map::map_command))]
 pub(super) fn command<'a>(alloc: Global) -> Result<clap::Command<'a>, AllocError>
     ensures app { IfOk result (λ command. app_of command ≡ map_command) }
     ensures local { IfOk result (λ command. (fields_of command).has_globals ≡ false) }

@@ -57,7 +57,6 @@ struct Addresses {
     entry: u32,
 }
 
-#[tactic(auto, unfolding(crate::specs::Mkimage::mkimage))]
 pub(super) fn command<'a>(alloc: Global) -> Result<clap::Command<'a>, AllocError>
     ensures app { IfOk result (λ command. app_of command ≡ mkimage) }
     ensures local { IfOk result (λ command. (fields_of command).has_globals ≡ false) }
@@ -70,7 +69,6 @@ pub(super) fn command<'a>(alloc: Global) -> Result<clap::Command<'a>, AllocError
 }
 
 // Adds the options of an image that is made from data.
-#[tactic(auto, unfolding(crate::specs::Mkimage::header_rules))]
 fn header_options<'a>(
     alloc: Global,
     command: clap::Command<'a>,
@@ -111,7 +109,6 @@ fn header_options<'a>(
 }
 
 // Adds the options of an image that is made from a source.
-#[tactic(auto, unfolding(crate::specs::Mkimage::source_rules))]
 fn source_options<'a>(
     alloc: Global,
     command: clap::Command<'a>,

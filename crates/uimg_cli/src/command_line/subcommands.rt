@@ -26,7 +26,6 @@ use uimg_requests::VERSION;
 const ABOUT: &str = "Makes, lists, verifies and unpacks U-Boot images";
 
 // Returns the program's command with all its subcommands.
-#[tactic(auto, unfolding(crate::specs::CommandLines::uimg))]
 pub(super) fn commands<'a>(alloc: Global) -> Result<Command<'a>, AllocError>
     ensures { IfOk result (λ command. app_of command ≡ uimg) }
 {

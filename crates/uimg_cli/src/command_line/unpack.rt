@@ -83,7 +83,6 @@ const MAX_BYTES: &str = "Unpack nothing if the files have more bytes together";
 
 const CLEAN: &str = "Remove the temporary files that stopped commands left in the folder";
 
-#[tactic(auto, unfolding(crate::specs::Unpack::unpack))]
 pub(super) fn command<'a>(alloc: Global) -> Result<clap::Command<'a>, AllocError>
     ensures app { IfOk result (λ command. app_of command ≡ unpack) }
     ensures local { IfOk result (λ command. (fields_of command).has_globals ≡ false) }
@@ -120,7 +119,6 @@ fn chosen_options<'a>(
 }
 
 // Adds the options of how files are written, and of how many.
-#[tactic(auto, unfolding(crate::specs::Unpack::written_rules))]
 fn written_options<'a>(
     alloc: Global,
     command: clap::Command<'a>,

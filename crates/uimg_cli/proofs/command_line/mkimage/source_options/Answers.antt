@@ -1,13 +1,9 @@
-use Rattle.std.proofs.Common.{◌≡◌, ◌∙◌, ap}
-use Rattle.clap.specs.Simple.{App, app_of, with_rule}
-use Rattle.clap.specs.Walk.{Rule}
+use Rattle.std.proofs.Common.{◌∙◌}
+use Rattle.clap.specs.Simple.{app_of}
 use Rattle.clap.specs.declared.builder.command.Command.TheViews.{out-Command as fields_of}
-use Rattle.uimg_cli.proofs.Chains.{onward}
+use Rattle.uimg_cli.proofs.Chains.{next, onward}
 use Rattle.uimg_cli.specs.Mkimage.{source_rules}
 use Rattle.uimg_cli.proofs.command_line.mkimage.source_options.Goals as goal
-
-next : {a b : App} (r : Rule) → a ≡ b → with_rule a r ≡ with_rule b r
-next r e = ap (λ a. with_rule a r) e
 
 pub returns-clause-app : goal.returns-clause-app
 unfolding source_rules
