@@ -18,7 +18,7 @@ import kit
 import prove
 
 # The most wrong bodies in a lot.
-LOT = 12
+LOT = 16
 # A crate was proved, in this run or by an earlier one on this machine over the same files.
 PROVED = re.compile(r"rt: (\w+) (?:proved|is kept: .*)\n")
 
