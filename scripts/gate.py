@@ -32,7 +32,7 @@ import test
 MEMORY = 5_000_000_000
 SENTINELS = "scripts/sentinels.txt"
 PROGRAM = "crates/uimg/out/uimg"
-# Where programs and libraries are made for the tests for 64-bit ARM (release.py).
+# Where release.py takes what is compiled for x86-64 already.
 MADE = "out/release/x86_64"
 # What the tests for 64-bit ARM need.
 ARM_TOOLS = ("gcc", "ld", "objcopy", "ar", "prlimit", "aarch64-linux-gnu-gcc", "qemu-aarch64-static")
@@ -127,12 +127,12 @@ class Library(threading.Thread):
 
 def arm64():
     """Tests the program and the library for 64-bit ARM beside those for x86-64, compiled over the
-    libraries of `rt ci`, which also compiled the program for x86-64, unless it was kept. Returns how
-    many passed and failed."""
+    libraries of `rt ci`. If that did not keep the proof of the program, it compiled the program for
+    x86-64 too. Returns how many passed and failed."""
     if is_left_out("64-bit ARM", ARM_TOOLS):
         return 0, 0
     os.makedirs(MADE, exist_ok=True)
-    if os.path.isfile(f"{PROGRAM}.o"):
+    if not kit.CPU and os.path.isfile(f"{PROGRAM}.o"):
         shutil.copy2(f"{PROGRAM}.o", MADE)
     status, lines = test.run(["python3", "scripts/release.py", "--compile"])
     print("\n".join(lines[-12:]), flush=True)

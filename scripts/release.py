@@ -5,10 +5,10 @@
 of both; PROVED.txt, with the commit, the kit and the prover's statement on each crate; SHA256SUMS.
 
 What is proved already is skipped. With --programs it stops once the programs and libraries are in
-out/release; with --compile it makes these over libraries that are there, and compiles what is not
-in out/release yet. All files have the time
-of the commit and no path of this machine: the same commit gives the same bytes in another folder,
-and elsewhere with the same compilers. The files get into release/ once all are made.
+out/release. With --compile it makes these over libraries that are there, and takes what the gate
+compiled and put into out/release. All files have the time of the commit and no path of this
+machine: the same commit gives the same bytes in another folder, and elsewhere with the same
+compilers. The files get into release/ once all are made.
 
 With CPU=x86-64-v3 in the environment, a release is the archives for such a processor alone, in
 release/x86-64-v3/."""
@@ -123,7 +123,7 @@ def compile_all(machines):
             if not is_proved:
                 print("\n".join(prove.first_error(log_of(crate, machine))))
                 fail(f"{crate} is not proved for {machine.name}; its log is {log_of(crate, machine)}")
-            print(f"{crate} proved and compiled for {machine.name}", flush=True)
+            print(f"{crate} is proved and compiled for {machine.name}", flush=True)
 
 
 def link(machine):
@@ -208,6 +208,12 @@ def prove_below():
         sys.exit(1)
 
 
+def clear():
+    """Removes what an earlier run compiled: what is there would be taken."""
+    if os.path.isdir(WORK):
+        shutil.rmtree(WORK)
+
+
 def programs(machines):
     """Makes the program and the library for each machine, in its folder, over proved crates."""
     compile_all(machines)
@@ -238,7 +244,7 @@ def release():
         fail("a release is made of a commit: commit the changes first")
     check_version()
     commit, time = run(["git", "log", "-1", "--format=%H %ct"]).split()
-    shutil.rmtree(WORK, ignore_errors=True)
+    clear()
     prove_below()
     programs(MACHINES)
     pack(commit, int(time))
@@ -251,7 +257,7 @@ def main(words):
         release()
         return
     if words == ["--programs"]:
-        shutil.rmtree(WORK, ignore_errors=True)
+        clear()
         prove_below()
     programs((X86, ARM))
 

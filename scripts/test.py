@@ -1,9 +1,8 @@
 #!/usr/bin/env python3
 """test.py: the tests, which need no proof. The crates of tests are compiled with run-time checks,
-and run, side by side. So is the program, against which the command lines of
-cases/, README.md, docs/GUIDE.md, docs/JSON.md and the manual page are played; those that set limits
-which its checks exceed are named, and left to the proved program. With it agree_test.py holds the
-commands together.
+and run, side by side. So is the program, against which the command lines of cases/, README.md,
+docs/GUIDE.md, docs/JSON.md and the manual page are played; those that set limits which its checks
+exceed are named, and left to the proved program. With it agree_test.py holds the commands together.
 
 It prints a line for each crate of tests and for the command lines, with what failed; then that
 nothing was proved, and last 'N passed, M failed'. The status is 0 if nothing failed."""
@@ -21,6 +20,8 @@ import try_build
 
 # The last line of play.py and agree_test.py.
 COUNTS = r"^(\d+) passed, (\d+) failed$"
+# The last line of tests that ran to their end.
+ENDED = r"^run=ended status=0 .*proved=no$"
 PLAYED = [*sorted(glob.glob("cases/*.t")), "README.md", "docs/GUIDE.md", "docs/JSON.md", "docs/uimg.1"]
 
 
@@ -43,7 +44,7 @@ def tests_of(name):
     with tempfile.TemporaryDirectory(prefix="uimg-tests-") as room:
         status, lines = run(kit.Crates().trial(name), f"crates/{name}", TMPDIR=room)
     passed, failed = counted(lines, r"^test result: \w+\. (\d+) passed; (\d+) failed")
-    if status and not failed:
+    if not failed and (status or not re.match(ENDED, lines[-1])):
         failed = 1
     return passed, failed, [*(lines[-24:] if failed else []), f"{name}: {passed} passed, {failed} failed"]
 
