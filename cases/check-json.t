@@ -170,7 +170,7 @@ Paths from a file, with one that is not UTF-8:
 Lines that cannot be written, and that nobody reads:
 
   $ uimg check --json kernel.img > /dev/full
-  uimg: write failed: No space left on device (os error 28)
+  uimg: cannot write standard output: No space left on device (os error 28)
   [3]
   $ (sleep 0.5; uimg check --json kernel.img 2> said; echo "status $?" >> said) | true
   $ cat said

@@ -246,7 +246,7 @@ Paths of at most 65536 bytes are read, far more than the system's have, so that 
 Lines that cannot be written, and that nobody reads:
 
   $ uimg check kernel.img > /dev/full
-  uimg: write failed: No space left on device (os error 28)
+  uimg: cannot write standard output: No space left on device (os error 28)
   [3]
   $ (sleep 0.5; uimg check kernel.img 2> said; echo "status $?" >> said) | true
   $ cat said

@@ -176,7 +176,8 @@ Helps
                  another way
     empty-data unknown-type unknown-architecture unknown-system
     unknown-compression
-                 With --strict: the header of the legacy image has no meaning
+                 With --strict: the legacy image has no data, or image.h has no
+                 name for this code of its header
     overlapping  With this image, the payloads to hash are longer than the file
     refused      The image is refused, with this fault
     failed       The file cannot be opened, a read failed, or memory ran out

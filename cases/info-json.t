@@ -219,7 +219,7 @@ A directory, a missing file, a pipe that nobody writes to, and an empty file; a 
 A line that cannot be written, and one that nobody reads:
 
   $ uimg info kernel.img > /dev/full
-  uimg: write failed: No space left on device (os error 28)
+  uimg: cannot write standard output: No space left on device (os error 28)
   [3]
   $ (sleep 0.5; uimg info kernel.img 2> said; echo "status $?" >> said) | true
   $ cat said

@@ -344,7 +344,7 @@ A file that cannot be read, a full device, and lines that nobody reads:
   uimg: cannot read pipe: it is a pipe
   [3]
   $ uimg map image.itb > /dev/full
-  uimg: write failed: No space left on device (os error 28)
+  uimg: cannot write standard output: No space left on device (os error 28)
   [3]
   $ (sleep 0.5; uimg map image.itb 2> said; echo "status $?" >> said) | true; cat said
   status 3

@@ -296,7 +296,28 @@ Listing and unpacking:
 Requests that fail:
 
   $ mkimage -A amd64 -d d out
-  mkimage: -A: unknown architecture 'amd64'; did you mean 'arm64'? mkimage -A list prints all names
+  mkimage: -A: unknown architecture 'amd64'; did you mean 'x86_64'? mkimage -A list prints all names
+  [2]
+  $ for name in aarch64 Amd64 armhf i386 i686 ppc64le riscv64 x64; do mkimage -A $name -d d out 2>&1 | grep -o "'.*'"; done
+  'aarch64'; did you mean 'arm64'
+  'Amd64'; did you mean 'x86_64'
+  'armhf'; did you mean 'arm'
+  'i386'; did you mean 'x86'
+  'i686'; did you mean 'x86'
+  'ppc64le'; did you mean 'powerpc'
+  'riscv64'; did you mean 'riscv'
+  'x64'; did you mean 'x86_64'
+  $ mkimage -A arm46 -d d out
+  mkimage: -A: unknown architecture 'arm46'; did you mean 'arm64'? mkimage -A list prints all names
+  [2]
+  $ mkimage -O uboot -d d out
+  mkimage: -O: unknown operating system 'uboot'; did you mean 'u-boot'? mkimage -O list prints all names
+  [2]
+  $ mkimage -C gz -d d out
+  mkimage: -C: unknown compression 'gz'; did you mean 'gzip'? mkimage -C list prints all names
+  [2]
+  $ mkimage -T gz -d d out
+  mkimage: -T: unknown image type 'gz'; mkimage -T list prints all names
   [2]
   $ mkimage -O android -d d out
   mkimage: -O: unknown operating system 'android'; mkimage -O list prints all names
@@ -428,7 +449,7 @@ The outfile gets its name when it is complete, also through a link, and an exist
   real
   $ rm link && ln -s folder/new link && mkimage -q -A arm -a 1000 -n name -d d link && cmp folder/new wanted && test -h link
   $ mkimage -A arm -a 1000 -n name -d d kept > /dev/full; cmp kept wanted; ls kept*
-  mkimage: write failed: No space left on device (os error 28)
+  mkimage: cannot write standard output: No space left on device (os error 28)
   kept
   $ mkfifo pipe && mkimage -q -A arm -d d pipe
   mkimage: cannot write pipe: it is a pipe

@@ -11,7 +11,17 @@ The completions have the commands, options and short names of the helps:
   >         "$top/completions/$1.bash" "$@"
   > }
   $ complete_at uimg ''
-  mkimage dumpimage verify check unpack info map --help --version
+  mkimage dumpimage verify check unpack info map help -h --help --version
+  $ complete_at uimg help m
+  mkimage map
+  $ complete_at uimg check --n
+  --need
+  $ complete_at uimg check --need-hash ''
+  -o default
+  
+  $ complete_at uimg unpack --directory ''
+  -o default
+  
   $ complete_at uimg mkimage -A arm
   arm arm64
   $ complete_at uimg dumpimage -T f

@@ -185,7 +185,7 @@ Refusals come before anything is written:
   $ fit 'abcde { data = [61]; };' && uimg unpack -C none k.itb
   uimg: cannot create none/abcde: No such file or directory (os error 2)
   [3]
-  $ uimg unpack --help | grep -c 'Write the files to this folder, which has to exist$'
+  $ uimg unpack --help | grep -c 'Write the files to this folder, which must exist$'
   1
   $ uimg unpack -C k.its k.itb
   uimg: cannot create k.its/abcde: Not a directory (os error 20)
@@ -251,7 +251,7 @@ Nobody reads the lines, and there is no space for them:
   $ rm -r out && mkdir out && fit 'a { data = [61 62 63]; };' && (sleep 0.1; uimg unpack -C out k.itb; echo $? > status) | true; sleep 0.5; cat status
   3
   $ rm -f out/a && uimg unpack -C out k.itb > /dev/full
-  uimg: write failed: No space left on device (os error 28)
+  uimg: cannot write standard output: No space left on device (os error 28)
   [3]
   $ ls -A out
   a
@@ -348,7 +348,7 @@ and files:
   {"path":"abc-kernel.img","status":1,"verdict":"weak","format":"legacy","algo":"crc32"}
   [1]
   $ rm out/* && uimg unpack --json -C out abc-kernel.img > /dev/full
-  uimg: write failed: No space left on device (os error 28)
+  uimg: cannot write standard output: No space left on device (os error 28)
   [3]
   $ uimg unpack --json --clean -C out
   uimg: --clean with --json
@@ -634,7 +634,7 @@ A failed write leaves no file, and a line that nobody reads leaves no folder:
   3
   $ ls -A out && rm out/* && uimg unpack -C out abc-kernel.img > /dev/full
   image-0
-  uimg: write failed: No space left on device (os error 28)
+  uimg: cannot write standard output: No space left on device (os error 28)
   [3]
   $ ls -A out
   image-0

@@ -2,7 +2,7 @@
 _uimg() {
     local current=${COMP_WORDS[COMP_CWORD]} previous=${COMP_WORDS[COMP_CWORD - 1]}
     if test "$COMP_CWORD" = 1; then
-        COMPREPLY=($(compgen -W 'mkimage dumpimage verify check unpack info map --help --version' -- "$current"))
+        COMPREPLY=($(compgen -W 'mkimage dumpimage verify check unpack info map help -h --help --version' -- "$current"))
         return
     fi
     case "${COMP_WORDS[1]}" in
@@ -31,15 +31,15 @@ _uimg() {
             ;;
         check)
             case "$previous" in
-                --need|--need-hash) COMPREPLY=($(compgen -W 'crc32 md5 sha1 sha256 sha384 sha512' -- "$current")); return ;;
+                --need) COMPREPLY=($(compgen -W 'crc32 md5 sha1 sha256 sha384 sha512' -- "$current")); return ;;
             esac
             test "${current#-}" = "$current" || { COMPREPLY=($(compgen -W '--need --strict --files-from -0 --json --quiet --allow-empty -h --help' -- "$current")); return; }
             ;;
         unpack)
             case "$previous" in
-                -C|--directory) compopt -o dirnames; return ;;
+                -C) compopt -o dirnames; return ;;
                 --only) return ;;
-                --need|--need-hash) COMPREPLY=($(compgen -W 'crc32 md5 sha1 sha256 sha384 sha512' -- "$current")); return ;;
+                --need) COMPREPLY=($(compgen -W 'crc32 md5 sha1 sha256 sha384 sha512' -- "$current")); return ;;
                 --max-files) return ;;
                 --max-bytes) return ;;
             esac
@@ -50,6 +50,10 @@ _uimg() {
             ;;
         map)
             test "${current#-}" = "$current" || { COMPREPLY=($(compgen -W '--svg --force -h --help' -- "$current")); return; }
+            ;;
+        help)
+            COMPREPLY=($(compgen -W 'mkimage dumpimage verify check unpack info map help' -- "$current"))
+            return
             ;;
     esac
     compopt -o default

@@ -1,5 +1,7 @@
 # Made by scripts/completions.py from the helps of uimg.
 complete -c uimg -n __fish_use_subcommand -f
+complete -c uimg -n __fish_use_subcommand -s h -l help -d 'Print help'
+complete -c uimg -n __fish_use_subcommand -l version -d 'Print the name and the version'
 complete -c uimg -n __fish_use_subcommand -f -a mkimage -d 'Make an image from files, or list one'
 complete -c uimg -n '__fish_seen_subcommand_from mkimage' -s A -x -a 'arm x86 mips mips64 ppc powerpc sandbox arm64 x86_64 riscv' -d 'The architecture'
 complete -c uimg -n '__fish_seen_subcommand_from mkimage' -s O -x -a 'netbsd linux vxworks qnx u-boot rtems plan9 arm-trusted-firmware tee opensbi efi' -d 'The operating system'
@@ -32,7 +34,7 @@ complete -c uimg -n '__fish_seen_subcommand_from check' -l quiet -d 'Print no li
 complete -c uimg -n '__fish_seen_subcommand_from check' -l allow-empty -d 'Accept a file of paths that has none'
 complete -c uimg -n '__fish_seen_subcommand_from check' -s h -l help -d 'Print help'
 complete -c uimg -n __fish_use_subcommand -f -a unpack -d 'Write the payloads of an image to a folder, if their hashes are right'
-complete -c uimg -n '__fish_seen_subcommand_from unpack' -s C -x -a '(__fish_complete_directories)' -d 'Write the files to this folder, which has to exist'
+complete -c uimg -n '__fish_seen_subcommand_from unpack' -s C -x -a '(__fish_complete_directories)' -d 'Write the files to this folder, which must exist'
 complete -c uimg -n '__fish_seen_subcommand_from unpack' -l only -x -d 'Unpack only the payload of the image of this name, or one part: image-0'
 complete -c uimg -n '__fish_seen_subcommand_from unpack' -l need -x -a 'crc32 md5 sha1 sha256 sha384 sha512' -d 'Require a hash by this algorithm or a stronger one'
 complete -c uimg -n '__fish_seen_subcommand_from unpack' -l force -d 'Replace files that exist'
@@ -50,3 +52,5 @@ complete -c uimg -n __fish_use_subcommand -f -a map -d 'Show the layout of an im
 complete -c uimg -n '__fish_seen_subcommand_from map' -l svg -r -d 'Write a picture to this file instead of printing lines'
 complete -c uimg -n '__fish_seen_subcommand_from map' -l force -d 'Replace a file that exists by the picture'
 complete -c uimg -n '__fish_seen_subcommand_from map' -s h -l help -d 'Print help'
+complete -c uimg -n __fish_use_subcommand -f -a help -d 'Print this message or the help of the given subcommand(s)'
+complete -c uimg -n '__fish_seen_subcommand_from help' -f -a 'mkimage dumpimage verify check unpack info map help'

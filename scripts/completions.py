@@ -14,8 +14,8 @@ HEAD = "# Made by scripts/completions.py from the helps of uimg."
 # What takes the name of a file, and of a folder.
 FILES = ("data", "source", "outfile", "file", "tree", "ramdisk")
 FOLDERS = ("folder",)
-# Spellings of options that the helps leave out, by what they take.
-MORE = {"folder": ["--directory"], "algo": ["--need-hash"]}
+# What uimg takes in place of a command.
+ALONE = ["-h", "--help", "--version"]
 
 
 class Option:
@@ -55,8 +55,8 @@ def short_names(text):
 
 def commands(program):
     """Returns each command of uimg, with its meaning and its options."""
-    rows = re.findall(r"^  (?!help)(\w+) {2,}(.*)$", printed(program, "--help"), re.M)
-    return [(name, meaning, options(printed(program, name, "--help"))) for name, meaning in rows]
+    rows = re.findall(r"^  (\w+) {2,}(.*)$", printed(program, "--help"), re.M)
+    return [(name, meaning, [] if name == "help" else options(printed(program, name, "--help"))) for name, meaning in rows]
 
 
 def old_options(program, name):
@@ -76,7 +76,7 @@ def bash_rows(taken):
     """The lines of a function of bash that complete options."""
     rows = []
     for it in taken:
-        spelled = "|".join(it.spellings + MORE.get(it.takes, []))
+        spelled = "|".join(it.spellings)
         if it.names:
             rows.append(f"    {spelled}) COMPREPLY=($(compgen -W '{' '.join(it.names)}' -- \"$current\")); return ;;")
         elif it.takes in FOLDERS:
@@ -94,10 +94,12 @@ def bash_function(name, rows):
 
 
 def bash(all_commands):
-    words = f"{' '.join(it[0] for it in all_commands)} --help --version"
+    names = " ".join(it[0] for it in all_commands)
+    words = f"{names} {' '.join(ALONE)}"
     rows = ['if test "$COMP_CWORD" = 1; then', f"    COMPREPLY=($(compgen -W '{words}' -- \"$current\"))", "    return", "fi", 'case "${COMP_WORDS[1]}" in']
     for name, _, taken in all_commands:
-        rows += [f"    {name})", *(f"        {it}" for it in bash_rows(taken)), "        ;;"]
+        lines = [f"COMPREPLY=($(compgen -W '{names}' -- \"$current\"))", "return"] if name == "help" else bash_rows(taken)
+        rows += [f"    {name})", *(f"        {it}" for it in lines), "        ;;"]
     return bash_function("uimg", [*rows, "esac"])
 
 
@@ -117,8 +119,9 @@ def zsh(all_commands):
     listed = [f"        '{name}:{quoted(meaning)}'" for name, meaning, _ in all_commands]
     rows = []
     for name, _, taken in all_commands:
-        rows += [f"        {name})", *(f"            {it}" for it in zsh_rows(taken)), "            ;;"]
-    begin = ["#compdef uimg", HEAD, "if (( CURRENT == 2 )); then", "    local -a commands=(", *listed, "    )", "    _describe command commands", "else"]
+        lines = ["_describe command commands"] if name == "help" else zsh_rows(taken)
+        rows += [f"        {name})", *(f"            {it}" for it in lines), "            ;;"]
+    begin = ["#compdef uimg", HEAD, "local -a commands=(", *(it[4:] for it in listed), ")", "if (( CURRENT == 2 )); then", f"    compadd -- {' '.join(ALONE)}", "    _describe command commands", "else"]
     return "\n".join([*begin, "    local command=$words[2]", "    shift words", "    (( CURRENT-- ))", "    case $command in", *rows, "    esac", "fi", ""])
 
 
@@ -137,8 +140,11 @@ def fish_rows(command, taken):
 def fish(all_commands):
     quoted = lambda text: text.replace("\\", "\\\\").replace("'", "\\'")
     rows = [HEAD, "complete -c uimg -n __fish_use_subcommand -f"]
+    rows += fish_rows("complete -c uimg -n __fish_use_subcommand", [Option(["-h", "--help"], "", "Print help", {}), Option(["--version"], "", "Print the name and the version", {})])
     for name, meaning, taken in all_commands:
         rows.append(f"complete -c uimg -n __fish_use_subcommand -f -a {name} -d '{quoted(meaning)}'")
+        if name == "help":
+            rows.append(f"complete -c uimg -n '__fish_seen_subcommand_from help' -f -a '{' '.join(it[0] for it in all_commands)}'")
         rows += fish_rows(f"complete -c uimg -n '__fish_seen_subcommand_from {name}'", taken)
     return "\n".join([*rows, ""])
 

@@ -7,7 +7,7 @@ ghost use Rattle.uimg_compat.specs.Wrong.{IsWrong, Tells, Wrong, unknown_name, w
 ghost use Rattle.uimg_compat.specs.declared.names.Named.{Named};
 
 use crate::fault::OldFault;
-use crate::nearest::nearest;
+use crate::nearest::meant;
 use std::alloc::Global;
 use uimg_base::FLAT_DT;
 use uimg_names::{Field, Naming};
@@ -79,7 +79,7 @@ fn unknown_name<'a>(alloc: Global, field: Field, word: &'a str) -> OldFault<'a>
     let letter = letter_of(field);
     let title = title_of(field);
     let shown = Printed(word.as_bytes());
-    match nearest(alloc, field, word) {
+    match meant(alloc, field, word) {
         Ok(Some(nearest)) => OldFault::NearName {
             letter,
             title,

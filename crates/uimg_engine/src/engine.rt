@@ -13,7 +13,6 @@ use uimg_base::{Out, Room, Source, Status};
 use uimg_names::Naming;
 use uimg_requests::{Action, Command};
 
-// Carries out an action on a legacy image.
 pub(crate) fn run_legacy<S: Source, A: Allocator, W: Write>(
     naming: Naming,
     action: Action,
@@ -31,7 +30,6 @@ pub(crate) fn run_legacy<S: Source, A: Allocator, W: Write>(
     Ok(status)
 }
 
-// Carries out an action on a FIT image.
 fn run_fit<S: Source, A: Allocator, W: Write>(
     naming: Naming,
     action: Action,
@@ -51,16 +49,33 @@ fn run_fit<S: Source, A: Allocator, W: Write>(
 
 /// Carries out a command on an image: writes its listing (with the names of the profile), its
 /// verification report, one part of a legacy image or one payload of a FIT image to `out`. Returns
-/// the status.
+/// the status. Where the format is to be guessed, a file that begins with `0xd00dfeed` is a FIT
+/// image, any other a legacy image.
 ///
-/// Over an honest source, if no read, write or growth of the room failed, exactly the outcome of
-/// the command is written and returned: all its text, and its status or its first fault. Returns
-/// `Fault::Read` exactly if a read failed, `Fault::Put` exactly if a write failed, and
-/// `OutOfMemory` of the blob exactly if the room refused to grow, which only a FIT image needs;
-/// over an honest source a prefix of the text was written then. At every exit at most `work` bytes
-/// of an honest source were requested, and the room took at most 128 bytes for each node of a FIT
-/// image that was met, and none for a legacy image. A refused extraction writes nothing. A fault of
-/// making is never returned.
+/// Over an honest source:
+///
+/// - `headline`: if no read, write or growth of the room failed, the end is that of `outcome_of`:
+///   done, a wrong hash, or the first fault; and exactly its text was appended.
+/// - `prefix`: at every exit a prefix of that text was appended.
+/// - `asked`: at most `work` bytes were requested. FIT image: 64, 1024 for each node and property,
+///   and 4 for each NOP and each byte of a text. A verification requests each payload at most once,
+///   and none whose hash values are not compared; an extraction requests its payload. Legacy image:
+///   80, 16 for each size in its table, the data, and in an extraction the part.
+/// - `ahead`: at every exit an extraction requested at most the work of a listing, the bytes that
+///   were appended, and 8192.
+/// - `peak`: the room never held more than before, or 8192 bytes and 128 for each node of a FIT
+///   image that was met.
+///
+/// Over any source:
+///
+/// - `read`, `put`, `no_memory`: `Fault::Read` is returned exactly if a read failed, `Fault::Put`
+///   exactly if a write failed, `OutOfMemory` of the blob exactly if the room refused to grow.
+/// - `not_making`: a fault that only a build has is never returned: L9, L10, B10, F5 to F10, `Its`,
+///   `NoFile`, `Keep`, `OutOfMemory`.
+/// - `untouched`: an extraction that is refused, for want of memory too, appended nothing.
+/// - `most`: the room never held more than before, or 8320 bytes and 16 for each byte of the source.
+/// - `legacy`: for a legacy image the room is cleared and takes no memory.
+/// - `same`: the bytes of the source and its honesty are unchanged.
 pub fn run<S: Source, A: Allocator, W: Write>(
     command: &Command,
     source: &mut S,

@@ -1,4 +1,4 @@
-//! The making of an image.
+//! `make`: builds an image on a shelf, reopens it and lists it.
 
 ghost use Rattle.std.specs.Prelude.{◌≡◌, false, Some, [], is_err, IsTrue, IsOk, IfOk, IfErr};
 ghost use Rattle.std.specs.Io.KnownBytes.{Keeps};
@@ -31,14 +31,17 @@ use uimg_requests::{MakeCommand, Manner};
 /// the image of the filled tree that the source spells is appended and reads back: its hashes are
 /// right, and each payload is found in it.
 ///
-/// Returns the first fault: `Fault::OutOfMemory` if memory for the opened files or for the text was
-/// refused; `Fault::NoFile` if a file or the source could not be opened; `Fault::Legacy` as
-/// `uimg_legacy::build` does; `Fault::Its`, `Fault::Fit` and `Fault::Blob` as `uimg_its::compile`,
-/// `uimg_fit::fill` and `uimg_fit::build` do. All these come before the first byte, except `NoFile`
-/// of `Fit`. Over honest files a prefix of the image was appended at `NoFile` of `Fit`, and at
-/// `Fault::Read` and `Fault::Put`, which mean that a read or a write failed. If what the files open
-/// is steady, `Fault::Read` and `ReadFailed` of `Its` are never returned (of a source: over honest
-/// files), nor `ReadFailed` of `Fit` over honest files.
+/// Returns the first fault. Nothing was appended, but at the last three over honest files a prefix
+/// of the image:
+///
+/// - `OutOfMemory`: memory for the opened files or for the text was refused.
+/// - `NoFile`: a file or the source could not be opened.
+/// - `Legacy`: as `uimg_legacy::build`.
+/// - `Its`, `Fit`, `Blob`: as `uimg_its::compile`, `uimg_fit::fill` and `uimg_fit::build`.
+/// - `Fit(NoFile)`: the file of a payload could not be opened.
+/// - `Read`: a read failed. Never, if what the files open is steady (of a source: over honest
+///   files); then `ReadFailed` of `Its` is not returned either, nor that of `Fit` over honest files.
+/// - `Put`: a write failed.
 pub fn build_image<F: Files, W: Write, A: Allocator + Copy>(
     alloc: A,
     command: &MakeCommand,
@@ -74,7 +77,6 @@ pub fn build_image<F: Files, W: Write, A: Allocator + Copy>(
     }
 }
 
-// Returns the shelf after all that was written to it is flushed.
 pub(crate) fn write_out<H: Shelf>(image: Out<H>) -> Result<H, Fault>
     ensures written { IfOk result (λ shelf. Keeps image.contents (H.contents shelf)) }
     ensures fault { IfErr result (λ fault. fault ≡ Fault.Put) }
@@ -86,7 +88,6 @@ pub(crate) fn write_out<H: Shelf>(image: Out<H>) -> Result<H, Fault>
     }
 }
 
-// Reopens what was written to a shelf.
 pub(crate) fn keep<H: Shelf>(shelf: H) -> Result<H::Kept, Fault>
     ensures kept { IsTrue H.honest → IfOk result (KeepsBytes H.Kept.device (H.contents shelf)) }
     ensures fault { IfErr result (λ fault. fault ≡ Fault.Keep) }
@@ -99,38 +100,50 @@ pub(crate) fn keep<H: Shelf>(shelf: H) -> Result<H::Kept, Fault>
     }
 }
 
-/// Makes an image at a time, in seconds since 1970: builds the image of the command on the shelf,
-/// reopens it, and writes its listing to `out`, with the names of the profile. Returns what was
-/// kept. If the payloads of a FIT image are after the blob, its end and each payload's are rounded
-/// up to a multiple of 4.
+/// Builds the image of the command on the shelf, at a time in seconds since 1970, reopens it, and
+/// writes its listing to `out`, with the names of the profile. Returns what was kept. If the
+/// payloads of a FIT image are after the blob, its end and each payload's are rounded up to a
+/// multiple of 4.
 ///
-/// Over honest files and an honest, empty shelf, the image of `build_image` was kept, which reads
-/// back, and exactly its listing was written. Returns the first fault: one of `build_image`, or
-/// `Fault::Keep` if what was written could not be reopened; nothing is listed then. Returns
-/// `Fault::Read` or `Fault::Put` if a read or a write of the files, the shelf or the listing
-/// failed, and `OutOfMemory` of the blob if memory for the table of a FIT image's nodes was
-/// refused; over honest files and shelf a prefix of the listing was written then. If a shelf keeps
-/// other bytes than were written, `Fault::Legacy`, `Fault::Blob` and `Fault::Fit` may also come
-/// from its listing, after some lines, but they are no faults of making.
+/// Over honest files and an honest, empty shelf:
 ///
-/// If what the files open and what the shelf keeps are steady, `Fault::Read` and `ReadFailed` of
-/// `Its` are never returned (of a source: over honest files), nor `ReadFailed` of `Fit` over honest
-/// files. Over a steady shelf `Fault::Keep` is never returned. Over any files and shelf, at `Ok` no
-/// read of what was kept failed, and if that is honest, exactly its listing was written, with no
-/// fault.
+/// - `made`: the image of `build_image` was kept, which reads back, and exactly its listing was
+///   written; or a fault was returned, with the meaning below.
+/// - `peak`: the room took at most 128 bytes for each node of the FIT image.
 ///
-/// The room takes memory for the listing alone: none for a legacy image, and over honest files and
-/// an honest, empty shelf at most 128 bytes for each node of the FIT image. A fault of making only
-/// clears it.
+/// Over any files and shelf:
 ///
-/// Over honest files and an honest, empty shelf a fault means the following (`StopsMaking` of
-/// `specs/Making.antt`, `StopsSource` of `specs/MakingTrees.antt`). `Legacy`: the names have bytes,
-/// which are refused with it. `NoFile(i)` of parts: a name of number i exists, and the names before
-/// it have bytes. `Keep` and `Put`: the parts are accepted, or the filled tree can be built.
-/// `Read`: the names have bytes, or the source has, or the filled tree can be built. `Its`: the
-/// source has a text, whose words spell no tree unless it is I5, I6 or I7. `Fit` and `Blob`: the
-/// words spell a tree that filling or building refuses with it, or memory for the table of nodes
-/// was refused. `OutOfMemory`, and `NoFile` of a source, say nothing of the files.
+/// - `files`: the files are unchanged. Except at F9, `NoFile` and I5 of a source are returned
+///   exactly if the count of refused opens rose. Over complete files `NoFile` names only a file that
+///   does not exist, and over complete and honest ones F9 is never returned.
+/// - `opened`: exactly the files of the definition were opened, in order, or the first ones at a
+///   fault: the parts of a legacy image; of a FIT image the source, the files that its text
+///   includes, those that are summed, and those of the filled tree as it is written.
+/// - `quiet`, `puts`, `put`: after a fault that only a build has, nothing of a listing was written.
+///   A write of the listing failed only if `Put` is returned; if none failed, `Put` is the shelf's.
+/// - `steady_reads`, `steady_payloads`, `steady_keeps`: where what is opened and kept never fails,
+///   neither `Read` nor `ReadFailed` of `Its` (of a source: over honest files) is returned, nor that
+///   of `Fit` over honest files; where the shelf always keeps, never `Keep`.
+/// - `listed`, `kept_reads`: at `Ok` no read of what was kept failed, and if that is honest, exactly
+///   its listing was written, with no fault.
+/// - `room`: a fault of the build only clears the room, and a legacy image takes no memory of it.
+///
+/// Returns the first fault. If a shelf keeps other bytes than were written, `Legacy`, `Blob` and
+/// `Fit` may also come from its listing, after some lines. Over honest files and an honest, empty
+/// shelf a fault means this (`StopsMaking` of `specs/Making.antt`, `StopsSource` of
+/// `specs/MakingTrees.antt`):
+///
+/// - `Legacy`: the parts have bytes, which are refused with it.
+/// - `NoFile(i)` of parts: a name of number i exists, and the names before it have bytes.
+/// - `Its`: the source has a text, whose tokens spell no tree unless it is I5, I6 or I7.
+/// - `Fit`, `Blob`: the text spells a tree that filling or building refuses with it, or memory for
+///   the table of nodes was refused.
+/// - `Read`: a read failed; the parts have bytes, or the source has, or the filled tree can be
+///   built. A prefix of the listing was written.
+/// - `Put`: a write failed; the parts are accepted, or the filled tree can be built. A prefix of the
+///   listing was written.
+/// - `Keep`: what was written could not be reopened. Nothing is listed.
+/// - `OutOfMemory`, and `NoFile` of a source, say nothing of the files.
 pub fn make<F: Files, H: Shelf, W: Write, A: Allocator + Copy, B: Allocator>(
     alloc: A,
     command: &MakeCommand,
@@ -169,8 +182,8 @@ pub fn make<F: Files, H: Shelf, W: Write, A: Allocator + Copy, B: Allocator>(
     make_by(alloc, command, manner, files, shelf, room, out)
 }
 
-/// Makes an image as `make` does, in a manner: at its time, listed with its names, and with the end
-/// of a FIT image's blob and of each payload after it rounded up to its alignment.
+/// Builds and lists an image as `make` does, in a manner: at its time, listed with its names, and
+/// with the end of a FIT image's blob and of each payload after it rounded up to its alignment.
 pub fn make_by<F: Files, H: Shelf, W: Write, A: Allocator + Copy, B: Allocator>(
     alloc: A,
     command: &MakeCommand,

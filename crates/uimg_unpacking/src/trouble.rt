@@ -86,7 +86,7 @@ pub enum Trouble {
     Put,
 
     /// A line could not be printed, for this reason.
-    #[error("write failed: {0}")]
+    #[error("cannot write standard output: {0}")]
     CannotPrint(io::Error),
 
     /// The reader has closed the output.

@@ -93,7 +93,8 @@ A line has the path of the image and the first finding:
                another way
   empty-data unknown-type unknown-architecture unknown-system
   unknown-compression
-               With --strict: the header of the legacy image has no meaning
+               With --strict: the legacy image has no data, or image.h has no
+               name for this code of its header
   overlapping  With this image, the payloads to hash are longer than the file
   refused      The image is refused, with this fault
   failed       The file cannot be opened, a read failed, or memory ran out
@@ -119,8 +120,8 @@ pub(super) const UNPACK_NOTES: &str = "Algorithms, from the weakest to the stron
   <algo>  crc32 md5 sha1 sha256 sha384 sha512
 
 Each payload is read once, and hashed while it is written to a temporary folder,
-.uimg-new1 in the folder. The files get their names together, once all are on the
-disk (--no-sync does not wait for that), and only if each hash of their images is
+.uimg-new1 in the folder. All files appear at once, when all are on the disk
+(--no-sync does not wait for that), and only if each hash of their images is
 right and, with --need, one of them is strong enough. If one is refused,
 nothing in the folder changes, and only refused ones have a line; --keep-good
 keeps the others. The lines:
@@ -160,8 +161,8 @@ Exit status:
   1  A payload is refused, the image or part does not exist, or the image is refused
      or becomes too many files or bytes
   2  The command line is wrong, or a file would replace the image
-  3  The image cannot be opened, a file exists or cannot be written, or memory
-     ran out";
+  3  The image cannot be opened, a file exists (without --force) or cannot be
+     written, or memory ran out";
 
 /// The notes of map.
 pub(super) const MAP_NOTES: &str =
@@ -187,8 +188,8 @@ Exit status:
   1  It was written, but the image is refused, or a payload, a part or the data
      end outside the file
   2  The command line is wrong, or the picture would replace the image
-  3  A file cannot be opened or written, or the picture exists, a read failed, or
-     memory ran out";
+  3  A file cannot be opened or written, the picture exists (without --force), a
+     read failed, or memory ran out";
 
 /// The notes of info.
 pub(super) const INFO_NOTES: &str =

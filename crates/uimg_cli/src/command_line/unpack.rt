@@ -69,7 +69,7 @@ const NEED: &str = "Require a hash by this algorithm or a stronger one";
 
 const FORCE: &str = "Replace files that exist";
 
-const FOLDER: &str = "Write the files to this folder, which has to exist";
+const FOLDER: &str = "Write the files to this folder, which must exist";
 
 const JSON: &str = "Print a JSON object for each payload or part";
 
