@@ -55,10 +55,11 @@ wrong-bodies:
 	@scripts/needs.sh rt python3
 	@python3 scripts/lots.py $(CRATE)
 
-## make definitions   counts the definitions behind the two theorems, for docs/DEFINITIONS.md
+## make definitions CRATE=uimg_map   prints what each file of a crate's specs/ defines; without it,
+##               counts the definitions behind `run` and `make`, for docs/DEFINITIONS.md
 definitions:
 	@scripts/needs.sh python3
-	@python3 scripts/definitions.py
+	@python3 scripts/definitions.py $(CRATE)
 
 ## make contracts CRATE=uimg_its   lists a crate's public functions with their clauses; without it,
 ##               how much of each crate is under a contract

@@ -1,17 +1,17 @@
 /* uimg.h: lists and verifies U-Boot images in memory, legacy images and FIT images, and locates their payloads.
    Link libuimg.a or libuimg.so. Texts are byte for byte those of the program uimg.
 
-   Proved for every image, well formed or not (docs/LIBRARY.md has the contracts): a call returns, reads nothing
-   outside the image, writes nothing outside the memory that it is given, and returns what the definition says of
-   the image's bytes, or UIMG_NO_MEMORY. Only tested: that UIMG_NO_MEMORY comes only if memory was refused, the
-   lines of faults, and the memory calls in C (library/).
+   Proved for every image, well formed or not (LIBRARY.md has the contracts): a call returns, reads nothing outside
+   the image, writes nothing outside the memory that it is given, and returns what the definition says of the image's
+   bytes, or UIMG_NO_MEMORY. Only tested: that UIMG_NO_MEMORY comes only if memory was refused, and the memory calls
+   in C (library/).
 
-   No call checks signatures or the hash nodes of configurations. Right hashes say that the image is undamaged, and not
-   who made it.
+   No call checks signatures or the hash nodes of configurations: right hashes say that the image is undamaged, not who
+   made it.
 
    On x86-64 the library needs a processor of the level x86-64-v2 (SSE4.2), and uses the SSE registers.
 
-   The caller has to ensure:
+   The caller must ensure:
    - No pointer is null, even for a size of 0, and each points to as many bytes as its size says.
    - The text buffer and the report or payload overlap neither each other nor the image, and are initialized (by
      calloc or = {0}). During the call nobody else writes the image (or writes or truncates a mapped file), and
@@ -89,34 +89,46 @@ enum uimg_need {
     UIMG_SHA512 = 6
 };
 
-/* Checks an image without printing, like `uimg check --need` (needed and written are 0). Returns report->status: 0 only
-   if each hash of a FIT is right, by crc16-ccitt too, which uimg_verify calls unsupported, the FIT has an image, each of
-   its images has a right hash by the needed algorithm or a stronger one, and their payloads together are not longer than
-   the file; of a legacy image, only if uimg_verify returns 0. Checks images in their order, and stops at
-   the first that is not right. Reads no more bytes of payloads than the file has, and takes no memory for a text.
-   A legacy image has CRC-32 alone, and is refused if its table of parts does not fit its data. No image meets a number
-   that is not in the list above. */
+/* Checks an image without printing, like `uimg check --need` (needed and written are 0). Images are checked in order, up
+   to the first that is not right. Reads no more bytes of payloads than the file has, and takes no memory for a text.
+
+   Returns report->status, which is 0 only if
+   - the FIT has an image,
+   - each hash of its images is right, also one by crc16-ccitt, which uimg_verify calls unsupported,
+   - each of its images has a right hash by `need` or a stronger algorithm,
+   - their payloads together are not longer than the file;
+   of a legacy image, only if uimg_verify returns 0, `need` is UIMG_CRC32, and its table of parts fits its data.
+   With a `need` that is not in the list above the call always fails. */
 uint32_t uimg_check(const uint8_t *image, size_t image_size, uint32_t need, uimg_report *report);
 
 /* Checks an image as uimg_check does and, if that finds all right, whether U-Boot reads what was checked. U-Boot
-   searches a FIT more loosely than a check: by a name up to an @, or by the first of two properties. So it may take
-   other bytes than those whose hashes are right. If this call returns 0, U-Boot 2023.01 finds in a FIT exactly the
-   images that were checked, each with the payload whose hashes are right, and compares no others; a legacy image has
-   data, and a type, an architecture, a system and a compression that image.h names. What uimg_check takes and this call
-   does not is refused by a fault with the letter S, whose line has the word of `uimg check --strict`, as "S3
-   unit-address". Unlike the program it does not look whether the images that a configuration names exist. Takes memory
-   for the names in one node, which peak does not count. */
+   searches a FIT more loosely than a check: by a name up to an @, or by the first of two properties. So it may load
+   bytes that no hash covers.
+
+   If this call returns 0, U-Boot 2023.01 finds in a FIT exactly the images that were checked, each with the payload
+   whose hashes are right, and compares no other hash; a legacy image has data, and a type, an architecture, a system
+   and a compression that image.h names. What uimg_check accepts and this call does not is refused by a fault with the
+   letter S, whose line has the word of `uimg check --strict`, as "S3 unit-address". Unlike the program it does not
+   check that the images that a configuration names exist. Takes memory for the names in one node, which peak does not
+   count. */
 uint32_t uimg_check_strict(const uint8_t *image, size_t image_size, uint32_t need, uimg_report *report);
 
-/* Locates the part of a legacy image, or the payload of an image in a FIT, by its position, counted from 0. Returns
-   payload->status; for a legacy image that is never UIMG_NO_MEMORY. The checksums of a legacy image are verified; the
-   payload of a FIT is not read, so verify it first. L8 and F4 say that there is no such position; F2, F3 and L7 are
-   faults of this position; any other fault is one of the image, for every position. */
+/* Locates the part of a legacy image, or the payload of an image in a FIT, by its position, counted from 0. The
+   checksums of a legacy image are verified; the payload of a FIT is not read, so check it first.
+
+   Returns payload->status; for a legacy image that is never UIMG_NO_MEMORY. The fault is
+   - L8 or F4 if there is no such position,
+   - F2, F3 or L7 if the payload or part at this position is missing or outside the image,
+   - any other if the image is refused, whatever the position. */
 uint32_t uimg_payload_at(const uint8_t *image, size_t image_size, uint32_t position, uimg_payload *payload);
 
-/* Locates the payload of the first image with a name in a FIT; the name is not terminated by NUL. Returns
-   payload->status. The fault is F4 if no image has the name, and B2 for a legacy image, whose parts have no names. The
-   structure block is read once, so this is quick with many images, too. */
+/* Locates the payload of the first image with a name in a FIT; the name is not terminated by NUL. The structure block
+   is read once, however many images there are.
+
+   Returns payload->status. The fault is
+   - F4 if no image has the name,
+   - B2 for a legacy image, whose parts have no names,
+   - any other as for uimg_payload_at. */
 uint32_t uimg_payload_named(const uint8_t *image, size_t image_size, const uint8_t *name, size_t name_size,
                             uimg_payload *payload);
 

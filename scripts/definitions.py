@@ -1,6 +1,7 @@
 #!/usr/bin/env python3
-"""definitions.py: counts the definitions behind the two theorems, and writes the counts into
-docs/DEFINITIONS.md.
+"""definitions.py [CRATE]: counts the definitions behind `run` and `make`, and writes the counts
+into docs/DEFINITIONS.md. With a crate it prints what each file of the crate's specs/ defines, and
+writes nothing.
 
 A theorem is the contract of a function. Its definitions are those that its clauses name, those
 that these name, and so on. A definition counts with the comment above it; imports and blank
@@ -8,6 +9,7 @@ lines do not. A local variable with the name of a definition makes it count too,
 be a little too high."""
 import glob
 import re
+import sys
 
 import uses
 
@@ -130,7 +132,19 @@ def total(its, more=""):
     return f"{len(its)} | {sum(len(it.lines) for it in its)}{more} | {len({it.file for it in its})} |"
 
 
+def print_files(crate):
+    """Prints what each file of a crate's specs/ defines, by its first comment."""
+    for path in sorted(glob.glob(f"crates/{crate}/specs/**/*.antt", recursive=True)):
+        with open(path, encoding="utf-8") as file:
+            head = re.match(r"(?:-- .*\n)+", file.read())
+        if head:
+            print(f"{path}: {' '.join(it[3:] for it in head[0].splitlines())}")
+
+
 def main():
+    if sys.argv[1:]:
+        print_files(sys.argv[1])
+        return
     all_of = Definitions()
     reading, making = (all_of.of_contract(*it) for it in THEOREMS.values())
     new = [it for it in making if it not in reading]
@@ -138,13 +152,13 @@ def main():
     with open(TEXT, encoding="utf-8") as file:
         text = file.read()
     text = re.sub(r"(?m)^(\| reading \| \d+ lines \| ).*$", lambda it: it[1] + total(reading), text)
-    text = re.sub(r"(?m)^(\| making \| \d+ lines \| ).*$", lambda it: it[1] + total(making, more), text)
+    text = re.sub(r"(?m)^(\| building \| \d+ lines \| ).*$", lambda it: it[1] + total(making, more), text)
     whole = sum(len(it.lines) for it in all_of.files.values())
-    text = re.sub(r"(All of `crates/\*/specs` has )[\d,]+", lambda it: f"{it[1]}{whole:,}", text)
+    text = re.sub(r"(All of `crates/\*/specs`.*? has )[\d,]+", lambda it: f"{it[1]}{whole:,}", text)
     lines = [counted_row(it, reading + new, all_of.files) for it in text.split("\n")]
     with open(TEXT, "w", encoding="utf-8") as file:
         file.write("\n".join(lines))
-    print(f"reading: {total(reading)}\nmaking: {total(making, more)}")
+    print(f"reading: {total(reading)}\nbuilding: {total(making, more)}")
 
 
 if __name__ == "__main__":

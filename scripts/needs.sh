@@ -23,6 +23,6 @@ for command; do
     has "${command%% *}" || missing="$missing${missing:+; }$what"
 done
 test -z "$missing" || {
-    echo "uimg needs $missing (see README.md, \"Install\")" >&2
+    echo "uimg needs $missing (see CONTRIBUTING.md, \"What you need\")" >&2
     exit 1
 }
