@@ -1,8 +1,9 @@
 #!/usr/bin/env python3
 """test.py: the tests, which need no proof. The crates of tests are compiled with run-time checks,
 and run, side by side. So is the program, against which the command lines of cases/, README.md,
-docs/GUIDE.md, docs/JSON.md and the manual page are played; those that set limits which its checks
-exceed are named, and left to the proved program. With it agree_test.py holds the commands together.
+docs/GUIDE.md, docs/JSON.md and the manual pages are played; those that set limits which its checks
+exceed are named, and left to the proved program. With it agree_test.py holds the commands together,
+and documents.py the documents.
 
 It prints a line for each crate of tests and for the command lines, with what failed; then that
 nothing was proved, and last 'N passed, M failed'. The status is 0 if nothing failed."""
@@ -50,20 +51,26 @@ def tests_of(name):
 
 
 def command_lines():
-    """Plays the command lines, and holds the commands together. Returns how many passed and failed,
-    and the lines to print."""
+    """Plays the command lines, and holds the commands and the documents together. Returns how many
+    passed and failed, and the lines to print."""
     with tempfile.TemporaryDirectory(prefix="uimg-tried-") as room:
         os.chmod(room, 0o755)
         if not try_build.build(room):
             with open(f"{room}/log", encoding="utf-8", errors="replace") as log:
                 return 0, 1, [*log.read().rstrip("\n").split("\n")[-24:], "uimg: it was not compiled"]
-        _, lines = run(["scripts/play.py", "--tried", f"{room}/uimg", *PLAYED])
-        _, more = run(["scripts/agree_test.py", f"{room}/uimg"])
-    passed, failed = counted(lines, COUNTS)
-    agreed, not_agreed = counted(more, COUNTS)
-    said = [*lines[:-1], f"command lines: {passed} passed, {failed} failed"]
-    said += [*more[:-1][-24:], f"commands that agree: {agreed} passed, {not_agreed} failed"]
-    return passed + agreed, failed + not_agreed, said
+        program = f"{room}/uimg"
+        parts = (
+            ("command lines", ["scripts/play.py", "--tried", program, *PLAYED]),
+            ("commands that agree", ["scripts/agree_test.py", program]),
+            ("documents", ["scripts/documents.py", program]),
+        )
+        said, passed, failed = [], 0, 0
+        for what, words in parts:
+            _, lines = run(words)
+            more, bad = counted(lines, COUNTS)
+            passed, failed = passed + more, failed + bad
+            said += [*lines[:-1], f"{what}: {more} passed, {bad} failed"]
+    return passed, failed, said
 
 
 def test():

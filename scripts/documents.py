@@ -1,0 +1,222 @@
+#!/usr/bin/env python3
+"""documents.py PROGRAM: holds the documents against the tree and the program.
+
+- Each file that a document names exists, as a path from the top, from docs/, or as the end of a path
+  in a crate, and so does each target of make.
+- Each option in a document is one of PROGRAM, of its other names, or of OTHERS.
+- Each command's options in its help, its manual page and its completions are the same.
+- Each line of a fault is in uimg-faults(7), with its code, and no document has a code that does not
+  exist.
+- Each figure of FIGURES has one value, wherever it stands.
+- No document has a phrase of HABITS.
+- mandoc finds nothing in a manual page, if it is installed.
+
+It prints a line for what is wrong; the last is 'N passed, M failed'."""
+import glob
+import os
+import re
+import shutil
+import subprocess
+import sys
+import tempfile
+
+MANUALS = sorted(glob.glob("docs/*.[1-8]"))
+TEXTS = ["README.md", "SECURITY.md", "CHANGELOG.md", "CONTRIBUTING.md", *sorted(glob.glob("docs/*.md")), "bench/TABLE.md"]
+# Endings of names that are files of this tree.
+FILE = re.compile(r"(?<![\w/.*-])((?:[\w.-]+/)*[\w-]+\.(?:rt|antt|py|sh|t|md|schema\.json|svg|c|h|txt))(?![\w/*])")
+# Files that examples make, and that belong to others.
+NOT_HERE = re.compile(
+    r"^(?:map|layout|kernel|SHA256SUMS|PROVED|results|fdt_\w+|image-fit|hash|image|fit_image|fit_common|"
+    r"imagetool|rust|program|report|libfdt|stdint|stddef|elf|mkuboot|flash-kernel|getopt)\.(?:svg|txt|c|h|sh|md)$"
+)
+# Options of other programs that documents name.
+OTHERS = set(
+    "--sshlogin --jobs --bar --nice --undefined --stage-times --progress --library-path --only --cpu --target --prefix "
+    "--strip-components --cflags --libs --clean --help --version --quiet".split()
+)
+# What stands in several places and must have one value: a name, and patterns whose group is the value.
+FIGURES = {
+    "version": (r"uimg[-_](\d+\.\d+\.\d+)[-_.](?:x86|aarch|amd|arm)", r'"uimg (\d+\.\d+\.\d+)"'),
+    "logic of the kit": (r"logic `?([0-9a-f]{16})",),
+    "lines of definitions for reading and building": (r"definitions: ([\d,]+) lines for listing", r"\| building \| \d+ lines \| \d+ \| (\d+)"),
+    "stack of a source of 60 levels, in KiB": (r"60 levels takes? (\d+) KiB", r"60 levels takes? less than (\d+) KiB"),
+    "most files of an unpacking": (r"more than (\d{4}) files", r"(\d{4}) files, or", r"if there are more files \((\d+)\)"),
+    "bytes of memory for each byte of a file": (r"(\d+) (?:per|for each) byte of (?:the )?(?:file|source)",),
+    "bytes of memory for each node": (r"(\d+) (?:bytes )?for each node of a FIT", r"(\d+) bytes a node"),
+    "memory of a proof, in GB": (r"(\d) GB of memory for each proof",),
+    "levels that sources nest": (r"at most (\d+) levels deep",),
+    "wrong bodies that the gate tries": (r"all proofs, (\d+) wrong bodies",),
+}
+HABITS = re.compile(
+    r"\b(?:another one than|has to be|have to be|has to|have to|is told|are told|was told|asked for|of which|"
+    r"is otherwise as it was|words of a command line|stands in|is no refusal|gets? their names together)\b"
+)
+CODE = re.compile(r"(?<![\w-])([LBFIS])(\d{1,2})(?![\w.-])")
+
+passed, wrong = 0, []
+
+
+def hold(is_right, text):
+    """Counts a fact, and notes the text if it is wrong."""
+    global passed
+    passed += bool(is_right)
+    if not is_right and text not in wrong:
+        wrong.append(text)
+
+
+def read(path):
+    with open(path, encoding="utf-8") as file:
+        return file.read()
+
+
+def plain(path):
+    """Returns a document as it is read: of a manual page without its macros."""
+    text = read(path)
+    if path in MANUALS:
+        text = re.sub(r'\\f[BIRP]|\\&|(?m:^\.\\".*$)', "", text).replace("\\-", "-").replace("\\e", "\\").replace("\\(aq", "'")
+        text = re.sub(r'(?m)^\.(?:BR|RB|B|I|IR|RI|BI|IB|SH|SS|TP|IP|SM) ?(.*)$', lambda it: joined(it[0]), text)
+    return text
+
+
+def joined(line):
+    """Returns the text of a macro: that of an alternating one without blanks between its arguments."""
+    macro, _, rest = line[1:].partition(" ")
+    words = [a or b for a, b in re.findall(r'"((?:[^"]|"")*)"|(\S+)', rest)]
+    return ("" if macro in ("BR", "RB", "IR", "RI", "BI", "IB") else " ").join(words)
+
+
+def printed(*words):
+    told = subprocess.run(words, stdin=subprocess.DEVNULL, stdout=subprocess.PIPE, stderr=subprocess.STDOUT)
+    return told.stdout.decode(errors="replace")
+
+
+def files():
+    """Each file and target that a document names exists."""
+    ends = {""}
+    for path in glob.glob("crates/**/*", recursive=True):
+        parts = path.split("/")
+        ends |= {"/".join(parts[at:]) for at in range(len(parts))}
+    targets = set(re.findall(r"(?m)^([\w-]+):", read("Makefile"))) | {"install", "clean"}
+    for path in [*TEXTS, *MANUALS]:
+        for number, line in enumerate(plain(path).split("\n"), 1):
+            for it in FILE.findall(line):
+                is_there = os.path.exists(it) or os.path.exists(f"docs/{it}") or it in ends or f"{os.path.dirname(path)}/{it}" in ends
+                is_there = is_there or any(os.path.exists(f"{top}/{it}") for top in ("cases", "scripts", "bench", "peers", "examples", "include", "library"))
+                hold(is_there or NOT_HERE.match(it.rpartition("/")[2]), f"{path}:{number}: there is no file {it}")
+            for it in re.findall(r"(?:`|^ {4,})make ([a-z][\w-]*)", line):
+                hold(it in targets, f"{path}:{number}: there is no target {it}")
+
+
+def options_of(text):
+    """Returns the options that a help lists, each with all of its spellings."""
+    return set(re.findall(r"(?<![\w-])(--?[a-zA-Z0-9][\w-]*)", "\n".join(re.findall(r"(?m)^ +(?:-\w|--\w).*?(?: {2,}|$)", text))))
+
+
+def helps(program):
+    """Returns the options of each command, and of the other names."""
+    found = {}
+    for name in re.findall(r"(?m)^  (?!help)(\w+) {2,}", printed(program, "--help")):
+        found[f"uimg {name}"] = options_of(printed(program, name, "--help"))
+    with tempfile.TemporaryDirectory() as folder:
+        for name in ("uimg-mkimage", "uimg-dumpimage"):
+            os.symlink(program, f"{folder}/{name}")
+            found[name] = options_of(printed(f"{folder}/{name}", "-h"))
+    return found
+
+
+def manual_options(path, command):
+    """Returns the options that a manual page has for a command: those of the section with its name,
+    or of the whole page."""
+    text = plain(path)
+    if command.startswith("uimg "):
+        raw = read(path)
+        found = re.search(rf"(?ms)^\.S[HS] \"?(?:uimg )?{command[5:]}\b.*?(?=^\.S[HS] |\Z)", raw, re.I)
+        if not found:
+            return None
+        text = found[0].replace("\\-", "-").replace("\\fB", "").replace("\\fR", "").replace("\\fI", "").replace("\\fP", "")
+    return set(re.findall(r"(?<![\w-])(--?[a-zA-Z0-9][\w-]*)", text))
+
+
+def options(program):
+    """Options in documents exist, and helps, manual pages and completions have the same."""
+    by_command = helps(program)
+    known = set().union(*by_command.values()) | OTHERS
+    for command, own in by_command.items():
+        page = "docs/uimg.1" if command.startswith("uimg ") else f"docs/{command}.1"
+        there = manual_options(page, command)
+        hold(there is not None, f"{page}: there is no section on {command}")
+        for it in sorted(own - {"-h", "--help"}):
+            hold(there is None or it in there, f"{page}: {command} has the option {it}")
+        completion = read(f"completions/{command.split()[0]}.bash")
+        for it in sorted(own):
+            hold(re.search(rf"(?<![\w-]){it}(?![\w-])", completion), f"completions: {command} has the option {it}")
+    for path in [*TEXTS, "docs/uimg.1"]:
+        for number, line in enumerate(plain(path).split("\n"), 1):
+            for span in re.findall(r"`([^`]*)`", line) if path in TEXTS else [line]:
+                for it in re.findall(r"(?<![\w\-=])(--[a-z][\w-]+)", span):
+                    hold(it in known, f"{path}:{number}: no help has the option {it}")
+
+
+def faults():
+    """Lines of faults are in uimg-faults(7), and codes in documents exist."""
+    page, codes = re.sub(r"\s+", " ", plain("docs/uimg-faults.7")), set()
+    for path in glob.glob("crates/*/src/**/*.rt", recursive=True):
+        if "_tests/" in path:
+            continue
+        for code, text in re.findall(r'"([LBFI]\d{1,2}) ([a-z][^"{:]*)', read(path)):
+            codes.add(code)
+            hold(f"{code} {text}".strip() in page or (code in page and text.strip() in page), f"docs/uimg-faults.7: lacks {code} {text}")
+    words = re.findall(r'=> "([a-z-]+)"', read("crates/uimg_strict/src/loose.rt"))
+    codes |= {f"S{at + 1}" for at in range(len(words))}
+    for at, it in enumerate(words):
+        hold(it in page and f"S{at + 1}" in page, f"docs/uimg-faults.7: lacks S{at + 1} {it}")
+    for path in [*TEXTS, *MANUALS]:
+        for number, line in enumerate(plain(path).split("\n"), 1):
+            for letter, digits in CODE.findall(line):
+                hold(letter + digits in codes, f"{path}:{number}: there is no fault {letter}{digits}")
+
+
+def figures(program):
+    """A figure has one value in all documents and helps."""
+    texts = {path: re.sub(r"\s+", " ", plain(path)) for path in [*TEXTS, *MANUALS, "debian/control", "include/uimg.h"]}
+    texts["the help of unpack"] = printed(program, "unpack", "--help")
+    for name, patterns in FIGURES.items():
+        found = {}
+        for path, text in texts.items():
+            for value in (it for pattern in patterns for it in re.findall(pattern, text)):
+                found.setdefault(value.replace(",", ""), path)
+        hold(found, f"no document has the figure: {name}")
+        hold(len(found) < 2, f"{name}: {'; '.join(f'{value} in {path}' for value, path in sorted(found.items()))}")
+
+
+def habits():
+    for path in [*TEXTS, *MANUALS]:
+        for number, line in enumerate(plain(path).split("\n"), 1):
+            found = HABITS.search(line)
+            hold(not found, f"{path}:{number}: '{found and found[0]}': say it as a colleague would")
+
+
+def lint():
+    if not shutil.which("mandoc"):
+        print("manual pages were not checked: apt install mandoc")
+        return
+    for path in MANUALS:
+        said = printed("mandoc", "-Tlint", "-Wall", path)
+        hold(not said, said.rstrip())
+
+
+def main(words):
+    program = os.path.abspath(words[0])
+    os.chdir(os.path.dirname(os.path.dirname(os.path.abspath(__file__))))
+    files()
+    options(program)
+    faults()
+    figures(program)
+    habits()
+    lint()
+    print("\n".join([*wrong, f"{passed} passed, {len(wrong)} failed"]))
+    return 1 if wrong else 0
+
+
+if __name__ == "__main__":
+    sys.exit(main(sys.argv[1:]))
