@@ -23,12 +23,12 @@ other_names Compression = (codes "gz" , codes "gzip") ∷ []
 
 -- a row of a table in the code
 abbrev pub pair_of : Bor Text × Bor Text → Text × Text
-pair_of row = row.0.now , row.1.now
+pair_of row = (row.0.now , row.1.now)
 
 -- the name that a well-known other name stands for, in any case
 abbrev pub name_meant : List (Text × Text) → Text → Option Text
 name_meant others word =
-    option_map (λ row. row.1) (find (λ row. str_eq_ignore_ascii_case word row.0) others)
+    option_map (λ row. row.1) (find (λ row. str_eq_ignore_ascii_case row.0 word) others)
 
 -- the fewest insertions, deletions and replacements of characters from one text to the other
 unfoldable pub edits : Text → Text → ℕ

@@ -1,6 +1,7 @@
 //! The known name that a mistaken one means.
 
 ghost use Rattle.std.specs.{Option.option_or, Prelude.{◌≡◌, IfOk, map, option_map}};
+ghost use Rattle.std.specs.Str.{str_eq_ignore_ascii_case};
 ghost use Rattle.uimg_names.specs.Naming.{all_rows};
 ghost use Rattle.uimg_compat.specs.Nearest.{name_meant, nearest_below, other_names, pair_of};
 
@@ -57,11 +58,17 @@ fn meant_by(field: Field, word: &str) -> Option<&'static str>
 {
     let rows = others(field);
     for (other, name) in rows {
-        if word.eq_ignore_ascii_case(other) {
+        if is_same(other, word) {
             return Some(*name);
         }
     }
     None
+}
+
+fn is_same(other: &str, word: &str) -> bool
+    ensures { result ≡ str_eq_ignore_ascii_case other.now word.now }
+{
+    other.eq_ignore_ascii_case(word)
 }
 
 fn nearest(alloc: Global, field: Field, word: &str) -> Result<Option<&'static str>, AllocError>
