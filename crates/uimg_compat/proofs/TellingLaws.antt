@@ -1,5 +1,5 @@
 -- What is told in two steps is told in one.
-use Rattle.std.proofs.Common.{◌≡◌, ◌∙◌, ◌++◌, ◌+◌, ◌-◌, ◌<◌, ◌≤◌, ◌^◌, ℕ, zero, suc, Bool, true, false, not, refl, ap, sym, subst, arith, List, [], ◌∷◌, Option, Result, Ok, Err, OnOk, is_err, is_ok, IsTrue, length, take, filter, append_assoc, append-nil, nat_lt, ltb-true, ltb-false, lt-ltb}
+use Rattle.std.proofs.Common.{◌≡◌, ◌∙◌, ◌++◌, ◌+◌, ◌-◌, ◌<◌, ◌≤◌, ◌^◌, ℕ, zero, suc, Bool, true, false, not, refl, ap, sym, subst, arith, List, [], ◌∷◌, Option, Result, Ok, Err, OnOk, is_err, is_ok, IsTrue, length, take, append_assoc, append-nil, nat_lt, ltb-true, ltb-false, lt-ltb}
 use Rattle.std.specs.{Io.KnownBytes.Appends, List.flat_map, Prelude.{if◌then◌else◌}}
 use Rattle.std.proofs.Math.Nat.{suc-ne-zero}
 use Rattle.std.proofs.KnownBytes.{Appends-nil, Appends-trans}

@@ -8,22 +8,22 @@ use Rattle.uimg_compat.specs.Getopt.{Text}
 -- What others call an architecture, an operating system or a compression, and its name in image.h.
 abbrev pub other_names : Field → List (Text × Text)
 other_names Architecture =
-    (codes "aarch64" , codes "arm64")
-    ∷ (codes "amd64" , codes "x86_64")
-    ∷ (codes "armhf" , codes "arm")
-    ∷ (codes "i386" , codes "x86")
-    ∷ (codes "i686" , codes "x86")
-    ∷ (codes "ppc64le" , codes "powerpc")
-    ∷ (codes "riscv64" , codes "riscv")
-    ∷ (codes "x64" , codes "x86_64")
+    (codes "aarch64", codes "arm64")
+    ∷ (codes "amd64", codes "x86_64")
+    ∷ (codes "armhf", codes "arm")
+    ∷ (codes "i386", codes "x86")
+    ∷ (codes "i686", codes "x86")
+    ∷ (codes "ppc64le", codes "powerpc")
+    ∷ (codes "riscv64", codes "riscv")
+    ∷ (codes "x64", codes "x86_64")
     ∷ []
-other_names System = (codes "uboot" , codes "u-boot") ∷ []
+other_names System = (codes "uboot", codes "u-boot") ∷ []
 other_names Kind = []
-other_names Compression = (codes "gz" , codes "gzip") ∷ []
+other_names Compression = (codes "gz", codes "gzip") ∷ []
 
 -- a row of a table in the code
 abbrev pub pair_of : Bor Text × Bor Text → Text × Text
-pair_of row = (row.0.now , row.1.now)
+pair_of row = (row.0.now, row.1.now)
 
 -- the name that a well-known other name stands for, in any case
 abbrev pub name_meant : List (Text × Text) → Text → Option Text

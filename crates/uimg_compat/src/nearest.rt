@@ -34,7 +34,7 @@ pub(crate) fn meant(
 ) -> Result<Option<&'static str>, AllocError>
     ensures { IfOk result (λ found. option_map (λ name. name.now) found
         ≡ option_or (name_meant (other_names field) word.now)
-            (nearest_below 3 word.now (map (λ row. row.short) (all_rows field)))) }
+        (nearest_below 3 word.now (map (λ row. row.short) (all_rows field)))) }
 {
     match meant_by(field, word) {
         Some(name) => Ok(Some(name)),

@@ -84,7 +84,10 @@ impl<'a, V: Write> Complaints<'a, V> {
         let path = Printed(path.as_bytes());
         match reason {
             Some(reason) => self.tell(&RequestFault::Unread(path, reason), FAILED),
-            None => self.tell(&format_args!("cannot read {path}: it could not be opened, but now it can"), FAILED),
+            None => self.tell(
+                &format_args!("cannot read {path}: it could not be opened, but now it can"),
+                FAILED,
+            ),
         }
     }
 
@@ -107,7 +110,10 @@ impl<'a, V: Write> Complaints<'a, V> {
         if is_closed(error) {
             return FAILED;
         }
-        self.tell(&format_args!("cannot write standard output: {error}"), FAILED)
+        self.tell(
+            &format_args!("cannot write standard output: {error}"),
+            FAILED,
+        )
     }
 }
 

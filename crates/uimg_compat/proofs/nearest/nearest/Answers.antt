@@ -1,7 +1,7 @@
 use Rattle.std.proofs.Common.{◌∙◌, ◌+◌, ap, sym, map, drop, option_map, lt-ltb}
 use Rattle.std.specs.Option.{option_or}
 use Rattle.uimg_texts.specs.CodeRows.{row_of}
-use Rattle.uimg_compat.specs.{Getopt.Text, Nearest.{edits, nearest_below}}
+use Rattle.uimg_compat.specs.{Nearest.{edits, nearest_below}}
 use Rattle.uimg_compat.proofs.{LoopLaws.at_one, NearestLaws.{nearer, no_nearer}, TellingLaws.le-ltb}
 use Rattle.uimg_compat.proofs.nearest.nearest.Goals.{then-edits-fewest, else-edits-fewest}
 use Rattle.uimg_compat.proofs.nearest.nearest.Goals as goal
