@@ -44,7 +44,6 @@ fn run(rt: &HostRuntime) -> io::Result<u8> {
     Ok(status)
 }
 
-// Returns whether a word asks for less output.
 fn is_quiet(words: &[&str]) -> bool {
     words.iter().any(|word| *word == "-q" || *word == "--quiet")
 }

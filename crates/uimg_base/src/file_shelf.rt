@@ -66,7 +66,7 @@ impl<'a, R: Files + AllocGlobal> FileShelf<'a, R> {
 impl<'a, R: Files + AllocGlobal> Write for FileShelf<'a, R> {
     ghost contents = { λ s. shelf_contents (writer_contents R.File.contents) s.file };
 
-    /// Writes to the file. The first write creates it.
+    /// The first write creates the file.
     fn write(&mut self, buf: &[u8]) -> io::Result<usize>
         ensures bound { WritesAtMost result buf.now }
         ensures bytes { WriteAppends
@@ -91,7 +91,6 @@ impl<'a, R: Files + AllocGlobal> Write for FileShelf<'a, R> {
         count
     }
 
-    /// Writes the buffered bytes to the file.
     fn flush(&mut self) -> io::Result<()>
         ensures bytes { Keeps (shelf_contents (writer_contents R.File.contents) self.old.file)
             (shelf_contents (writer_contents R.File.contents) self.new.file) }

@@ -41,7 +41,6 @@ impl Sums for NoSums {
     fn feed_all(&mut self, _bytes: &[u8]) {}
 }
 
-/// Feeds bytes to sums, and writes them. Returns `MoveFault::Put` if a write failed.
 pub(crate) fn put_fed<M: Sums, W: Write>(
     bytes: &[u8],
     sums: &mut M,
@@ -60,8 +59,8 @@ pub(crate) fn put_fed<M: Sums, W: Write>(
     }
 }
 
-/// Writes at least one of the bytes, as many as the writer accepts at once, and feeds these to sums.
-/// Returns how many. Returns `MoveFault::Put` if a write failed; then nothing was written.
+/// Writes at least one of the bytes, as many as the writer accepts at once, and feeds these to
+/// sums. Returns how many. After a fault nothing was written.
 pub(crate) fn put_some_fed<M: Sums, W: Write>(
     bytes: &[u8],
     sums: &mut M,

@@ -16,7 +16,7 @@ use crate::tokens::read_token;
 use std::alloc::Allocator;
 use uimg_base::{Room, Source};
 
-// Reads a token and acts on it. Returns `None` if it ends the tree.
+// Returns `None` if the token ends the tree.
 fn step<S: Source, A: Allocator>(
     source: &mut S,
     room: &mut Room<A>,
@@ -37,7 +37,6 @@ fn step<S: Source, A: Allocator>(
     Ok(Some(next))
 }
 
-// Reads the tokens of the structure block up to the last, or up to the first fault.
 fn pass<S: Source, A: Allocator>(
     source: &mut S,
     room: &mut Room<A>,

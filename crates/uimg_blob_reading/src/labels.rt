@@ -18,7 +18,6 @@ pub(crate) enum Label {
     Other,
 }
 
-// Returns the label of a name.
 pub(crate) fn label_of(name: &[u8]) -> Label
     ensures { result ≡ label_of name.now }
 {

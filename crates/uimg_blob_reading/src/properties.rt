@@ -59,7 +59,6 @@ fn step<S: Source, A: Allocator>(
     }
 }
 
-// Collects the properties from an offset on.
 fn gather<S: Source, A: Allocator>(
     alloc: Global,
     source: &mut S,
@@ -80,7 +79,6 @@ fn gather<S: Source, A: Allocator>(
     Ok(places)
 }
 
-// Reads the header again and returns the blocks.
 fn extent_again<S: Source>(source: &mut S, totalsize: u32) -> Result<Extent, PropertiesFault>
     ensures uses { Asks 40 (is_unread result) (S.device source.old) (S.device source.new) }
     ensures inside { IfOk result (λ extent. IsInside extent (length (S.device source.old).bytes)) }

@@ -11,7 +11,7 @@ use std::alloc::Allocator;
 use std::io::Write;
 use uimg_base::{MoveFault, Out, Room, Source, SourceFault, Span, WINDOW, before_nul};
 
-// Writes the text at the start of at most one window of bytes. Returns whether a NUL ended it.
+// Writes at most one window of bytes. Returns whether a NUL ended the text.
 fn put_window<S: Source, W: Write>(
     source: &mut S,
     window: &mut [u8; WINDOW],
@@ -37,7 +37,6 @@ fn put_window<S: Source, W: Write>(
     Ok(text.len() < len)
 }
 
-// Writes a text through a window.
 fn put_through<S: Source, W: Write>(
     source: &mut S,
     window: &mut [u8; WINDOW],

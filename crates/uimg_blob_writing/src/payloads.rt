@@ -12,7 +12,6 @@ use std::alloc::Allocator;
 use std::io::Write;
 use uimg_base::{Files, Out, WINDOW};
 
-// Writes a value.
 #[tactic(auto, using(crate::proofs::OpenedLaws::each_none))]
 fn put_value<F: Files, W: Write, A: Allocator>(
     value: &Value<A>,

@@ -26,7 +26,6 @@ const LAST_COMPATIBLE: u32 = 16;
 
 const BOOT_CPU: u32 = 0;
 
-// Writes the header.
 fn put_header<W: Write, A: Allocator>(layout: &Layout<A>, out: &mut Out<W>) -> Result<(), PutFault>
     ensures { Writes (is_err result) out.old out.new
         (header (totalsize layout.now) (structure_offset layout.now.reservations)
@@ -49,14 +48,12 @@ fn put_header<W: Write, A: Allocator>(layout: &Layout<A>, out: &mut Out<W>) -> R
     ])
 }
 
-// Writes a name and its NUL.
 fn put_name<W: Write>(name: &[u8], out: &mut Out<W>) -> Result<(), PutFault>
     ensures { Writes (is_err result) out.old out.new (with_nul name.now) }
 {
     out.put_pieces(&[name, &[0]])
 }
 
-// Writes the strings block.
 fn put_strings<W: Write>(names: &[&[u8]], out: &mut Out<W>) -> Result<(), PutFault>
     ensures { Writes (is_err result) out.old out.new (strings (name_texts names.now)) }
 {
@@ -66,7 +63,6 @@ fn put_strings<W: Write>(names: &[&[u8]], out: &mut Out<W>) -> Result<(), PutFau
     Ok(())
 }
 
-// Writes the blob of a tree, piece by piece.
 fn put_blob<F: Files, W: Write, A: Allocator>(
     tree: &Tree<A>,
     layout: &Layout<A>,

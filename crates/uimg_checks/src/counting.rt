@@ -11,7 +11,6 @@ use uimg_base::{MemSource, Room};
 use uimg_engine::{Fault, is_fit};
 use uimg_requests::Form;
 
-// Counts the parts of a legacy image.
 fn count_parts<A: Allocator>(image: &[u8], room: &mut Room<A>) -> Result<usize, Fault>
     ensures told { TellsCount (count_of false image.now) result }
     ensures no_put { is_put result ≡ false }

@@ -44,7 +44,7 @@ impl<N> Checked<N> {
     }
 }
 
-// Returns whether CRC-32, the checksum of a legacy image, is strong enough.
+// CRC-32 is the checksum of a legacy image.
 fn stands_by_crc32(need: Option<Algo>) -> bool
     ensures { result ≡ stands_by_crc32 need }
 {
@@ -54,7 +54,6 @@ fn stands_by_crc32(need: Option<Algo>) -> bool
     }
 }
 
-// Checks a legacy image.
 fn check_legacy<S: Source, A: Allocator>(
     need: Option<Algo>,
     source: &mut S,
@@ -73,7 +72,6 @@ fn check_legacy<S: Source, A: Allocator>(
     }
 }
 
-// Checks a FIT image.
 fn check_fit<S: Source, A: Allocator>(
     need: Option<Algo>,
     source: &mut S,

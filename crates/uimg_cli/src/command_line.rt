@@ -108,7 +108,6 @@ fn read_by<'a>(
     }
 }
 
-// Returns what the words gave for each argument.
 fn parsed<'a>(command: Command<'a>, words: &'a [&'a str]) -> Result<ArgMatches<'a>, clap::Error>
     requires simple { is_simple_and_free (app_of command) ≡ true }
     ensures { Parsed (app_of command.entry) (texts words.entry.now) result }
@@ -149,7 +148,6 @@ fn without_matches<'a>(alloc: Global, error: clap::Error) -> Result<Asked<'a>, W
     }
 }
 
-// Returns the fault of words that are no command.
 fn no_command(alloc: Global, error: &clap::Error) -> WordsFault
     ensures { (any : Result Wanted Wrong) → any ≡ Err no_command
         → IsWrong any (wrong_of result) }

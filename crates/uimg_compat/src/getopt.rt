@@ -115,7 +115,6 @@ impl<'w, 'a> Words<'w, 'a> {
         }
     }
 
-    /// Returns the word that was read last.
     pub(crate) fn last(&self) -> &'a str
         ensures { result.now ≡ last_word self.now }
     {
@@ -151,7 +150,6 @@ impl<'w, 'a> Words<'w, 'a> {
         }
     }
 
-    // Takes the next word.
     fn take_word(&mut self) -> Option<&'a str>
         ensures letters { self.new.letters ≡ self.old.letters }
         ensures alone { self.new.has_operands_alone ≡ self.old.has_operands_alone }
@@ -164,7 +162,6 @@ impl<'w, 'a> Words<'w, 'a> {
         Some(word)
     }
 
-    // Takes the option of the first letter.
     fn take_letter(&mut self, rows: &[OptionRow]) -> Result<Option<Given<'a>>, Misuse<'a>>
         requires some { 0 < length self.now.letters.now }
         ensures less { IfOk result (λ given. IfSome given (λ _. left self.new < left self.old)) }
@@ -240,14 +237,13 @@ fn first_letter(letters: &str) -> &[u8]
     bytes.get(..length).unwrap_or(bytes)
 }
 
-// Returns whether a byte is one of those behind the first of a letter in UTF-8.
+// The byte is not the first of a letter in UTF-8.
 fn continues(byte: u8) -> bool
     ensures { result ≡ continues byte }
 {
     128 <= byte && byte < 192
 }
 
-// Returns the option of the first letter, and the letters after it.
 fn option_by_letter<'a>(rows: &[OptionRow], letters: &'a str) -> Option<(OptionRow, &'a str)>
     ensures met { option_map (λ found. (row_of found.0, found.1.now)) result ≡ met
         (map row_of rows.now) letters.now }
@@ -263,7 +259,6 @@ fn option_by_letter<'a>(rows: &[OptionRow], letters: &'a str) -> Option<(OptionR
     Some((row, rest))
 }
 
-// Returns the row of a letter.
 fn row_with(rows: &[OptionRow], letter: char) -> Option<OptionRow>
     ensures { option_map row_of result ≡ find (λ row. row.letter == letter) (map row_of rows.now) }
 {
@@ -295,7 +290,6 @@ fn option_of<'a>(rows: &[OptionRow], name: &'a str) -> Result<OptionRow, Misuse<
     }
 }
 
-/// Returns the option of a long name.
 pub(crate) fn option_by_name(rows: &[OptionRow], name: &str) -> Option<OptionRow>
     ensures { option_map row_of result ≡ called (map row_of rows.now) name.now }
 {

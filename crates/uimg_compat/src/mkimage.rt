@@ -102,7 +102,7 @@ pub fn read_mkimage<'a>(
 }
 
 impl<'a> Settings<'a> {
-    // Takes the next option or operand, or returns the requested text.
+    // Returns the requested text, if there is one.
     fn take(&mut self, alloc: Global, given: Given<'a>) -> Result<Option<Show>, OldFault<'a>>
         ensures { Steps (step (told_of given.entry) (setting_of self.old)) (setting_of self.new)
             result }

@@ -26,7 +26,7 @@ pub struct Compiled<A: Allocator> {
     pub reservations: Vec<Reservation, A>,
 }
 
-// Returns the places of the tree's nodes, each before those below it.
+// Each node is before those below it.
 fn order_of<A: Allocator + Copy>(alloc: A, table: &Table<'_, A>) -> Result<Vec<usize, A>, Stop> {
     let mut order = Vec::new(alloc);
     let mut place = ROOT;
@@ -42,7 +42,6 @@ fn order_of<A: Allocator + Copy>(alloc: A, table: &Table<'_, A>) -> Result<Vec<u
     Ok(order)
 }
 
-// Checks the tree, and resolves its references.
 fn resolve<A: Allocator + Copy>(alloc: A, table: &mut Table<'_, A>) -> Result<(), Stop> {
     let order = order_of(alloc, table)?;
     table.check_names(&order)?;
@@ -53,7 +52,6 @@ fn resolve<A: Allocator + Copy>(alloc: A, table: &mut Table<'_, A>) -> Result<()
     Ok(())
 }
 
-// Reads all statements of a source.
 fn statements<F: Files, A: Allocator + Copy>(
     files: &mut F,
     table: &mut Table<'_, A>,
@@ -74,7 +72,6 @@ fn statements<F: Files, A: Allocator + Copy>(
     Ok(())
 }
 
-// Compiles the words of a source.
 fn compile_words<F: Files, A: Allocator + Copy>(
     alloc: A,
     files: &mut F,
@@ -95,7 +92,6 @@ fn compile_words<F: Files, A: Allocator + Copy>(
     })
 }
 
-// Compiles a source.
 fn compile_text<F: Files, A: Allocator + Copy>(
     alloc: A,
     text: &[u8],

@@ -11,7 +11,6 @@ use std::alloc::Allocator;
 use uimg_base::{Room, Source, Span};
 use uimg_requests::Form;
 
-// Finds the part of a legacy image at a position.
 fn locate_part<S: Source, A: Allocator>(
     position: u32,
     source: &mut S,
@@ -23,7 +22,6 @@ fn locate_part<S: Source, A: Allocator>(
     Ok(span)
 }
 
-// Finds the payload of the FIT image's image at a position.
 fn locate_payload<S: Source, A: Allocator>(
     position: u32,
     source: &mut S,

@@ -32,7 +32,6 @@ pub struct Frame<'a> {
     pub reservations: &'a [Reservation],
 }
 
-// Turns the fault of measuring a tree into one of building.
 fn of_measure(fault: BlobFault) -> Fault
     ensures { result ≡ of_measure fault }
 {
@@ -43,7 +42,6 @@ fn of_measure(fault: BlobFault) -> Fault
     }
 }
 
-// Turns the fault of writing a tree into one of building.
 fn of_writing(fault: TreeFault) -> Fault
     ensures { result ≡ of_writing fault }
 {
@@ -54,7 +52,6 @@ fn of_writing(fault: TreeFault) -> Fault
     }
 }
 
-// Measures the blob of a tree, with an alignment and reservations.
 fn measure_placed<'a, A: Allocator>(
     alloc: A,
     placed: &'a Tree<A>,
@@ -69,7 +66,7 @@ fn measure_placed<'a, A: Allocator>(
     }
 }
 
-// Writes the file of a tree; `placed` is its copy with cells for its payloads.
+// `placed` is the tree's copy with cells for its payloads.
 fn write_file<F: Files, W: Write, A: Allocator>(
     placed: &Tree<A>,
     layout: &Layout<A>,
@@ -94,7 +91,7 @@ fn write_file<F: Files, W: Write, A: Allocator>(
     put_behind(layout.totalsize(), tree, placement, files, out)
 }
 
-// Builds the file of a tree; `placed` is its copy with cells for its payloads.
+// `placed` is the tree's copy with cells for its payloads.
 fn build_placed<F: Files, W: Write, A: Allocator>(
     alloc: A,
     placed: &Tree<A>,
@@ -119,7 +116,6 @@ fn build_placed<F: Files, W: Write, A: Allocator>(
     }
 }
 
-// Places the payloads of a tree, and builds its file.
 #[tactic(auto, using(uimg_blob_writing::proofs::OpenedLaws::each_unopened))]
 fn place_and_build<F: Files, W: Write, A: Allocator + Copy>(
     alloc: A,

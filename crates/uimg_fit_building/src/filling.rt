@@ -31,7 +31,6 @@ use uimg_blob_writing::{Node, Nodes, Props, Tree, Value};
 use uimg_fit_base::FitFault;
 use uimg_names::Naming;
 
-// Sets the timestamp among properties.
 fn with_time<A: Allocator + Copy>(
     alloc: A,
     props: Props<A>,
@@ -51,7 +50,6 @@ fn before_images<A: Allocator>(nodes: &[Node<A>]) -> usize
     nodes.iter().take_while(|node| !is_images(node)).count()
 }
 
-// Fills the images that are the children of a node.
 fn fill_parent<F: Files, A: Allocator + Copy>(
     alloc: A,
     parent: &mut Node<A>,
@@ -78,7 +76,6 @@ fn fill_parent<F: Files, A: Allocator + Copy>(
     answer
 }
 
-// Fills the images below a root with these children.
 fn fill_below<F: Files, A: Allocator + Copy>(
     alloc: A,
     nodes: &mut [Node<A>],

@@ -36,7 +36,6 @@ use uimg_fit_reading::nodes::{child_of, configurations_of, root_value, value_of}
 use uimg_fit_reading::read_tree;
 pub use values::read_bytes;
 
-// Collects `default` and the facts of the configurations, if there are any.
 fn configurations<A: Allocator>(
     alloc: Global,
     blob: &Blob,
@@ -57,7 +56,6 @@ fn configurations<A: Allocator>(
     Ok((preferred, all))
 }
 
-// Collects the facts of a FIT image with these images.
 fn gather<A: Allocator>(
     alloc: Global,
     blob: &Blob,

@@ -38,7 +38,6 @@ use uimg_blob_reading::Key;
 use uimg_fit_base::Fault;
 use uimg_names::Naming;
 
-// Writes the lines of the configurations, if there are any.
 fn put_configurations<S: Source, A: Allocator, W: Write>(
     fit: &mut OpenFit<'_, S, A>,
     naming: Naming,
@@ -59,7 +58,6 @@ fn put_configurations<S: Source, A: Allocator, W: Write>(
     put_listed_nodes(fit, Listed::Configuration(naming), first, out)
 }
 
-// Writes the lines of the images, from the first one on, and of the configurations.
 fn put_body<S: Source, A: Allocator, W: Write>(
     fit: &mut OpenFit<'_, S, A>,
     naming: Naming,

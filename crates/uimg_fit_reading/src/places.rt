@@ -126,7 +126,6 @@ pub fn find_payload<S: Source>(
     ))
 }
 
-// Finds the payload of an image, or that it has none.
 pub(crate) fn find_place<S: Source, A: Allocator>(
     source: &mut S,
     blob: &Blob,

@@ -26,7 +26,7 @@ pub(crate) use values::read_span;
 /// The most levels of nodes that are read; the root is at the first.
 const MOST_LEVELS: u8 = 64;
 
-// Returns the tree of a list of one node.
+// The list must have one node.
 fn tree_of(nodes: Nodes<Global>) -> Result<Tree<Global>, UpdateFault>
     ensures { IfOk result (λ tree. node_of tree.root ≡ nodes) }
 {
@@ -37,7 +37,6 @@ fn tree_of(nodes: Nodes<Global>) -> Result<Tree<Global>, UpdateFault>
     }
 }
 
-// Reads the tree of an indexed blob.
 fn read_indexed<S: Source, A: Allocator>(
     alloc: Global,
     source: &mut S,

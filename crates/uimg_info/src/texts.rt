@@ -18,7 +18,6 @@ use uimg_base::{Room, Source};
 use uimg_fit_base::Fault;
 use uimg_fit_checking::{FullSurvey, SurveyFault, survey_with_properties};
 
-// Returns the text of the object of a file of `size` bytes with these facts.
 fn survey_text<S: Source>(
     alloc: Global,
     path: &str,

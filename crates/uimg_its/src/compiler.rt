@@ -34,7 +34,6 @@ fn is_version(word: Found<'_>) -> bool
     }
 }
 
-// Reads the directive that begins a source and returns the text after it.
 fn version(text: &[u8]) -> Result<&[u8], Stop>
     ensures { ReadsText (λ x. words x.now) result (version (words text.now)) }
 {
@@ -73,7 +72,6 @@ fn alone<A: Allocator>(root: Node<A>, text: &[u8]) -> Result<Node<A>, Stop>
     }
 }
 
-// Reads the root of the tree of a source text.
 #[tactic(auto, unfolding(crate::specs::Reader::source))]
 fn source<F: Files, A: Allocator + Copy>(
     alloc: A,

@@ -16,7 +16,6 @@ use crate::parts::has_parts;
 use std::io::Write;
 use uimg_base::{Out, Source, SourceFault, WINDOW};
 
-// Returns the header for data of this size and CRC.
 fn header_for(options: &Options, size: u32, dcrc: u32) -> Header
     ensures { (payload : List ℕ) → size ≡ length payload → dcrc ≡ crc payload →
         result ≡ header_for options.now payload }
@@ -35,7 +34,6 @@ fn header_for(options: &Options, size: u32, dcrc: u32) -> Header
     }
 }
 
-// Returns the header's bytes for the data built from the parts.
 fn head_of<S: Source>(
     parts: &mut [S],
     window: &mut [u8; WINDOW],
@@ -50,7 +48,6 @@ fn head_of<S: Source>(
     Ok(header_bytes(&header_for(options, size, dcrc)))
 }
 
-// Writes the header's bytes and the data.
 fn put_image<S: Source, W: Write>(
     parts: &mut [S],
     window: &mut [u8; WINDOW],

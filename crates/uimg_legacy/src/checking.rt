@@ -51,7 +51,6 @@ fn check_parts<S: Source, A: Allocator>(
     check_table(source, room, header)
 }
 
-// Returns whether the data's checksum is right.
 fn is_right<S: Source, A: Allocator>(source: &mut S, room: &mut Room<A>) -> Result<bool, Fault>
     ensures { Reads UsesAtMost check_work Checks result S.device source room }
 {

@@ -14,7 +14,6 @@ use std::alloc::Allocator;
 use std::io::Write;
 use uimg_base::{Out, Room, Source, Span, Status, copy_range};
 
-// Finds the part at a position of an image.
 fn locate_part<S: Source, A: Allocator>(
     source: &mut S,
     room: &mut Room<A>,

@@ -57,7 +57,6 @@ impl From<AllocError> for PartsFault {
     }
 }
 
-// Appends a part's span.
 fn push_part(parts: &mut Vec<Span>, part: Span) -> Result<(), AllocError>
     ensures { OnOk result (parts.new.items ≡ parts.old.items ++ part ∷ []) }
 {
@@ -65,7 +64,7 @@ fn push_part(parts: &mut Vec<Span>, part: Span) -> Result<(), AllocError>
     Ok(())
 }
 
-// Finds the `count` parts of a table, up to the first that ends after the data.
+// Stops at the first part that ends after the data.
 fn place_parts<S: Source>(
     alloc: Global,
     source: &mut S,
@@ -95,7 +94,6 @@ fn place_parts<S: Source>(
     Ok(parts)
 }
 
-// Returns the span of the only part of an image without a table.
 fn only_part(alloc: Global, size: u32) -> Result<Vec<Span>, AllocError>
     ensures { IfOk result (λ parts. parts.items ≡ record { place = 64; length = size } ∷ []) }
 {

@@ -11,7 +11,6 @@ use std::alloc::Allocator;
 use std::io::Write;
 use uimg_base::{Out, Room, Source, Status};
 
-// Writes the line on the data's CRC.
 fn report_data<S: Source, A: Allocator, W: Write>(
     source: &mut S,
     room: &mut Room<A>,

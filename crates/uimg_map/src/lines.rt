@@ -39,7 +39,6 @@ pub fn put_lines<S: Source, W: Write>(
     Ok(())
 }
 
-// Writes the line of a row with this text.
 fn put_line<W: Write>(size: u64, row: &Row, text: &str, out: &mut W) -> io::Result<()>
     ensures { OnOk result (Appends (W.contents out.old) (W.contents out.new)
         (line_text size row.now text.now)) }
@@ -63,7 +62,6 @@ impl<'a> Display for Cells<'a> {
     }
 }
 
-// Writes the cells of a bar.
 fn put_cells<W: fmt::Write>(size: u64, row: &Row, f: &mut Formatter<W>) -> fmt::Result
     ensures { WritesOnOk W.Write.write_str_gives f.old result (bar_text size row.now) f.new }
 {

@@ -47,14 +47,13 @@ pub(crate) enum Standing {
 }
 
 impl Map {
-    /// Returns what a thing is, if it is one of this map.
     pub(crate) fn label_of(&self, thing: Thing) -> Option<Label>
         ensures { result ≡ label_of self.now thing }
     {
         self.labels.get(thing.number).copied()
     }
 
-    /// Returns whether a thing shares bytes with an earlier one, `over`.
+    /// `over` is an earlier thing that shares bytes with this one.
     pub(crate) fn standing_of(&self, thing: Thing, over: Option<Thing>) -> Standing
         ensures { result ≡ standing_of self.now thing over }
     {
@@ -105,7 +104,6 @@ pub fn map_of<S: Source>(alloc: Global, source: &mut S) -> Result<Map, MapFault>
     })
 }
 
-// Adds what is in the file of an image.
 fn add_contents<S: Source>(
     alloc: Global,
     source: &mut S,

@@ -21,7 +21,6 @@ pub fn file_names(alloc: Global, kind: u8, word: &str) -> Result<Vec<Vec<u8>>, A
     }
 }
 
-// Returns the names between the colons of a word.
 fn cut_at_colons(alloc: Global, word: &str) -> Result<Vec<Vec<u8>>, AllocError>
     ensures { IfOk result (λ names. map (λ name. name.items) names.items ≡ between_colons word.now) }
 {

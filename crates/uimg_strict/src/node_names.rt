@@ -28,7 +28,6 @@ pub(crate) struct NodeNames {
     pub(crate) properties: Vec<Vec<u8>>,
 }
 
-// Reads the names of the nodes from one on.
 fn node_names<S: Source, A: Allocator>(
     alloc: Global,
     source: &mut S,
@@ -54,7 +53,6 @@ fn node_names<S: Source, A: Allocator>(
     Ok(names)
 }
 
-// Reads the names of properties.
 fn property_names<S: Source>(
     alloc: Global,
     source: &mut S,
@@ -76,7 +74,6 @@ fn property_names<S: Source>(
     Ok(names)
 }
 
-// Lists the properties of a node.
 fn list_properties<S: Source, A: Allocator>(
     alloc: Global,
     source: &mut S,
@@ -100,7 +97,6 @@ fn list_properties<S: Source, A: Allocator>(
     }
 }
 
-// Reads the names of a node's properties.
 fn own_names<S: Source, A: Allocator>(
     alloc: Global,
     source: &mut S,
@@ -118,7 +114,6 @@ fn own_names<S: Source, A: Allocator>(
     Ok(names)
 }
 
-/// Reads the names in a node.
 pub(crate) fn names_of<S: Source, A: Allocator>(
     alloc: Global,
     source: &mut S,

@@ -18,7 +18,7 @@ use uimg_fit_checking::SurveyFault;
 use uimg_fit_reading::nodes::next_of;
 use uimg_fit_reading::{find_payload, payload_facts};
 
-// Returns the place of a payload after the tree, or none of another payload.
+// Returns `None` for a payload in the tree, or one that is not found.
 fn external_place<S: Source, A: Allocator>(
     source: &mut S,
     blob: &Blob,

@@ -29,14 +29,12 @@ use uimg_fit_reading::images::first_image;
 use uimg_fit_reading::nodes::root_value;
 use uimg_fit_reading::read_tree;
 
-// Returns that something is refused of the root or the blob.
 fn in_root(why: Looseness) -> Loose
     ensures { read_loose result ≡ in_root why }
 {
     Loose { why, node: None }
 }
 
-// Returns what is refused of the root.
 fn loose_root<A: Allocator>(blob: &Blob, room: &Room<A>) -> Option<Loose>
     ensures { (file : List ℕ) (t : Siblings) → IsRead file blob.now room.now.entries t →
         option_map read_loose result ≡ loose_root
@@ -52,7 +50,6 @@ fn loose_root<A: Allocator>(blob: &Blob, room: &Room<A>) -> Option<Loose>
     None
 }
 
-// Returns what is refused of a tree with these images.
 fn loose_in<S: Source, A: Allocator>(
     alloc: Global,
     source: &mut S,
@@ -82,7 +79,6 @@ fn loose_in<S: Source, A: Allocator>(
     Ok(place)
 }
 
-// Returns whether the root has no name.
 fn is_nameless<A: Allocator>(blob: &Blob, room: &Room<A>) -> bool
     ensures { (file : List ℕ) (t : Siblings) → IsRead file blob.now room.now.entries t →
         result ≡ is_nameless (spots t) }
@@ -93,7 +89,6 @@ fn is_nameless<A: Allocator>(blob: &Blob, room: &Room<A>) -> bool
     blob.name(room, 0).length == 0
 }
 
-// Returns what is refused of a file with such a tree.
 fn loose_file<S: Source, A: Allocator>(
     alloc: Global,
     source: &mut S,

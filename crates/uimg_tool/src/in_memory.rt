@@ -81,7 +81,6 @@ pub fn answer_in_memory<'f, V: Write>(
     carry_out(alloc, line, &asked, files, out, complaints)
 }
 
-// Carries out what the words ask for.
 fn carry_out<'f, V: Write>(
     alloc: Global,
     line: CommandLine<'_>,
@@ -99,7 +98,7 @@ fn carry_out<'f, V: Write>(
     carry_out_over(alloc, line, asked, files, out, complaints)
 }
 
-// The same, where the files and what is asked for live equally long.
+// As `carry_out`, where the files and the request live equally long.
 fn carry_out_over<'a, V: Write>(
     alloc: Global,
     line: CommandLine<'_>,

@@ -40,7 +40,6 @@ impl<'a, R: Clock, V: Write + Copy> Meter<'a, R, V> {
         }
     }
 
-    /// Returns whether anything is ever drawn.
     pub(crate) fn is_shown(&self) -> bool {
         self.next.get().is_some()
     }

@@ -131,7 +131,6 @@ fn given_by(configuration: &ConfigurationFacts) -> [(Reference, Option<Span>); 9
     ]
 }
 
-// Returns the first text in several properties that is not among these names, if there is one.
 fn missing_among<S: Source>(
     alloc: Global,
     source: &mut S,
@@ -152,7 +151,6 @@ fn missing_among<S: Source>(
     Ok(None)
 }
 
-// Returns the first name in a configuration that no image has.
 fn missing_of<S: Source>(
     alloc: Global,
     source: &mut S,
@@ -167,7 +165,6 @@ fn missing_of<S: Source>(
     missing_among(alloc, source, images, Some(configuration.name), &given)
 }
 
-// Returns the first name in several configurations that no image has.
 fn first_missing<S: Source>(
     alloc: Global,
     source: &mut S,

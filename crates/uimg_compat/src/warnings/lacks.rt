@@ -12,7 +12,6 @@ use std::alloc::Global;
 use std::io::Write;
 use uimg_blob_writing::Node;
 
-/// Warns about a property that a node lacks.
 pub(crate) fn tell_lack<W: Write>(
     path: NodePath<'_>,
     node: &Node<Global>,

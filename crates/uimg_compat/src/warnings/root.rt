@@ -67,7 +67,6 @@ fn tell_lack_of_cells<W: Write>(path: NodePath<'_>, root: &Node<Global>, teller:
     tell_lack(path, root, "#address-cells", teller);
 }
 
-// Warns about the images and the configurations.
 fn tell_of_parts<W: Write>(
     alloc: Global,
     root: &Node<Global>,

@@ -38,7 +38,7 @@ pub(super) struct Requested {
     pub(super) span: Span,
 }
 
-// Returns whether an image is requested: all are, or those of one name.
+// Without a name all images are requested.
 fn is_asked(only: Option<NodeName>, name: &NodeName) -> bool
     ensures { result ≡ is_asked (option_map as_bytes only) (as_bytes name.now) }
 {
@@ -48,7 +48,6 @@ fn is_asked(only: Option<NodeName>, name: &NodeName) -> bool
     }
 }
 
-// Finds the payload of an image, if it is requested.
 pub(super) fn find_requested<S: Source, A: Allocator>(
     source: &mut S,
     blob: &Blob,

@@ -57,7 +57,7 @@ fn step_of(fault: Fault) -> u8 {
     }
 }
 
-// Returns the same if nothing is listed or left, and 3 if the image is made.
+// 3 if the image is made. `step_of` counts only if nothing is listed or left.
 fn step_left(made: &Outcome) -> u8 {
     match made.end {
         Ok(Status::Done) if made.file == "all" => 3,
@@ -66,8 +66,8 @@ fn step_left(made: &Outcome) -> u8 {
     }
 }
 
-// Returns how making a FIT image ends on a heap of `size` bytes: 0 to 2 for the step whose memory
-// is refused, 3 if the image is made, and 9 for anything else.
+// Returns how a build of a FIT image ends on a heap of `size` bytes: 0 to 2 for the step whose
+// memory is refused, 3 if the image is made, and 9 for anything else.
 fn made_on<R: Files + AllocGlobal>(rt: &R, size: usize) -> u8 {
     let Ok(heap) = LocalHeap::new(rt.alloc(), size) else {
         return 9;

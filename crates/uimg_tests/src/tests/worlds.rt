@@ -14,7 +14,6 @@ const FILES: [(&[u8], &[u8]); 3] = [(b"a", b"abc"), (b"a", b"def"), (b"b/c", b"g
 // A path, and the three bytes of the file there: an empty text if there is none.
 const ROWS: [(&str, &str); 4] = [("a", "abc"), ("b/c", "ghi"), ("b", ""), ("", "")];
 
-// Returns whether the file at a path is opened, and has this text.
 fn opens_as(world: &mut MemoryWorld<'_>, path: &str, text: &str) -> bool {
     let mut bytes = [0; 3];
     match world.open(path) {
@@ -27,7 +26,6 @@ fn opens_as(world: &mut MemoryWorld<'_>, path: &str, text: &str) -> bool {
     }
 }
 
-// Returns whether the file at a path is read, and has this text.
 fn reads_as(world: &mut MemoryWorld<'_>, path: &str, text: &str) -> bool {
     let mut bytes = [0; 4];
     match world.read(path) {
@@ -74,7 +72,7 @@ const CALLS: [(&str, &str, &str, &str); 20] = [
     ("remove", "a", "", "fails"),
 ];
 
-// Makes a call, which closes a file with the bytes `abc` if it created one. Returns what it answers.
+// Makes a call, which closes a file with the bytes `abc` if it created one. Returns the answer.
 fn answer(world: &mut MemoryWorld<'_>, call: &str, path: &str, other: &str) -> &'static str {
     let done = match call {
         "create" => world.create_new(path).and_then(|mut file| {

@@ -12,7 +12,6 @@ use uimg_blob_writing::{
 };
 use uimg_its::compile;
 
-// Returns a result in words, and how many bytes were written.
 fn told(
     alloc: Global,
     answer: Result<(), TreeFault>,
@@ -73,7 +72,6 @@ fn bytes(count: usize) -> &'static [u8] {
     BYTES.get(..count).unwrap_or(&[])
 }
 
-// Returns the result of a row.
 fn kept_as(
     alloc: Global,
     kept: &[(&[u8], &[u8])],
@@ -99,7 +97,6 @@ fn file_rows(rt: HostRuntime) {
     }
 }
 
-// Returns whether a writer that takes this many bytes of a tree's blob leaves that prefix.
 fn leaves_prefix(alloc: Global, tree: &Tree<Global>, whole: &[u8], taken: usize) -> bool {
     let Ok(layout) = measure(alloc, tree) else {
         return false;
@@ -138,7 +135,6 @@ fn each_write_failing(rt: HostRuntime) {
     assert_eq!(rt; prefixes(rt.alloc(), "family"), 193);
 }
 
-// Writes a value over failing files. Returns the result and what is written.
 fn put<F: Files + Drop>(
     alloc: Global,
     value: &Value<Global>,
@@ -180,7 +176,6 @@ fn are_written(alloc: Global, value: &Value<Global>, content: &[u8], wanted: &[u
     }
 }
 
-// Returns a value in memory.
 fn in_memory(alloc: Global, content: &[u8]) -> Result<Value<Global>, AllocError> {
     let bytes = Vec::from_slice(alloc, content)?;
     Ok(Value::Bytes(ByteList::of(bytes)))
@@ -230,7 +225,6 @@ const VALUE_ROWS: [(&str, u64, u64, &str); 14] = [
     ("12345", 2, 7, "write failed, 7"),
 ];
 
-// Returns the result for such a value over some files.
 fn put_in_words(
     alloc: Global,
     named: &[(&[u8], &[u8])],
