@@ -136,11 +136,17 @@ impl Blob {
 
     /// Returns the span of the value of a node's first property with this key. It ends inside the
     /// blob. Returns `None` if the node has no such property, or its role keeps no value of that
-    /// key. The root keeps `Description` and `Timestamp`; an image `Description`, `Data`, `Kind`,
-    /// `Arch`, `Os`, `Compression`, `Load`, `Entry`, `DataSize`, `DataOffset` and `DataPosition`; a
-    /// hash node `Algo` and `Value`; a signature node these, `KeyName`, `Required`, `Padding` and
-    /// `Timestamp`; the node `configurations` `Default`; a configuration `Description`, `Kernel`,
-    /// `Ramdisk`, `Fdt`, `Loadables`, `Firmware`, `Fpga`, `Setup`, `Standalone` and `Script`.
+    /// key.
+    ///
+    /// The roles keep these keys:
+    /// - the root: `Description` and `Timestamp`;
+    /// - an image: `Description`, `Data`, `Kind`, `Arch`, `Os`, `Compression`, `Load`, `Entry`,
+    ///   `DataSize`, `DataOffset` and `DataPosition`;
+    /// - a hash node: `Algo` and `Value`;
+    /// - a signature node: these, `KeyName`, `Required`, `Padding` and `Timestamp`;
+    /// - the node `configurations`: `Default`;
+    /// - a configuration: `Description`, `Kernel`, `Ramdisk`, `Fdt`, `Loadables`, `Firmware`,
+    ///   `Fpga`, `Setup`, `Standalone` and `Script`.
     pub fn value<A: Allocator>(&self, room: &Room<A>, node: usize, key: Key) -> Option<Span>
         requires { node < length room.now.entries }
         ensures value { OfRow self.now room.now.entries node

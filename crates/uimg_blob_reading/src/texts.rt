@@ -60,9 +60,11 @@ fn put_through<S: Source, W: Write>(
 
 /// Writes the text of a value: its bytes up to the first NUL, or all of them.
 ///
-/// The span must be inside the source; at most its bytes are requested. Returns `MoveFault::Read`
-/// if and only if a read failed, `MoveFault::Put` if and only if a write failed. Over an honest
-/// source, at every exit, a prefix of the text was written. Only the room's window changes.
+/// The span must be inside the source; at most its bytes are requested. Over an honest source, at
+/// every exit, a prefix of the text was written. Only the room's window changes.
+///
+/// - `MoveFault::Read`: if and only if a read failed.
+/// - `MoveFault::Put`: if and only if a write failed.
 pub fn put_text<S: Source, A: Allocator, W: Write>(
     source: &mut S,
     room: &mut Room<A>,

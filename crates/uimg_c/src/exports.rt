@@ -65,8 +65,8 @@ pub extern "C" fn uimg_verify(
     report_on(alloc, &command, image, text, report)
 }
 
-/// Checks an image: it is whole and has images, each with a hash node of at least the
-/// strength `need`, from 1, CRC-32, to 6, SHA-512; a legacy image has CRC-32. Writes no text.
+/// Checks that an image is whole and has images, each with a hash node of at least the strength
+/// `need`, from 1, CRC-32, to 6, SHA-512. A legacy image has CRC-32. Writes no text.
 #[unsafe(no_mangle)]
 pub extern "C" fn uimg_check(alloc: Global, image: &[u8], need: u32, report: &mut UimgReport) -> u32
     ensures told { result ≢ 3 → ReportsCheck need image.now report.new }
@@ -78,7 +78,7 @@ pub extern "C" fn uimg_check(alloc: Global, image: &[u8], need: u32, report: &mu
 }
 
 /// Checks an image as `uimg_check` does. If all is right, it also refuses what U-Boot reads in
-/// another way than the check: if the status is 0, U-Boot finds in a FIT image exactly the images
+/// another way than the check. If the status is 0, U-Boot finds in a FIT image exactly the images
 /// that were checked, each with the payload whose hash nodes are right, and compares no others.
 #[unsafe(no_mangle)]
 pub extern "C" fn uimg_check_strict(

@@ -164,7 +164,7 @@ fn put_missing<W: Write>(
 }
 
 /// Returns the text of the line of the image at a path, without its end. It has no ASCII control
-/// character, whatever the path and the names are, unless the text of a fault has one: so it is one
+/// character, whatever the path and the names are, unless the text of a fault has one. So it is one
 /// line. Fails if memory for it is refused.
 pub fn line_text(alloc: Global, path: &[u8], answer: &Answer<'_>) -> Result<String, AllocError>
     ensures text { IfOk result (λ text. string_bytes text ≡ answer_line path.now answer.now) }

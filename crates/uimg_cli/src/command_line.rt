@@ -72,9 +72,9 @@ pub enum Request<'a> {
     Show(clap::Error),
 }
 
-/// Reads the words of a command line; the program's name is the first. `epoch` is SOURCE_DATE_EPOCH
-/// if it is set, and `now` the current time in seconds since 1970. Returns exactly what the words
-/// ask for, or what is wrong with them, unless memory runs out.
+/// Reads the arguments of a command line; the program's name is the first. `epoch` is
+/// SOURCE_DATE_EPOCH if it is set, and `now` the current time in seconds since 1970. Returns
+/// exactly the request of the arguments, or what is wrong with them, unless memory runs out.
 #[tactic(auto, unfolding(crate::specs::Reading::ReadsWords))]
 pub fn read_words<'a>(
     alloc: Global,

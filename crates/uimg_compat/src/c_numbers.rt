@@ -22,7 +22,7 @@ const MOST_BEFORE: u64 = 67_768_040_609_740_800;
 const MOST_INT: u64 = 2_147_483_647;
 
 /// Reads a text to its end as strtoull does in a base: blanks, a sign, for base 16 `0x` or `0X`,
-/// and digits; an empty text is 0. A number of more than 64 bits is 2^64 - 1, and a negative one
+/// and digits. An empty text is 0. A number of more than 64 bits is 2^64 - 1, and a negative one
 /// counts from 2^64 down. Returns `None` if anything is left.
 pub fn unsigned_long(text: &str, base: u32) -> Option<u64>
     requires least { 2 ≤ base }
@@ -44,7 +44,7 @@ pub fn unsigned_long(text: &str, base: u32) -> Option<u64>
     }
 }
 
-/// Reads the beginning of a text as strtol does in base 10: blanks, a sign and digits; without a
+/// Reads the beginning of a text as strtol does in base 10: blanks, a sign and digits. Without a
 /// digit it is 0. Returns the low 32 bits, or `None` for seconds since 1970 in no year of gmtime,
 /// whose years have 32 bits.
 pub fn long_prefix(text: &str) -> Option<u32>

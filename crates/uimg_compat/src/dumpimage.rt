@@ -40,7 +40,7 @@ struct Settings<'a> {
     is_list: bool,
 }
 
-/// Reads the words after dumpimage's name.
+/// Reads the arguments after dumpimage's name.
 pub fn read_dumpimage<'a>(
     alloc: Global,
     words: &'a [&'a str],

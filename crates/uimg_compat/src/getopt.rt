@@ -72,7 +72,7 @@ pub struct Words<'w, 'a> {
 }
 
 impl<'w, 'a> Words<'w, 'a> {
-    /// Returns the words after the program's name, all unread.
+    /// Returns the arguments after the program's name, all unread.
     #[tactic(auto, unfolding(crate::specs::Getopt::lettered))]
     pub fn new(words: &'w [&'a str]) -> Words<'w, 'a>
         ensures { (rows : List Row) → unread rows result ≡ reading rows

@@ -53,8 +53,8 @@ struct Settings<'a> {
     has_no_data: bool,
 }
 
-/// Reads the words after mkimage's name. `epoch` is SOURCE_DATE_EPOCH if it is set, and `now` the
-/// current time in seconds since 1970.
+/// Reads the arguments after mkimage's name. `epoch` is SOURCE_DATE_EPOCH if it is set, and `now`
+/// the current time in seconds since 1970.
 pub fn read_mkimage<'a>(
     alloc: Global,
     words: &'a [&'a str],

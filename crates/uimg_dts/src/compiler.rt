@@ -136,9 +136,8 @@ fn line_of(text: &[u8], left: usize) -> u64 {
 /// at most 199 included files. A tree whose root is deleted is refused; dtc writes a blob without
 /// nodes.
 ///
-/// Returns `NoFile` if and only if an open was refused, and `ReadFailed` only if a read of an opened
-/// file failed. The contract says nothing else of the text: which tree is returned, and which
-/// sources are refused, is tested against dtc. These parts have contracts of their own:
+/// The contract says nothing else of the text: which tree is returned, and which sources are
+/// refused, is tested against dtc. These parts have contracts of their own:
 ///
 /// - the operators of expressions, the elements of arrays, and the parts of files;
 /// - the node of a label or a path, and what a reference writes;
@@ -148,6 +147,9 @@ fn line_of(text: &[u8], left: usize) -> u64 {
 ///
 /// The time grows with the text and the files that are read, and with the square of the number of
 /// nodes, properties or labels. Memory is the words, the tables and the tree.
+///
+/// - `NoFile`: if and only if an open was refused.
+/// - `ReadFailed`: only if a read of an opened file failed.
 pub fn compile_all<F: Files, A: Allocator + Copy>(
     alloc: A,
     text: &[u8],

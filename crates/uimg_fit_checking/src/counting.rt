@@ -44,8 +44,10 @@ fn count_in<S: Source, A: Allocator>(source: &mut S, room: &mut Room<A>) -> Resu
 
 /// Counts the images of a FIT image in memory.
 ///
-/// Returns the faults of the blob, then `NoImages`; `OutOfMemory` exactly if the room refused to
-/// grow, and never `Read`.
+/// - The faults of the blob, then `NoImages`.
+/// - `OutOfMemory`: if and only if the room refused to grow.
+///
+/// `Read` is never returned.
 pub fn count_images<A: Allocator>(file: &[u8], room: &mut Room<A>) -> Result<usize, Fault>
     ensures memory { ReadsInMemory file.now result room }
     ensures told { Gives (λ count. count) result (count_of file.now) }

@@ -92,8 +92,12 @@ fn locate_in<S: Source, A: Allocator>(
 /// Finds the payload of the first image of a name in the bytes of a FIT image, and returns its
 /// span, which ends inside them.
 ///
-/// Returns the faults of the blob, then `NoImages`, `NoSuchImage`, `NoData` and `DataOutside` of
-/// that image, in this order; `OutOfMemory` exactly if the room refused to grow, and never `Read`.
+/// Returns the first of these faults, in this order:
+/// - The faults of the blob.
+/// - `NoImages`, `NoSuchImage`.
+/// - `NoData`, `DataOutside`: of that image.
+///
+/// Returns `OutOfMemory` if and only if the room refused to grow. `Read` is never returned.
 pub fn locate_named<A: Allocator>(
     name: &[u8],
     file: &[u8],
@@ -126,8 +130,10 @@ fn name_in<S: Source, A: Allocator>(
 /// Finds the name of the image at a position, counted from 0, in the bytes of a FIT image, and
 /// returns its span, which ends inside them.
 ///
-/// Returns the faults of the blob, then `NoImages` and `NoSuchImage`; `OutOfMemory` exactly if the
-/// room refused to grow, and never `Read`.
+/// - The faults of the blob, then `NoImages` and `NoSuchImage`.
+/// - `OutOfMemory`: if and only if the room refused to grow.
+///
+/// `Read` is never returned.
 pub fn locate_name<A: Allocator>(
     position: u32,
     file: &[u8],

@@ -116,15 +116,17 @@ fn with_room(packed: u32, needed: u32) -> Result<u32, UpdateFault>
 }
 
 /// Reads a FIT image to a tree, takes the payloads that are after its blob into it, and fills it by
-/// the algorithms of `Naming::All`: the `value` of each hash node is set, and the root's `timestamp`
-/// if there is a time, in seconds since 1970. An existing property is replaced in its place, a new
-/// one is appended; all other nodes and properties and the reservations stay, but for `data-offset`,
-/// `data-size` and `data-position` of images.
+/// the algorithms of `Naming::All`. The `value` of each hash node is set, and the root's
+/// `timestamp` if there is a time, in seconds since 1970. An existing property is replaced in its
+/// place, a new one is appended. All other nodes and properties and the reservations stay, but for
+/// `data-offset`, `data-size` and `data-position` of images.
 ///
-/// Returns the faults of `read_fit`, of payloads outside the file (`DataOutside`) or of more bytes
-/// than it (`TooLarge`), of a blob that would have more than 4294967295 bytes (`TooLarge`) or a name
-/// of more than 255 bytes (`BadNodeName` or `BadPropertyName`, at offset 0), and of
-/// `uimg_fit_building::fill_by`.
+/// - The faults of `read_fit` and of `uimg_fit_building::fill_by`.
+/// - `DataOutside`: a payload is outside the file.
+/// - `TooLarge`: the payloads have more bytes than the file, or the blob would have more than
+///   4294967295 bytes.
+/// - `BadNodeName`, `BadPropertyName`, at offset 0: the blob would have a name of more than 255
+///   bytes.
 pub fn update<S: Source, A: Allocator>(
     alloc: Global,
     source: &mut S,

@@ -59,10 +59,12 @@ fn is_right<S: Source, A: Allocator>(source: &mut S, room: &mut Room<A>) -> Resu
     has_right_data(source, room, &header)
 }
 
-/// Returns whether the checksum of the image's data is right. Returns the first fault of
-/// `TooShort`, `BadMagic`, `BadHeaderCrc` and, before the data are read, those of `locate_parts`.
-/// Requests no more than a listing, also of an image that a listing refuses; the room is only
-/// cleared.
+/// Returns whether the checksum of the image's data is right. Requests no more than a listing, also
+/// of an image that a listing refuses. Only clears the room.
+///
+/// Returns the first of these faults:
+/// - `TooShort`, `BadMagic`, `BadHeaderCrc`.
+/// - Those of `locate_parts`, before the data are read.
 pub fn check<S: Source, A: Allocator>(source: &mut S, room: &mut Room<A>) -> Result<bool, Fault>
     ensures inspects { Inspects check_work result S.device source room }
     ensures told { IfHonest S.device source (λ file. Checks file result) }

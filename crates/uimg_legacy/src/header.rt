@@ -90,11 +90,13 @@ pub(crate) fn fields(bytes: &[u8; HEADER_LEN]) -> Header
     }
 }
 
-/// Reads the header of the image. Returns `TooShort` for a source of fewer than 64 bytes,
-/// `BadMagic` if they do not begin with `0x27051956`, or `BadHeaderCrc` if the header's CRC is not
-/// that of its bytes with the CRC field zeroed; the first of these that holds. Returns `Read`
-/// exactly if a read failed. Requests at most 64 bytes. Over an honest source the returned header
-/// spells the first 64 bytes.
+/// Reads the header of the image. Requests at most 64 bytes. Over an honest source the returned
+/// header spells the first 64 bytes.
+///
+/// Returns the first of these faults, or `Read` if and only if a read failed:
+/// - `TooShort`: the source has fewer than 64 bytes.
+/// - `BadMagic`: they do not begin with `0x27051956`.
+/// - `BadHeaderCrc`: the header's CRC is not that of its bytes with the CRC field zeroed.
 pub fn read_header<S: Source>(source: &mut S) -> Result<Header, Fault>
     ensures reads { ReadsHead result S.device source }
     ensures gives { IfHonest S.device source (λ file. GivesBy header_of file result) }

@@ -106,10 +106,13 @@ fn only_part(alloc: Global, size: u32) -> Result<Vec<Span>, AllocError>
 }
 
 /// Finds the parts of an image with this header: those of its table for the types multi and script,
-/// else the data. The checksum of the data is not checked. Returns their spans, or the first fault
-/// of `Truncated`, `NoTableEnd` and `PartOutside`; `Read` exactly if a read failed, `OutOfMemory`
-/// if memory for the spans was refused, 16 bytes for each. Of an honest source at most 12 bytes for
-/// each size in the table and 12 more are requested. Of the room only the window changes.
+/// else the data. The checksum of the data is not checked. Returns their spans. Of an honest source
+/// at most 12 bytes for each size in the table and 12 more are requested. Of the room only the
+/// window changes.
+///
+/// - `Truncated`, `NoTableEnd`, `PartOutside`: the first of these.
+/// - `Read`: if and only if a read failed.
+/// - `OutOfMemory`: memory for the spans was refused, 16 bytes for each.
 #[tactic(auto, unfolding(crate::specs::Placing::spans_of_parts))]
 pub fn locate_parts<S: Source, A: Allocator>(
     alloc: Global,

@@ -20,8 +20,8 @@ use uimg_base::Source;
 // The letters of a bar.
 const CELLS: u32 = 32;
 
-/// Writes the rows of a map, a line each: where it begins and ends, in hexadecimal, its size, its
-/// bar, and what it is. Names are read from the source. What was written before a failure stays.
+/// Writes the rows of a map, a line each: the range in hexadecimal, its size, its bar, and what it
+/// is. Names are read from the source. What was written before a failure stays.
 pub fn put_lines<S: Source, W: Write>(
     alloc: Global,
     source: &mut S,

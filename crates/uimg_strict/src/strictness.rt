@@ -113,14 +113,16 @@ fn loose_file<S: Source, A: Allocator>(
     Ok(found)
 }
 
-/// Returns the first thing that strictness refuses in a FIT image, with the name of its node: of
-/// the blob, else of the root, else of a node by the names in it, in reading order, else of an
-/// image by where its payload is.
+/// Returns the first thing that strictness refuses in a FIT image, with the name of its node. The
+/// order is: the blob, the root, a node by the names in it, in reading order, an image by where its
+/// payload is.
 ///
-/// Indexes the blob again. Reads the header, the reservation block, names, and the cells of payloads
-/// after the tree. It takes memory for the names in one node.
-/// Returns the faults of the blob, then `NoImages`; `OutOfMemory` if memory for names was refused,
-/// and `Changed` only if the source does not have the blob that was indexed.
+/// Indexes the blob again. Reads the header, the reservation block, names, and the cells of
+/// payloads after the tree. Takes memory for the names in one node.
+///
+/// - The faults of the blob, then `NoImages`.
+/// - `OutOfMemory`: memory for names was refused.
+/// - `Changed`: only if the source does not have the blob that was indexed.
 pub fn find_loose<S: Source, A: Allocator>(
     alloc: Global,
     source: &mut S,

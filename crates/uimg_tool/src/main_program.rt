@@ -20,9 +20,9 @@ use std::rt::Files;
 use uimg_cli::{Asked, WordsFault, read_words};
 use uimg_unpacking::{DiskWorld, MakingWorld};
 
-/// Carries out the words of a command line, the program's name first, and returns the exit status.
-/// A program whose name, after its last slash, is `mkimage`, `dumpimage`, `uimg-mkimage` or
-/// `uimg-dumpimage` takes the words of U-Boot 2023.01's tool of that name.
+/// Carries out a command line, the program's name first, and returns the exit status. A program
+/// whose name, after its last slash, is `mkimage`, `dumpimage`, `uimg-mkimage` or `uimg-dumpimage`
+/// takes the arguments of U-Boot 2023.01's tool of that name.
 ///
 /// `epoch` is the text of SOURCE_DATE_EPOCH if it is set, and `now` the current time in seconds
 /// since 1970; they give the time of a new image. Listings, reports and help go to `out`, buffered,

@@ -102,7 +102,7 @@ pub struct WatchedFiles<'a, R: Files + Clock, V: Write + Copy> {
 }
 
 impl<'a, R: Files + Clock, V: Write + Copy> WatchedFiles<'a, R, V> {
-    /// Creates them.
+    /// Creates the files of a runtime, watched by `meter`.
     pub fn new(rt: &'a R, meter: &'a Meter<'a, R, V>) -> WatchedFiles<'a, R, V> {
         WatchedFiles { rt, meter }
     }

@@ -29,7 +29,7 @@ pub struct DiskWorld<'a, R: Files + AllocGlobal> {
 }
 
 impl<'a, R: Files + AllocGlobal> DiskWorld<'a, R> {
-    /// Returns the files of a system, which were not asked for anything yet.
+    /// Returns the files of a system, none of them requested yet.
     pub fn new(rt: &'a R) -> DiskWorld<'a, R>
         ensures { ⟦<DiskWorld<'a, R> as World>⟧.trace result ≡ [] }
     {

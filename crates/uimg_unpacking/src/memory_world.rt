@@ -37,7 +37,7 @@ pub struct MemoryWorld<'a> {
 }
 
 impl<'a> MemoryWorld<'a> {
-    /// Returns a world of these files, which was not asked for anything yet.
+    /// Returns a world of these files, none of them requested yet.
     pub fn new(alloc: Global, files: &'a [(&'a [u8], &'a [u8])]) -> MemoryWorld<'a>
         ensures map { ⟦<MemoryWorld<'a> as World>⟧.map result ≡ record {
           bytes = λ path. bytes_named path files.now;

@@ -17,8 +17,8 @@ use std::alloc::Global;
 use std::io;
 use std::io::ErrorKind;
 
-/// Moves a file to another path. Unless it replaces an existing file, it makes a hard link first,
-/// which fails if something exists there; on a file system without links it checks that itself.
+/// Moves a file to another path. Unless it replaces an existing file, makes a hard link first,
+/// which fails if something exists there. On a file system without links it checks that itself.
 pub fn name_file<W: World>(world: &mut W, path: &str, whole: &str, replaces: bool) -> io::Result<()>
     ensures { GivesName path.now whole.now replaces (answer_of result)
         (W.trace world.old) (W.trace world.new) }

@@ -44,12 +44,13 @@ pub enum PartsEnded {
 /// the data is right, with a line for each on `out`. For the types multi and script these are its
 /// parts, for another type its data as one part.
 ///
-/// The files are `image-0`, `image-1` and so on, by the parts' numbers; one of them can be
-/// requested alone. Nothing is written if something exists at one of these paths, unless files are
+/// The files are `image-0`, `image-1` and so on, by the parts' numbers. One of them can be
+/// requested. Nothing is written if something exists at one of these paths, unless files are
 /// replaced, if one leads to the image, or if there are more files or bytes than the limits allow.
-/// Files get their names once all are written; unless all get them, the folder is unchanged. Where
-/// parts are kept, the source is honest and contracts know what new files hold, the file of each
-/// requested part holds exactly its bytes.
+/// Files get their names once all are written; unless all get them, the folder is unchanged.
+///
+/// Where parts are kept, the source is honest and contracts know what new files hold, the file of
+/// each requested part holds exactly its bytes.
 #[tactic(auto, using(crate::proofs::PartChanges::within, crate::proofs::PartChanges::follows))]
 pub fn unpack_parts<W: World, S: Source, O: Write + Drop>(
     world: &mut W,

@@ -41,13 +41,13 @@ pub trait World: Drop {
     /// Returns the allocator of the program's memory.
     fn alloc(&self) -> Global;
 
-    /// Returns the same files as a world of their own, which was not asked for anything yet. What it
-    /// is asked for belongs to this world, too, once it is rejoined.
+    /// Returns the same files as a world of their own, with no request yet. Its requests belong to
+    /// this world, too, once it is rejoined.
     fn part(&self) -> Self
         ensures trace { trace result ≡ [] }
         ensures same { SameFiles (map self.now) (map result) };
 
-    /// Notes what a part of the world was asked for.
+    /// Notes the requests of a part of the world.
     fn rejoin(&mut self, part: Self)
         ensures { trace self.new ≡ trace part ++ trace self.old };
 

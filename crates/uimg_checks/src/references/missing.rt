@@ -184,14 +184,17 @@ fn first_missing<S: Source>(
     Ok(None)
 }
 
-/// Finds the first name that a FIT image uses but lacks: its default, if no configuration has this
-/// name, or else a name that no image has, or that is empty, or a value that does not end with a
-/// NUL, under `kernel`, `ramdisk`, `fdt`, `loadables`,
-/// `firmware`, `fpga`, `setup`, `standalone` or `script` of a configuration, in this order.
+/// Finds the first name that a FIT image uses but lacks. The first is its default, if no
+/// configuration has this name. After that come the properties `kernel`, `ramdisk`, `fdt`,
+/// `loadables`, `firmware`, `fpga`, `setup`, `standalone` and `script` of each configuration, in
+/// this order: a name that no image has, or that is empty, or a value that does not end with a NUL.
 /// Configurations are checked in their order, and each text of a value is a name.
 ///
 /// Reads each name and each value once, up to the missing name, and holds the names and one value
-/// in memory. Returns `OutOfMemory` if that was refused, `Stopped` if a read failed.
+/// in memory.
+///
+/// - `OutOfMemory`: that memory was refused.
+/// - `Stopped`: a read failed.
 pub fn find_missing<S: Source>(
     alloc: Global,
     source: &mut S,
