@@ -1,4 +1,5 @@
-//! The program: passes words, files, streams and the clock of the operating system to `program`.
+//! The program: passes the arguments, files, streams and the clock of the operating system to
+//! `program`.
 
 // The program uimg, a function of uimg_tool.
 #![tactic(auto)]

@@ -15,7 +15,7 @@ use std::io::{BufWriter, Write};
 use std::rt::Files;
 use std::{fs, io};
 
-/// A shelf in a file. Writes go to the file byte for byte; small ones are buffered in pieces of
+/// A shelf in a file. Writes go to the file byte for byte. Small ones are buffered in pieces of
 /// 8192 bytes, and `flush` writes the last piece. No contract says that a disk keeps what was
 /// written, so the shelf is not claimed to be honest.
 ///

@@ -56,7 +56,7 @@ pub enum Key {
     Script,
     /// `key-name-hint`: the name of a key.
     KeyName,
-    /// `required`: what a key has to sign.
+    /// `required`: what a key must sign.
     Required,
     /// `padding`: the name of a padding.
     Padding,

@@ -6,15 +6,12 @@ ghost use Rattle.uimg_blob_reading.specs.Labels.{label_of};
 /// What a node's name says about its role.
 #[derive(Clone, Copy, Debug, PartialEq, Eq)]
 pub(crate) enum Label {
-    /// `images`.
     Images,
-    /// `configurations`.
     Configurations,
     /// A name that begins with `hash`.
     Hash,
     /// A name that begins with `signature`.
     Signature,
-    /// Any other name.
     Other,
 }
 

@@ -1,10 +1,10 @@
 //! The functions for callers in C.
 //!
 //! Each returns the status that it reports. Unless that is 3, status, fault, place, text and
-//! payload are those of the outcome. Output is truncated to the caller's memory; with status 3
+//! payload are those of the outcome. Output is truncated to the caller's memory. With status 3
 //! nothing is written, and a report says nothing. A payload or a name ends inside the image, and
-//! has no bytes if none was found. The reported memory is at most 8192 bytes and 128 for each node;
-//! tests show that it is not less than what was taken, other than by a strict check, which takes
+//! has no bytes if none was found. The reported memory is at most 8192 bytes and 128 for each node.
+//! Tests show that it is not less than what was taken, other than by a strict check, which takes
 //! memory for the names in one node, too.
 
 ghost use Rattle.std.specs.Prelude.{◌≡◌, ◌≢◌, ◌≤◌, true, false, Ok};

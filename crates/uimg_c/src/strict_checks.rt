@@ -1,4 +1,5 @@
-//! Whether an image in memory is right, and U-Boot reads it as it was checked.
+//! Strict checks of images in memory: their checksums are right, and U-Boot reads them as they were
+//! checked.
 
 ghost use Rattle.std.specs.Prelude.{◌≡◌, ◌≢◌, ◌≤◌, max, Some, IfSome, true, false};
 ghost use Rattle.uimg_base.specs.Held.{held_bytes};

@@ -1,4 +1,4 @@
-//! What the words of a command line request.
+//! The request of a command line.
 
 ghost use Rattle.std.specs.Prelude.{◌≡◌, Err, Result, option_map, true};
 ghost use Rattle.clap.specs.Faults.{is_simple_and_free};
@@ -40,10 +40,10 @@ use uimg_requests::{MakeRequest, RunRequest};
 pub use unpack::UnpackRequest;
 pub use words_fault::WordsFault;
 
-/// What the words of a command line request.
+/// The request of a command line.
 #[derive(Drop)]
 pub enum Asked<'a> {
-    /// A command on one image, the making of one, or a text.
+    /// A command on one image, a build of one, or a text.
     One(Request<'a>),
 
     /// A check of any number of images.
@@ -59,13 +59,13 @@ pub enum Asked<'a> {
     Info(InfoRequest<'a>),
 }
 
-/// A command on an image, the making of one, or a text.
+/// A command on an image, a build of one, or a text.
 #[derive(Drop)]
 pub enum Request<'a> {
     /// A command on an image.
     Run(RunRequest<'a>),
 
-    /// The making of an image.
+    /// The build of an image.
     Make(MakeRequest<'a>),
 
     /// This text: help or the version.

@@ -45,7 +45,7 @@ pub struct AutoSource<'a> {
     /// The key's name and the algorithm of the signatures that images have in place of checksums.
     pub(crate) signature: Option<(&'a str, &'a str)>,
 
-    /// The words after mkimage's name. Those of -b are the paths of the device trees.
+    /// The arguments after mkimage's name. Those of -b are the paths of the device trees.
     pub(crate) words: &'a [&'a str],
 }
 

@@ -1,4 +1,4 @@
-//! The words of -D, which are dtc's.
+//! The arguments of -D, which are dtc's.
 
 ghost use Rattle.std.specs.Prelude.{◌≡◌, map, filter, find, length, nat_lt, option_map, ◌++◌};
 ghost use Rattle.std.specs.{List.{list_any}};
@@ -46,7 +46,7 @@ const DTC_OPTIONS: [OptionRow; 22] = [
 /// What a shell, which mkimage calls, reads as more than itself, beside control characters.
 const SPECIAL: &[u8] = b"\"#$&'()*;<>?[\\]`{|}~!";
 
-/// What the words of -D change.
+/// What the arguments of -D change.
 #[derive(Drop)]
 pub struct DtcWords<'a> {
     /// The folders where a file is looked for that is not in the folder of the source, in order.

@@ -1,4 +1,4 @@
-//! The words of dumpimage.
+//! The arguments of dumpimage.
 
 ghost use Rattle.std.specs.Prelude.{◌≡◌, map, option_map, Ok};
 ghost use Rattle.uimg_compat.specs.Asked.{asked_of};

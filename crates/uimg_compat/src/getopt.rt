@@ -1,8 +1,9 @@
-//! Reads the words of a command line as getopt_long of the GNU C library does.
+//! Reads a command line as getopt_long of the GNU C library does.
 //!
 //! Options may come before and after operands. Letters may be joined. A value is joined to its
-//! letter or is the next word; the value of a long option comes after a `=` or is the next word.
-//! All words after `--` are operands. A long name may be cut to a beginning that no other has.
+//! letter or is the next argument; the value of a long option comes after a `=` or is the next
+//! argument. All arguments after `--` are operands. A long name may be cut to a beginning that no
+//! other has.
 
 ghost use Rattle.std.specs.Prelude.{List, ◌≡◌, ◌+◌, ◌<◌, ◌≤◌, [], ◌∷◌, length, map, find, IfOk};
 ghost use Rattle.std.specs.Prelude.{IfSome, MatchOption, option_map, ◌==◌, ◌&&◌, nat_lt, filter};
@@ -30,7 +31,7 @@ pub enum Given<'a> {
     /// The option of this letter, with its value.
     Value(char, &'a str),
 
-    /// A word that is not an option.
+    /// An argument that is not an option.
     Operand(&'a str),
 }
 
@@ -49,11 +50,11 @@ pub enum Misuse<'a> {
     #[error("option '--{0}' is ambiguous")]
     AmbiguousName(Printed<'a>),
 
-    /// The option of this letter needs a value, and no word is left.
+    /// The option of this letter needs a value, and no argument is left.
     #[error("option '-{0}' needs a value")]
     NoValueOfLetter(Printed<'a>),
 
-    /// The option of this long name needs a value, and no word is left.
+    /// The option of this long name needs a value, and no argument is left.
     #[error("option '--{0}' needs a value")]
     NoValueOfName(Printed<'a>),
 
@@ -62,7 +63,7 @@ pub enum Misuse<'a> {
     ValueNotWanted(Printed<'a>),
 }
 
-/// The unread words of a command line.
+/// The unread arguments of a command line.
 #[derive(Clone, Copy, Debug)]
 pub struct Words<'w, 'a> {
     words: &'w [&'a str],

@@ -1,4 +1,4 @@
-//! The words of mkimage.
+//! The arguments of mkimage.
 
 mod requests;
 

@@ -1,4 +1,4 @@
-//! The names that the words of -A, -O, -T and -C may be.
+//! The names that -A, -O, -T and -C take.
 
 ghost use Rattle.std.specs.Prelude.{◌≡◌, Result, Err};
 ghost use Rattle.uimg_compat.specs.Names.{form_asked, is_made, letter_of, name_asked};

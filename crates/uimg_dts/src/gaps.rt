@@ -1,4 +1,4 @@
-//! What stands between words: blanks, comments, and the lines of a preprocessor.
+//! What is between words: blanks, comments, and the lines of a preprocessor.
 
 use crate::bytes::{after, before, blanks_length, byte_at, digits_length, is_blank, spaces_length};
 use crate::quoted::{next_byte, string_length};

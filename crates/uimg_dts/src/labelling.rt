@@ -1,4 +1,4 @@
-//! Labels.
+//! Labels of nodes and properties.
 
 ghost use Rattle.std.specs.Prelude.{◌≡◌};
 ghost use Rattle.uimg_dts.specs.{Finding.{is_live_label}, Deleting.{without_labels}};

@@ -9,7 +9,7 @@ use crate::stop::{Stop, at, out_of_memory};
 use crate::tokens::{Piece, Token, Word};
 use std::alloc::Allocator;
 
-/// What stands between a folder and the name of a file in it. The path is the same, and what follows
+/// What is between a folder and the name of a file in it. The path is the same, and what follows
 /// the last one is what the source calls the file.
 pub(crate) const IN_FOLDER: &[u8] = b"./";
 

@@ -1,4 +1,4 @@
-//! The making of a FIT image from a tree in memory.
+//! Builds of FIT images from trees in memory.
 
 ghost use Rattle.std.specs.Prelude.{◌≡◌, Some, [], IsTrue, IfOk};
 ghost use Rattle.uimg_blob_writing.specs.{LentFiles.IfInFull, Trees.node_of};

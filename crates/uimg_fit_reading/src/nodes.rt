@@ -86,9 +86,7 @@ pub fn next_of<A: Allocator>(blob: &Blob, room: &Room<A>, node: usize) -> Option
 /// What a child of an image or a configuration is.
 #[derive(Clone, Copy, Debug, PartialEq, Eq)]
 pub(crate) enum Sum {
-    /// A hash node.
     Hash,
-    /// A signature node.
     Signature,
 }
 

@@ -1,4 +1,4 @@
-//! The header of a devicetree blob and the blocks by its numbers.
+//! The header of a devicetree blob, and the blocks that its numbers give.
 
 ghost use Rattle.std.specs.Prelude.{◌≡◌, ◌+◌};
 ghost use Rattle.uimg_map.specs.Blocks.{blocks_by};

@@ -42,7 +42,7 @@ const LETTERS: usize = 86;
 
 const TITLE_LETTERS: usize = 72;
 
-/// What a bar is the bar of, with its colour.
+/// What a bar shows, with its colour.
 #[derive(Clone, Copy, Debug, PartialEq, Eq)]
 enum Kind {
     Item,

@@ -28,7 +28,7 @@ pub struct RunRequest<'a> {
     pub outfile: Option<&'a str>,
 }
 
-/// The making of an image.
+/// The build of an image.
 #[derive(Drop)]
 pub struct MakeRequest<'a> {
     /// What it is made from, with names of files that `make` accepts.

@@ -1,4 +1,4 @@
-//! What strictness refuses of a legacy image.
+//! Strict checks of the headers of legacy images.
 
 ghost use Rattle.std.specs.Prelude.{◌≡◌};
 ghost use Rattle.uimg_base.specs.Honest.{IfHonest};

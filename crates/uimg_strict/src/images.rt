@@ -1,4 +1,4 @@
-//! What strictness refuses of images by where their payloads are.
+//! Strict checks of where the payloads of images are.
 
 ghost use Rattle.std.specs.Prelude.{◌≡◌, Some};
 ghost use Rattle.uimg_base.specs.Using.{Uses};

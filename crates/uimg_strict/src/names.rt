@@ -1,4 +1,4 @@
-//! Names in memory: which come again, and whether one is among them.
+//! Names in memory: which occur again, and whether one is among them.
 
 ghost use Rattle.std.specs.Prelude.{◌≡◌, ◌+◌, map, IfOk};
 ghost use Rattle.std.specs.Option.{option_map};

@@ -17,7 +17,6 @@ use uimg_fit_base::Fault;
 use uimg_fit_checking::{SurveyFault, read_bytes};
 use uimg_fit_reading::nodes::{child_of, name_of, next_of};
 
-/// The names in a node.
 #[derive(Drop)]
 pub(crate) struct NodeNames {
     // Its own.

@@ -1,4 +1,4 @@
-//! What strictness refuses of nodes by the names in them.
+//! Strict checks of the names in nodes.
 
 ghost use Rattle.std.specs.Prelude.{◌≡◌, Some, length, IfOk};
 ghost use Rattle.std.specs.Option.{option_map};

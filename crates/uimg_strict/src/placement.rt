@@ -1,4 +1,4 @@
-//! What strictness refuses of payloads after the tree, by their order.
+//! Strict checks of the order of payloads after the tree.
 
 ghost use Rattle.std.specs.Prelude.{◌≡◌, ◌+◌, ◌<◌, ◌^◌, ℕ, List, is_err, IfOk, IfSome};
 ghost use Rattle.uimg_base.specs.Using.{Uses};

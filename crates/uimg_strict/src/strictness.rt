@@ -1,4 +1,4 @@
-//! The first thing in a FIT image that strictness refuses.
+//! Finds the first reason for which a strict check refuses a FIT image.
 
 ghost use Rattle.std.specs.Prelude.{◌≡◌, ℕ, List, length, false, IfOk};
 ghost use Rattle.std.specs.Option.{option_map};

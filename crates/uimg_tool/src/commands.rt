@@ -1,4 +1,4 @@
-//! Carries out a request of `uimg` over a world of files, and turns its end into a line and an exit
+//! Carries out a request of `uimg` over a world of files. Returns its end as a line and an exit
 //! status.
 
 ghost use Rattle.std.specs.Prelude.{◌≡◌, ◌≢◌, ◌∷◌, [], IsTrue};

@@ -1,4 +1,4 @@
-//! Standard error, where a fault is told in one line.
+//! Standard error, which has one line for a fault.
 
 ghost use Rattle.std.specs.{Prelude.{◌≡◌, ◌∷◌, ◌+◌, ◌-◌, ◌^◌, ◌≤◌, None, Some, codes, false, min}, IoError.error_kind};
 ghost use Rattle.uimg_tool.specs.Complaints.{AddsText, Complains, is_closed_pipe};
@@ -11,15 +11,15 @@ use std::io::{ErrorKind, Write};
 use uimg_printing::Printed;
 use uimg_unpacking::World;
 
-/// Standard error of a program, whose name each line of a fault begins with. Failed writes are
+/// Standard error of a program. The program's name begins each line of a fault. Failed writes are
 /// ignored.
 #[derive(Drop)]
 pub(crate) struct Complaints<'a, V: Write> {
     name: &'a str,
-    /// Where other lines are written, too.
+    /// Other lines are written here, too.
     pub(crate) err: &'a mut V,
 
-    /// How many faults were told.
+    /// How many faults were printed.
     pub(crate) count: u64,
 
     /// Whether a write failed, so that a line may be missing.

@@ -12,7 +12,7 @@ use std::path::{Path, PathBuf};
 use uimg_base::{Files, OpenedNames, Source, SourceFault};
 use uimg_unpacking::Reader;
 
-/// The file that is left out of a folder, for contracts alone.
+/// The file that is left out of a folder. Only contracts use it.
 pub(crate) trait LeftOut {
     /// Whether a name leads to it.
     ghost leads: { List ℕ → Bool };

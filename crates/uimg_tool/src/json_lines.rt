@@ -12,8 +12,8 @@ use std::io::Write;
 // numbers.
 const LEAD: u8 = 0xc2;
 
-/// A writer of JSON texts. DEL and the characters U+0080 to U+009F, which a JSON text may have as
-/// they are (RFC 8259, section 7), are escaped, so that no terminal takes them for commands.
+/// A writer of JSON texts. A JSON text may have DEL and the characters U+0080 to U+009F as they are
+/// (RFC 8259, section 7). They are escaped, and no terminal takes them for commands.
 #[derive(Drop)]
 pub(crate) struct JsonOut<'a, W: Write> {
     out: &'a mut W,

@@ -20,8 +20,8 @@ pub(crate) enum Known {
     Tree(Tree<Global>),
     /// The profile refuses its text with a fault.
     Beyond(Vec<u8>, ItsFault),
-    /// It is none, or it or a file of it cannot be read, or there is no memory for it: making the
-    /// image reports that.
+    /// There is no source, it or a file of it cannot be read, or there is no memory for it: the
+    /// build reports that.
     Unread,
 }
 

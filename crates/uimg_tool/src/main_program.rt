@@ -1,5 +1,4 @@
-//! The function `program`, the whole program: reads the words of a command line, and carries out
-//! their request.
+//! The function `program`, the whole program: reads a command line, and carries out its request.
 
 ghost use Rattle.std.specs.Prelude.{◌≡◌, ◌≤◌, [], IsTrue, Ok, map, option_map};
 ghost use Rattle.std.specs.Io.Buffered.{writer_buffer, writer_inner};

@@ -25,8 +25,8 @@ use uimg_printing::Printed;
 use uimg_requests::{MakeRequest, RunRequest};
 use uimg_unpacking::{MakingWorld, World};
 
-/// Whether a making prints nothing, the folders where it looks for files that are not in the folder
-/// of a source, and the path of its image.
+/// How an image is made: whether nothing is printed, the folders where files are searched that are
+/// not in the folder of a source, and the path of the image.
 #[derive(Clone, Copy)]
 pub(crate) struct How<'a> {
     pub(crate) is_quiet: bool,

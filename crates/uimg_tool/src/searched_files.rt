@@ -11,12 +11,12 @@ use std::path::Path;
 use uimg_base::{Files, OpenedNames, Source, SourceFault};
 use uimg_unpacking::{FileId, Reader};
 
-/// The files of a folder, and of others for what is not there. The file that is left out is found
-/// in none of them.
+/// The files of a folder, and of other folders for those that it lacks. The file that is left out
+/// is found in none of them.
 ///
 /// A name may have the folder of the file that names it, then `/./`, and then what that file calls
-/// it. As dtc does, the others are searched for the last part alone, and if a file that was found in
-/// one of them may name this one, for the whole name too.
+/// it. As dtc does, the others are searched only for the last part. If a file that was found in one
+/// of them may name this one, they are searched for the whole name too.
 ///
 /// No contract says what a file has, so the files are not claimed to be honest.
 #[derive(Drop)]

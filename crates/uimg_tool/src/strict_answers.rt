@@ -1,4 +1,4 @@
-//! Answers a check of a source, and checks strictly what was found to be right.
+//! Returns the result of a check of a source, and checks strictly what was found to be right.
 
 ghost use Rattle.std.specs.Prelude.{◌≡◌, ◌-◌, ◌^◌, ℕ, List, min, length, false, IfErr};
 ghost use Rattle.std.specs.List.{sum_by};

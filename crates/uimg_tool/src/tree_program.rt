@@ -23,8 +23,8 @@ use uimg_fit_base::Placement;
 use uimg_requests::Manner;
 use uimg_unpacking::MakingWorld;
 
-/// The image that is made of a tree: of the file at which path, at which path and how,
-/// the memory that it reserves, and the size of its blob if that has free room.
+/// The image that is made of a tree: the path of its source, its own path, how it is made, the
+/// memory that it reserves, and the size of its blob if that has free room.
 #[derive(Clone, Copy)]
 pub(crate) struct TreeRequest<'a> {
     pub(crate) source: &'a str,

@@ -15,7 +15,7 @@ use uimg_unpacking::{Ended, PartsEnded, Trouble, World};
 /// How the unpacking of an image ended.
 #[derive(Drop)]
 pub(crate) enum Ending {
-    /// All is told by lines. It is done if all is kept.
+    /// Lines have reported all. It is done if all is kept.
     Told(Status),
 
     /// The image could not be opened.

@@ -1,4 +1,4 @@
-//! What the operating system tells of a path, and how it is opened.
+//! What the operating system returns for a path, and how it is opened.
 
 ghost use Rattle.std.specs.Prelude.{◌≡◌, IfErr, IfOk, OnOk, Some, pos};
 ghost use Rattle.std.specs.IoError.{raw_os_error};

@@ -1,5 +1,5 @@
-//! The files of the operating system: each method makes one call, of the standard library or of
-//! `disk_looks`, notes it, and returns what it answers.
+//! The files of the operating system. Each method makes one call, of the standard library or of
+//! `disk_looks`, notes it, and returns the answer.
 
 ghost use Rattle.std.specs.Prelude.{◌≡◌, [], None, false};
 

@@ -5,8 +5,8 @@ use crate::world::World;
 use std::alloc::AllocError;
 use uimg_base::{Shelf, Source, SourceFault};
 
-/// What opens the files of a world, and finds which they are. It changes none, and so is lent to
-/// what makes an image while that is written.
+/// What opens the files of a world, and finds which they are. It changes none, and so it can be
+/// lent to a build while the image is written.
 pub trait Reader: Drop {
     ghost use Rattle.std.specs.Prelude.{◌≡◌, ℕ, List, IfOk, IsTrue, Option};
     ghost use Rattle.uimg_base.specs.Named.{FileMap, SameFiles, Opens};

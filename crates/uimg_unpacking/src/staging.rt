@@ -1,4 +1,4 @@
-//! Files that are written in a folder of their own, and get their names together.
+//! Files that are written in a folder of their own, and get their names all at once.
 
 ghost use Rattle.std.specs.Prelude.{◌≡◌, ◌++◌, ◌∷◌, [], List, ℕ, Some, map, true, false, codes, IfOk, IfSome, IsTrue, MatchOption, OnOk, is_ok, not, string_bytes};
 ghost use Rattle.std.specs.{Io.Buffered.writer_contents, List.list_all};
@@ -35,7 +35,7 @@ pub(crate) struct Staging<'a, 'c, W: World> {
     files: Vec<Begun>,
     // The paths of all files that were created in the temporary folder.
     created: Vec<String>,
-    // Refused files, of which what they were to replace is removed with the names.
+    // Refused files. What they were to replace is removed with the names.
     outdated: Vec<Begun>,
     // Whether the last file is not complete.
     is_writing: bool,

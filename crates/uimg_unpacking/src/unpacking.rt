@@ -29,7 +29,7 @@ pub struct Unpacking<'a> {
     /// The folder for its payloads.
     pub folder: Folder<'a>,
 
-    /// The name of the image whose payload is requested alone, unless all are.
+    /// The name of the image, if only its payload is requested.
     pub only: Option<&'a str>,
 
     /// The weakest algorithm that is enough, if one is needed.

@@ -1,4 +1,4 @@
-//! What a program asks of the operating system's files.
+//! The files of the operating system, as the program uses them.
 
 use crate::file_id::FileId;
 use crate::kind::{Kind, Target};

@@ -1,4 +1,4 @@
-//! The words of `check`.
+//! The arguments of `check`.
 
 ghost use Rattle.std.specs.Prelude.{◌≡◌, IfOk, codes, false};
 ghost use Rattle.clap.specs.Simple.{app_of};

@@ -1,7 +1,7 @@
-//! The error text for words that are no command.
+//! The error text for arguments that are no command.
 use std::alloc::{AllocError, Global};
 
-// How the tip begins to put a word with a leading `-` after a `--`.
+// How the tip begins to put an argument with a leading `-` after a `--`.
 const TIP: &str = "\n\n  tip: to pass '";
 
 // How the usage begins, which comes after the tip.

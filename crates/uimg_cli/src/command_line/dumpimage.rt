@@ -1,4 +1,4 @@
-//! The words of `dumpimage`.
+//! The arguments of `dumpimage`.
 
 ghost use Rattle.std.specs.Prelude.{◌≡◌, IfOk, false, option_map};
 ghost use Rattle.clap.specs.Simple.{app_of};

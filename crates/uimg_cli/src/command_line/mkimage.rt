@@ -1,4 +1,4 @@
-//! The words of `mkimage`.
+//! The arguments of `mkimage`.
 
 ghost use Rattle.std.specs.Prelude.{◌≡◌, IfOk, Ok, false, option_map};
 ghost use Rattle.clap.specs.Simple.{app_of};
@@ -41,7 +41,6 @@ const LIST: &str = "List the image instead of making one";
 
 const IMAGE: &str = "The image to make, or with -l the image to list";
 
-// The codes of a header.
 #[derive(Clone, Copy)]
 struct Codes {
     arch: u8,

@@ -1,4 +1,4 @@
-//! What the words gave for each argument.
+//! The values of arguments.
 
 ghost use Rattle.std.specs.Prelude.{◌≡◌, is_none, option_map};
 ghost use Rattle.clap.specs.Walk.{all_of, first_of, texts};

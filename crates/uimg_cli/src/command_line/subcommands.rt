@@ -1,4 +1,4 @@
-//! The commands of the program, and the request of the one that the words name.
+//! The commands of the program, and the request of the one that a command line names.
 
 ghost use Rattle.std.specs.Prelude.{◌≡◌, ◌∷◌, [], IfOk, Ok, false, fold, option_map};
 ghost use Rattle.clap.specs.Simple.{app_of};

@@ -1,4 +1,4 @@
-//! The words of `unpack`.
+//! The arguments of `unpack`.
 
 ghost use Rattle.std.specs.Prelude.{◌≡◌, Err, IfOk, Option, Result, codes, false, option_map, ℕ};
 ghost use Rattle.clap.specs.Simple.{app_of, new_rule};
@@ -26,7 +26,7 @@ pub struct UnpackRequest<'a> {
     /// The folder for its payloads.
     pub folder: &'a str,
 
-    /// The image's name, or the part's file name, that is requested alone, unless all are.
+    /// The image's name, or the part's file name, if only one is requested.
     pub only: Option<&'a str>,
 
     /// The weakest algorithm that is enough, if one is needed.

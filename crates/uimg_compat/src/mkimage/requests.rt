@@ -1,4 +1,4 @@
-//! What the words of mkimage request.
+//! The requests of mkimage's command line.
 
 ghost use Rattle.std.specs.Prelude.{◌≡◌, true, map, option_map, Ok};
 ghost use Rattle.uimg_compat.specs.Asked.{asked_of, auto_of, making_of};
@@ -25,7 +25,7 @@ use uimg_names::Naming;
 use uimg_printing::Printed;
 use uimg_requests::{Action, Command, MakeRequest, Manner, RunRequest};
 
-/// The word of -f for a source that mkimage makes itself.
+/// The argument of -f for a source that mkimage makes itself.
 const AUTO: &str = "auto";
 
 /// The length of a header, in bytes.

@@ -1,4 +1,4 @@
-//! Properties that a node lacks.
+//! Warns about properties that a node lacks.
 
 ghost use Rattle.uimg_compat.specs.Telling.{HasTold};
 ghost use Rattle.uimg_compat.specs.Warnings.{path_of};

@@ -13,7 +13,7 @@ use std::io::Write;
 /// The most warnings with a line of their own.
 const MOST_LINES: u64 = 20;
 
-/// How far the warnings about a source were told.
+/// How far the warnings about a source were printed.
 #[derive(Clone, Copy, Debug, PartialEq, Eq)]
 pub struct Told {
     /// Whether memory sufficed to find all of them.

@@ -1,4 +1,4 @@
-//! What is requested: the payloads of all images, or of the images of one name.
+//! Which payloads are requested: those of all images, or of the images of one name.
 
 ghost use Rattle.std.specs.Prelude.{◌≡◌, length, IfOk, IfSome};
 ghost use Rattle.std.specs.Option.{option_map};
@@ -18,7 +18,7 @@ use uimg_fit_base::Fault;
 use uimg_fit_reading::nodes::name_of;
 use uimg_fit_reading::payload_place;
 
-/// Which payloads are requested, and what has to vouch for them.
+/// Which payloads are requested, and what must vouch for them.
 #[derive(Clone, Copy)]
 pub(super) struct Request {
     // The name of the requested images, or `None` for all.

@@ -51,7 +51,6 @@ pub(crate) struct Facts {
     pub(crate) size: Option<u32>,
 }
 
-/// No facts.
 pub(crate) const NO_FACTS: Facts = Facts {
     time: None,
     size: None,

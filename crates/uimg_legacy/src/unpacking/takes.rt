@@ -14,7 +14,7 @@ use uimg_base::{Crc, Out, Room, Source, Summer, be32_at, feed_through, take_thro
 // The parts of the data, and which of them are requested.
 #[derive(Clone, Copy)]
 pub(super) struct Parts {
-    // How many there are.
+    // How many parts the data have.
     pub(super) count: u32,
     // The length of the data, in bytes.
     pub(super) size: u32,

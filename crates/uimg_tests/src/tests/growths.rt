@@ -1,4 +1,4 @@
-//! Making images while memory is refused.
+//! Builds while memory is refused.
 use super::listings::DEMO_LISTING;
 use super::makings::{Fuses, Outcome, making};
 use super::runs::{shown, told};
@@ -22,7 +22,7 @@ const NO_FUSE: Fuses = Fuses {
 const MANY: &str =
     "a:a:a:a:a:a:a:a:a:a:a:a:a:a:a:a:a:a:a:a:a:a:a:a:a:a:a:a:a:a:a:a:a:a:a:a:a:a:a:a";
 
-// Making several parts grows once, for the opened files, before the first open. A heap of 1024
+// A build of several parts grows once, for the opened files, before the first open. A heap of 1024
 // bytes has room for three of them, but not for 40. The columns: the image, from which open on they
 // are refused, and the resulting file.
 const PARTS: [(&str, u64, &str); 3] = [

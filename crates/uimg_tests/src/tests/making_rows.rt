@@ -1,4 +1,4 @@
-//! Making images while opens, reads or the shelf fail.
+//! Builds while opens, reads or the shelf fail.
 use super::listings::listing_named;
 use super::makings::{Fuses, Outcome, making};
 use super::runs::{shown, told};

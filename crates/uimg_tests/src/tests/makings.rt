@@ -1,4 +1,4 @@
-//! What making an image leaves if opens, reads, the shelf or memory fail.
+//! What a build leaves if opens, reads, the shelf or memory fail.
 ghost use Rattle.std.specs.Prelude.{◌≡◌, ◌≢◌, false, length, IfOk};
 ghost use Rattle.uimg_base.specs.Device.{IsFresh};
 ghost use Rattle.uimg_legacy.specs.Parts.{has_parts};
@@ -106,7 +106,7 @@ pub(super) struct Fuses {
     pub(super) keeps: bool,
 }
 
-/// What making an image left: its end, its listing, and how much of the image the file has.
+/// What a build left: its end, its listing, and how much of the image the file has.
 #[derive(Drop)]
 pub(super) struct Outcome {
     pub(super) end: Result<Status, Fault>,

@@ -11,7 +11,7 @@ use uimg_unpacking::{Kind, MemoryWorld, World};
 
 const FILES: [(&[u8], &[u8]); 3] = [(b"a", b"abc"), (b"a", b"def"), (b"b/c", b"ghi")];
 
-// A path, and the three bytes of the file there: an empty text if there is none.
+// A path, and the three bytes of the file there: an empty text if no file is there.
 const ROWS: [(&str, &str); 4] = [("a", "abc"), ("b/c", "ghi"), ("b", ""), ("", "")];
 
 fn opens_as(world: &mut MemoryWorld<'_>, path: &str, text: &str) -> bool {
@@ -47,8 +47,8 @@ fn files_in_memory(rt: HostRuntime) -> Result<(), Fail> {
     Ok(())
 }
 
-// Calls on new files, in order, and what each answers: `ok`, `exists` or `fails`. The files above are
-// there, too.
+// Calls on new files, in order, and their answers: `ok`, `exists` or `fails`. The files above
+// exist, too.
 const CALLS: [(&str, &str, &str, &str); 20] = [
     ("create", "new", "", "ok"),
     ("create", "new", "", "exists"),
@@ -126,7 +126,7 @@ Load Address: 00080000
 Entry Point:  00080000
 ";
 
-// A command line over these files, the exit status, what is printed, and what is told.
+// A command line over these files, the exit status, standard output, and standard error.
 const COMMANDS: [(&str, u8, &str, &str); 9] = [
     ("uimg verify abc", 0, "header crc32 ok\ndata crc32 ok\n", ""),
     ("uimg verify data", 1, "", "uimg: L1 too short\n"),

@@ -1,4 +1,4 @@
-//! Files get their names together, or none does.
+//! Gives all files their names, or none.
 
 ghost use Rattle.std.specs.Prelude.{◌≡◌, None, length, is_ok, is_some, not, string_bytes, true};
 ghost use Rattle.std.specs.Option.{option_map};

@@ -259,7 +259,7 @@ const KEPT: [(&str, usize, &str); 8] = [
     ("+,+images,+a,+b,ALL,-,-,-,-", 3, ""),
 ];
 
-// The name of a node in an image, and what is said of the node.
+// The name of a node in an image, and the result for the node.
 const IN_IMAGE: [(&str, &str); 7] = [
     ("hash", "- - hash"),
     ("hash-1", "- - hash"),

@@ -47,8 +47,8 @@ fn fused<F: Files + Drop>(
 }
 
 // The stored size of the value, the size of the file when the tree is written, its name then, the
-// first refused open, how many calls the file lets through, and the result. Of the file first its
-// size is requested, then its bytes; 112 bytes come before them.
+// first refused open, how many calls the file lets through, and the result. First the file's size
+// is requested, then its bytes; 112 bytes come before them.
 const FILE_ROWS: [(usize, usize, &str, u64, u64, &str); 13] = [
     (3, 3, "abc.bin", 1, 0, "read failed, 112"),
     (3, 3, "abc.bin", 1, 1, "read failed, 112"),
