@@ -47,7 +47,7 @@ fn escape(text: &[u8]) -> Option<(u8, usize)>
     }
 }
 
-// Decodes a byte of a string. Returns what it stands for, and how many bytes after it it takes.
+// Decodes a byte of a string. Returns the byte that it means, and how many bytes after it it takes.
 #[tactic(auto, unfolding(crate::specs::Strings::unit))]
 fn unit(a: u8, after: &[u8]) -> Option<(u8, usize)>
     ensures unit { result ≡ unit a after.now }

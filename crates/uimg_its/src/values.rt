@@ -1,4 +1,4 @@
-//! Values, some of which stay files.
+//! Values of properties; some stay files.
 
 ghost use Rattle.std.specs.Prelude.{◌≡◌, ◌<◌, ◌≤◌, ◌∷◌, Some, IfSome, IfOk, length, codes, false};
 ghost use Rattle.std.specs.Option.{option_map_or};

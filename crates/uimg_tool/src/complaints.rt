@@ -22,7 +22,7 @@ pub(crate) struct Complaints<'a, V: Write> {
     /// How many faults were printed.
     pub(crate) count: u64,
 
-    /// Whether a write failed, so that a line may be missing.
+    /// Whether a write failed: a line may be missing.
     pub(crate) is_lost: bool,
 }
 

@@ -136,7 +136,7 @@ pub(crate) fn carry_out_words<'a, D: MakingWorld<'a>, W: Write + Drop, V: Write>
     carry_out_asked(world, asked, out, complaints)
 }
 
-/// Not inlined, so that the stack that this takes is free when the request is carried out.
+/// Not inlined, to free the stack that this takes before the request is carried out.
 #[inline(never)]
 pub(crate) fn asked_by<'a>(alloc: Global, line: CommandLine<'a>) -> Result<Asked<'a>, WordsFault>
     ensures { ReadsWords (epoch_of line.entry) line.entry.time (words_of line.entry) result }

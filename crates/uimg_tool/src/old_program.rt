@@ -156,7 +156,7 @@ fn make_auto_over<'a, R: Files + AllocGlobal, W: Write, V: Write>(
     make_auto(&mut DiskWorld::new(rt), request, out, complaints)
 }
 
-// Not inlined, so that the stack that this takes is free when the request is carried out.
+// Not inlined, to free the stack that this takes before the request is carried out.
 #[inline(never)]
 #[tactic(auto, unfolding(crate::specs::Programs::ReadsOld))]
 fn read_old_words<'a>(

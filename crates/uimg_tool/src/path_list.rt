@@ -1,4 +1,4 @@
-//! A file with paths, none of which is endless.
+//! A file with paths, each of a limited length.
 
 ghost use Rattle.std.specs.{Io.Iter.split_byte, Prelude.{◌≡◌, IfOk}};
 ghost use Rattle.uimg_tool.specs.Paths.{bytes_left};

@@ -79,7 +79,7 @@ pub struct Cleared<'a, R: Clock, V: Write + Copy, W: Write> {
 }
 
 impl<'a, R: Clock, V: Write + Copy, W: Write> Cleared<'a, R, V, W> {
-    /// Creates an output over another one.
+    /// Creates an output over `out`.
     pub fn new(meter: &'a Meter<'a, R, V>, out: W) -> Cleared<'a, R, V, W> {
         Cleared { meter, out }
     }

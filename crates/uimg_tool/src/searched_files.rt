@@ -95,7 +95,7 @@ impl<'a, R: Reader> SearchedFiles<'a, R> {
             .any(|it| it.as_slice() == folder)
     }
 
-    // Not inlined, as the next one, so that only one of them is on the stack.
+    // Not inlined, as the next one: only one of them is on the stack.
     #[inline(never)]
     fn open_here(&mut self, name: &[u8]) -> Result<R::Opened, SourceFault>
         ensures fresh { IfOk result (λ source. IsFresh (R.Opened.device source)) }

@@ -169,7 +169,7 @@ fn remove_at<W: World>(world: &mut W, path: &str, kind: Kind) -> io::Result<()>
 }
 
 // Returns whether the image's file is at a path, or in a folder there, or may be. Below a folder
-// whose name is not UTF-8, nothing tells.
+// whose name is not UTF-8 this is not known.
 fn is_or_has<W: World>(world: &mut W, path: &str, image: Option<&str>) -> bool
     ensures { SeeksImage path.now image.entry result (W.trace world.old) (W.trace world.new) }
 {

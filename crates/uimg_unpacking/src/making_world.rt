@@ -21,10 +21,10 @@ pub trait Reader: Drop {
     /// The file at each path; links are followed.
     ghost identities: { Self → List ℕ → Option FileId };
 
-    /// Opens the file at a path as a source, of which nothing was requested yet.
+    /// Opens the file at a path as a source. Nothing was requested of it yet.
     ///
-    /// Returns `SourceFault` if the file cannot be opened, is a folder, or has no known length, as a
-    /// pipe.
+    /// Returns `SourceFault` if the file cannot be opened, is a folder, or has no known length, as
+    /// a pipe.
     fn open(&mut self, path: &str) -> Result<Self::Opened, SourceFault>
         ensures same { SameFiles (map self.old) (map self.new) }
         ensures kept { identities self.new ≡ identities self.old }

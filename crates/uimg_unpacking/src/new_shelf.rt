@@ -12,8 +12,8 @@ use std::io;
 use std::io::{BufWriter, Write};
 use uimg_base::{Shelf, Source, SourceFault};
 
-/// A shelf in a new file, which is open already, so that nothing that gets its path meanwhile is
-/// written to. A reader reopens it. It is like a `FileShelf` otherwise.
+/// A shelf in a new file, which is open already: nothing that gets its path meanwhile is written
+/// to. A reader reopens it. It is like a `FileShelf` otherwise.
 #[derive(Drop)]
 pub struct NewShelf<R: Reader, F: Write + Drop> {
     reader: R,

@@ -51,10 +51,10 @@ pub trait World: Drop {
     fn rejoin(&mut self, part: Self)
         ensures { trace self.new ≡ trace part ++ trace self.old };
 
-    /// Opens the file at a path as a source, of which nothing was requested yet.
+    /// Opens the file at a path as a source. Nothing was requested of it yet.
     ///
-    /// Returns `SourceFault` if the file cannot be opened, is a folder, or has no known length, as a
-    /// pipe.
+    /// Returns `SourceFault` if the file cannot be opened, is a folder, or has no known length, as
+    /// a pipe.
     fn open(&mut self, path: &str) -> Result<Self::Opened, SourceFault>
         ensures noted { trace self.new ≡ Deed.Opens path.now (is_ok result) ∷ trace self.old }
         ensures same { SameFiles (map self.old) (map self.new) }

@@ -11,7 +11,7 @@ use uimg_unpacking::{Kind, MemoryWorld, World};
 
 const FILES: [(&[u8], &[u8]); 3] = [(b"a", b"abc"), (b"a", b"def"), (b"b/c", b"ghi")];
 
-// A path, and the three bytes of the file there: an empty text if no file is there.
+// A path, and the three bytes of the file there: an empty text without a file.
 const ROWS: [(&str, &str); 4] = [("a", "abc"), ("b/c", "ghi"), ("b", ""), ("", "")];
 
 fn opens_as(world: &mut MemoryWorld<'_>, path: &str, text: &str) -> bool {

@@ -131,7 +131,7 @@ const ALL: Span = Span {
     length: 112,
 };
 
-// Writes a text of 112 bytes, of which `takes` are accepted. Returns the result and the count.
+// Writes a text of 112 bytes. `takes` of them are accepted. Returns the result and the count.
 fn put_to(alloc: Global, bytes: &[u8; 112], takes: u64) -> (Result<(), MoveFault>, usize) {
     let mut room = Room::new(alloc);
     let mut out = Out::new(FuseWriter::new(Vec::new(alloc), takes));

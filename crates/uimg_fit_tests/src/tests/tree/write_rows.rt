@@ -23,7 +23,7 @@ fn told(
     }
 }
 
-// Writes a tree over files whose opens are refused from a number on, the first opened of which lets
+// Writes a tree over files whose opens are refused from a number on. The first opened file lets
 // `calls` calls through. Returns the result and the size, or nothing without layout or prefix.
 fn fused<F: Files + Drop>(
     alloc: Global,
