@@ -1,4 +1,5 @@
-//! The program: passes words, files, streams and the clock of the operating system to `program`.
+//! The program: passes the arguments, files, streams and the clock of the operating system to
+//! `program`.
 
 // The program uimg, a function of uimg_tool.
 #![tactic(auto)]
@@ -44,7 +45,6 @@ fn run(rt: &HostRuntime) -> io::Result<u8> {
     Ok(status)
 }
 
-// Returns whether a word asks for less output.
 fn is_quiet(words: &[&str]) -> bool {
     words.iter().any(|word| *word == "-q" || *word == "--quiet")
 }

@@ -15,7 +15,7 @@ use std::io::{BufWriter, Write};
 use std::rt::Files;
 use std::{fs, io};
 
-/// A shelf in a file. Writes go to the file byte for byte; small ones are buffered in pieces of
+/// A shelf in a file. Writes go to the file byte for byte. Small ones are buffered in pieces of
 /// 8192 bytes, and `flush` writes the last piece. No contract says that a disk keeps what was
 /// written, so the shelf is not claimed to be honest.
 ///
@@ -66,7 +66,7 @@ impl<'a, R: Files + AllocGlobal> FileShelf<'a, R> {
 impl<'a, R: Files + AllocGlobal> Write for FileShelf<'a, R> {
     ghost contents = { λ s. shelf_contents (writer_contents R.File.contents) s.file };
 
-    /// Writes to the file. The first write creates it.
+    /// The first write creates the file.
     fn write(&mut self, buf: &[u8]) -> io::Result<usize>
         ensures bound { WritesAtMost result buf.now }
         ensures bytes { WriteAppends
@@ -91,7 +91,6 @@ impl<'a, R: Files + AllocGlobal> Write for FileShelf<'a, R> {
         count
     }
 
-    /// Writes the buffered bytes to the file.
     fn flush(&mut self) -> io::Result<()>
         ensures bytes { Keeps (shelf_contents (writer_contents R.File.contents) self.old.file)
             (shelf_contents (writer_contents R.File.contents) self.new.file) }

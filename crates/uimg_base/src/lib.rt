@@ -1,5 +1,5 @@
 //! What every engine uses: sources, files, shelves, output, the room, and ranges. `uimg_sums` and
-//! `uimg_texts` are re-exported here.
+//! `uimg_texts` are re-exported.
 #![tactic(auto)]
 
 mod file_shelf;

@@ -42,7 +42,6 @@ impl<A: Allocator> Write for MemShelf<A> {
         self.bytes.write(buf)
     }
 
-    /// Does nothing. Never fails.
     fn flush(&mut self) -> io::Result<()>
         ensures ok { IsOk result }
         ensures bytes { Keeps (⟦<MemShelf<A> as Write>⟧.contents self.old)
@@ -59,7 +58,7 @@ impl<A: Allocator> Shelf for MemShelf<A> {
 
     ghost steady = { true };
 
-    /// Returns what was written as a source. Never fails.
+    /// Never fails.
     fn keep(self) -> Result<MemKept<A>, SourceFault>
         ensures ok { IsOk result }
         ensures bytes { IfOk result (λ kept.

@@ -1,5 +1,4 @@
-//! The names that were requested, for clauses alone: it takes no memory, and noting one takes no
-//! time.
+//! The names that were requested of files. Only clauses read them; they take no memory and no time.
 
 ghost use Rattle.std.specs.Prelude.{◌≡◌, ℕ, List, [], ◌∷◌};
 ghost use Rattle.std.specs.Borrow.{ftrue};

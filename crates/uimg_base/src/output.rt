@@ -96,7 +96,6 @@ impl<W: Write> Out<W> {
         }
     }
 
-    // Writes the pieces in order.
     fn put_each(&mut self, pieces: &[&[u8]]) -> Result<(), PutFault>
         ensures writes { Writes (is_err result) self.old self.new
             (flat_map (λ piece. piece.now) pieces.now) }

@@ -24,7 +24,6 @@ pub(crate) struct Piece {
 }
 
 impl Piece {
-    // Creates a piece with no bytes, which no read follows.
     pub(crate) fn new(alloc: Global) -> Piece
         ensures { (s : Option Stream) → IsPieceAhead result s }
     {
@@ -35,9 +34,8 @@ impl Piece {
         }
     }
 
-    // Returns whether the piece has `len` bytes at an offset, or a new one does, which is read because
-    // this read follows the one before. `left` is the number of bytes from the offset to the file's
-    // end.
+    // Reads the bytes only if this read follows the one before. `left` is the number of bytes from
+    // the offset to the file's end.
     pub(crate) fn hold<F: SeekRead>(
         &mut self,
         file: &mut F,
@@ -62,7 +60,6 @@ impl Piece {
         self.has(at, len)
     }
 
-    // Returns whether the piece has `len` bytes at an offset.
     fn has(&self, at: u64, len: usize) -> bool
         ensures { IsTrue result → HasPiece at len self.now }
     {
@@ -72,7 +69,6 @@ impl Piece {
         len <= self.bytes.len() - (at - self.at) as usize
     }
 
-    // Returns the `len` bytes at an offset.
     pub(crate) fn part(&self, at: u64, len: usize) -> &[u8]
         requires { HasPiece at len self.now }
         ensures length { length result.now ≡ len }
@@ -82,7 +78,6 @@ impl Piece {
         &self.bytes[start..start + len]
     }
 
-    // Returns the bytes from an offset on, at most `most`; the piece has `len` of them.
     pub(crate) fn up_to(&self, at: u64, len: usize, most: u64) -> &[u8]
         requires has { HasPiece at len self.now }
         requires most { len ≤ most }
@@ -126,7 +121,7 @@ impl Piece {
         follows
     }
 
-    // Reads once at an offset, at most `most` bytes. After a failure the piece has none.
+    // Reads once, at most `most` bytes. After a failure the piece has none.
     fn read_ahead<F: SeekRead>(
         &mut self,
         file: &mut F,

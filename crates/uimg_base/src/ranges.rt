@@ -41,7 +41,6 @@ impl Sums for NoSums {
     fn feed_all(&mut self, _bytes: &[u8]) {}
 }
 
-/// Feeds bytes to sums, and writes them. Returns `MoveFault::Put` if a write failed.
 pub(crate) fn put_fed<M: Sums, W: Write>(
     bytes: &[u8],
     sums: &mut M,
@@ -60,8 +59,8 @@ pub(crate) fn put_fed<M: Sums, W: Write>(
     }
 }
 
-/// Writes at least one of the bytes, as many as the writer accepts at once, and feeds these to sums.
-/// Returns how many. Returns `MoveFault::Put` if a write failed; then nothing was written.
+/// Writes at least one of the bytes, as many as the writer accepts at once, and feeds these to
+/// sums. Returns how many. After a fault nothing was written.
 pub(crate) fn put_some_fed<M: Sums, W: Write>(
     bytes: &[u8],
     sums: &mut M,
@@ -83,10 +82,12 @@ pub(crate) fn put_some_fed<M: Sums, W: Write>(
 
 /// Copies `len` bytes at offset `at` of the source to the output, and feeds the same bytes to sums.
 ///
-/// The range must be inside the source. Returns `MoveFault::Read` if and only if a read failed,
-/// `MoveFault::Put` if and only if a write failed. Requests at most `len` bytes, and exactly `len`
-/// at `Ok`. Over an honest source, at every exit, a prefix of the range was written and at most
-/// 8192 bytes more were requested. At `Ok`, what was fed is what was written, over any source.
+/// The range must be inside the source. Requests at most `len` bytes, and exactly `len` at `Ok`.
+/// Over an honest source, at every exit, a prefix of the range was written and at most 8192 bytes
+/// more were requested. At `Ok`, what was fed is what was written, over any source.
+///
+/// - `MoveFault::Read`: if and only if a read failed.
+/// - `MoveFault::Put`: if and only if a write failed.
 pub fn take_through<S: Source, M: Sums, W: Write>(
     source: &mut S,
     window: &mut [u8; WINDOW],
@@ -115,10 +116,12 @@ pub fn take_through<S: Source, M: Sums, W: Write>(
 
 /// Copies `len` bytes at offset `at` of the source to the output, through a window.
 ///
-/// The range must be inside the source. Returns `MoveFault::Read` if and only if a read failed,
-/// `MoveFault::Put` if and only if a write failed. Requests at most `len` bytes, and exactly `len`
-/// at `Ok`. Over an honest source, at every exit, a prefix of the range was written and at most
-/// 8192 bytes more were requested.
+/// The range must be inside the source. Requests at most `len` bytes, and exactly `len` at `Ok`.
+/// Over an honest source, at every exit, a prefix of the range was written and at most 8192 bytes
+/// more were requested.
+///
+/// - `MoveFault::Read`: if and only if a read failed.
+/// - `MoveFault::Put`: if and only if a write failed.
 pub fn copy_through<S: Source, W: Write>(
     source: &mut S,
     window: &mut [u8; WINDOW],
@@ -140,10 +143,12 @@ pub fn copy_through<S: Source, W: Write>(
 
 /// Copies `len` bytes at offset `at` of the source to the output, through the room's window.
 ///
-/// The range must be inside the source. Returns `MoveFault::Read` if and only if a read failed,
-/// `MoveFault::Put` if and only if a write failed. Requests at most `len` bytes, and exactly `len`
-/// at `Ok`. Over an honest source, at every exit, a prefix of the range was written and at most
-/// 8192 bytes more were requested. Only the room's window changes.
+/// The range must be inside the source. Requests at most `len` bytes, and exactly `len` at `Ok`.
+/// Over an honest source, at every exit, a prefix of the range was written and at most 8192 bytes
+/// more were requested. Only the room's window changes.
+///
+/// - `MoveFault::Read`: if and only if a read failed.
+/// - `MoveFault::Put`: if and only if a write failed.
 pub fn copy_range<S: Source, W: Write, A: Allocator>(
     source: &mut S,
     room: &mut Room<A>,
@@ -166,9 +171,9 @@ pub fn copy_range<S: Source, W: Write, A: Allocator>(
 
 /// Feeds `len` bytes at offset `at` of the source to sums, through a window.
 ///
-/// The range must be inside the source. Returns `SourceFault` if and only if a read failed; then
-/// part of the range may have been fed. Requests at most `len` bytes, and exactly `len` at `Ok`.
-/// Then `len` bytes were fed, over an honest source the range's.
+/// The range must be inside the source. Requests at most `len` bytes, and exactly `len` at `Ok`. At
+/// `Ok` `len` bytes were fed, over an honest source those of the range. Returns `SourceFault` if
+/// and only if a read failed; then part of the range may have been fed.
 pub fn feed_through<M: Sums, S: Source>(
     sums: &mut M,
     source: &mut S,

@@ -25,7 +25,6 @@ pub(crate) struct Reading {
 }
 
 impl Reading {
-    // Finds the length of a file. Nothing was requested of it yet.
     pub(crate) fn of<F: SeekRead>(alloc: Global, file: &mut F) -> Result<Reading, SourceFault>
         ensures same { SameBytes (F.stream file.old) (F.stream file.new) }
         ensures stands { IfOk result (λ r. StandsAt r.position (F.stream file.new)) }
@@ -48,7 +47,7 @@ impl Reading {
         })
     }
 
-    // Fills `to` with the file's bytes at an offset. Counts the requested bytes, and a failure.
+    // Counts the requested bytes, and a failure.
     pub(crate) fn fill_at<F: SeekRead>(
         &mut self,
         file: &mut F,
@@ -78,8 +77,7 @@ impl Reading {
         Ok(())
     }
 
-    // Counts `len` requested bytes, those at an offset. Returns whether the piece has them, which is
-    // read ahead if this read follows the one before.
+    // Counts `len` requested bytes. The piece is read ahead if this read follows the one before.
     pub(crate) fn hold<F: SeekRead>(&mut self, file: &mut F, at: u64, len: usize) -> bool
         requires stands { StandsAt self.old.position (F.stream file.old) }
         requires ahead { AreAhead self.old.windows (F.stream file.old) }
@@ -98,7 +96,6 @@ impl Reading {
         self.has(file, at, len)
     }
 
-    // Counts `len` requested bytes.
     pub(crate) fn count_asked(&mut self, len: usize)
         ensures same { self.new ≡ record self.old { asked = self.new.asked } }
         ensures asked { self.new.asked ≡ asked_more self.old.asked len }
@@ -106,8 +103,7 @@ impl Reading {
         self.asked = self.asked.saturating_add(len as u128);
     }
 
-    // Returns whether the piece has `len` bytes at an offset, which is read ahead if this read
-    // follows the one before.
+    // The piece is read ahead if this read follows the one before.
     pub(crate) fn has<F: SeekRead>(&mut self, file: &mut F, at: u64, len: usize) -> bool
         requires stands { StandsAt self.old.position (F.stream file.old) }
         requires ahead { AreAhead self.old.windows (F.stream file.old) }
@@ -126,8 +122,7 @@ impl Reading {
         self.piece.hold(file, &mut self.position, at, left, len)
     }
 
-    // Counts `len` requested bytes, those at an offset that the piece gave. Frees it at the end of
-    // the file.
+    // Counts `len` requested bytes that the piece gave. Frees it at the end of the file.
     pub(crate) fn gave(&mut self, at: u64, len: usize)
         ensures same { self.new ≡ record self.old { asked = self.new.asked; piece = self.new.piece } }
         ensures asked { self.new.asked ≡ asked_more self.old.asked len }
@@ -204,7 +199,7 @@ pub(crate) fn read_some<F: SeekRead>(file: &mut F, to: &mut [u8]) -> Option<usiz
     }
 }
 
-// Reads until `to` is full, and returns whether it is. Reads at most once per byte.
+// Reads at most once per byte. Returns whether `to` is full.
 fn fill<F: SeekRead>(file: &mut F, to: &mut [u8]) -> bool
     ensures same { SameBytes (F.stream file.old) (F.stream file.new) }
     ensures filled { IsTrue result → ReadsOn (length to.old) (F.stream file.old)
@@ -223,8 +218,7 @@ fn fill<F: SeekRead>(file: &mut F, to: &mut [u8]) -> bool
     to.is_empty()
 }
 
-// Moves a file to an offset, unless it is there. Returns whether it is. `position` is the file's
-// position, or `None` if unknown.
+// `position` is the file's position, or `None` if unknown.
 pub(crate) fn move_to<F: SeekRead>(file: &mut F, position: &mut Option<u64>, at: u64) -> bool
     requires stands { StandsAt position.old (F.stream file.old) }
     ensures stands { StandsAt position.new (F.stream file.new) }
@@ -239,7 +233,6 @@ pub(crate) fn move_to<F: SeekRead>(file: &mut F, position: &mut Option<u64>, at:
     moved
 }
 
-// Reads at an offset until `to` is full, and returns whether it is.
 fn fill_from<F: SeekRead>(file: &mut F, position: &mut Option<u64>, at: u64, to: &mut [u8]) -> bool
     requires stands { StandsAt position.old (F.stream file.old) }
     ensures stands { StandsAt position.new (F.stream file.new) }

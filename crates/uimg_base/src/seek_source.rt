@@ -23,10 +23,10 @@ use uimg_sums::Sums;
 /// source of these bytes. Over any other, contracts see zeros, and it is not claimed to be honest.
 ///
 /// Reads of fewer than 4096 bytes are served from two windows of 4096 bytes that are read ahead. If
-/// two longer ones follow one another, 128 KiB are read ahead, to memory that is freed at the end of
-/// the file, and from which sums are fed and bytes are written; without this memory only the
-/// requested bytes are read. It never reads past the length, nor ahead by more than one such piece.
-/// If a read ahead fails or is short, only the requested bytes are read.
+/// two longer ones follow one another, 128 KiB are read ahead. Their memory is freed at the end of
+/// the file; sums are fed and bytes are written from it. Without this memory only the requested
+/// bytes are read. It never reads past the length, nor ahead by more than one such piece. If a read
+/// ahead fails or is short, only the requested bytes are read.
 #[derive(Drop)]
 pub struct SeekSource<F: SeekRead> {
     file: F,

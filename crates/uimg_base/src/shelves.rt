@@ -1,4 +1,4 @@
-//! What is written to and then reopened as a source.
+//! Shelves: images are written to them and then reopened as sources.
 
 ghost use Rattle.std.specs.Prelude.{◌≡◌, Bool, false, Some, IsOk, IfOk, IsTrue};
 ghost use Rattle.uimg_base.specs.Device.{IsFresh};

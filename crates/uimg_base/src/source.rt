@@ -81,9 +81,11 @@ pub trait Source: Drop {
 
     /// Feeds to sums, and writes, as many bytes as `window` has, from the offset `at`.
     ///
-    /// They are read to `window`, unless the source has them in memory. The range must be inside the
-    /// source. Requests are counted as `fill_at` does. Returns `MoveFault::Read` if and only if the
-    /// read failed; then nothing is written. Returns `MoveFault::Put` if and only if a write failed.
+    /// The bytes are read to `window`, unless the source has them in memory. The range must be
+    /// inside the source. Requests are counted as `fill_at` does.
+    ///
+    /// - `MoveFault::Read`: if and only if the read failed; then nothing is written.
+    /// - `MoveFault::Put`: if and only if a write failed.
     fn take_at<M: Sums, W: Write>(
         &mut self,
         at: u64,
@@ -110,9 +112,9 @@ pub trait Source: Drop {
     /// Feeds to sums, and writes, bytes from the offset `at`: at least one, and at most `most`.
     /// Returns how many.
     ///
-    /// They are read to `window`, as many as it has, unless the source has them in memory. The range
-    /// of `most` bytes must be inside the source; neither it nor the window is empty. As many bytes
-    /// are requested as are returned; at a fault at most as many as `window` has. Returns
+    /// The bytes are read to `window`, as many as it has, unless the source has them in memory. The
+    /// range of `most` bytes must be inside the source; neither it nor the window is empty. As many
+    /// bytes are requested as are returned; at a fault at most as many as `window` has. Returns
     /// `MoveFault` as `take_at` does.
     fn take_some<M: Sums, W: Write>(
         &mut self,

@@ -18,7 +18,6 @@ pub(crate) struct Window {
 }
 
 impl Window {
-    // Creates a window with no bytes.
     fn new() -> Window
         ensures { (s : Option Stream) → IsAhead result s }
     {
@@ -29,7 +28,7 @@ impl Window {
         }
     }
 
-    // Copies the bytes at an offset if the window has all of them. Returns whether it has.
+    // Copies only if the window has all of the bytes.
     fn give(&self, at: u64, to: &mut [u8]) -> bool
         ensures { IsTrue result → (s : Option Stream) → IsAhead self.now s →
             HoldsFrom at s to.new }
@@ -48,7 +47,7 @@ impl Window {
         true
     }
 
-    // Reads once at an offset, at most `most` bytes. After a failure the window has none.
+    // Reads once, at most `most` bytes. After a failure the window has none.
     fn read_ahead<F: SeekRead>(
         &mut self,
         file: &mut F,
@@ -89,7 +88,6 @@ pub(crate) struct Windows {
 }
 
 impl Windows {
-    // Creates two windows with no bytes.
     pub(crate) fn new() -> Windows
         ensures { (s : Option Stream) → AreAhead result s }
     {

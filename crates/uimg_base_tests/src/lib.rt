@@ -1,5 +1,5 @@
-//! Tests of sums, texts, devices and legacy images, with the images and listings that they and the
-//! tests of the program use.
+//! Tests of sums, texts, devices and legacy images, with the images and listings that these and
+//! other tests use.
 #![tactic(auto)]
 
 pub mod samples;

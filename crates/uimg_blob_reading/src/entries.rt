@@ -22,7 +22,6 @@ pub(crate) const ROLE: usize = 3;
 
 pub(crate) const VALUES: usize = 5;
 
-// Packs an offset and a length into one word.
 fn span_word(place: u64, length: u32) -> u64
     requires { place < 2 ^ 32 }
     ensures { result ≡ span_word place length }
@@ -30,7 +29,7 @@ fn span_word(place: u64, length: u32) -> u64
     place * 0x1_0000_0000 + length as u64
 }
 
-// Packs a number into one word, 0 for none.
+// 0 is none.
 fn number_word(number: Option<usize>) -> u64
     requires { IfSome number (λ i. i < 2 ^ 63) }
     ensures { result ≡ number_word number }
@@ -56,7 +55,6 @@ fn role_word(role: Role) -> u64
     }
 }
 
-// Unpacks a number from a word.
 pub(crate) fn number_in(word: u64) -> Option<usize>
     ensures { word ≡ number_word result }
 {
@@ -67,7 +65,6 @@ pub(crate) fn number_in(word: u64) -> Option<usize>
     }
 }
 
-// Unpacks a role from a word.
 pub(crate) fn role_in(word: u64) -> Role
     ensures { (role : Role) → word ≡ role_word role → result ≡ role }
 {
@@ -83,7 +80,7 @@ pub(crate) fn role_in(word: u64) -> Role
     }
 }
 
-// Adds the entry of a node whose token is at offset `at`, under its parent.
+// `at` is the offset of the node's token.
 pub(crate) fn enter<A: Allocator>(
     room: &mut Room<A>,
     at: u64,

@@ -29,7 +29,6 @@ pub(crate) struct Extent {
     pub(crate) strings_size: u64,
 }
 
-// Finds the blocks by the 40 bytes of the header of a file of `size` bytes.
 #[tactic(auto, unfolding(crate::specs::Blob::blocks))]
 fn extent_in(bytes: &[u8; 40], size: u64) -> Result<Extent, IndexFault>
     requires { 40 ≤ size }
@@ -72,13 +71,15 @@ fn extent_in(bytes: &[u8; 40], size: u64) -> Result<Extent, IndexFault>
     }
 }
 
-// Reads the header of a blob (Devicetree Specification, section 5.2) at once. Returns its blocks,
-// which are inside the source, whatever it returns.
+// Reads the header of a blob (Devicetree Specification, section 5.2) at once. The returned blocks
+// are inside the source, whatever it returns.
 //
-// Returns the first of these faults: `TooShort` if the source has fewer than 40 bytes; `BadMagic`
-// if they do not begin with `0xd00dfeed`; `BadVersion` if the version is below 17 or the last
-// compatible version above 17; `BlockOutside` if the blob is outside the source, a block outside
-// the blob, or the structure block not at a multiple of 4. Returns `Read` if the read failed.
+// Returns the first of these faults, or `Read` if the read failed:
+// - `TooShort`: the source has fewer than 40 bytes.
+// - `BadMagic`: they do not begin with `0xd00dfeed`.
+// - `BadVersion`: the version is below 17, or the last compatible version above 17.
+// - `BlockOutside`: the blob is outside the source, a block outside the blob, or the structure
+//   block not at a multiple of 4.
 #[tactic(auto, unfolding(crate::specs::Blob::blocks), using(crate::proofs::NumberLaws::heads))]
 pub(crate) fn read_extent<S: Source>(source: &mut S) -> Result<Extent, IndexFault>
     ensures uses { Asks 40 (is_read result) (S.device source.old) (S.device source.new) }

@@ -16,7 +16,7 @@ use crate::tokens::read_token;
 use std::alloc::Allocator;
 use uimg_base::{Room, Source};
 
-// Reads a token and acts on it. Returns `None` if it ends the tree.
+// Returns `None` if the token ends the tree.
 fn step<S: Source, A: Allocator>(
     source: &mut S,
     room: &mut Room<A>,
@@ -37,7 +37,6 @@ fn step<S: Source, A: Allocator>(
     Ok(Some(next))
 }
 
-// Reads the tokens of the structure block up to the last, or up to the first fault.
 fn pass<S: Source, A: Allocator>(
     source: &mut S,
     room: &mut Room<A>,
@@ -62,21 +61,23 @@ fn pass<S: Source, A: Allocator>(
 /// Indexes the devicetree blob of a source (Devicetree Specification, chapter 5). Clears the room,
 /// then adds one entry for each node, in reading order.
 ///
-/// Returns the first fault in byte order, with its offset from the start of the file: of the header
-/// (`TooShort`, `BadMagic`, `BadVersion`, `BlockOutside`), then of the tokens (`BadToken`,
-/// `Truncated`, `BadNodeName`, `BadNesting`, `BadPropertyName`). Returns `OutOfMemory` if and only
-/// if the room refused to grow, with the offset of the node that got no entry. Returns `Read` if
-/// and only if a read failed. Never returns `TooLarge`, a fault of building.
-///
 /// At `Ok` each name and value ends inside the blob, and the blob inside the source, whatever the
 /// source returns. Over an honest source, blob and entries are those of the file's tree, and the
 /// blob has the size in its header. After a refusal over an honest source, the entries are those of
-/// the nodes met before it, each with what was met of it; after a refused header there are none. At
-/// which token a read failed is only tested.
+/// the nodes met before it, each with what was met of it; after a refused header there are none.
 ///
 /// No value is read. Of an honest source it requests at most 44 bytes, 264 for each node met, 268
 /// for each property and 4 for each NOP. The room takes memory for at most these nodes, and over
 /// any source at most 8320 bytes and 16 for each byte of the source.
+///
+/// Returns the first fault in byte order, with its offset from the start of the file. It never
+/// returns `TooLarge`, a fault of building.
+///
+/// - `TooShort`, `BadMagic`, `BadVersion`, `BlockOutside`: the header is refused.
+/// - `BadToken`, `Truncated`, `BadNodeName`, `BadNesting`, `BadPropertyName`: a token is refused.
+/// - `OutOfMemory`: if and only if the room refused to grow; the offset is that of the node that
+///   got no entry.
+/// - `Read`: if and only if a read failed; at which token is only tested.
 pub fn index<S: Source, A: Allocator>(
     source: &mut S,
     room: &mut Room<A>,

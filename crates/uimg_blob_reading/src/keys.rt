@@ -56,7 +56,7 @@ pub enum Key {
     Script,
     /// `key-name-hint`: the name of a key.
     KeyName,
-    /// `required`: what a key has to sign.
+    /// `required`: what a key must sign.
     Required,
     /// `padding`: the name of a padding.
     Padding,
@@ -93,7 +93,6 @@ const NAMES: [(&str, Key); 27] = [
     ("padding", Key::Padding),
 ];
 
-// Looks up the key in the first row with this name.
 fn key_in(rows: &[(&str, Key)], name: &[u8]) -> Option<Key>
     ensures { result ≡ key_of_name (map key_row_of rows.now) name.now }
 {
@@ -105,7 +104,7 @@ fn key_in(rows: &[(&str, Key)], name: &[u8]) -> Option<Key>
     None
 }
 
-// Looks up the key of a property's name. Returns `None` if FIT gives the name no meaning.
+// Returns `None` if FIT gives the name no meaning.
 pub(crate) fn key_named(name: &[u8]) -> Option<Key>
     ensures { result ≡ key_named name.now }
 {

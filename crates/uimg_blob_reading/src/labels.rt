@@ -6,19 +6,15 @@ ghost use Rattle.uimg_blob_reading.specs.Labels.{label_of};
 /// What a node's name says about its role.
 #[derive(Clone, Copy, Debug, PartialEq, Eq)]
 pub(crate) enum Label {
-    /// `images`.
     Images,
-    /// `configurations`.
     Configurations,
     /// A name that begins with `hash`.
     Hash,
     /// A name that begins with `signature`.
     Signature,
-    /// Any other name.
     Other,
 }
 
-// Returns the label of a name.
 pub(crate) fn label_of(name: &[u8]) -> Label
     ensures { result ≡ label_of name.now }
 {

@@ -24,7 +24,6 @@ pub struct Blob {
     pub(crate) configurations: Option<usize>,
 }
 
-// Unpacks the span of a name or a value from a word.
 fn span_in(word: u64) -> Span
     ensures { (place size : ℕ) → size < 2 ^ 32 → word ≡ span_word place size →
         result ≡ record { place = place; length = size } }
@@ -35,7 +34,7 @@ fn span_in(word: u64) -> Span
     }
 }
 
-// Unpacks the span of a value from a word; 0 is none.
+// 0 is none.
 fn value_in(word: u64) -> Option<Span>
     ensures { (found : Option Property) →
         IfSome found (λ p. (0 < p.place) × (length p.value < 2 ^ 32)) →
@@ -44,7 +43,6 @@ fn value_in(word: u64) -> Option<Span>
     if word == 0 { None } else { Some(span_in(word)) }
 }
 
-// Returns the number if its node has the parent of this word.
 fn node_under<A: Allocator>(room: &Room<A>, number: usize, parent: u64) -> Option<usize>
     ensures under { result ≡ entry_under number parent (slice_get room.now.entries number) }
     ensures within { IfSome result (λ i. (i ≡ number) × (i < length room.now.entries)) }
@@ -138,11 +136,17 @@ impl Blob {
 
     /// Returns the span of the value of a node's first property with this key. It ends inside the
     /// blob. Returns `None` if the node has no such property, or its role keeps no value of that
-    /// key. The root keeps `Description` and `Timestamp`; an image `Description`, `Data`, `Kind`,
-    /// `Arch`, `Os`, `Compression`, `Load`, `Entry`, `DataSize`, `DataOffset` and `DataPosition`; a
-    /// hash node `Algo` and `Value`; a signature node these, `KeyName`, `Required`, `Padding` and
-    /// `Timestamp`; the node `configurations` `Default`; a configuration `Description`, `Kernel`,
-    /// `Ramdisk`, `Fdt`, `Loadables`, `Firmware`, `Fpga`, `Setup`, `Standalone` and `Script`.
+    /// key.
+    ///
+    /// The roles keep these keys:
+    /// - the root: `Description` and `Timestamp`;
+    /// - an image: `Description`, `Data`, `Kind`, `Arch`, `Os`, `Compression`, `Load`, `Entry`,
+    ///   `DataSize`, `DataOffset` and `DataPosition`;
+    /// - a hash node: `Algo` and `Value`;
+    /// - a signature node: these, `KeyName`, `Required`, `Padding` and `Timestamp`;
+    /// - the node `configurations`: `Default`;
+    /// - a configuration: `Description`, `Kernel`, `Ramdisk`, `Fdt`, `Loadables`, `Firmware`,
+    ///   `Fpga`, `Setup`, `Standalone` and `Script`.
     pub fn value<A: Allocator>(&self, room: &Room<A>, node: usize, key: Key) -> Option<Span>
         requires { node < length room.now.entries }
         ensures value { OfRow self.now room.now.entries node

@@ -33,7 +33,7 @@ pub(crate) enum Met {
     Strange,
 }
 
-// Returns the length of the name at an offset before `end`, or `None` if it has no NUL.
+// Returns `None` if the name has no NUL before `end`.
 fn name_length<S: Source, A: Allocator>(
     source: &mut S,
     room: &mut Room<A>,
@@ -52,7 +52,7 @@ fn name_length<S: Source, A: Allocator>(
     Ok(first_nul(&window[..length]))
 }
 
-// Finds the spans of a property by its token. Returns `None` if the token is faulty.
+// Returns `None` if the token is faulty.
 fn find_place<S: Source, A: Allocator>(
     source: &mut S,
     room: &mut Room<A>,
@@ -85,7 +85,7 @@ fn find_place<S: Source, A: Allocator>(
     Ok(Some(PropertyPlace { name, value }))
 }
 
-// Reads what is at an offset. Of a token that begins a node, only the word is read.
+// Of a token that begins a node, only the word is read.
 #[tactic(auto, unfolding(crate::specs::Tokens::token_at))]
 pub(crate) fn meet<S: Source, A: Allocator>(
     source: &mut S,

@@ -59,7 +59,6 @@ fn step<S: Source, A: Allocator>(
     }
 }
 
-// Collects the properties from an offset on.
 fn gather<S: Source, A: Allocator>(
     alloc: Global,
     source: &mut S,
@@ -80,7 +79,6 @@ fn gather<S: Source, A: Allocator>(
     Ok(places)
 }
 
-// Reads the header again and returns the blocks.
 fn extent_again<S: Source>(source: &mut S, totalsize: u32) -> Result<Extent, PropertiesFault>
     ensures uses { Asks 40 (is_unread result) (S.device source.old) (S.device source.new) }
     ensures inside { IfOk result (λ extent. IsInside extent (length (S.device source.old).bytes)) }
@@ -100,15 +98,16 @@ fn extent_again<S: Source>(source: &mut S, totalsize: u32) -> Result<Extent, Pro
 /// Returns the spans of all properties of a node, in order (Devicetree Specification, section 5.4),
 /// including those without a key.
 ///
-/// They are read again from the structure block: from the node's name up to the first token that
-/// begins or ends a node. Blob and room must be as `index` left them, and the node's number below
-/// the count of entries. No value is read. Of an honest source it requests at most 44 bytes, 268
-/// for each property of the node and 4 for each NOP of the blob. Only the room's window changes.
-/// Whatever the source returns, a name has at most 255 bytes, and the blob at least 12 for each
-/// property.
+/// Blob and room must be as `index` left them, and the node's number below the count of entries.
+/// The properties are read again from the structure block: from the node's name up to the first
+/// token that begins or ends a node. No value is read. Whatever the source returns, a name has at
+/// most 255 bytes, and the blob at least 12 for each property. Of an honest source it requests at
+/// most 44 bytes, 268 for each property of the node and 4 for each NOP of the blob. Only the room's
+/// window changes.
 ///
-/// Returns `Read` if and only if a read failed, `OutOfMemory` only if memory for the spans was
-/// refused, and `Changed` only if the source does not have the blob that was indexed.
+/// - `Read`: if and only if a read failed.
+/// - `OutOfMemory`: only if memory for the spans was refused.
+/// - `Changed`: only if the source does not have the blob that was indexed.
 pub fn properties_of<S: Source, A: Allocator>(
     alloc: Global,
     source: &mut S,

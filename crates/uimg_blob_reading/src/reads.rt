@@ -6,7 +6,6 @@ ghost use Rattle.uimg_blob_reading.specs.{Tokens.reach, ReadTokens.Answers};
 
 use uimg_base::{Source, SourceFault, WINDOW, be32_at};
 
-// Reads the big-endian number at an offset.
 #[tactic(auto, unfolding(uimg_texts::specs::Numbers::be32))]
 pub(crate) fn read_word<S: Source>(source: &mut S, at: u64) -> Result<u32, SourceFault>
     requires { at + 4 ≤ length (S.device source.old).bytes }
@@ -18,7 +17,6 @@ pub(crate) fn read_word<S: Source>(source: &mut S, at: u64) -> Result<u32, Sourc
     Ok(be32_at(&bytes, 0))
 }
 
-// Reads the two big-endian numbers at an offset.
 pub(crate) fn read_pair<S: Source>(source: &mut S, at: u64) -> Result<(u32, u32), SourceFault>
     requires { at + 8 ≤ length (S.device source.old).bytes }
     ensures { Answers 8 result (λ bytes n. (n.0 ≡ be32 bytes at) × (n.1 ≡ be32 bytes (at + 4)))
@@ -29,7 +27,7 @@ pub(crate) fn read_pair<S: Source>(source: &mut S, at: u64) -> Result<(u32, u32)
     Ok((be32_at(&bytes, 0), be32_at(&bytes, 4)))
 }
 
-// Reads at most 256 bytes from an offset up to `end` into the window. Returns how many.
+// Reads at most 256 bytes, up to `end`. Returns how many.
 pub(crate) fn read_near<S: Source>(
     source: &mut S,
     window: &mut [u8; WINDOW],

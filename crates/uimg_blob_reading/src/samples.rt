@@ -9,12 +9,10 @@ pub struct Sample<A: Allocator> {
     structure: Vec<u8, A>,
 }
 
-// Returns the lowest 32 bits of a number of bytes.
 fn low(count: usize) -> u32 {
     (count as u64 % 0x1_0000_0000) as u32
 }
 
-// Pads with zeros to a multiple of 4.
 fn pad<A: Allocator>(bytes: &mut Vec<u8, A>) -> Result<(), AllocError> {
     let past = bytes.len() % 4;
     if past != 0 {

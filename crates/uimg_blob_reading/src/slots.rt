@@ -5,7 +5,6 @@ ghost use Rattle.uimg_blob_reading.specs.Kept.{IsSlot};
 use crate::keys::Key;
 use crate::roles::Role;
 
-// Returns the slot of a key's value among those kept of a role.
 pub(crate) fn slot_of(role: Role, key: Key) -> Option<usize>
     ensures { IsSlot role key result }
 {

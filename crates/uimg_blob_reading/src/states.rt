@@ -27,7 +27,6 @@ pub(crate) struct State {
     pub(crate) configurations: Option<usize>,
 }
 
-// Returns the role of a child of an image or a configuration from its label.
 fn sum_role(label: Label) -> Role
     ensures { (name : List ℕ) → label ≡ label_of name →
         result ≡ sum_role (is_hash name) (is_signature name) }
@@ -39,7 +38,6 @@ fn sum_role(label: Label) -> Role
     }
 }
 
-// Returns a child's role from its parent's, its label, and which of these children the root had.
 fn child_role(parent: Role, label: Label, had_images: bool, had_configurations: bool) -> Role
     ensures { (name : List ℕ) → label ≡ label_of name →
         result ≡ role_at (child_level parent had_images had_configurations) name }
@@ -58,7 +56,6 @@ fn child_role(parent: Role, label: Label, had_images: bool, had_configurations: 
     }
 }
 
-// Returns the role of a node with this label that begins in the innermost node.
 fn role_for<A: Allocator>(room: &Room<A>, state: State, label: Label) -> Role
     requires { IfSome state.current (λ i. i < length room.now.entries) }
     ensures { (p : Phase) (name : List ℕ) → InPhase p state room.now.entries →
@@ -87,7 +84,6 @@ fn noted(state: State, role: Role, number: usize) -> (Option<usize>, Option<usiz
     }
 }
 
-// Begins a node.
 fn begin<A: Allocator>(
     room: &mut Room<A>,
     state: State,
@@ -115,7 +111,6 @@ fn begin<A: Allocator>(
     })
 }
 
-// Ends the innermost node.
 fn end_node<A: Allocator>(room: &mut Room<A>, state: State) -> Result<State, IndexFault>
     requires place { state.at < 2 ^ 32 }
     requires suits { Suits state room.old.entries }
@@ -145,14 +140,13 @@ fn bare<A: Allocator>(room: &Room<A>, state: State) -> Option<usize>
     }
 }
 
-// Returns whether the root has ended.
+// The root has ended.
 fn is_after<A: Allocator>(room: &Room<A>, state: State) -> bool
     ensures { (p : Phase) → InPhase p state room.now.entries → result ≡ is_after p }
 {
     state.current.is_none() && room.count() > 0
 }
 
-// Adds a property to the innermost node.
 fn property<A: Allocator>(
     room: &mut Room<A>,
     state: State,
@@ -174,7 +168,6 @@ fn property<A: Allocator>(
     })
 }
 
-// Returns whether the token ends the tree.
 pub(crate) fn is_done<A: Allocator>(room: &Room<A>, state: State, token: ReadToken) -> bool
     ensures { (p : Phase) (t : Token) → InPhase p state room.now.entries →
         IsReadAs state.at t token → result ≡ is_done p t }

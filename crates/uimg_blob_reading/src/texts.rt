@@ -11,7 +11,7 @@ use std::alloc::Allocator;
 use std::io::Write;
 use uimg_base::{MoveFault, Out, Room, Source, SourceFault, Span, WINDOW, before_nul};
 
-// Writes the text at the start of at most one window of bytes. Returns whether a NUL ended it.
+// Writes at most one window of bytes. Returns whether a NUL ended the text.
 fn put_window<S: Source, W: Write>(
     source: &mut S,
     window: &mut [u8; WINDOW],
@@ -37,7 +37,6 @@ fn put_window<S: Source, W: Write>(
     Ok(text.len() < len)
 }
 
-// Writes a text through a window.
 fn put_through<S: Source, W: Write>(
     source: &mut S,
     window: &mut [u8; WINDOW],
@@ -61,9 +60,11 @@ fn put_through<S: Source, W: Write>(
 
 /// Writes the text of a value: its bytes up to the first NUL, or all of them.
 ///
-/// The span must be inside the source; at most its bytes are requested. Returns `MoveFault::Read`
-/// if and only if a read failed, `MoveFault::Put` if and only if a write failed. Over an honest
-/// source, at every exit, a prefix of the text was written. Only the room's window changes.
+/// The span must be inside the source; at most its bytes are requested. Over an honest source, at
+/// every exit, a prefix of the text was written. Only the room's window changes.
+///
+/// - `MoveFault::Read`: if and only if a read failed.
+/// - `MoveFault::Put`: if and only if a write failed.
 pub fn put_text<S: Source, A: Allocator, W: Write>(
     source: &mut S,
     room: &mut Room<A>,

@@ -66,7 +66,7 @@ fn begin_node_in(near: &[u8]) -> ReadToken
     }
 }
 
-// Returns the key of the name at the start of these bytes, or `None` if they have no NUL.
+// Returns `None` if the bytes have no NUL.
 fn key_in(near: &[u8]) -> Option<Option<Key>>
     ensures { result ≡ option_map key_named (before_nul near.now) }
 {
@@ -74,7 +74,7 @@ fn key_in(near: &[u8]) -> Option<Option<Key>>
     Some(key_named(&near[..length]))
 }
 
-// Reads a token that begins a node, in a structure block that ends at `end`.
+// The structure block ends at `end`.
 fn read_begin_node<S: Source, A: Allocator>(
     source: &mut S,
     room: &mut Room<A>,
@@ -91,7 +91,7 @@ fn read_begin_node<S: Source, A: Allocator>(
     Ok(begin_node_in(&window[..length]))
 }
 
-// Returns the key of the name at an offset before `end`, or `None` if it has no NUL.
+// Returns `None` if the name has no NUL before `end`.
 fn read_key<S: Source, A: Allocator>(
     source: &mut S,
     room: &mut Room<A>,

@@ -38,7 +38,6 @@ pub fn put_zeros<W: Write>(count: u64, out: &mut Out<W>) -> Result<(), PutFault>
     Ok(())
 }
 
-// Writes the zeros that pad `size` bytes to an alignment.
 pub(crate) fn put_gap<W: Write>(size: u64, align: u32, out: &mut Out<W>) -> Result<(), PutFault>
     ensures { Writes (is_err result) out.old out.new (padding_by align size) }
 {

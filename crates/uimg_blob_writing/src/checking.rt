@@ -20,7 +20,6 @@ fn is_name(name: &[u8]) -> bool
     name.len() <= LONGEST_NAME && first_nul(name).is_none()
 }
 
-// Refuses properties if one has a bad name.
 fn check_properties<A: Allocator>(props: &Props<A>) -> Result<(), BlobFault>
     ensures { fault_in result ≡ bad_property props.now }
 {
@@ -32,8 +31,7 @@ fn check_properties<A: Allocator>(props: &Props<A>) -> Result<(), BlobFault>
     Ok(())
 }
 
-// Refuses a node if its name, or one of a property or node below it, is bad. Returns the fault of
-// the first in the order of writing.
+// Returns the fault of the first bad name in the order of writing.
 pub(crate) fn check_names<A: Allocator>(this: ThisNode<A>) -> Result<(), BlobFault>
     ensures { fault_in result ≡ bad_name (node_of this.entry.node.now) }
 {

@@ -55,7 +55,6 @@ pub fn copy_properties<A: Allocator + Copy>(
     Ok(Props::of(copies))
 }
 
-// Copies a node and its descendants.
 fn copy_this<A: Allocator + Copy>(alloc: A, this: ThisNode<A>) -> Result<Node<A>, AllocError>
     ensures { IfOk result (λ copy. copy ≡ this.entry.node.now) }
 {

@@ -33,8 +33,7 @@ fn put_source<S: Source, W: Write>(
     Ok(())
 }
 
-// Writes the file with this name, which has `size` bytes. Not inlined, to keep its window and its
-// source out of the frames of recursive functions.
+// Not inlined, to keep its window and its source out of the frames of recursive functions.
 #[inline(never)]
 pub(crate) fn put_file<F: Files, W: Write>(
     name: &[u8],

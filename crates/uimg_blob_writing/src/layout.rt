@@ -64,8 +64,7 @@ impl<'a, A: Allocator> Layout<'a, A> {
         aligned(self.end(), self.align) as u32
     }
 
-    // Returns the offset of the structure block: after the reservation block, which a pair of zeros
-    // ends.
+    // The block follows the reservation block, which a pair of zeros ends.
     pub(crate) fn structure_offset(&self) -> u32
         ensures { result ≡ structure_offset self.now.reservations }
     {

@@ -24,12 +24,14 @@ const LARGEST: u128 = 0xffff_ffff;
 /// Measures the blob of a tree: finds the names of its properties, each once in the order of first
 /// use, and the sizes of its blocks. The blob's end is rounded up to a multiple of 4.
 ///
-/// Returns `BadNodeName` or `BadPropertyName` for the first name, in the order of writing, with
-/// more than 255 bytes or a NUL; then `TooLarge` if the blob has more than 4294967295 bytes, with
-/// each file counted by its stored size. Returns `OutOfMemory` only if memory for the names was
-/// refused; no other memory is taken, and none for a tree without properties.
-///
 /// The time grows with the properties times the distinct names. Calls nest as deep as the tree.
+/// Memory is taken for the names only, and none for a tree without properties.
+///
+/// - `BadNodeName`, `BadPropertyName`: for the first name, in the order of writing, with more than
+///   255 bytes or a NUL.
+/// - `TooLarge`: no name is bad, and the blob has more than 4294967295 bytes, with each file
+///   counted by its stored size.
+/// - `OutOfMemory`: only if memory for the names was refused.
 pub fn measure<'a, A: Allocator>(alloc: A, tree: &'a Tree<A>) -> Result<Layout<'a, A>, BlobFault>
     ensures measured { Measures result (measured 4 (node_of tree.now.root)) }
     ensures memory { result ≡ Err OutOfMemory → names_of (node_of tree.now.root) ≢ [] }

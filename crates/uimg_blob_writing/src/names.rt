@@ -9,7 +9,6 @@ use crate::nodes::ThisNode;
 use crate::props::Props;
 use std::alloc::{AllocError, Allocator};
 
-// Returns the offset of a name in the strings block.
 pub(crate) fn name_offset(names: &[&[u8]], name: &[u8]) -> u32
     requires { length (strings (name_texts names.now)) < 2 ^ 32 }
     ensures { result ≡ name_offset (name_texts names.now) name.now }
@@ -24,7 +23,6 @@ pub(crate) fn name_offset(names: &[&[u8]], name: &[u8]) -> u32
     at
 }
 
-// Returns whether a name is one of these names.
 fn has_name(names: &[&[u8]], name: &[u8]) -> bool
     ensures { result ≡ list_any (bytes_eq name.now) (name_texts names.now) }
 {
@@ -52,7 +50,6 @@ fn add_name<'a, A: Allocator>(
     Ok(())
 }
 
-// Adds the names of properties, each once.
 fn add_names<'a, A: Allocator>(
     names: &mut Vec<&'a [u8], A>,
     props: &'a Props<A>,
@@ -67,7 +64,6 @@ fn add_names<'a, A: Allocator>(
     Ok(())
 }
 
-// Adds the names of the properties of a node and of its descendants, each once.
 pub(crate) fn add_all_names<'a, A: Allocator>(
     names: &mut Vec<&'a [u8], A>,
     this: ThisNode<'a, A>,

@@ -26,7 +26,6 @@ struct TheseNodes<'a, A: Allocator> {
     nodes: &'a Nodes<A>,
 }
 
-// Writes a node and its descendants.
 #[cycle(put_nodes)]
 pub(crate) fn put_node<F: Files, W: Write, A: Allocator>(
     this: ThisNode<A>,
@@ -51,7 +50,6 @@ pub(crate) fn put_node<F: Files, W: Write, A: Allocator>(
     Ok(())
 }
 
-// Writes nodes and their descendants.
 #[cycle(put_nodes)]
 fn put_nodes<F: Files, W: Write, A: Allocator>(
     these: TheseNodes<A>,

@@ -12,7 +12,6 @@ use std::alloc::Allocator;
 use std::io::Write;
 use uimg_base::{Files, Out, WINDOW};
 
-// Writes a value.
 #[tactic(auto, using(crate::proofs::OpenedLaws::each_none))]
 fn put_value<F: Files, W: Write, A: Allocator>(
     value: &Value<A>,
@@ -45,9 +44,11 @@ pub fn value_size<A: Allocator>(value: &Value<A>) -> u64
 /// Writes a value and the zeros that pad it to an alignment.
 ///
 /// A file is opened and copied through the window, never held in memory as a whole. If its size is
-/// not the stored one, that counts as a failed read, before any of its bytes is written. Returns
-/// `Put` if and only if a write failed, `NoFile` if and only if an open was refused. Over honest
-/// files of the stored sizes all was written, or at a fault a prefix.
+/// not the stored one, that counts as a failed read, before any of its bytes is written. Over
+/// honest files of the stored sizes all was written, or at a fault a prefix.
+///
+/// - `Put`: if and only if a write failed.
+/// - `NoFile`: if and only if an open was refused.
 pub fn put_aligned<F: Files, W: Write, A: Allocator>(
     value: &Value<A>,
     align: u32,

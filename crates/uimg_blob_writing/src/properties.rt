@@ -14,7 +14,6 @@ use std::alloc::Allocator;
 use std::io::Write;
 use uimg_base::{Files, Out, WINDOW};
 
-// Writes a property whose value is in a file, and whose name has this offset.
 fn put_from_file<F: Files, W: Write>(
     offset: u32,
     name: &[u8],

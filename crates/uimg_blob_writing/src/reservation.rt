@@ -24,7 +24,7 @@ pub struct Reservation {
     pub size: u64,
 }
 
-// Returns the size of the reservation block in bytes, at most 2^36.
+// In bytes, at most 2^36.
 pub(crate) fn block_size(reservations: &[Reservation]) -> u64
     ensures { result ≡ min (16 * suc (length reservations.now)) (2 ^ 36) }
 {
@@ -32,7 +32,6 @@ pub(crate) fn block_size(reservations: &[Reservation]) -> u64
     u64::min((count + 1) * ENTRY, MOST)
 }
 
-// Writes an entry: its address, and its size.
 fn put_entry<W: Write>(reservation: Reservation, out: &mut Out<W>) -> Result<(), PutFault>
     ensures { Writes (is_err result) out.old out.new (entry_bytes reservation) }
 {
@@ -42,7 +41,6 @@ fn put_entry<W: Write>(reservation: Reservation, out: &mut Out<W>) -> Result<(),
     ])
 }
 
-// Writes entries.
 fn put_entries<W: Write>(reservations: &[Reservation], out: &mut Out<W>) -> Result<(), PutFault>
     ensures { Writes (is_err result) out.old out.new (flat_map entry_bytes reservations.now) }
 {
@@ -52,7 +50,7 @@ fn put_entries<W: Write>(reservations: &[Reservation], out: &mut Out<W>) -> Resu
     Ok(())
 }
 
-// Writes the reservation block: the entries, and the pair of zeros that ends it.
+// A pair of zeros ends the block.
 pub(crate) fn put_reservations<W: Write>(
     reservations: &[Reservation],
     out: &mut Out<W>,

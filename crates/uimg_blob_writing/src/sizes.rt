@@ -13,7 +13,7 @@ use uimg_base::up4;
 // Sizes are counted up to 2^36, which is too large for a blob, so no sum of them wraps.
 const MOST: u64 = 0x10_0000_0000;
 
-// Returns the size of the tokens of properties in bytes, at most 2^36.
+// In bytes, at most 2^36.
 fn properties_size<A: Allocator>(props: &Props<A>) -> u64
     ensures { result ≡ min (properties_size props.now) (2 ^ 36) }
 {
@@ -25,7 +25,7 @@ fn properties_size<A: Allocator>(props: &Props<A>) -> u64
     size
 }
 
-// Returns the size of a node with its descendants in bytes, at most 2^36.
+// With the node's descendants, in bytes, at most 2^36.
 pub(crate) fn node_size<A: Allocator>(this: ThisNode<A>) -> u64
     ensures { result ≡ min (nodes_size (node_of this.entry.node.now)) (2 ^ 36) }
 {
@@ -37,7 +37,7 @@ pub(crate) fn node_size<A: Allocator>(this: ThisNode<A>) -> u64
     size
 }
 
-// Returns the size of the strings block of these names in bytes, at most 2^36.
+// In bytes, at most 2^36.
 pub(crate) fn strings_size(names: &[&[u8]]) -> u64
     ensures { result ≡ min (length (strings (name_texts names.now))) (2 ^ 36) }
 {

@@ -20,7 +20,7 @@ const END: u32 = 9;
 // Zeros for padding: at most four end a token.
 const ZEROS: [u8; 4] = [0; 4];
 
-// Returns how many zeros pad `size` bytes to a multiple of 4.
+// Pads to a multiple of 4.
 fn padding_size(size: u64) -> usize
     ensures few { result < 4 }
     ensures size { result ≡ up4 size - size }
@@ -28,14 +28,13 @@ fn padding_size(size: u64) -> usize
     ((4 - size % 4) % 4) as usize
 }
 
-// Writes the zeros that pad `size` bytes to a multiple of 4.
+// Pads to a multiple of 4.
 pub(crate) fn put_padding<W: Write>(size: u64, out: &mut Out<W>) -> Result<(), PutFault>
     ensures { Writes (is_err result) out.old out.new (padding size) }
 {
     out.put_all(&ZEROS[..padding_size(size)])
 }
 
-// Writes the token that begins a node, with the node's name.
 pub(crate) fn put_begin_node<W: Write>(name: &[u8], out: &mut Out<W>) -> Result<(), PutFault>
     ensures { Writes (is_err result) out.old out.new (begin_bytes name.now) }
 {
@@ -47,14 +46,12 @@ pub(crate) fn put_begin_node<W: Write>(name: &[u8], out: &mut Out<W>) -> Result<
     ])
 }
 
-// Writes the token that ends a node.
 pub(crate) fn put_end_node<W: Write>(out: &mut Out<W>) -> Result<(), PutFault>
     ensures { Writes (is_err result) out.old out.new (word 2) }
 {
     out.put_all(&END_NODE.to_be_bytes())
 }
 
-// Writes the token that ends the structure block.
 pub(crate) fn put_end<W: Write>(out: &mut Out<W>) -> Result<(), PutFault>
     ensures { Writes (is_err result) out.old out.new (word 9) }
 {
@@ -72,7 +69,6 @@ pub(crate) fn put_head<W: Write>(size: u32, offset: u32, out: &mut Out<W>) -> Re
     ])
 }
 
-// Writes a property with this value, whose name has this offset.
 pub(crate) fn put_whole<W: Write>(
     offset: u32,
     value: &[u8],

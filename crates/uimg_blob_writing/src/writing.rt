@@ -26,7 +26,6 @@ const LAST_COMPATIBLE: u32 = 16;
 
 const BOOT_CPU: u32 = 0;
 
-// Writes the header.
 fn put_header<W: Write, A: Allocator>(layout: &Layout<A>, out: &mut Out<W>) -> Result<(), PutFault>
     ensures { Writes (is_err result) out.old out.new
         (header (totalsize layout.now) (structure_offset layout.now.reservations)
@@ -49,14 +48,12 @@ fn put_header<W: Write, A: Allocator>(layout: &Layout<A>, out: &mut Out<W>) -> R
     ])
 }
 
-// Writes a name and its NUL.
 fn put_name<W: Write>(name: &[u8], out: &mut Out<W>) -> Result<(), PutFault>
     ensures { Writes (is_err result) out.old out.new (with_nul name.now) }
 {
     out.put_pieces(&[name, &[0]])
 }
 
-// Writes the strings block.
 fn put_strings<W: Write>(names: &[&[u8]], out: &mut Out<W>) -> Result<(), PutFault>
     ensures { Writes (is_err result) out.old out.new (strings (name_texts names.now)) }
 {
@@ -66,7 +63,6 @@ fn put_strings<W: Write>(names: &[&[u8]], out: &mut Out<W>) -> Result<(), PutFau
     Ok(())
 }
 
-// Writes the blob of a tree, piece by piece.
 fn put_blob<F: Files, W: Write, A: Allocator>(
     tree: &Tree<A>,
     layout: &Layout<A>,
@@ -96,23 +92,23 @@ fn put_blob<F: Files, W: Write, A: Allocator>(
     Ok(())
 }
 
-/// Writes the blob of a tree (Devicetree Specification, chapter 5): the header, the reservation
-/// block, the nodes and properties in order, the names of the properties, each once, and zeros up
-/// to the end of the blob.
+/// Writes the blob of a tree (Devicetree Specification, chapter 5). It has the header, the
+/// reservation block, the nodes and properties in order, the names of the properties, each once,
+/// and zeros up to the end of the blob.
 ///
 /// The layout must be the one that `measure`, `measure_by` or `measure_with` made of this tree. A
 /// file is opened when its value is written, and copied through a window of 8192 bytes; it is never
 /// held in memory as a whole. If its size is not the one that the tree stores, that counts as a
 /// failed read, before any of its bytes is written.
 ///
-/// Returns `Put` if and only if a write failed, `NoFile` if and only if an open was refused, and
-/// `Read` if a read of a file failed or its size differs. A tree without files is refused only by a
-/// failed write. No read fails over honest files of the stored sizes that are opened as steady
-/// sources (those in memory). Over honest files of the stored sizes the bytes of `encode_with` were
-/// written, or at a fault a prefix of them. A file that begins with these bytes reads back as the
-/// tree.
+/// Over honest files of the stored sizes the bytes of `encode_with` were written, or at a fault a
+/// prefix of them. A file that begins with these bytes reads back as the tree. Takes no memory. Its
+/// calls nest as deep as the tree.
 ///
-/// Takes no memory. Its calls nest as deep as the tree.
+/// - `Put`: if and only if a write failed. Only this refuses a tree without files.
+/// - `NoFile`: if and only if an open was refused.
+/// - `Read`: a read of a file failed or its size differs. This never happens over honest files of
+///   the stored sizes that are opened as steady sources (those in memory).
 pub fn write_tree<F: Files, W: Write, A: Allocator>(
     tree: &Tree<A>,
     layout: &Layout<A>,

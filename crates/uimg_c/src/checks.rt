@@ -13,7 +13,6 @@ use std::alloc::{Allocator, Global};
 use uimg_base::{ALGOS, Algo, MemSource, Room, Status};
 use uimg_engine::Fault;
 
-/// Returns the algorithm of a strength.
 pub(crate) fn strength(need: u32) -> Option<Algo>
     ensures { result ≡ strength need }
 {
@@ -25,7 +24,7 @@ pub(crate) fn strength(need: u32) -> Option<Algo>
     None
 }
 
-/// Returns the report without a text by the numbers of a result; `peak` is the memory that was taken.
+/// `peak` is the memory that was taken.
 pub(crate) fn report_of(code: Option<Code>, peak: u64) -> UimgReport
     requires { IfSome code (λ c. c.status ≤ 1) }
     ensures code { result.status ≢ 3 → code ≡ Some (record {
@@ -58,7 +57,6 @@ pub(crate) fn report_of(code: Option<Code>, peak: u64) -> UimgReport
     }
 }
 
-/// Checks the bytes of an image for an algorithm.
 pub(crate) fn check_for<A: Allocator>(
     need: Algo,
     image: &[u8],
@@ -72,7 +70,7 @@ pub(crate) fn check_for<A: Allocator>(
     Ok(found.status())
 }
 
-/// Checks the bytes of an image, with `need` as the number of the needed strength.
+/// `need` is the number of the needed strength.
 pub(crate) fn check(alloc: Global, image: &[u8], need: u32, report: &mut UimgReport) -> u32
     ensures told { result ≢ 3 → ReportsCheck need image.now report.new }
     ensures status { result ≡ report.new.status }

@@ -44,7 +44,6 @@ fn number_of_fit(fit: FitFault) -> u32
     fit as u32
 }
 
-// Returns a refusal, by the letter, the number and the offset of a fault.
 fn refusal(letter: u32, number: u32, place: u64) -> Code
     requires letter { letter < 128 }
     requires number { number < 256 }
@@ -57,8 +56,8 @@ fn refusal(letter: u32, number: u32, place: u64) -> Code
     }
 }
 
-// Returns the numbers of a fault of an image or its blob; none if memory for the table of nodes was
-// refused, a device failed, or a making's files are at fault.
+// Returns `None` if memory for the table of nodes was refused, a device failed, or the files of a
+// build are at fault.
 pub(crate) fn fault_code(fault: Fault) -> Option<Code>
     ensures code { result ≡ code_of_fault fault }
     ensures known { IfSome result (λ code. code.status ≤ 1) }
@@ -72,7 +71,7 @@ pub(crate) fn fault_code(fault: Fault) -> Option<Code>
     }
 }
 
-/// Returns the numbers of a result, or `None` if memory was refused.
+/// Returns `None` if memory was refused.
 pub(crate) fn answer_code(end: Result<Status, Fault>) -> Option<Code>
     ensures code { result ≡ code_of_answer end }
     ensures known { IfSome result (λ code. code.status ≤ 1) }

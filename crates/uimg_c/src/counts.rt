@@ -13,7 +13,6 @@ use std::alloc::Global;
 use uimg_base::Room;
 use uimg_checks::count_in_memory;
 
-/// Counts the parts or the images of an image's bytes.
 pub(crate) fn payload_count(alloc: Global, image: &[u8], count: &mut UimgCount) -> u32
     ensures told { result ≢ 3 → ReportsCount (count_of (is_fit form.Guess image.now) image.now) count.new }
     ensures status { result ≡ count.new.status }

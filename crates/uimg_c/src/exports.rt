@@ -1,10 +1,10 @@
 //! The functions for callers in C.
 //!
 //! Each returns the status that it reports. Unless that is 3, status, fault, place, text and
-//! payload are those of the outcome. Output is truncated to the caller's memory; with status 3
+//! payload are those of the outcome. Output is truncated to the caller's memory. With status 3
 //! nothing is written, and a report says nothing. A payload or a name ends inside the image, and
-//! has no bytes if none was found. The reported memory is at most 8192 bytes and 128 for each node;
-//! tests show that it is not less than what was taken, other than by a strict check, which takes
+//! has no bytes if none was found. The reported memory is at most 8192 bytes and 128 for each node.
+//! Tests show that it is not less than what was taken, other than by a strict check, which takes
 //! memory for the names in one node, too.
 
 ghost use Rattle.std.specs.Prelude.{◌≡◌, ◌≢◌, ◌≤◌, true, false, Ok};
@@ -65,8 +65,8 @@ pub extern "C" fn uimg_verify(
     report_on(alloc, &command, image, text, report)
 }
 
-/// Checks an image: it is whole and has images, each with a hash node of at least the
-/// strength `need`, from 1, CRC-32, to 6, SHA-512; a legacy image has CRC-32. Writes no text.
+/// Checks that an image is whole and has images, each with a hash node of at least the strength
+/// `need`, from 1, CRC-32, to 6, SHA-512. A legacy image has CRC-32. Writes no text.
 #[unsafe(no_mangle)]
 pub extern "C" fn uimg_check(alloc: Global, image: &[u8], need: u32, report: &mut UimgReport) -> u32
     ensures told { result ≢ 3 → ReportsCheck need image.now report.new }
@@ -78,7 +78,7 @@ pub extern "C" fn uimg_check(alloc: Global, image: &[u8], need: u32, report: &mu
 }
 
 /// Checks an image as `uimg_check` does. If all is right, it also refuses what U-Boot reads in
-/// another way than the check: if the status is 0, U-Boot finds in a FIT image exactly the images
+/// another way than the check. If the status is 0, U-Boot finds in a FIT image exactly the images
 /// that were checked, each with the payload whose hash nodes are right, and compares no others.
 #[unsafe(no_mangle)]
 pub extern "C" fn uimg_check_strict(

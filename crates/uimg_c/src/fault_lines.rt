@@ -11,7 +11,7 @@ use std::fmt::{Display, Write};
 /// The most bytes of a line.
 const MOST: usize = 64;
 
-// Writes the line of a fault, and returns the length of the whole line in bytes; 0 if it is too long.
+// Returns the length of the whole line in bytes; 0 if it is too long.
 fn put_line<F: Display>(fault: &F, text: &mut [u8]) -> usize
     ensures length { result ≤ 64 }
     ensures front { (line : List ℕ) → F.output fault.now ≡ Some line → result ≢ 0 →
@@ -26,8 +26,7 @@ fn put_line<F: Display>(fault: &F, text: &mut [u8]) -> usize
     line.len()
 }
 
-/// Writes the line of a fault, by its letter and number, to `text`, and returns the length of the
-/// whole line in bytes; 0 if no fault has the number.
+/// Returns the length of the whole line in bytes; 0 if no fault has the number.
 pub(crate) fn put_fault_line(fault: u32, text: &mut [u8]) -> usize
     ensures length { result ≤ 64 }
     ensures none { IsNoFault fault → (result ≡ 0) × (text.new ≡ text.old) }

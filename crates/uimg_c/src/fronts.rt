@@ -2,7 +2,7 @@
 
 ghost use Rattle.std.specs.Prelude.{◌≡◌, ◌++◌, min, length, take, drop};
 
-/// Copies bytes to `to`, truncated to its length, and returns how many were copied.
+/// Truncates to the length of `to`. Returns how many bytes were copied.
 pub(crate) fn copy_front(from: &[u8], to: &mut [u8]) -> usize
     ensures count { result ≡ min (length from.now) (length to.old) }
     ensures copied { to.new ≡ take result from.now ++ drop result to.old }

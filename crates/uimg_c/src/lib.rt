@@ -1,7 +1,7 @@
 //! A static library for C that lists and verifies images in memory, and finds their payloads.
 //!
 //! Each export calls one function of the crates below and repeats its clauses. `include/uimg.h`
-//! says what a caller in C has to ensure.
+//! says what a caller in C must ensure.
 #![tactic(auto)]
 
 mod checks;

@@ -72,7 +72,6 @@ const LOOSENESS: [Looseness; 16] = [
     Looseness::UnknownCompression,
 ];
 
-/// Returns the fault of a legacy image with this number.
 pub(crate) fn legacy_of(fault: u32) -> Option<LegacyFault>
     ensures { result ≡ legacy_of fault }
 {
@@ -84,7 +83,6 @@ pub(crate) fn legacy_of(fault: u32) -> Option<LegacyFault>
     None
 }
 
-/// Returns the fault of a blob with this number.
 pub(crate) fn blob_of(fault: u32) -> Option<BlobFault>
     ensures { result ≡ blob_of fault }
 {
@@ -96,7 +94,6 @@ pub(crate) fn blob_of(fault: u32) -> Option<BlobFault>
     None
 }
 
-/// Returns the fault of a FIT image with this number.
 pub(crate) fn fit_of(fault: u32) -> Option<FitFault>
     ensures { result ≡ fit_of fault }
 {
@@ -108,7 +105,7 @@ pub(crate) fn fit_of(fault: u32) -> Option<FitFault>
     None
 }
 
-/// Returns the number of what strictness refuses, from 1 to 16.
+/// The numbers are 1 to 16.
 pub(crate) fn number_of_loose(why: Looseness) -> u32
     ensures is { result ≡ loose_number why }
     ensures most { result ≤ 16 }
@@ -116,7 +113,6 @@ pub(crate) fn number_of_loose(why: Looseness) -> u32
     why as u32 + 1
 }
 
-/// Returns what strictness refuses by this number.
 pub(crate) fn loose_of(fault: u32) -> Option<Looseness>
     ensures { result ≡ loose_of fault }
 {

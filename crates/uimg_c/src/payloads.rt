@@ -17,7 +17,7 @@ use uimg_engine::{Fault, locate_in_memory};
 use uimg_fit_checking::{locate_name, locate_named};
 use uimg_requests::Form;
 
-// Returns the payload for a fault; `peak` is the memory that was taken.
+// `peak` is the memory that was taken.
 fn unfound(fault: Fault, peak: u64) -> UimgPayload
     ensures code { result.status ≢ 3 → code_of_fault fault ≡ Some (record {
       status = result.status;
@@ -50,7 +50,7 @@ fn unfound(fault: Fault, peak: u64) -> UimgPayload
     }
 }
 
-// Returns the payload at a span; `peak` is the memory that was taken.
+// `peak` is the memory that was taken.
 fn found(span: Span, peak: u64) -> UimgPayload
     ensures { result ≡ record { status = 0; fault = 0; place = 0; start = span.place; size = span.length; peak = peak } }
 {
@@ -64,7 +64,6 @@ fn found(span: Span, peak: u64) -> UimgPayload
     }
 }
 
-/// Finds the part or the payload at a position in the bytes of an image.
 pub(crate) fn payload_at(
     alloc: Global,
     image: &[u8],
@@ -87,7 +86,7 @@ pub(crate) fn payload_at(
     payload.status
 }
 
-/// Finds the payload of the first image of a name in the bytes of a FIT image.
+/// The first image of the name counts.
 pub(crate) fn payload_named(
     alloc: Global,
     image: &[u8],
@@ -108,7 +107,6 @@ pub(crate) fn payload_named(
     payload.status
 }
 
-/// Finds the name of the image at a position in the bytes of a FIT image.
 pub(crate) fn payload_name(
     alloc: Global,
     image: &[u8],

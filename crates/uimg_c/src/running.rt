@@ -14,7 +14,7 @@ use uimg_engine::{Fault, run_in_memory};
 use uimg_names::Naming;
 use uimg_requests::Command;
 
-// Returns the report of a result with this text, and copies the text, truncated to `text`.
+// Copies the text, truncated to `text`.
 fn report_of_text(
     end: Result<Status, Fault>,
     whole: &[u8],
@@ -44,7 +44,7 @@ fn report_of_text(
     }
 }
 
-/// Carries out a command on an image's bytes, and copies its text, truncated to `text`.
+/// Copies the text, truncated to `text`.
 pub(crate) fn report_on(
     alloc: Global,
     command: &Command,

@@ -1,4 +1,5 @@
-//! Whether an image in memory is right, and U-Boot reads it as it was checked.
+//! Strict checks of images in memory: their checksums are right, and U-Boot reads them as they were
+//! checked.
 
 ghost use Rattle.std.specs.Prelude.{◌≡◌, ◌≢◌, ◌≤◌, max, Some, IfSome, true, false};
 ghost use Rattle.uimg_base.specs.Held.{held_bytes};
@@ -23,7 +24,7 @@ use uimg_engine::Fault;
 use uimg_fit_checking::{Finding, SurveyFault};
 use uimg_strict::{Looseness, find_loose, find_loose_header};
 
-// Returns the numbers of what strictness refuses: the letter S, and a number from 1 to 16.
+// The letter is S, the number 1 to 16.
 fn loose_code(why: Looseness) -> Code
     ensures { result ≡ refusal 83 (loose_number why) 0 }
 {
@@ -34,7 +35,7 @@ fn loose_code(why: Looseness) -> Code
     }
 }
 
-// Returns the numbers of what strictness refuses of a FIT image; none if memory was refused.
+// Returns `None` if memory was refused.
 fn loose_fit<A: Allocator>(alloc: Global, image: &[u8], room: &mut Room<A>) -> Option<Code>
     ensures peak { room.new.peak ≤ max room.old.peak (held_bytes (nodes_met image.now)) }
     ensures known { IfSome result (λ code. code.status ≤ 1) }
@@ -48,7 +49,6 @@ fn loose_fit<A: Allocator>(alloc: Global, image: &[u8], room: &mut Room<A>) -> O
     }
 }
 
-// Returns the same for a legacy image.
 fn loose_legacy(image: &[u8]) -> Option<Code>
     ensures known { IfSome result (λ code. code.status ≤ 1) }
     ensures told { IfSome result (λ code. code_of_loose (why_in_legacy (loose_legacy image.now)) ≡ Some code) }
@@ -60,7 +60,7 @@ fn loose_legacy(image: &[u8]) -> Option<Code>
     }
 }
 
-// Returns the numbers of a strict check of an image for an algorithm; none if memory was refused.
+// Returns `None` if memory was refused.
 fn strict_code<A: Allocator>(
     alloc: Global,
     need: Algo,
@@ -80,7 +80,7 @@ fn strict_code<A: Allocator>(
     }
 }
 
-/// Checks the bytes of an image strictly, with `need` as the number of the needed strength.
+/// `need` is the number of the needed strength.
 pub(crate) fn check_strictly(alloc: Global, image: &[u8], need: u32, report: &mut UimgReport) -> u32
     ensures told { result ≢ 3 → ReportsStrict need image.now report.new }
     ensures read { result ≡ 0 → is_fit form.Guess image.now ≡ true → ReadAsChecked image.now }

@@ -65,7 +65,6 @@ pub enum Answer<'a> {
     Failed(Stop<'a>),
 }
 
-// Returns the word of a finding about a FIT image.
 fn finding_word<N>(finding: &Finding<N>) -> &'static str
     ensures { result.now ≡ finding_word finding.now }
 {
@@ -79,7 +78,6 @@ fn finding_word<N>(finding: &Finding<N>) -> &'static str
     }
 }
 
-// Returns the word of a finding.
 fn found_word<N>(found: &Checked<N>) -> &'static str
     ensures { result.now ≡ found_word found.now }
 {
@@ -91,7 +89,6 @@ fn found_word<N>(found: &Checked<N>) -> &'static str
     }
 }
 
-// Returns the exit status of a check that found something.
 fn exit_status(status: Status) -> u8
     ensures { result ≡ exit_status status }
 {

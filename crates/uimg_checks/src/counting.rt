@@ -11,7 +11,6 @@ use uimg_base::{MemSource, Room};
 use uimg_engine::{Fault, is_fit};
 use uimg_requests::Form;
 
-// Counts the parts of a legacy image.
 fn count_parts<A: Allocator>(image: &[u8], room: &mut Room<A>) -> Result<usize, Fault>
     ensures told { TellsCount (count_of false image.now) result }
     ensures no_put { is_put result ≡ false }
@@ -22,13 +21,13 @@ fn count_parts<A: Allocator>(image: &[u8], room: &mut Room<A>) -> Result<usize, 
     Ok(count as usize)
 }
 
-/// Counts the parts of a legacy image, or the images of a FIT image: at each position below this
+/// Counts the parts of a legacy image, or the images of a FIT image. At each position below this
 /// number an extraction finds a part or a payload, or returns why it cannot be had.
 ///
-/// Returns the fault by which the image is refused, or `OutOfMemory` of the blob if memory for the
-/// table of a FIT image's nodes was refused; never `Fault::Read`, `Fault::Put` or a fault of
-/// making. The room takes at most 128 bytes for each node of a FIT image, and none for a legacy
-/// image.
+/// Returns the fault by which the image is refused. `Fault::Read`, `Fault::Put` and the faults of a
+/// build are never returned. The room takes at most 128 bytes for each node of a FIT image, and
+/// none for a legacy image. If memory for the table of a FIT image's nodes was refused, returns
+/// `OutOfMemory` of the blob.
 pub fn count_in_memory<A: Allocator>(image: &[u8], room: &mut Room<A>) -> Result<usize, Fault>
     ensures told { TellsCount (count_of (is_fit form.Guess image.now) image.now) result }
     ensures no_put { is_put result ≡ false }

@@ -44,7 +44,7 @@ impl<N> Checked<N> {
     }
 }
 
-// Returns whether CRC-32, the checksum of a legacy image, is strong enough.
+// CRC-32 is the checksum of a legacy image.
 fn stands_by_crc32(need: Option<Algo>) -> bool
     ensures { result ≡ stands_by_crc32 need }
 {
@@ -54,7 +54,6 @@ fn stands_by_crc32(need: Option<Algo>) -> bool
     }
 }
 
-// Checks a legacy image.
 fn check_legacy<S: Source, A: Allocator>(
     need: Option<Algo>,
     source: &mut S,
@@ -73,7 +72,6 @@ fn check_legacy<S: Source, A: Allocator>(
     }
 }
 
-// Checks a FIT image.
 fn check_fit<S: Source, A: Allocator>(
     need: Option<Algo>,
     source: &mut S,
@@ -87,15 +85,19 @@ fn check_fit<S: Source, A: Allocator>(
 
 /// Checks the checksums and hashes of an image, up to the first finding. The first four bytes
 /// decide its format. A legacy image is refused if its header's checksum is wrong or its table of
-/// parts does not fit its data. If an algorithm is needed, a FIT image has to have images, each
-/// with a hash node that is compared by it or a stronger one, in the order of `Algo`.
+/// parts does not fit its data. If an algorithm is needed, a FIT image must have images, each with
+/// a hash node that is compared by it or a stronger one, in the order of `Algo`.
 ///
 /// Over an honest source the finding, or the fault that refuses the image, is exactly that of the
-/// definition, and of a FIT image's payloads no more bytes are requested than the file has, even if
+/// definition. Of a FIT image's payloads no more bytes are requested than the file has, even if
 /// they overlap. Of a legacy image the data are requested, 80 bytes, and 16 for each size in its
-/// table. A returned name ends inside the source, whatever that returns. Returns `Fault::Read`
-/// exactly if a read failed, `OutOfMemory` of the blob exactly if the room refused to grow, which a
-/// legacy image never requests, and never `Fault::Put` or a fault of making.
+/// table. A returned name ends inside the source, whatever that returns.
+///
+/// - `Fault::Read`: if and only if a read failed.
+/// - `OutOfMemory` of the blob: if and only if the room refused to grow; a legacy image never
+///   requests this.
+///
+/// `Fault::Put` and the faults of a build are never returned.
 pub fn check<S: Source, A: Allocator>(
     need: Option<Algo>,
     source: &mut S,

@@ -35,7 +35,6 @@ impl<'a> Display for Line<'a> {
     }
 }
 
-// Writes the details after the word.
 fn put_details<W: Write>(answer: &Answer<'_>, f: &mut Formatter<W>) -> fmt::Result
     ensures { WritesOnOk W.Write.write_str_gives f.old result (details_of answer.now) f.new }
 {
@@ -51,7 +50,6 @@ fn put_details<W: Write>(answer: &Answer<'_>, f: &mut Formatter<W>) -> fmt::Resu
     }
 }
 
-// Writes the details of a finding.
 fn put_found<W: Write>(
     found: Checked<&[u8]>,
     unchecked: Option<u64>,
@@ -68,7 +66,6 @@ fn put_found<W: Write>(
     }
 }
 
-// Writes the details of a finding about a FIT image.
 fn put_finding<W: Write>(
     finding: Finding<&[u8]>,
     unchecked: Option<u64>,
@@ -90,7 +87,6 @@ fn put_finding<W: Write>(
     }
 }
 
-// Writes the counts of an image that is right.
 fn put_counts<W: Write>(
     images: u64,
     hashes: u64,
@@ -117,7 +113,6 @@ fn put_counts<W: Write>(
     }
 }
 
-// Writes the number of unchecked nodes of configurations.
 fn put_nodes<W: Write>(count: u64, f: &mut Formatter<W>) -> fmt::Result
     ensures { WritesOnOk W.Write.write_str_gives f.old result (nodes_text count) f.new }
 {
@@ -129,7 +124,6 @@ fn put_nodes<W: Write>(count: u64, f: &mut Formatter<W>) -> fmt::Result
     write!(f, ", {nodes} of configurations unchecked")
 }
 
-// Does the same, if there are any.
 #[tactic(auto, unfolding(crate::specs::Lines::some_unchecked))]
 fn put_unchecked<W: Write>(count: u64, f: &mut Formatter<W>) -> fmt::Result
     ensures { WritesOnOk W.Write.write_str_gives f.old result (some_unchecked count) f.new }
@@ -140,14 +134,12 @@ fn put_unchecked<W: Write>(count: u64, f: &mut Formatter<W>) -> fmt::Result
     put_nodes(count, f)
 }
 
-// Writes a name after a space.
 fn put_named<W: Write>(name: &[u8], f: &mut Formatter<W>) -> fmt::Result
     ensures { WritesOnOk W.Write.write_str_gives f.old result (spaced_name name.now) f.new }
 {
     write!(f, " {}", PrintedWord(name))
 }
 
-// Writes a name after a space, if there is one.
 fn put_named_if<W: Write>(name: Option<&[u8]>, f: &mut Formatter<W>) -> fmt::Result
     ensures { WritesOnOk W.Write.write_str_gives f.old result (named_if name.entry) f.new }
 {
@@ -157,7 +149,6 @@ fn put_named_if<W: Write>(name: Option<&[u8]>, f: &mut Formatter<W>) -> fmt::Res
     }
 }
 
-// Writes a missing name, and what gives it.
 fn put_missing<W: Write>(
     configuration: Option<&[u8]>,
     property: &str,
@@ -173,7 +164,7 @@ fn put_missing<W: Write>(
 }
 
 /// Returns the text of the line of the image at a path, without its end. It has no ASCII control
-/// character, whatever the path and the names are, unless the text of a fault has one: so it is one
+/// character, whatever the path and the names are, unless the text of a fault has one. So it is one
 /// line. Fails if memory for it is refused.
 pub fn line_text(alloc: Global, path: &[u8], answer: &Answer<'_>) -> Result<String, AllocError>
     ensures text { IfOk result (λ text. string_bytes text ≡ answer_line path.now answer.now) }

@@ -18,7 +18,6 @@ use uimg_fit_checking::Finding;
 use uimg_printing::{put_number, put_number_if, put_string, put_text};
 
 impl Format {
-    // Returns its name.
     fn name(self) -> &'static str
         ensures { result.now ≡ format_name self }
     {
@@ -29,7 +28,6 @@ impl Format {
     }
 }
 
-// Returns the format of a checked image.
 fn found_format<N>(found: &Checked<N>) -> Format
     ensures { result ≡ found_format found.now }
 {
@@ -39,7 +37,6 @@ fn found_format<N>(found: &Checked<N>) -> Format
     }
 }
 
-// Returns the format of an image, if it is known.
 fn format_of(answer: &Answer<'_>) -> Option<Format>
     ensures { result ≡ format_of answer.now }
 {
@@ -51,7 +48,6 @@ fn format_of(answer: &Answer<'_>) -> Option<Format>
     }
 }
 
-// Writes the format, if it is known.
 fn put_format(writer: &mut Writer, format: Option<Format>) -> Result<(), AllocError>
     ensures { Appends result writer.old writer.new (tokens_of (format_if format)) }
 {
@@ -61,7 +57,6 @@ fn put_format(writer: &mut Writer, format: Option<Format>) -> Result<(), AllocEr
     }
 }
 
-// Writes a string that may be missing.
 fn put_string_if(writer: &mut Writer, key: &str, text: Option<&str>) -> Result<(), AllocError>
     ensures { Appends result writer.old writer.new (tokens_of (string_if key.now text.entry)) }
 {
@@ -71,7 +66,6 @@ fn put_string_if(writer: &mut Writer, key: &str, text: Option<&str>) -> Result<(
     }
 }
 
-// Writes a name that may be missing.
 fn put_name_if(
     alloc: Global,
     writer: &mut Writer,
@@ -86,7 +80,6 @@ fn put_name_if(
     }
 }
 
-// Writes why an image is refused, or a check failed.
 fn put_stop(writer: &mut Writer, stop: Stop<'_>) -> Result<(), AllocError>
     ensures { Appends result writer.old writer.new (tokens_of (stop_members stop.entry)) }
 {
@@ -96,7 +89,6 @@ fn put_stop(writer: &mut Writer, stop: Stop<'_>) -> Result<(), AllocError>
     Ok(())
 }
 
-// Writes the counts of an image that is right.
 fn put_counts(
     writer: &mut Writer,
     images: u64,
@@ -112,7 +104,6 @@ fn put_counts(
     Ok(())
 }
 
-// Writes a missing name, and what gives it.
 fn put_missing(
     alloc: Global,
     writer: &mut Writer,
@@ -130,7 +121,6 @@ fn put_missing(
     Ok(())
 }
 
-// Writes the names of a hash node that is not right.
 fn put_wrong(
     alloc: Global,
     writer: &mut Writer,
@@ -145,7 +135,6 @@ fn put_wrong(
     Ok(())
 }
 
-// Writes the members about a FIT image.
 fn put_fit(
     alloc: Global,
     writer: &mut Writer,
@@ -166,7 +155,6 @@ fn put_fit(
     }
 }
 
-// Writes the members about a finding.
 fn put_found(
     alloc: Global,
     writer: &mut Writer,
@@ -183,7 +171,6 @@ fn put_found(
     }
 }
 
-// Writes the members after the format.
 fn put_about(alloc: Global, writer: &mut Writer, answer: &Answer<'_>) -> Result<(), AllocError>
     ensures { Appends result writer.old writer.new (tokens_of (about answer.now)) }
 {
@@ -199,7 +186,6 @@ fn put_about(alloc: Global, writer: &mut Writer, answer: &Answer<'_>) -> Result<
     }
 }
 
-// Writes the first members of each object.
 fn put_head(
     alloc: Global,
     writer: &mut Writer,
@@ -215,7 +201,6 @@ fn put_head(
     Ok(())
 }
 
-// Writes the object of an image.
 fn put_object(
     alloc: Global,
     writer: &mut Writer,

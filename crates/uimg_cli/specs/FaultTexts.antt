@@ -1,4 +1,4 @@
--- What the program tells of words that request nothing.
+-- What the program prints for a command line that requests nothing.
 use Rattle.std.specs.Prelude.{ℕ, List, ◌++◌, codes, string_bytes}
 use Rattle.uimg_cli.specs.declared.command_line.words_fault.WordsFault.{WordsFault}
 use Rattle.uimg_cli.specs.declared.command_line.words_fault.WordsFault.TheVariants as fault

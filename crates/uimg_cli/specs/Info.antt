@@ -1,4 +1,4 @@
--- The words of `info`.
+-- The arguments of `info`.
 use Rattle.std.specs.Prelude.{List, [], ◌∷◌, codes}
 use Rattle.clap.specs.Simple.{App, new_app}
 use Rattle.clap.specs.Walk.{Row, Text}

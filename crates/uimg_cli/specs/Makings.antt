@@ -1,4 +1,4 @@
--- The making of an image, as plain values.
+-- The build of an image, as plain values.
 use Rattle.std.specs.Prelude.{ℕ, List, [], Bool, false, map, ◌++◌}
 use Rattle.clap.specs.Walk.{Text}
 use Rattle.uimg_fit_base.specs.declared.placement.Placement.{Placement}

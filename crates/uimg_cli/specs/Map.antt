@@ -1,4 +1,4 @@
--- The words of `map`.
+-- The arguments of `map`.
 use Rattle.std.specs.Prelude.{Bool, List, [], ◌∷◌, Option, Result, Ok, Err, codes, false, if◌then◌else◌, option_map}
 use Rattle.std.specs.Option.{option_map_or}
 use Rattle.std.specs.Str.{bytes_eq}

@@ -1,4 +1,4 @@
--- The words of `mkimage`.
+-- The arguments of `mkimage`.
 use Rattle.std.specs.Prelude.{ℕ, Bool, List, [], ◌∷◌, Option, Some, None, Result, Ok, Err, codes, if◌then◌else◌, ◌==◌}
 use Rattle.clap.specs.Simple.{App, new_app}
 use Rattle.clap.specs.Walk.{Row, Rule, Text, first_of}

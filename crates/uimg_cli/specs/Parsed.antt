@@ -1,4 +1,4 @@
--- What the library of command lines makes of the words.
+-- What the command line library makes of the arguments.
 use Rattle.std.specs.Prelude.{◌≡◌, List, [], Result, Ok, Err}
 use Rattle.clap.specs.Faults.{fault_of}
 use Rattle.clap.specs.Kinds.{HasKind}

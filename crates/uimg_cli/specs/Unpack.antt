@@ -1,4 +1,4 @@
--- The words of `unpack`.
+-- The arguments of `unpack`.
 use Rattle.std.specs.Prelude.{ℕ, Bool, not, ◌&&◌, List, [], ◌∷◌, Option, Some, None, Result, Ok, Err, codes, if◌then◌else◌, is_none, option_map, unwrap_or}
 use Rattle.std.specs.Option.{option_map_or}
 use Rattle.clap.specs.Simple.{App, new_app, new_rule}

@@ -1,4 +1,4 @@
--- The words of `verify`.
+-- The arguments of `verify`.
 use Rattle.std.specs.Prelude.{List, [], ◌∷◌, None, codes}
 use Rattle.clap.specs.Simple.{App, new_app}
 use Rattle.clap.specs.Walk.{Row}

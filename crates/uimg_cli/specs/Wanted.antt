@@ -1,4 +1,4 @@
--- What the words of a command line ask for, as plain values.
+-- The request of a command line, as plain values.
 use Rattle.clap.specs.Values.{kind_of}
 use Rattle.clap.specs.Walk.{Text}
 use Rattle.clap.specs.declared.error.kind.ErrorKind.{ErrorKind}

@@ -1,4 +1,4 @@
--- What is wrong with the words of a command line, and what an answer says of that.
+-- What is wrong with a command line, and what an answer says of that.
 use Rattle.std.specs.Prelude.{◌≡◌, Result, Ok, Err, ⊤, string_bytes}
 use Rattle.std.specs.Result.{result_map_both}
 use Rattle.clap.specs.Walk.{Text}

@@ -1,4 +1,4 @@
-//! What the words of a command line request.
+//! The request of a command line.
 
 ghost use Rattle.std.specs.Prelude.{◌≡◌, Err, Result, option_map, true};
 ghost use Rattle.clap.specs.Faults.{is_simple_and_free};
@@ -40,10 +40,10 @@ use uimg_requests::{MakeRequest, RunRequest};
 pub use unpack::UnpackRequest;
 pub use words_fault::WordsFault;
 
-/// What the words of a command line request.
+/// The request of a command line.
 #[derive(Drop)]
 pub enum Asked<'a> {
-    /// A command on one image, the making of one, or a text.
+    /// A command on one image, a build of one, or a text.
     One(Request<'a>),
 
     /// A check of any number of images.
@@ -59,22 +59,22 @@ pub enum Asked<'a> {
     Info(InfoRequest<'a>),
 }
 
-/// A command on an image, the making of one, or a text.
+/// A command on an image, a build of one, or a text.
 #[derive(Drop)]
 pub enum Request<'a> {
     /// A command on an image.
     Run(RunRequest<'a>),
 
-    /// The making of an image.
+    /// The build of an image.
     Make(MakeRequest<'a>),
 
     /// This text: help or the version.
     Show(clap::Error),
 }
 
-/// Reads the words of a command line; the program's name is the first. `epoch` is SOURCE_DATE_EPOCH
-/// if it is set, and `now` the current time in seconds since 1970. Returns exactly what the words
-/// ask for, or what is wrong with them, unless memory runs out.
+/// Reads the arguments of a command line; the program's name is the first. `epoch` is
+/// SOURCE_DATE_EPOCH if it is set, and `now` the current time in seconds since 1970. Returns
+/// exactly the request of the arguments, or what is wrong with them, unless memory runs out.
 #[tactic(auto, unfolding(crate::specs::Reading::ReadsWords))]
 pub fn read_words<'a>(
     alloc: Global,
@@ -108,7 +108,6 @@ fn read_by<'a>(
     }
 }
 
-// Returns what the words gave for each argument.
 fn parsed<'a>(command: Command<'a>, words: &'a [&'a str]) -> Result<ArgMatches<'a>, clap::Error>
     requires simple { is_simple_and_free (app_of command) ≡ true }
     ensures { Parsed (app_of command.entry) (texts words.entry.now) result }
@@ -149,7 +148,6 @@ fn without_matches<'a>(alloc: Global, error: clap::Error) -> Result<Asked<'a>, W
     }
 }
 
-// Returns the fault of words that are no command.
 fn no_command(alloc: Global, error: &clap::Error) -> WordsFault
     ensures { (any : Result Wanted Wrong) → any ≡ Err no_command
         → IsWrong any (wrong_of result) }

@@ -1,4 +1,4 @@
-//! What the words of a command line request, or why they request nothing.
+//! Reads a command line of `uimg`: its request, or why there is none.
 #![tactic(auto)]
 
 mod command_line;

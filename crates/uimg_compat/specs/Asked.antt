@@ -1,4 +1,4 @@
--- What the words of mkimage and dumpimage request, as plain values.
+-- The requests of mkimage's and dumpimage's command lines, as plain values.
 use Rattle.std.specs.Prelude.{Bool, List, map, ◌++◌, Option, option_map}
 use Rattle.uimg_fit_base.specs.declared.placement.Placement.{Placement}
 use Rattle.uimg_legacy.specs.declared.options.Options.{Options}

@@ -1,4 +1,4 @@
--- What the words of -D are for dtc 1.6.1, which reads them as getopt_long does.
+-- What the arguments of -D are for dtc 1.6.1, which reads them as getopt_long does.
 use Rattle.std.specs.Prelude.{◌≡◌, ℕ, Bool, true, false, ◌==◌, ◌||◌, List, [], ◌∷◌, ◌++◌, find, filter, map, length, nat_lt, Option, Some, None, Result, Ok, Err, codes, if◌then◌else◌}
 use Rattle.std.specs.{Int.is_power_of_two, List.{list_any, slice_split}, Str.bytes_eq}
 use Rattle.uimg_compat.specs.CNumbers.{c_int}

@@ -1,4 +1,4 @@
--- The words of dumpimage [-l] [-T TYPE] [-p POSITION] [-o OUTFILE] IMAGE.
+-- The arguments of dumpimage [-l] [-T TYPE] [-p POSITION] [-o OUTFILE] IMAGE.
 use Rattle.std.specs.Prelude.{◌==◌, ℕ, Bool, true, false, List, [], ◌∷◌, Option, Some, None, option_map, Result, Ok, Err, codes, if◌then◌else◌}
 use Rattle.std.specs.Str.{bytes_eq}
 use Rattle.uimg_names.specs.declared.field.Field.TheVariants.{Kind}

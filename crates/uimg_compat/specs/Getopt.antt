@@ -1,4 +1,4 @@
--- What the words of a command line give, as getopt_long of the GNU C library reads them.
+-- What a command line gives, as getopt_long of the GNU C library reads it.
 use Rattle.std.specs.Prelude.{◌≡◌, ◌==◌, ◌+◌, ◌-◌, ℕ, suc, get_or, Bool, true, false, List, [], ◌∷◌, length, map, filter, find, take, drop, Option, Some, None, option_map, ◌&&◌, Result, Ok, Err, codes, if◌then◌else◌, nat_lt}
 use Rattle.std.specs.{List.{sum_by, starts_with, position_or_len, prefix_len, before_first, after_first}, Str.bytes_eq, Borrow.Bor}
 use Rattle.uimg_compat.specs.declared.getopt.{Words.Words, Given.Given, Misuse.Misuse}

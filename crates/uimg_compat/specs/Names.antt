@@ -1,4 +1,4 @@
--- The names that the words of -A, -O, -T and -C may be.
+-- The names that -A, -O, -T and -C take.
 use Rattle.std.specs.Prelude.{◌==◌, ℕ, Bool, true, [], ◌∷◌, nat_lt, Option, Some, None, Result, Ok, Err, codes, if◌then◌else◌}
 use Rattle.std.specs.List.{list_any}
 use Rattle.std.specs.Str.{bytes_eq}

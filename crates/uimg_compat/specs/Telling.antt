@@ -1,4 +1,4 @@
--- What a teller tells, one warning after another.
+-- The lines of warnings, one after another.
 use Rattle.std.specs.Prelude.{◌≡◌, ℕ, ◌+◌, Bool, true, false, IsTrue, List, [], ◌∷◌, ◌++◌, Option, Result, Ok, Err}
 use Rattle.std.specs.Io.KnownBytes.{Appends}
 use Rattle.uimg_compat.specs.Getopt.{Text}

@@ -1,4 +1,4 @@
--- What is wrong with the words of a command line, and what an answer says of that.
+-- What is wrong with a command line, and what an answer says of that.
 use Rattle.std.specs.Prelude.{◌≡◌, ℕ, Option, Some, None, Result, Ok, Err, ⊤}
 use Rattle.uimg_compat.specs.Getopt.{Mistake, Text, mistake_of}
 use Rattle.uimg_compat.specs.declared.fault.OldFault.{OldFault}

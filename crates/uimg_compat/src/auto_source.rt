@@ -45,7 +45,7 @@ pub struct AutoSource<'a> {
     /// The key's name and the algorithm of the signatures that images have in place of checksums.
     pub(crate) signature: Option<(&'a str, &'a str)>,
 
-    /// The words after mkimage's name. Those of -b are the paths of the device trees.
+    /// The arguments after mkimage's name. Those of -b are the paths of the device trees.
     pub(crate) words: &'a [&'a str],
 }
 
@@ -65,14 +65,12 @@ impl<'a> AutoSource<'a> {
         }
     }
 
-    // Returns the name of the file's image, by the short name of its type.
     fn kind(&self) -> &'static str
         ensures { result.now ≡ kind_name (auto_of self.now) }
     {
         short_name(Field::Kind, self.options.kind)
     }
 
-    // Returns the short name of the architecture of all images.
     fn arch(&self) -> &'static str
         ensures { result.now ≡ short_name Architecture (auto_of self.now).options.arch }
     {
@@ -225,7 +223,6 @@ impl<'a> AutoSource<'a> {
         }
     }
 
-    // Writes the end of an image.
     fn put_ending<W: Write>(&self, f: &mut Formatter<W>) -> fmt::Result
         ensures { WritesOnOk W.Write.write_str_gives f.old result
             (source_text (ending (auto_of self.now).signature)) f.new }
@@ -301,7 +298,6 @@ impl<'a> AutoSource<'a> {
         put_items(&[Item::Ends], f)
     }
 
-    // Writes the name of the RAM disk, as each configuration has it.
     fn put_ramdisk_name<W: Write>(&self, f: &mut Formatter<W>) -> fmt::Result
         ensures { WritesOnOk W.Write.write_str_gives f.old result
             (source_text (ramdisk_name (auto_of self.now).ramdisk)) f.new }
@@ -341,7 +337,6 @@ impl<'a> TreePaths<'a> {
     }
 }
 
-// Returns the end of an image with the signature node for a key.
 fn signature_items<'a>(key: &'a str, algorithm: &'a str) -> [Item<'a>; 5]
     ensures { map item_of result ≡ signature_items key.now algorithm.now }
 {
@@ -363,14 +358,12 @@ fn configurations_head() -> [Item<'static>; 2]
     ]
 }
 
-// Returns the end of a configuration of a device tree.
 fn configuration_end(number: u32) -> [Item<'static>; 2]
     ensures { map item_of result ≡ configuration_end number }
 {
     [Item::Numbered("fdt", "fdt", number), Item::Ends]
 }
 
-// Returns the path of a device tree, if an option gives one.
 fn tree_of<'a>(given: Given<'a>) -> Option<&'a str>
     ensures { option_map (λ path. path.now) result ≡ tree_of (told_of given.entry) }
 {

@@ -22,7 +22,7 @@ const MOST_BEFORE: u64 = 67_768_040_609_740_800;
 const MOST_INT: u64 = 2_147_483_647;
 
 /// Reads a text to its end as strtoull does in a base: blanks, a sign, for base 16 `0x` or `0X`,
-/// and digits; an empty text is 0. A number of more than 64 bits is 2^64 - 1, and a negative one
+/// and digits. An empty text is 0. A number of more than 64 bits is 2^64 - 1, and a negative one
 /// counts from 2^64 down. Returns `None` if anything is left.
 pub fn unsigned_long(text: &str, base: u32) -> Option<u64>
     requires least { 2 ≤ base }
@@ -44,7 +44,7 @@ pub fn unsigned_long(text: &str, base: u32) -> Option<u64>
     }
 }
 
-/// Reads the beginning of a text as strtol does in base 10: blanks, a sign and digits; without a
+/// Reads the beginning of a text as strtol does in base 10: blanks, a sign and digits. Without a
 /// digit it is 0. Returns the low 32 bits, or `None` for seconds since 1970 in no year of gmtime,
 /// whose years have 32 bits.
 pub fn long_prefix(text: &str) -> Option<u32>
@@ -59,9 +59,9 @@ pub fn long_prefix(text: &str) -> Option<u32>
     }
 }
 
-/// Reads a text to its end as strtol does in base 0, in which `0x` or `0X` is before hexadecimal
-/// digits and `0` before octal ones. Returns `None` if anything is left, and for a number that is no
-/// int from 0 on.
+/// Reads a text to its end as strtol does in base 0: `0x` or `0X` is before hexadecimal digits, `0`
+/// before octal ones. Returns `None` if anything is left, and for a number that is no int from 0
+/// on.
 pub(crate) fn c_int(text: &str) -> Option<u32>
     ensures { result ≡ c_int text.now }
 {
@@ -106,7 +106,6 @@ fn leading_number(text: &[u8]) -> Option<u64>
     small(number)
 }
 
-// Returns a number, if it is at most `MOST_BEFORE`.
 fn small(number: u64) -> Option<u64>
     ensures { result ≡ at_most 67768040609740800 number }
 {
@@ -146,7 +145,6 @@ fn opposite(number: u64) -> u64
     }
 }
 
-// Returns the number of digits, if it has 64 bits.
 #[tactic(auto, using(crate::proofs::Numerals::in_64_bits_is))]
 fn in_64_bits(digits: &str, base: u32) -> Option<u64>
     requires least { 2 ≤ base }
@@ -157,7 +155,7 @@ fn in_64_bits(digits: &str, base: u32) -> Option<u64>
     small_number(digits, base)
 }
 
-// The same, as a fact of the digits. The standard library would accept a plus before them.
+// The standard library would accept a plus before the digits.
 fn small_number(digits: &str, base: u32) -> Option<u64>
     requires least { 2 ≤ base }
     requires most { base ≤ 36 }
@@ -169,7 +167,6 @@ fn small_number(digits: &str, base: u32) -> Option<u64>
     u64::from_str_radix(digits, base).ok()
 }
 
-// Returns whether a text is one or more digits.
 fn is_numeral(text: &str, base: u32) -> bool
     requires least { 2 ≤ base }
     requires most { base ≤ 36 }
@@ -186,7 +183,6 @@ fn is_numeral(text: &str, base: u32) -> bool
     true
 }
 
-// Returns a text without the blanks that it begins with.
 fn without_blanks(text: &str) -> &str
     ensures { result.now ≡ without_blanks text.now }
 {
@@ -197,7 +193,6 @@ fn without_blanks(text: &str) -> &str
     rest
 }
 
-// Returns what follows the blank that a text begins with.
 fn behind_blank(text: &str) -> Option<&str>
     ensures rest { option_map (λ rest. rest.now) result ≡ behind_blank text.now }
     ensures shorter { IfSome result (λ rest. length rest.now < length text.now) }
@@ -209,7 +204,6 @@ fn behind_blank(text: &str) -> Option<&str>
     behind(text, first)
 }
 
-// Returns a text without its sign.
 fn without_sign(text: &str) -> &str
     ensures { result.now ≡ without_sign text.now }
 {
@@ -230,7 +224,7 @@ fn without_mark(text: &str, base: u32) -> &str
     if rest.is_empty() { text } else { rest }
 }
 
-// Returns what follows `0x` or `0X`.
+// The mark is `0x` or `0X`.
 fn behind_mark(text: &str) -> &str
     ensures { result.now ≡ behind_mark text.now }
 {
@@ -243,7 +237,7 @@ fn behind_mark(text: &str) -> &str
     }
 }
 
-// Returns whether isspace of the C library takes a letter for a blank.
+// The blanks are those of isspace of the C library.
 fn is_blank(letter: char) -> bool
     ensures blank { result ≡ is_blank letter }
     ensures ascii { OnTrue result (letter < 128) }

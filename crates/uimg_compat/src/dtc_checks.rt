@@ -96,7 +96,7 @@ const CHECKS: [&str; 88] = [
     "unit_address_vs_reg",
 ];
 
-/// Returns whether a check has this name, or the name after `no-`.
+/// The name may follow `no-`.
 #[tactic(auto, unfolding(crate::specs::DtcChecks::is_check, crate::specs::DtcChecks::dtc_checks))]
 pub(crate) fn is_check(name: &str) -> bool
     ensures { result ≡ is_check name.now }
@@ -104,7 +104,6 @@ pub(crate) fn is_check(name: &str) -> bool
     is_among(without_no(name), &CHECKS)
 }
 
-// Returns a name without the `no-` that it begins with.
 fn without_no(name: &str) -> &str
     ensures { result.now ≡ without_no name.now }
 {

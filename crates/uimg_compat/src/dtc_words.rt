@@ -1,4 +1,4 @@
-//! The words of -D, which are dtc's.
+//! The arguments of -D, which are dtc's.
 
 ghost use Rattle.std.specs.Prelude.{◌≡◌, map, filter, find, length, nat_lt, option_map, ◌++◌};
 ghost use Rattle.std.specs.{List.{list_any}};
@@ -46,7 +46,7 @@ const DTC_OPTIONS: [OptionRow; 22] = [
 /// What a shell, which mkimage calls, reads as more than itself, beside control characters.
 const SPECIAL: &[u8] = b"\"#$&'()*;<>?[\\]`{|}~!";
 
-/// What the words of -D change.
+/// What the arguments of -D change.
 #[derive(Drop)]
 pub struct DtcWords<'a> {
     /// The folders where a file is looked for that is not in the folder of the source, in order.
@@ -72,8 +72,8 @@ pub struct Silenced {
     pub equal_properties: bool,
 }
 
-/// Reads the words of -D, which are separated by blanks. Refuses those that a shell would change,
-/// and those with which dtc would make another image or none.
+/// Reads the arguments of -D, which blanks separate. Refuses those that a shell would change, and
+/// those with which dtc would make another image or none.
 pub(crate) fn read_dtc_words<'a>(alloc: Global, text: &'a str) -> Result<DtcWords<'a>, OldFault<'a>>
     ensures { Tells dtc_of (dtc_asked text.entry.now) result }
 {
@@ -81,7 +81,6 @@ pub(crate) fn read_dtc_words<'a>(alloc: Global, text: &'a str) -> Result<DtcWord
     read_words(alloc, words.as_slice())
 }
 
-// Reads words as dtc does.
 fn read_words<'w, 'a>(alloc: Global, words: &'w [&'a str]) -> Result<DtcWords<'a>, OldFault<'a>>
     ensures { Tells dtc_of (of_words (map (λ word. word.now) words.now)) result }
 {
@@ -119,7 +118,7 @@ fn read_options<'w, 'a>(alloc: Global, words: &'w [&'a str]) -> Result<DtcWords<
     }
 }
 
-// Takes dtc's next option, or operand. Returns `None` at the end.
+// Returns `None` at the end.
 #[tactic(auto, unfolding(crate::specs::Dtc::dtc_rows))]
 fn take_option<'w, 'a>(words: &mut Words<'w, 'a>) -> Result<Option<Given<'a>>, Misuse<'a>>
     ensures less { IfOk result (λ given. IfSome given (λ _. left words.new < left words.old)) }
@@ -128,7 +127,7 @@ fn take_option<'w, 'a>(words: &mut Words<'w, 'a>) -> Result<Option<Given<'a>>, M
     words.take(&DTC_OPTIONS)
 }
 
-// Returns why words are refused that getopt cannot read further than this word.
+// `word` is the argument at which getopt stopped.
 fn fault_of<'a>(misuse: Misuse<'a>, word: &'a str) -> OldFault<'a>
     ensures { wrong_of result ≡ wrong_by (mistake_of misuse.entry) }
 {
@@ -140,7 +139,7 @@ fn fault_of<'a>(misuse: Misuse<'a>, word: &'a str) -> OldFault<'a>
 }
 
 impl<'a> DtcWords<'a> {
-    // Takes an option or an operand. Returns whether the image is the same with it.
+    // Returns whether the image is the same with it.
     fn take(&mut self, given: Given<'a>) -> Result<bool, AllocError>
         ensures { IfOk result (λ is_taken. IsTaken is_taken
             (taken (told_of given.entry) (dtc_of self.old)) (dtc_of self.new)) }
@@ -156,7 +155,7 @@ impl<'a> DtcWords<'a> {
         }
     }
 
-    // Takes an option without a value. Returns whether the image is the same with it.
+    // Returns whether the image is the same with it.
     fn take_flag(&mut self, option: char) -> bool
         ensures { IsTaken result (flag_taken option (dtc_of self.old)) (dtc_of self.new) }
     {
@@ -170,7 +169,7 @@ impl<'a> DtcWords<'a> {
         }
     }
 
-    // Takes an option with a value that is no folder. Returns whether the image is the same with it.
+    // The value is no folder. Returns whether the image is the same with it.
     fn take_value(&mut self, option: char, value: &str) -> bool
         ensures { IsTaken result (value_taken option value.now (dtc_of self.old))
             (dtc_of self.new) }
@@ -206,7 +205,7 @@ impl<'a> DtcWords<'a> {
         }
     }
 
-    // Takes the name of a check. Returns whether dtc has it.
+    // Returns whether dtc has the check.
     fn take_check(&mut self, name: &str) -> bool
         ensures { IsTaken result (if_so (is_check name.now) (silencing name.now (dtc_of self.old)))
             (dtc_of self.new) }
@@ -222,7 +221,6 @@ impl<'a> DtcWords<'a> {
         true
     }
 
-    // Returns what all words change.
     fn whole(self) -> Result<DtcWords<'a>, OldFault<'a>>
         ensures { Tells dtc_of (whole (dtc_of self.entry)) result }
     {
@@ -234,7 +232,6 @@ impl<'a> DtcWords<'a> {
     }
 }
 
-// Returns the words between the blanks of a text.
 fn words_of<'a>(alloc: Global, text: &'a str) -> Result<Vec<&'a str>, AllocError>
     ensures { IfOk result (λ words. map (λ word. word.now) words.items ≡ words_in text.entry.now) }
 {
@@ -247,7 +244,7 @@ fn words_of<'a>(alloc: Global, text: &'a str) -> Result<Vec<&'a str>, AllocError
     Ok(words)
 }
 
-// Returns the first word that is not to be read.
+// Returns the first argument that is not to be read.
 fn odd_word<'a>(words: &[&'a str]) -> Option<&'a str>
     ensures { option_map (λ word. word.now) result ≡ find is_odd (map (λ word. word.now) words.now) }
 {

@@ -1,4 +1,4 @@
-//! The words of dumpimage.
+//! The arguments of dumpimage.
 
 ghost use Rattle.std.specs.Prelude.{◌≡◌, map, option_map, Ok};
 ghost use Rattle.uimg_compat.specs.Asked.{asked_of};
@@ -40,7 +40,7 @@ struct Settings<'a> {
     is_list: bool,
 }
 
-/// Reads the words after dumpimage's name.
+/// Reads the arguments after dumpimage's name.
 pub fn read_dumpimage<'a>(
     alloc: Global,
     words: &'a [&'a str],
@@ -65,7 +65,7 @@ pub fn read_dumpimage<'a>(
 }
 
 impl<'a> Settings<'a> {
-    // Takes the next option or operand, or returns the requested text.
+    // Returns the requested text, if there is one.
     fn take(&mut self, alloc: Global, given: Given<'a>) -> Result<Option<Show>, OldFault<'a>>
         ensures { Steps (step (told_of given.entry) (dumping_of self.old)) (dumping_of self.new)
             result }
@@ -116,7 +116,6 @@ impl<'a> Settings<'a> {
         Ok(None)
     }
 
-    // Returns the request, once all words are read.
     fn request(self) -> Result<OldRequest<'a>, OldFault<'a>>
         ensures { Tells asked_of (request_asked (dumping_of self.entry)) result }
     {
@@ -136,7 +135,7 @@ impl<'a> Settings<'a> {
         })
     }
 
-    // Returns what is done with the image, and the file that it writes.
+    // The file is the one that the action writes.
     fn action(&self) -> Result<(Action, Option<&'a str>), OldFault<'a>>
         ensures { Tells (λ by. (by.0, option_map (λ path. path.now) by.1))
             (action_asked (dumping_of self.now)) result }

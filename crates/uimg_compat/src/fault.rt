@@ -1,4 +1,4 @@
-//! Why the words of a command line request nothing.
+//! Why a command line requests nothing.
 
 ghost use Rattle.std.specs.Prelude.{◌≡◌};
 ghost use Rattle.uimg_compat.specs.declared.fault.OldFault.TheVariants.{Misused, OutOfMemory};
@@ -8,15 +8,15 @@ use std::alloc::AllocError;
 use thiserror::Error;
 use uimg_printing::Printed;
 
-/// Why the words of a command line request nothing. Its text is the line after the tool's name, in
-/// which the words are printed by the rule of names.
+/// Why a command line requests nothing. Its text is the line after the tool's name, in which
+/// arguments are printed by the rule of names.
 #[derive(Clone, Copy, Debug, Error)]
 pub enum OldFault<'a> {
-    /// The words are not options and operands as getopt reads them.
+    /// The arguments are not options and operands as getopt reads them.
     #[error("{0}")]
     Misused(Misuse<'a>),
 
-    /// The word of -A, -O, -T or -C is not a name of its field.
+    /// The argument of -A, -O, -T or -C is not a name of its field.
     #[error("-{letter}: unknown {title} '{word}'; mkimage -{letter} list prints all names")]
     UnknownName {
         letter: char,
@@ -24,7 +24,7 @@ pub enum OldFault<'a> {
         word: Printed<'a>,
     },
 
-    /// The word of -A, -O, -T or -C is not a name of its field, but near to one.
+    /// The argument of -A, -O, -T or -C is not a name of its field, but near to one.
     #[error("-{letter}: unknown {title} '{word}'; did you mean '{nearest}'? mkimage -{letter} list prints all names")]
     NearName {
         letter: char,
@@ -33,7 +33,7 @@ pub enum OldFault<'a> {
         nearest: &'static str,
     },
 
-    /// The word of an option is not a number.
+    /// The argument of an option is not a number.
     #[error("-{letter}: '{word}' is not a {title} number")]
     NoNumber {
         letter: char,
@@ -105,7 +105,7 @@ pub enum OldFault<'a> {
     #[error("-x: not supported for several parts")]
     XipOfParts,
 
-    /// With this word dtc makes another image or none, or a shell reads it otherwise.
+    /// With this argument dtc makes another image or none, or a shell reads it otherwise.
     #[error("-D: '{0}' is not supported; use mkimage of u-boot-tools")]
     DtcWord(Printed<'a>),
 

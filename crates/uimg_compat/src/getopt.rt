@@ -1,8 +1,9 @@
-//! Reads the words of a command line as getopt_long of the GNU C library does.
+//! Reads a command line as getopt_long of the GNU C library does.
 //!
 //! Options may come before and after operands. Letters may be joined. A value is joined to its
-//! letter or is the next word; the value of a long option comes after a `=` or is the next word.
-//! All words after `--` are operands. A long name may be cut to a beginning that no other has.
+//! letter or is the next argument; the value of a long option comes after a `=` or is the next
+//! argument. All arguments after `--` are operands. A long name may be cut to a beginning that no
+//! other has.
 
 ghost use Rattle.std.specs.Prelude.{List, ◌≡◌, ◌+◌, ◌<◌, ◌≤◌, [], ◌∷◌, length, map, find, IfOk};
 ghost use Rattle.std.specs.Prelude.{IfSome, MatchOption, option_map, ◌==◌, ◌&&◌, nat_lt, filter};
@@ -30,7 +31,7 @@ pub enum Given<'a> {
     /// The option of this letter, with its value.
     Value(char, &'a str),
 
-    /// A word that is not an option.
+    /// An argument that is not an option.
     Operand(&'a str),
 }
 
@@ -49,11 +50,11 @@ pub enum Misuse<'a> {
     #[error("option '--{0}' is ambiguous")]
     AmbiguousName(Printed<'a>),
 
-    /// The option of this letter needs a value, and no word is left.
+    /// The option of this letter needs a value, and no argument is left.
     #[error("option '-{0}' needs a value")]
     NoValueOfLetter(Printed<'a>),
 
-    /// The option of this long name needs a value, and no word is left.
+    /// The option of this long name needs a value, and no argument is left.
     #[error("option '--{0}' needs a value")]
     NoValueOfName(Printed<'a>),
 
@@ -62,7 +63,7 @@ pub enum Misuse<'a> {
     ValueNotWanted(Printed<'a>),
 }
 
-/// The unread words of a command line.
+/// The unread arguments of a command line.
 #[derive(Clone, Copy, Debug)]
 pub struct Words<'w, 'a> {
     words: &'w [&'a str],
@@ -72,7 +73,7 @@ pub struct Words<'w, 'a> {
 }
 
 impl<'w, 'a> Words<'w, 'a> {
-    /// Returns the words after the program's name, all unread.
+    /// Returns the arguments after the program's name, all unread.
     #[tactic(auto, unfolding(crate::specs::Getopt::lettered))]
     pub fn new(words: &'w [&'a str]) -> Words<'w, 'a>
         ensures { (rows : List Row) → unread rows result ≡ reading rows
@@ -115,7 +116,6 @@ impl<'w, 'a> Words<'w, 'a> {
         }
     }
 
-    /// Returns the word that was read last.
     pub(crate) fn last(&self) -> &'a str
         ensures { result.now ≡ last_word self.now }
     {
@@ -151,7 +151,6 @@ impl<'w, 'a> Words<'w, 'a> {
         }
     }
 
-    // Takes the next word.
     fn take_word(&mut self) -> Option<&'a str>
         ensures letters { self.new.letters ≡ self.old.letters }
         ensures alone { self.new.has_operands_alone ≡ self.old.has_operands_alone }
@@ -164,7 +163,6 @@ impl<'w, 'a> Words<'w, 'a> {
         Some(word)
     }
 
-    // Takes the option of the first letter.
     fn take_letter(&mut self, rows: &[OptionRow]) -> Result<Option<Given<'a>>, Misuse<'a>>
         requires some { 0 < length self.now.letters.now }
         ensures less { IfOk result (λ given. IfSome given (λ _. left self.new < left self.old)) }
@@ -240,14 +238,13 @@ fn first_letter(letters: &str) -> &[u8]
     bytes.get(..length).unwrap_or(bytes)
 }
 
-// Returns whether a byte is one of those behind the first of a letter in UTF-8.
+// The byte is not the first of a letter in UTF-8.
 fn continues(byte: u8) -> bool
     ensures { result ≡ continues byte }
 {
     128 <= byte && byte < 192
 }
 
-// Returns the option of the first letter, and the letters after it.
 fn option_by_letter<'a>(rows: &[OptionRow], letters: &'a str) -> Option<(OptionRow, &'a str)>
     ensures met { option_map (λ found. (row_of found.0, found.1.now)) result ≡ met
         (map row_of rows.now) letters.now }
@@ -263,7 +260,6 @@ fn option_by_letter<'a>(rows: &[OptionRow], letters: &'a str) -> Option<(OptionR
     Some((row, rest))
 }
 
-// Returns the row of a letter.
 fn row_with(rows: &[OptionRow], letter: char) -> Option<OptionRow>
     ensures { option_map row_of result ≡ find (λ row. row.letter == letter) (map row_of rows.now) }
 {
@@ -295,7 +291,6 @@ fn option_of<'a>(rows: &[OptionRow], name: &'a str) -> Result<OptionRow, Misuse<
     }
 }
 
-/// Returns the option of a long name.
 pub(crate) fn option_by_name(rows: &[OptionRow], name: &str) -> Option<OptionRow>
     ensures { option_map row_of result ≡ called (map row_of rows.now) name.now }
 {

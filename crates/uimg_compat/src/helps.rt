@@ -1,6 +1,5 @@
 //! The help of the commands with the old names.
 
-/// The help of mkimage.
 pub(crate) const MKIMAGE_HELP: &str =
     "Make a U-Boot image, or list one (uimg under the name of mkimage)
 
@@ -48,7 +47,6 @@ The image is written to a temporary file, which is renamed when it is complete.
 See uimg-mkimage(1).
 ";
 
-/// The help of dumpimage.
 pub(crate) const DUMPIMAGE_HELP: &str =
     "List a U-Boot image, or extract a part of it (uimg under the name of dumpimage)
 

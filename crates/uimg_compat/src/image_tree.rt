@@ -75,7 +75,6 @@ impl<'a> Display for Title<'a> {
     }
 }
 
-/// Writes parts of a source.
 #[tactic(auto, unfolding(crate::specs::ImageTree::source_text))]
 pub(crate) fn put_items<W: Write>(items: &[Item<'_>], f: &mut Formatter<W>) -> fmt::Result
     ensures { WritesOnOk W.Write.write_str_gives f.old result

@@ -43,7 +43,6 @@ pub fn has_labels(text: &[u8]) -> bool
     false
 }
 
-// Returns where the byte after this one is.
 fn place_after(place: Place, byte: u8) -> Place
     ensures { result ≡ place_after place byte }
 {

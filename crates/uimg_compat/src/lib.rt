@@ -1,5 +1,5 @@
-//! The command lines of mkimage and dumpimage 2023.01: words and numbers as the GNU C library reads
-//! them, the requests, and mkimage's warnings.
+//! The command lines of mkimage and dumpimage 2023.01: arguments and numbers as the GNU C library
+//! reads them, the requests, and mkimage's warnings.
 #![tactic(auto)]
 
 mod auto_source;

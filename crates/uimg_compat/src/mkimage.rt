@@ -1,4 +1,4 @@
-//! The words of mkimage.
+//! The arguments of mkimage.
 
 mod requests;
 
@@ -53,8 +53,8 @@ struct Settings<'a> {
     has_no_data: bool,
 }
 
-/// Reads the words after mkimage's name. `epoch` is SOURCE_DATE_EPOCH if it is set, and `now` the
-/// current time in seconds since 1970.
+/// Reads the arguments after mkimage's name. `epoch` is SOURCE_DATE_EPOCH if it is set, and `now`
+/// the current time in seconds since 1970.
 pub fn read_mkimage<'a>(
     alloc: Global,
     words: &'a [&'a str],
@@ -102,7 +102,7 @@ pub fn read_mkimage<'a>(
 }
 
 impl<'a> Settings<'a> {
-    // Takes the next option or operand, or returns the requested text.
+    // Returns the requested text, if there is one.
     fn take(&mut self, alloc: Global, given: Given<'a>) -> Result<Option<Show>, OldFault<'a>>
         ensures { Steps (step (told_of given.entry) (setting_of self.old)) (setting_of self.new)
             result }

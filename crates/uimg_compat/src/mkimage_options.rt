@@ -43,7 +43,7 @@ const MKIMAGE_OPTIONS: [OptionRow; 33] = [
     ('x', "xip", false),
 ];
 
-/// Takes mkimage's next option, or operand. Returns `None` at the end.
+/// Returns `None` at the end.
 #[tactic(auto, unfolding(crate::specs::Mkimage::mkimage_rows))]
 pub(crate) fn take_option<'w, 'a>(
     words: &mut Words<'w, 'a>,

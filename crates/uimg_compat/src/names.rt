@@ -1,4 +1,4 @@
-//! The names that the words of -A, -O, -T and -C may be.
+//! The names that -A, -O, -T and -C take.
 
 ghost use Rattle.std.specs.Prelude.{◌≡◌, Result, Err};
 ghost use Rattle.uimg_compat.specs.Names.{form_asked, is_made, letter_of, name_asked};
@@ -24,7 +24,6 @@ const FIRMWARE_IVT: u8 = 32;
 /// x86_setup, fpga, tee, pmmc and copro.
 const ANY_FORMAT: [u8; 6] = [17, 20, 29, 31, 33, 39];
 
-/// Returns the letter of the option for a field.
 pub(crate) fn letter_of(field: Field) -> char
     ensures { result ≡ letter_of field }
 {
@@ -58,7 +57,7 @@ pub(crate) enum Named {
     List,
 }
 
-/// Returns the meaning of an option's word: the code of a name, in any case, or the list.
+/// Returns the code of a name, in any case, or the list.
 pub(crate) fn name_of<'a>(alloc: Global, field: Field, word: &'a str) -> Result<Named, OldFault<'a>>
     ensures { Tells (λ named. named) (name_asked field word.entry.now) result }
 {
@@ -71,7 +70,6 @@ pub(crate) fn name_of<'a>(alloc: Global, field: Field, word: &'a str) -> Result<
     }
 }
 
-// Returns why a word is no name of a field.
 fn unknown_name<'a>(alloc: Global, field: Field, word: &'a str) -> OldFault<'a>
     ensures { IsWrong {X = Named} (Err (unknown_name (letter_of field) word.entry.now))
         (wrong_of result) }
@@ -95,8 +93,7 @@ fn unknown_name<'a>(alloc: Global, field: Field, word: &'a str) -> OldFault<'a>
     }
 }
 
-/// Returns the format of the images of a type, by its name. The type `invalid` counts as none. A
-/// type of other images is refused.
+/// The type `invalid` counts as none. A type of other images is refused.
 pub(crate) fn format_of(kind: Option<u8>, name: &str) -> Result<Form, OldFault<'_>>
     ensures { Tells (λ form. form) (form_asked kind name.now) result }
 {

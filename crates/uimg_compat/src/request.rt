@@ -1,4 +1,4 @@
-//! What a command line requests.
+//! The request of a command line.
 
 use crate::auto_source::AutoSource;
 use crate::dtc_words::DtcWords;
@@ -6,7 +6,7 @@ use uimg_fit_base::Placement;
 use uimg_names::Field;
 use uimg_requests::{MakeRequest, Manner, RunRequest};
 
-/// What the words of a command line request.
+/// The request of a command line.
 #[derive(Drop)]
 pub enum OldRequest<'a> {
     /// A command on an image, whose listing may be suppressed.
@@ -15,16 +15,16 @@ pub enum OldRequest<'a> {
         is_quiet: bool,
     },
 
-    /// The making of a legacy image, whose listing may be suppressed.
+    /// The build of a legacy image, whose listing may be suppressed.
     Make {
         request: MakeRequest<'a>,
         is_quiet: bool,
     },
 
-    /// The making of a FIT image from a source.
+    /// The build of a FIT image from a source.
     MakeFit(FitRequest<'a>),
 
-    /// The making of a FIT image from the source that mkimage makes itself.
+    /// The build of a FIT image from the source that mkimage makes itself.
     MakeAuto(AutoRequest<'a>),
 
     /// The update of a FIT image.
@@ -34,7 +34,7 @@ pub enum OldRequest<'a> {
     Show(Show),
 }
 
-/// The making of a FIT image from a source.
+/// The build of a FIT image from a source.
 #[derive(Drop)]
 pub struct FitRequest<'a> {
     /// The path of the source, or `-` for standard input.
@@ -49,7 +49,7 @@ pub struct FitRequest<'a> {
     /// The path of the image.
     pub outfile: &'a str,
 
-    /// What the words for dtc change.
+    /// What the arguments for dtc change.
     pub dtc: DtcWords<'a>,
 
     /// The path of a key that mkimage signs with, if such a file exists.
@@ -59,7 +59,7 @@ pub struct FitRequest<'a> {
     pub is_quiet: bool,
 }
 
-/// The making of a FIT image from the source that mkimage makes itself.
+/// The build of a FIT image from the source that mkimage makes itself.
 #[derive(Clone, Copy, Debug)]
 pub struct AutoRequest<'a> {
     /// The source.

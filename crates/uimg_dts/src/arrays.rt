@@ -21,7 +21,7 @@ enum Width {
     Bits64,
 }
 
-// Returns whether a number fits an element, as an unsigned or a negative number.
+// The number may be unsigned or negative.
 fn fits(width: Width, value: u64) -> bool
     ensures { result ≡ fits width value }
 {
@@ -34,7 +34,6 @@ fn fits(width: Width, value: u64) -> bool
     value <= most || (value | most) == u64::MAX
 }
 
-// Appends a number.
 fn push_number<A: Allocator + Copy>(
     table: &mut Table<'_, A>,
     width: Width,
@@ -74,7 +73,6 @@ fn opened(tokens: &[Token]) -> Result<(Width, &[Token]), Stop> {
     Ok((width, expect(b'<', behind(size))?))
 }
 
-/// Appends an array of numbers to the value that begins at a place. Returns the words after it.
 pub(crate) fn numbers<'a, A: Allocator + Copy>(
     table: &mut Table<'_, A>,
     start: usize,
@@ -105,7 +103,6 @@ pub(crate) fn numbers<'a, A: Allocator + Copy>(
     Err(unexpected(rest))
 }
 
-/// Appends bytes after `[` to the value that begins at a place. Returns the words after `]`.
 pub(crate) fn byte_pairs<'a, A: Allocator + Copy>(
     table: &mut Table<'_, A>,
     start: usize,

@@ -28,14 +28,12 @@ fn prefix_length(tokens: &[Token]) -> usize {
         .count()
 }
 
-// Returns whether a prefix has the word `/omit-if-no-ref/`.
 fn is_optional(prefix: &[Token]) -> bool {
     prefix
         .iter()
         .any(|t| matches!(t.word, Word::OmitIfNoReference))
 }
 
-// Adds the labels of a prefix to what they name.
 fn add_labels<A: Allocator + Copy>(
     table: &mut Table<'_, A>,
     prefix: &[Token],
@@ -50,7 +48,6 @@ fn add_labels<A: Allocator + Copy>(
     Ok(())
 }
 
-// Reads a name.
 fn name_in(tokens: &[Token]) -> Result<Piece, Stop> {
     match word_at(tokens) {
         Some(Word::Name(name)) => Ok(name),
@@ -58,7 +55,6 @@ fn name_in(tokens: &[Token]) -> Result<Piece, Stop> {
     }
 }
 
-// Adds a property with a name, whose labels are a prefix. Returns its place.
 fn add_property<A: Allocator + Copy>(
     table: &mut Table<'_, A>,
     node: usize,
@@ -72,7 +68,6 @@ fn add_property<A: Allocator + Copy>(
     Ok(place)
 }
 
-// Adds a child with a name, whose labels are a prefix. Returns its place.
 fn add_child<A: Allocator + Copy>(
     table: &mut Table<'_, A>,
     parent: usize,
@@ -115,7 +110,6 @@ fn deletion<'a, A: Allocator + Copy>(
     Ok((item, rest))
 }
 
-// Reads a property after its labels.
 fn property<'a, F: Files, A: Allocator + Copy>(
     files: &mut F,
     table: &mut Table<'_, A>,
@@ -136,7 +130,6 @@ fn property<'a, F: Files, A: Allocator + Copy>(
     Ok((Item::Property, rest))
 }
 
-// Reads a child after its labels, with at most `levels` levels.
 #[cycle(bodies)]
 fn child<'a, F: Files, A: Allocator + Copy>(
     files: &mut F,
@@ -159,7 +152,6 @@ fn child<'a, F: Files, A: Allocator + Copy>(
     Ok((Item::Child, rest))
 }
 
-// Reads an item of a body.
 #[cycle(bodies)]
 fn read_item<'a, F: Files, A: Allocator + Copy>(
     files: &mut F,

@@ -37,17 +37,15 @@ fn is_label_byte(b: u8) -> bool {
     b.is_ascii_alphabetic() || b.is_ascii_digit() || b == b'_'
 }
 
-/// Returns how many bytes of a name the text begins with.
 pub(crate) fn name_length(text: &[u8]) -> usize {
     text.iter().take_while(|b| is_name_byte(**b)).count()
 }
 
-/// Returns how many bytes of a path the text begins with.
 pub(crate) fn path_length(text: &[u8]) -> usize {
     text.iter().take_while(|b| is_path_byte(**b)).count()
 }
 
-/// Returns how many bytes of a label the text begins with; a digit begins none.
+/// A digit begins no label.
 pub(crate) fn label_length(text: &[u8]) -> usize {
     match text.first() {
         Some(b'0'..=b'9') | None => 0,
@@ -55,22 +53,18 @@ pub(crate) fn label_length(text: &[u8]) -> usize {
     }
 }
 
-/// Returns how many decimal digits the text begins with.
 pub(crate) fn digits_length(text: &[u8]) -> usize {
     text.iter().take_while(|b| b.is_ascii_digit()).count()
 }
 
-/// Returns how many hexadecimal digits the text begins with.
 pub(crate) fn hex_length(text: &[u8]) -> usize {
     text.iter().take_while(|b| b.is_ascii_hexdigit()).count()
 }
 
-/// Returns how many blanks the text begins with.
 pub(crate) fn blanks_length(text: &[u8]) -> usize {
     text.iter().take_while(|b| is_blank(**b)).count()
 }
 
-/// Returns how many spaces and tabs the text begins with.
 pub(crate) fn spaces_length(text: &[u8]) -> usize {
     text.iter()
         .take_while(|b| matches!(**b, b' ' | b'\t'))

@@ -26,7 +26,7 @@ pub struct Compiled<A: Allocator> {
     pub reservations: Vec<Reservation, A>,
 }
 
-// Returns the places of the tree's nodes, each before those below it.
+// Each node is before those below it.
 fn order_of<A: Allocator + Copy>(alloc: A, table: &Table<'_, A>) -> Result<Vec<usize, A>, Stop> {
     let mut order = Vec::new(alloc);
     let mut place = ROOT;
@@ -42,7 +42,6 @@ fn order_of<A: Allocator + Copy>(alloc: A, table: &Table<'_, A>) -> Result<Vec<u
     Ok(order)
 }
 
-// Checks the tree, and resolves its references.
 fn resolve<A: Allocator + Copy>(alloc: A, table: &mut Table<'_, A>) -> Result<(), Stop> {
     let order = order_of(alloc, table)?;
     table.check_names(&order)?;
@@ -53,7 +52,6 @@ fn resolve<A: Allocator + Copy>(alloc: A, table: &mut Table<'_, A>) -> Result<()
     Ok(())
 }
 
-// Reads all statements of a source.
 fn statements<F: Files, A: Allocator + Copy>(
     files: &mut F,
     table: &mut Table<'_, A>,
@@ -74,7 +72,6 @@ fn statements<F: Files, A: Allocator + Copy>(
     Ok(())
 }
 
-// Compiles the words of a source.
 fn compile_words<F: Files, A: Allocator + Copy>(
     alloc: A,
     files: &mut F,
@@ -95,7 +92,6 @@ fn compile_words<F: Files, A: Allocator + Copy>(
     })
 }
 
-// Compiles a source.
 fn compile_text<F: Files, A: Allocator + Copy>(
     alloc: A,
     text: &[u8],
@@ -140,9 +136,8 @@ fn line_of(text: &[u8], left: usize) -> u64 {
 /// at most 199 included files. A tree whose root is deleted is refused; dtc writes a blob without
 /// nodes.
 ///
-/// Returns `NoFile` if and only if an open was refused, and `ReadFailed` only if a read of an opened
-/// file failed. The contract says nothing else of the text: which tree is returned, and which
-/// sources are refused, is tested against dtc. These parts have contracts of their own:
+/// The contract says nothing else of the text: which tree is returned, and which sources are
+/// refused, is tested against dtc. These parts have contracts of their own:
 ///
 /// - the operators of expressions, the elements of arrays, and the parts of files;
 /// - the node of a label or a path, and what a reference writes;
@@ -152,6 +147,9 @@ fn line_of(text: &[u8], left: usize) -> u64 {
 ///
 /// The time grows with the text and the files that are read, and with the square of the number of
 /// nodes, properties or labels. Memory is the words, the tables and the tree.
+///
+/// - `NoFile`: if and only if an open was refused.
+/// - `ReadFailed`: only if a read of an opened file failed.
 pub fn compile_all<F: Files, A: Allocator + Copy>(
     alloc: A,
     text: &[u8],

@@ -41,7 +41,7 @@ fn primary(levels: u8, tokens: &[Token]) -> Result<(u64, &[Token]), Stop> {
     }
 }
 
-// Reads a number that operators may stand before.
+// Reads a number, which operators may precede.
 #[cycle(expressions)]
 fn unary(levels: u8, tokens: &[Token]) -> Result<(u64, &[Token]), Stop> {
     let Some(Word::Single(operator @ (b'-' | b'~' | b'!'))) = word_at(tokens) else {
@@ -80,7 +80,8 @@ fn sum(levels: u8, least: u8, tokens: &[Token]) -> Result<(u64, &[Token]), Stop>
     Ok((value, rest))
 }
 
-// Reads an expression: a number, or one of two by a condition, of which the second may be so again.
+// Reads an expression: a number, or one of two by a condition. The second of the two may be such a
+// choice again.
 #[cycle(expressions)]
 fn choice(levels: u8, tokens: &[Token]) -> Result<(u64, &[Token]), Stop> {
     let mut chosen = None;
@@ -102,7 +103,6 @@ fn choice(levels: u8, tokens: &[Token]) -> Result<(u64, &[Token]), Stop> {
     Err(unexpected(rest))
 }
 
-/// Reads a number, a character, or an expression in parentheses. Returns it and the words after it.
 pub(crate) fn number(tokens: &[Token]) -> Result<(u64, &[Token]), Stop> {
     primary(MOST_LEVELS, tokens)
 }

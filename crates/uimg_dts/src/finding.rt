@@ -15,14 +15,12 @@ pub(crate) const ROOT: usize = 0;
 /// More than a tree has levels.
 const LEVELS: u8 = 65;
 
-// Returns how many slashes a path begins with.
 fn slashes_length(path: &[u8]) -> usize
     ensures { result ≡ prefix_len is_slash path.now }
 {
     path.iter().take_while(|b| **b == b'/').count()
 }
 
-// Returns how many bytes there are before the first slash of a path.
 fn part_length(path: &[u8]) -> usize
     ensures { result ≡ prefix_len (λ b. not (is_slash b)) path.now }
 {
@@ -77,7 +75,7 @@ impl<'t, A: Allocator + Copy> Table<'t, A> {
         None
     }
 
-    /// Returns the first child of this name, which may be deleted.
+    /// The child may be deleted.
     pub(crate) fn child_named(&self, parent: usize, name: Piece) -> Option<usize>
         ensures { result ≡ child_of self.now.bytes.now self.now.nodes.items parent (word_in self.now name) }
     {
@@ -92,7 +90,7 @@ impl<'t, A: Allocator + Copy> Table<'t, A> {
         None
     }
 
-    /// Returns the first property of this name, which may be deleted.
+    /// The property may be deleted.
     pub(crate) fn property_named(&self, owner: usize, name: &[u8]) -> Option<usize>
         ensures { result ≡ property_in self.now owner name.now }
     {
@@ -107,7 +105,6 @@ impl<'t, A: Allocator + Copy> Table<'t, A> {
         None
     }
 
-    /// Returns the first property of this name that is not deleted.
     pub(crate) fn live_property(&self, owner: usize, name: &[u8]) -> Option<usize>
         ensures { result ≡ live_property_in self.now owner name.now }
     {
@@ -122,7 +119,6 @@ impl<'t, A: Allocator + Copy> Table<'t, A> {
         None
     }
 
-    // Returns the child of this name that is not deleted.
     fn live_child(&self, parent: usize, name: &[u8]) -> Option<usize>
         ensures { result ≡ live_child_of self.now.bytes.now self.now.nodes.items name.now parent }
     {
@@ -137,7 +133,7 @@ impl<'t, A: Allocator + Copy> Table<'t, A> {
         None
     }
 
-    // Returns the node of a path, which begins with a slash.
+    // A path begins with a slash.
     fn at_path(&self, path: &[u8]) -> Option<usize>
         ensures { result ≡ at_path_of self.now.bytes.now self.now.nodes.items path.now }
     {
@@ -159,7 +155,6 @@ impl<'t, A: Allocator + Copy> Table<'t, A> {
         }
     }
 
-    // Returns the node of a label.
     fn labelled(&self, name: &[u8]) -> Option<usize>
         ensures { result ≡ labelled_in self.now name.now }
     {
@@ -187,7 +182,6 @@ impl<'t, A: Allocator + Copy> Table<'t, A> {
         }
     }
 
-    /// Returns the level of a node.
     pub(crate) fn level_of(&self, place: usize) -> u8 {
         match self.node(place) {
             Some(node) => node.level,

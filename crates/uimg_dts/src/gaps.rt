@@ -1,9 +1,9 @@
-//! What stands between words: blanks, comments, and the lines of a preprocessor.
+//! What is between words: blanks, comments, and the lines of a preprocessor.
 
 use crate::bytes::{after, before, blanks_length, byte_at, digits_length, is_blank, spaces_length};
 use crate::quoted::{next_byte, string_length};
 
-// Returns the length of a comment, or `None` if it does not end.
+// Returns `None` if the comment does not end.
 fn comment_length(text: &[u8]) -> Option<usize> {
     let mut last = 0;
     for (i, b) in after(text, 2).iter().enumerate() {
@@ -77,7 +77,7 @@ fn marker_length(text: &[u8]) -> Option<usize> {
     Some(end.saturating_add(flags_length(after(text, end))))
 }
 
-/// Returns the length of what stands between words at the start of a text, or `None` if a word
+/// Returns the length of what is between words at the start of a text. Returns `None` if a word
 /// begins it, or nothing does.
 pub(crate) fn gap_length(text: &[u8], begins_line: bool) -> Option<usize> {
     if is_blank(byte_at(text, 0)) {

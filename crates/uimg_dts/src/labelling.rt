@@ -1,4 +1,4 @@
-//! Labels.
+//! Labels of nodes and properties.
 
 ghost use Rattle.std.specs.Prelude.{◌≡◌};
 ghost use Rattle.uimg_dts.specs.{Finding.{is_live_label}, Deleting.{without_labels}};
@@ -22,8 +22,8 @@ impl<'t, A: Allocator + Copy> Table<'t, A> {
         None
     }
 
-    /// Adds a label, unless what it names has it among those from a place on. A deleted one is there
-    /// again.
+    /// Adds a label, unless what it names has it among those from a place on. A deleted label is
+    /// restored.
     pub(crate) fn add_label(
         &mut self,
         first: usize,
@@ -75,7 +75,6 @@ impl<'t, A: Allocator + Copy> Table<'t, A> {
         Ok(())
     }
 
-    /// Deletes the labels of a thing.
     pub(crate) fn delete_labels(&mut self, owner: Owner)
         ensures labels { self.new.labels.items ≡ without_labels owner self.old.labels.items }
         ensures nodes { self.new.nodes ≡ self.old.nodes }

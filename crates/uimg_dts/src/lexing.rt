@@ -92,7 +92,6 @@ fn include<F: Files, A: Allocator + Copy>(
     Ok(quote.saturating_add(1).saturating_add(length))
 }
 
-// Reads the words of a text, and of the files that it includes.
 #[cycle(lexing)]
 fn lex_text<F: Files, A: Allocator + Copy>(
     alloc: A,
@@ -123,7 +122,6 @@ fn lex_text<F: Files, A: Allocator + Copy>(
     Ok(())
 }
 
-/// Reads the words of a source.
 pub(crate) fn lex<F: Files, A: Allocator + Copy>(
     alloc: A,
     files: &mut F,

@@ -1,8 +1,8 @@
 //! Devicetree source, the whole language of dtc 1.6.1 but for plugins, compiled to its tree.
 //! `compile_all` is the one call; its documentation says what is proved and what is tested.
 //!
-//! A text goes through `lexing.rt` to words (`gaps.rt`, `words.rt`), and through `statements.rt` and
-//! `bodies.rt` to tables (`table.rt`). `finding.rt` looks up nodes and properties there, and
+//! A text goes through `lexing.rt` to words (`gaps.rt`, `words.rt`), and through `statements.rt`
+//! and `bodies.rt` to tables (`table.rt`). `finding.rt` looks up nodes and properties there, and
 //! `merging.rt` deletes them and merges what is given again, both as `specs/` defines. `names.rt`
 //! and `phandles.rt` check the tables and resolve references; `planting.rt` makes the tree.
 #![tactic(auto)]

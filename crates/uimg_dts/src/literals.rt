@@ -20,7 +20,7 @@ fn suffix_length(text: &[u8]) -> usize {
     0
 }
 
-// Returns the number with these digits, or `None` if one is no digit or 64 bits overflow.
+// Returns `None` if one is no digit or 64 bits overflow.
 fn number(base: u32, digits: &[u8]) -> Option<u64>
     requires low { 2 ≤ base }
     requires high { base ≤ 16 }
@@ -69,7 +69,7 @@ fn hex_digit(byte: u8) -> Option<u8> {
     Some((digit & 15) as u8)
 }
 
-/// Returns the byte with these hexadecimal digits, or `None` if one is no such digit.
+/// Returns `None` if one is no hexadecimal digit.
 pub(crate) fn hex_pair(a: u8, b: u8) -> Option<u8> {
     let high = hex_digit(a)?;
     let low = hex_digit(b)?;

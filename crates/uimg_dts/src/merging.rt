@@ -16,7 +16,6 @@ use std::alloc::Allocator;
 const MOST_LEVELS: u8 = 64;
 
 impl<'t, A: Allocator + Copy> Table<'t, A> {
-    // Marks a property.
     fn mark_property(&mut self, place: usize)
         ensures marked { self.new.properties.items ≡ changed_at deleted_property self.old.properties.items place }
         ensures nodes { self.new.nodes ≡ self.old.nodes }
@@ -30,7 +29,6 @@ impl<'t, A: Allocator + Copy> Table<'t, A> {
         }
     }
 
-    /// Deletes a property.
     pub(crate) fn delete_property(&mut self, place: usize)
         ensures deleted { entries_of self.new ≡ without_property (entries_of self.old) place }
         ensures values { self.new.values ≡ self.old.values }
@@ -41,7 +39,6 @@ impl<'t, A: Allocator + Copy> Table<'t, A> {
         self.delete_labels(Owner::Property(place));
     }
 
-    // Deletes properties, from the first on.
     fn delete_properties(&mut self, first: usize)
         ensures deleted { entries_of self.new ≡ without_properties (entries_of self.old)
             (chain (λ (p : PropertyEntry). p.next) self.old.properties.items
@@ -60,7 +57,6 @@ impl<'t, A: Allocator + Copy> Table<'t, A> {
         }
     }
 
-    // Marks a node.
     fn mark_node(&mut self, place: usize)
         ensures marked { self.new.nodes.items ≡ changed_at deleted_node self.old.nodes.items place }
         ensures properties { self.new.properties ≡ self.old.properties }
@@ -74,7 +70,6 @@ impl<'t, A: Allocator + Copy> Table<'t, A> {
         }
     }
 
-    // Deletes a node with its properties and labels.
     fn delete_one(&mut self, place: usize)
         ensures deleted { entries_of self.new ≡ without_one (entries_of self.old) place }
         ensures values { self.new.values ≡ self.old.values }
@@ -89,7 +84,6 @@ impl<'t, A: Allocator + Copy> Table<'t, A> {
         self.delete_labels(Owner::Node(place));
     }
 
-    // Deletes a node and all below it, of at most `levels` levels.
     fn delete_levels(&mut self, levels: u8, top: usize)
         ensures deleted { entries_of self.new ≡ without levels (entries_of self.old) top }
         ensures values { self.new.values ≡ self.old.values }
@@ -115,7 +109,6 @@ impl<'t, A: Allocator + Copy> Table<'t, A> {
         }
     }
 
-    /// Deletes a node and all below it.
     pub(crate) fn delete_node(&mut self, top: usize)
         ensures deleted { entries_of self.new ≡ without 64 (entries_of self.old) top }
         ensures values { self.new.values ≡ self.old.values }
@@ -125,7 +118,6 @@ impl<'t, A: Allocator + Copy> Table<'t, A> {
         self.delete_levels(MOST_LEVELS, top);
     }
 
-    // Gives a property the value of another.
     fn replace(&mut self, place: usize, by: PropertyEntry)
         ensures replaced { self.new.properties.items ≡ changed_at (replaced by) self.old.properties.items place }
         ensures nodes { self.new.nodes ≡ self.old.nodes }
@@ -143,7 +135,6 @@ impl<'t, A: Allocator + Copy> Table<'t, A> {
         }
     }
 
-    // Merges a property into a node.
     fn merge_property(&mut self, node: usize, place: usize, new: PropertyEntry) -> Result<(), Stop>
         ensures merged { OnOk result (definitions_of self.new
             ≡ merged_property self.old.bytes.now (definitions_of self.old) node place new) }
@@ -163,7 +154,7 @@ impl<'t, A: Allocator + Copy> Table<'t, A> {
         Ok(())
     }
 
-    // Marks a node that is merged into another. Returns its first property.
+    // Returns the first property of the merged node.
     fn mark_merged(&mut self, place: usize, into: usize) -> usize
         ensures first { result ≡ first_property_of self.old.nodes.items place }
         ensures nodes { self.new.nodes.items ≡ changed_at (merged_into into) self.old.nodes.items place }
@@ -181,7 +172,6 @@ impl<'t, A: Allocator + Copy> Table<'t, A> {
         node.first_property
     }
 
-    // Makes a node one that is not deleted.
     fn revive(&mut self, place: usize)
         ensures nodes { self.new.nodes.items ≡ changed_at revived self.old.nodes.items place }
         ensures properties { self.new.properties ≡ self.old.properties }
@@ -195,7 +185,6 @@ impl<'t, A: Allocator + Copy> Table<'t, A> {
         }
     }
 
-    // Merges properties into a node, from the first on.
     fn merge_properties(&mut self, node: usize, first: usize) -> Result<(), Stop>
         ensures merged { OnOk result (definitions_of self.new ≡
             merged_from (length self.old.properties.items) self.old.bytes.now (definitions_of self.old) node first) }
@@ -214,7 +203,7 @@ impl<'t, A: Allocator + Copy> Table<'t, A> {
         Ok(())
     }
 
-    // Merges one node into another, without their children.
+    // Leaves out the children.
     fn merge_one(&mut self, old: usize, new: usize) -> Result<(), Stop>
         ensures merged { OnOk result (definitions_of self.new ≡
             merged_node self.old.bytes.now (definitions_of self.old) old new) }

@@ -12,7 +12,6 @@ fn base_length(name: &[u8]) -> usize {
     name.iter().take_while(|b| **b != b'@').count()
 }
 
-// Returns whether a node's name may have a byte.
 fn is_node_byte(b: u8) -> bool {
     b.is_ascii_alphabetic()
         || b.is_ascii_digit()
@@ -26,7 +25,6 @@ struct Labelled {
     left: usize,
 }
 
-// Adds a label.
 fn add_name<A: Allocator>(
     names: &mut Vec<Labelled, A>,
     name: Piece,
@@ -83,7 +81,6 @@ impl<'t, A: Allocator + Copy> Table<'t, A> {
         Ok(())
     }
 
-    // Refuses properties of a node that have one name or an `@` in it.
     fn check_properties(&self, first: usize) -> Result<(), Stop> {
         let mut place = first;
         for _ in 0..self.properties.len() {
@@ -138,8 +135,7 @@ impl<'t, A: Allocator + Copy> Table<'t, A> {
         Ok(())
     }
 
-    /// Refuses names that nodes or properties may not have. Deletes properties `name` that are names
-    /// of their nodes. `order` are the nodes of the tree.
+    /// Deletes properties `name` that are names of their nodes. `order` are the nodes of the tree.
     pub(crate) fn check_names(&mut self, order: &[usize]) -> Result<(), Stop> {
         for place in order {
             let Some(node) = self.node(*place) else {
@@ -152,7 +148,6 @@ impl<'t, A: Allocator + Copy> Table<'t, A> {
         Ok(())
     }
 
-    // Adds the names of the labels in a property's value.
     fn add_marks(&self, names: &mut Vec<Labelled, A>, marks: Piece) -> Result<(), Stop> {
         for i in marks.start..marks.end {
             match self.marks.get(i) {
@@ -165,7 +160,6 @@ impl<'t, A: Allocator + Copy> Table<'t, A> {
         Ok(())
     }
 
-    // Returns the names of all labels in the tree.
     fn label_names(&self) -> Result<Vec<Labelled, A>, Stop> {
         let mut names = Vec::new(self.alloc);
         for label in self.labels.as_slice() {
@@ -201,7 +195,6 @@ impl<'t, A: Allocator + Copy> Table<'t, A> {
         second
     }
 
-    /// Refuses a label that names two things.
     pub(crate) fn check_labels(&self) -> Result<(), Stop> {
         let names = self.label_names()?;
         for label in names.as_slice() {

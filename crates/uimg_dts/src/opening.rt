@@ -25,7 +25,6 @@ pub(crate) const WHOLE: Range = Range {
     length: u64::MAX,
 };
 
-// Reads a part of a source.
 fn read_part<S: Source, A: Allocator>(
     alloc: A,
     source: &mut S,
@@ -51,8 +50,7 @@ fn read_part<S: Source, A: Allocator>(
     }
 }
 
-/// Reads a part of the file with this name. Not inlined, to keep its window and its source out of
-/// the frames of recursive functions.
+/// Not inlined, to keep its window and its source out of the frames of recursive functions.
 #[inline(never)]
 pub(crate) fn read_file<F: Files, A: Allocator>(
     alloc: A,
@@ -69,7 +67,7 @@ pub(crate) fn read_file<F: Files, A: Allocator>(
     }
 }
 
-/// Returns the size of the file with this name. Requests none of its bytes.
+/// Requests none of the file's bytes.
 #[inline(never)]
 pub(crate) fn size_of<F: Files>(files: &mut F, name: &[u8], left: usize) -> Result<u64, FileStop>
     ensures opens { OpensFiles F.Opened.steady F.map result files }

@@ -34,8 +34,8 @@ pub(crate) const WEAKEST: u8 = 1;
 /// A strength above that of all operators.
 pub(crate) const ABOVE_ALL: u8 = 11;
 
-/// Returns the operator that a word is, and its strength: of two operators the stronger one takes
-/// its numbers first, and of two with one strength the first.
+/// Returns the operator and its strength. Of two operators the stronger one takes its numbers
+/// first, and of two with one strength the first.
 pub(crate) fn binary_of(word: Word) -> Option<(Binary, u8)> {
     match word {
         Word::Double(Double::Or) => Some((Binary::Or, 1)),
@@ -60,7 +60,6 @@ pub(crate) fn binary_of(word: Word) -> Option<(Binary, u8)> {
     }
 }
 
-// Returns one or zero.
 fn truth(is_true: bool) -> u64
     ensures { result ≡ truth is_true }
 {
@@ -80,7 +79,7 @@ fn shifted_right(a: u64, bits: u64) -> u64
     if bits < 64 { a >> bits } else { 0 }
 }
 
-/// Returns the number that an operator makes of two, or `None` if it divides by zero.
+/// Returns `None` if the operator divides by zero.
 #[tactic(auto, unfolding(crate::specs::Operators::combined))]
 pub(crate) fn combined(operator: Binary, a: u64, b: u64) -> Option<u64>
     ensures { result ≡ combined operator a b }

@@ -28,7 +28,6 @@ fn overwrite(values: &mut [u8], place: usize, bytes: [u8; 4])
 }
 
 impl<'t, A: Allocator + Copy> Table<'t, A> {
-    // Returns the first mark of a kind in a property.
     fn first_mark(&self, property: PropertyEntry, kind: MarkKind) -> Option<MarkEntry> {
         for i in property.marks.start..property.marks.end {
             match self.marks.get(i) {
@@ -39,7 +38,7 @@ impl<'t, A: Allocator + Copy> Table<'t, A> {
         None
     }
 
-    // Returns the number in a property of a node, or zero if it has none yet.
+    // Zero if the node has none yet.
     fn given_number(&self, place: usize, name: &[u8]) -> Result<u32, Stop> {
         let Some(found) = self.live_property(place, name) else {
             return Ok(0);
@@ -64,7 +63,6 @@ impl<'t, A: Allocator + Copy> Table<'t, A> {
         }
     }
 
-    // Returns whether a node of the tree has a number.
     fn is_taken(&self, order: &[usize], number: u32) -> bool {
         for place in order {
             if let Some(node) = self.nodes.get(*place) {
@@ -76,7 +74,6 @@ impl<'t, A: Allocator + Copy> Table<'t, A> {
         false
     }
 
-    // Gives a node its number.
     fn set_number(&mut self, place: usize, number: u32)
         ensures nodes { self.new.nodes.items ≡ changed_at (numbered number) self.old.nodes.items place }
         ensures properties { self.new.properties ≡ self.old.properties }
@@ -191,7 +188,7 @@ impl<'t, A: Allocator + Copy> Table<'t, A> {
         overwrite(self.values.as_mut_slice(), place, number.to_be_bytes());
     }
 
-    // Resolves a reference, which a mark is. Returns the node that it means.
+    // Returns the node that the mark refers to.
     fn refer_to(&mut self, mark: usize, name: Piece, left: usize) -> Result<usize, Stop>
         ensures means { IfOk result (λ n. referred_in self.old (word_in self.old name) ≡ Some n) }
         ensures marks { IfOk result (λ n. self.new.marks.items
@@ -208,7 +205,6 @@ impl<'t, A: Allocator + Copy> Table<'t, A> {
         Ok(found)
     }
 
-    // Writes a node's number at a place in the values.
     fn put_number_of(
         &mut self,
         order: &[usize],
@@ -227,7 +223,6 @@ impl<'t, A: Allocator + Copy> Table<'t, A> {
         Ok(())
     }
 
-    // Resolves the reference that a mark of a value is, given where the value begins.
     fn resolve_mark(
         &mut self,
         order: &[usize],
@@ -258,7 +253,6 @@ impl<'t, A: Allocator + Copy> Table<'t, A> {
         }
     }
 
-    // Marks a node that a reference means.
     fn mark_referenced(&mut self, place: usize)
         ensures nodes { self.new.nodes.items ≡ changed_at referenced self.old.nodes.items place }
         ensures properties { self.new.properties ≡ self.old.properties }
@@ -272,7 +266,6 @@ impl<'t, A: Allocator + Copy> Table<'t, A> {
         }
     }
 
-    // Sets the node that a mark refers to.
     fn refer(&mut self, mark: usize, place: usize)
         ensures nodes { self.new.nodes.items ≡ changed_at referenced self.old.nodes.items place }
         ensures marks { self.new.marks.items ≡ changed_at (referring place) self.old.marks.items mark }
@@ -287,7 +280,6 @@ impl<'t, A: Allocator + Copy> Table<'t, A> {
         }
     }
 
-    // Resolves the references of a node.
     fn resolve_node(&mut self, order: &[usize], place: usize, next: &mut u32) -> Result<(), Stop> {
         let Some(node) = self.node(place) else {
             return Ok(());

@@ -23,7 +23,6 @@ use uimg_blob_writing::{ByteList, Node, Nodes, Prop, Props, Value};
 /// The most levels of a tree.
 const MOST_LEVELS: u8 = 64;
 
-// Appends bytes.
 fn append<A: Allocator>(out: &mut Vec<u8, A>, bytes: &[u8]) -> Result<(), Stop> {
     match out.extend_from_slice(bytes) {
         Ok(()) => Ok(()),
@@ -31,7 +30,6 @@ fn append<A: Allocator>(out: &mut Vec<u8, A>, bytes: &[u8]) -> Result<(), Stop> 
     }
 }
 
-// Copies bytes.
 fn copied<A: Allocator>(alloc: A, bytes: &[u8]) -> Result<ByteList<A>, Stop>
     ensures { IfOk result (λ l. l ≡ bytes.now) }
 {
@@ -41,7 +39,7 @@ fn copied<A: Allocator>(alloc: A, bytes: &[u8]) -> Result<ByteList<A>, Stop>
     }
 }
 
-// Appends the path of a node and a NUL.
+// A NUL ends the path.
 fn push_path<A: Allocator + Copy>(
     table: &Table<'_, A>,
     place: usize,
@@ -66,7 +64,6 @@ fn push_path<A: Allocator + Copy>(
     append(out, &[0])
 }
 
-// Appends a value with the paths of the nodes that it refers to.
 fn push_value<A: Allocator + Copy>(
     table: &Table<'_, A>,
     property: PropertyEntry,
@@ -88,7 +85,6 @@ fn push_value<A: Allocator + Copy>(
     append(out, after(value, done))
 }
 
-// Returns the value of a property with a name.
 fn value_of<F: Files, A: Allocator + Copy>(
     files: &mut F,
     table: &Table<'_, A>,
@@ -111,7 +107,6 @@ fn value_of<F: Files, A: Allocator + Copy>(
     Ok(Value::Bytes(ByteList::of(read)))
 }
 
-// Adds a property.
 fn push_property<A: Allocator>(
     props: &mut Vec<Prop<A>, A>,
     name: ByteList<A>,
@@ -128,7 +123,7 @@ fn push_property<A: Allocator>(
     Ok(())
 }
 
-// Adds a property of the tables, unless it is deleted.
+// Leaves out a deleted property.
 fn add_property<F: Files, A: Allocator + Copy>(
     files: &mut F,
     table: &Table<'_, A>,
@@ -151,7 +146,6 @@ fn add_property<F: Files, A: Allocator + Copy>(
     Ok(())
 }
 
-// Returns the properties of a node, from the first on.
 fn properties<F: Files, A: Allocator + Copy>(
     files: &mut F,
     table: &Table<'_, A>,
@@ -174,7 +168,6 @@ fn properties<F: Files, A: Allocator + Copy>(
     Ok(Props::of(props))
 }
 
-// Adds a node.
 fn push_node<A: Allocator>(nodes: &mut Vec<Node<A>, A>, node: Node<A>) -> Result<(), Stop>
     ensures sound { OnOk result ((files : FileMap) → AreSoundNodes files nodes.old.items →
         IsSoundNode files node → AreSoundNodes files nodes.new.items) }
@@ -188,7 +181,6 @@ fn push_node<A: Allocator>(nodes: &mut Vec<Node<A>, A>, node: Node<A>) -> Result
     Ok(())
 }
 
-// Adds a node, if there is one.
 fn push_found<A: Allocator>(nodes: &mut Vec<Node<A>, A>, found: Option<Node<A>>) -> Result<(), Stop>
     ensures sound { OnOk result ((files : FileMap) → AreSoundNodes files nodes.old.items →
         IsSoundIfFound files found → AreSoundNodes files nodes.new.items) }
@@ -222,7 +214,6 @@ fn live_node<F: Files, A: Allocator + Copy>(
     Ok(Some(node))
 }
 
-// Returns nodes of one parent, from the first on, which have at most `levels` levels.
 #[cycle(planting)]
 fn children<F: Files, A: Allocator + Copy>(
     files: &mut F,
@@ -248,7 +239,6 @@ fn children<F: Files, A: Allocator + Copy>(
     Ok(Nodes::of(nodes))
 }
 
-// Returns a node with all below it, of at most `levels` levels.
 #[cycle(planting)]
 #[tactic(auto, using(crate::proofs::SoundLaws::tree_same))]
 fn plant<F: Files, A: Allocator + Copy>(
@@ -277,7 +267,6 @@ fn plant<F: Files, A: Allocator + Copy>(
     })
 }
 
-/// Returns the root of the tree, with all below it.
 pub(crate) fn planted<F: Files, A: Allocator + Copy>(
     files: &mut F,
     table: &Table<'_, A>,

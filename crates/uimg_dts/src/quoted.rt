@@ -2,8 +2,8 @@
 
 use crate::bytes::{after, before, byte_at, hex_length, is_blank};
 
-/// Returns the length of a string after its opening quote, the closing quote included, or `None` if
-/// none begins: no quote closes it, or a backslash stands before a newline.
+/// Returns the length of a string after its opening quote, the closing quote included. Returns
+/// `None` if none begins: no quote closes it, or a backslash is before a newline.
 pub(crate) fn string_length(text: &[u8]) -> Option<usize> {
     let mut escaped = false;
     for (i, b) in text.iter().enumerate() {
@@ -70,8 +70,7 @@ fn hex_escape(text: &[u8]) -> Option<(u8, usize)> {
     }
 }
 
-// Decodes an escape after its backslash. Returns its byte and its length, or `None` if `\x` has no
-// digits.
+// Decodes an escape after its backslash. Returns `None` if `\x` has no digits.
 fn escape(text: &[u8]) -> Option<(u8, usize)> {
     let c = byte_at(text, 0);
     let plain = match c {

@@ -12,7 +12,6 @@ pub(crate) fn left_at(tokens: &[Token]) -> usize {
     }
 }
 
-/// Returns the next word.
 pub(crate) fn word_at(tokens: &[Token]) -> Option<Word> {
     match tokens.first() {
         Some(token) => Some(token.word),
@@ -25,12 +24,10 @@ pub(crate) fn behind(tokens: &[Token]) -> &[Token] {
     tokens.get(1..).unwrap_or(&[])
 }
 
-/// Returns the fault of a word that is not allowed, which is the next one.
 pub(crate) fn unexpected(tokens: &[Token]) -> Stop {
     at(Refusal::BadSyntax, left_at(tokens))
 }
 
-/// Returns whether the next word is this byte.
 pub(crate) fn begins(byte: u8, tokens: &[Token]) -> bool {
     match word_at(tokens) {
         Some(Word::Single(b)) => b == byte,
@@ -38,7 +35,6 @@ pub(crate) fn begins(byte: u8, tokens: &[Token]) -> bool {
     }
 }
 
-/// Reads this byte, which must come next. Returns the words after it.
 pub(crate) fn expect(byte: u8, tokens: &[Token]) -> Result<&[Token], Stop> {
     if begins(byte, tokens) {
         Ok(behind(tokens))

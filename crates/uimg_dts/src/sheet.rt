@@ -9,7 +9,7 @@ use crate::stop::{Stop, at, out_of_memory};
 use crate::tokens::{Piece, Token, Word};
 use std::alloc::Allocator;
 
-/// What stands between a folder and the name of a file in it. The path is the same, and what follows
+/// What is between a folder and the name of a file in it. The path is the same, and what follows
 /// the last one is what the source calls the file.
 pub(crate) const IN_FOLDER: &[u8] = b"./";
 
@@ -26,7 +26,6 @@ pub(crate) enum Mode {
     Names,
 }
 
-// Returns the mode after a word.
 fn mode_after(mode: Mode, word: Word) -> Mode {
     match word {
         Word::Version | Word::Reserve | Word::Bits | Word::Name(_) => Mode::Values,
@@ -49,7 +48,6 @@ pub(crate) struct Sheet<A: Allocator> {
 }
 
 impl<A: Allocator + Copy> Sheet<A> {
-    /// Creates a sheet without words.
     pub(crate) fn new(alloc: A) -> Sheet<A>
         ensures { result.includes ≡ 0 }
     {
@@ -61,7 +59,6 @@ impl<A: Allocator + Copy> Sheet<A> {
         }
     }
 
-    /// Adds a word.
     pub(crate) fn add(&mut self, word: Word, left: usize) -> Result<(), Stop>
         ensures includes { self.new.includes ≡ self.old.includes }
     {
@@ -72,7 +69,6 @@ impl<A: Allocator + Copy> Sheet<A> {
         }
     }
 
-    /// Copies bytes of a word.
     pub(crate) fn keep(&mut self, bytes: &[u8], left: usize) -> Result<Piece, Stop>
         ensures includes { self.new.includes ≡ self.old.includes }
     {
@@ -86,7 +82,6 @@ impl<A: Allocator + Copy> Sheet<A> {
         }
     }
 
-    // Copies a byte.
     fn keep_byte(&mut self, b: u8, left: usize) -> Result<(), Stop>
         ensures includes { self.new.includes ≡ self.old.includes }
     {
@@ -123,7 +118,7 @@ impl<A: Allocator + Copy> Sheet<A> {
         })
     }
 
-    /// Copies a file's name after its folder, which a name from the root does without.
+    /// A file's name from the root needs no folder.
     pub(crate) fn keep_path(
         &mut self,
         folder: Piece,

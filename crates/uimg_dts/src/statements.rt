@@ -17,7 +17,6 @@ use uimg_blob_writing::Reservation;
 /// The most levels of a tree; the root is at the first.
 const MOST_LEVELS: u8 = 64;
 
-/// Reads the headers of a source. Returns the words after them.
 pub(crate) fn headers(tokens: &[Token]) -> Result<&[Token], Stop> {
     let mut rest = tokens;
     for _ in 0..tokens.len() {
@@ -35,7 +34,6 @@ pub(crate) fn headers(tokens: &[Token]) -> Result<&[Token], Stop> {
     Ok(rest)
 }
 
-// Returns the words after labels.
 fn unlabelled(tokens: &[Token]) -> &[Token] {
     let count = tokens
         .iter()
@@ -44,7 +42,6 @@ fn unlabelled(tokens: &[Token]) -> &[Token] {
     tokens.get(count..).unwrap_or(&[])
 }
 
-/// Reads memory reservations and adds them. Returns the words after them.
 pub(crate) fn reservations<'a, A: Allocator>(
     found: &mut Vec<Reservation, A>,
     tokens: &'a [Token],
@@ -65,7 +62,6 @@ pub(crate) fn reservations<'a, A: Allocator>(
     Ok(rest)
 }
 
-// Returns the node of a reference, which is the next word.
 fn target<A: Allocator + Copy>(table: &Table<'_, A>, tokens: &[Token]) -> Result<usize, Stop> {
     let Some(Word::Reference(name)) = word_at(tokens) else {
         return Err(unexpected(tokens));
@@ -121,7 +117,6 @@ fn marked<'a, A: Allocator + Copy>(
     Ok((place, expect(b';', behind(tokens))?))
 }
 
-/// Reads the first definition of the root. Returns the words after it.
 pub(crate) fn root<'a, F: Files, A: Allocator + Copy>(
     files: &mut F,
     table: &mut Table<'_, A>,
@@ -136,7 +131,6 @@ pub(crate) fn root<'a, F: Files, A: Allocator + Copy>(
     merged(files, table, ROOT, inner)
 }
 
-/// Reads a statement after the first definition of the root. Returns the words after it.
 pub(crate) fn statement<'a, F: Files, A: Allocator + Copy>(
     files: &mut F,
     table: &mut Table<'_, A>,

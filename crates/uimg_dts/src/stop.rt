@@ -33,12 +33,10 @@ impl From<Stop> for FileStop {
     }
 }
 
-/// Returns a stop at a word.
 pub(crate) fn at(kind: Refusal, left: usize) -> Stop {
     Stop { kind, left }
 }
 
-/// Returns the stop of refused memory.
 pub(crate) fn out_of_memory(left: usize) -> Stop {
     at(Refusal::OutOfMemory, left)
 }
@@ -50,7 +48,6 @@ pub(crate) fn refused<T>(stop: Stop) -> Result<T, FileStop>
     Err(FileStop::from(stop))
 }
 
-/// Returns a stop because of a file.
 pub(crate) fn unread(kind: DtsKind, left: usize) -> FileStop
     ensures { result ≡ record { kind = kind; left = left } }
 {

@@ -100,7 +100,6 @@ pub(crate) struct Table<'t, A: Allocator> {
 }
 
 impl<'t, A: Allocator + Copy> Table<'t, A> {
-    /// Creates empty tables.
     pub(crate) fn new(alloc: A, bytes: &'t [u8]) -> Table<'t, A> {
         Table {
             alloc,
@@ -113,21 +112,18 @@ impl<'t, A: Allocator + Copy> Table<'t, A> {
         }
     }
 
-    /// Returns the bytes of a word.
     pub(crate) fn text(&self, piece: Piece) -> &'t [u8]
         ensures { result.now ≡ part self.now.bytes.now piece }
     {
         self.bytes.get(piece.start..piece.end).unwrap_or(&[])
     }
 
-    /// Returns whether two words have the same bytes.
     pub(crate) fn same(&self, a: Piece, b: Piece) -> bool
         ensures { result ≡ bytes_eq (part self.now.bytes.now a) (part self.now.bytes.now b) }
     {
         self.text(a) == self.text(b)
     }
 
-    /// Returns the bytes of a value.
     pub(crate) fn value(&self, piece: Piece) -> &[u8]
         ensures { result.now ≡ part self.now.values.items piece }
     {
@@ -238,7 +234,6 @@ impl<'t, A: Allocator + Copy> Table<'t, A> {
         }
     }
 
-    /// Makes a node the last child of another.
     pub(crate) fn append_child(&mut self, parent: usize, child: usize)
         ensures nodes { self.new.nodes.items ≡ appended_child self.old.nodes.items parent child }
         ensures properties { self.new.properties ≡ self.old.properties }
@@ -255,7 +250,7 @@ impl<'t, A: Allocator + Copy> Table<'t, A> {
         }
     }
 
-    // Makes a node the last child of another. Returns the one that was the last.
+    // Returns the one that was the last.
     fn take_last_child(&mut self, parent: usize, child: usize) -> usize
         ensures last { result ≡ last_child_of self.old.nodes.items parent }
         ensures nodes { self.new.nodes.items ≡ changed_at (with_last_child child) self.old.nodes.items parent }
@@ -276,7 +271,6 @@ impl<'t, A: Allocator + Copy> Table<'t, A> {
         last
     }
 
-    // Makes a node the next of another.
     fn follow_node(&mut self, place: usize, next: usize)
         ensures nodes { self.new.nodes.items ≡ changed_at (followed_node next) self.old.nodes.items place }
         ensures properties { self.new.properties ≡ self.old.properties }
@@ -290,7 +284,6 @@ impl<'t, A: Allocator + Copy> Table<'t, A> {
         }
     }
 
-    /// Makes a property the last of a node.
     pub(crate) fn append_property(&mut self, owner: usize, place: usize)
         ensures nodes { self.new.nodes.items ≡ changed_at (with_last_property place) self.old.nodes.items owner }
         ensures properties { self.new.properties.items
@@ -308,7 +301,7 @@ impl<'t, A: Allocator + Copy> Table<'t, A> {
         }
     }
 
-    // Makes a property the last of a node. Returns the one that was the last.
+    // Returns the one that was the last.
     fn take_last_property(&mut self, owner: usize, place: usize) -> usize
         ensures last { result ≡ last_property_of self.old.nodes.items owner }
         ensures nodes { self.new.nodes.items ≡ changed_at (with_last_property place) self.old.nodes.items owner }
@@ -329,7 +322,6 @@ impl<'t, A: Allocator + Copy> Table<'t, A> {
         before
     }
 
-    // Makes a property the next of another.
     fn follow_property(&mut self, place: usize, next: usize)
         ensures properties { self.new.properties.items
             ≡ changed_at (followed_property next) self.old.properties.items place }

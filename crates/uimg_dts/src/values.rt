@@ -17,7 +17,6 @@ use uimg_base::Files;
 /// The least offset that a file of the C library can't have.
 const OFFSETS: u64 = 1 << 63;
 
-// Reads labels of the value that begins at a place. Returns the words after them.
 fn labels<'a, A: Allocator + Copy>(
     table: &mut Table<'_, A>,
     start: usize,
@@ -34,7 +33,6 @@ fn labels<'a, A: Allocator + Copy>(
     Ok(rest)
 }
 
-// Appends bytes to a path.
 fn add<A: Allocator>(path: &mut Vec<u8, A>, bytes: &[u8], left: usize) -> Result<(), Stop> {
     match path.extend_from_slice(bytes) {
         Ok(()) => Ok(()),
@@ -74,7 +72,6 @@ fn range_of(tokens: &[Token]) -> Result<(Range, &[Token]), Stop> {
     Ok((Range { offset, length }, expect(b')', closing)?))
 }
 
-// Appends a part of a file, after the word `/incbin/`. Returns the words after it.
 fn file<'a, F: Files, A: Allocator + Copy>(
     files: &mut F,
     table: &mut Table<'_, A>,

@@ -24,7 +24,6 @@ const DIRECTIVES: [(&[u8], Word); 7] = [
 
 const INCBIN: &[u8] = b"/incbin/";
 
-// Returns the word that begins with a slash, and its length.
 fn slash_word(mode: Mode, folder: Piece, text: &[u8]) -> (Word, usize) {
     for (name, word) in DIRECTIVES {
         if text.starts_with(name) {
@@ -38,7 +37,6 @@ fn slash_word(mode: Mode, folder: Piece, text: &[u8]) -> (Word, usize) {
     }
 }
 
-// Returns the operator of two bytes that the text begins with.
 fn double_of(text: &[u8]) -> Option<Double> {
     match before(text, 2) {
         b"<<" => Some(Double::ShiftLeft),
@@ -53,7 +51,7 @@ fn double_of(text: &[u8]) -> Option<Double> {
     }
 }
 
-// Returns the length of a name, before which a backslash may stand.
+// A backslash may precede the name.
 fn escaped_name_length(text: &[u8]) -> usize {
     match text {
         [b'\\', b, ..] if is_name_byte(*b) => name_length(after(text, 1)).saturating_add(1),
@@ -61,7 +59,6 @@ fn escaped_name_length(text: &[u8]) -> usize {
     }
 }
 
-// Reads a string.
 fn add_string<A: Allocator + Copy>(
     sheet: &mut Sheet<A>,
     text: &[u8],
@@ -77,7 +74,6 @@ fn add_string<A: Allocator + Copy>(
     Ok(length.saturating_add(1))
 }
 
-// Reads a character literal.
 fn add_character<A: Allocator + Copy>(
     sheet: &mut Sheet<A>,
     text: &[u8],
@@ -136,7 +132,6 @@ fn add_mark<A: Allocator + Copy>(
     Ok(1)
 }
 
-// Reads a number.
 fn add_number<A: Allocator + Copy>(
     sheet: &mut Sheet<A>,
     text: &[u8],
@@ -154,7 +149,6 @@ fn add_number<A: Allocator + Copy>(
     }
 }
 
-// Reads a word that depends on the mode.
 fn add_by_mode<A: Allocator + Copy>(
     sheet: &mut Sheet<A>,
     text: &[u8],

@@ -1,4 +1,4 @@
--- What the making of an image gives, by its command.
+-- The result of a build, by its command.
 use Rattle.std.specs.{Borrow.Bor, Prelude.{IfErr, Bool, false, ⊤}, Bool.OnFalse}
 use Rattle.std.specs.Prelude.{◌≡◌, ℕ, List, [], map, Option, None, Result, Ok, Err, IsTrue, IfOk}
 use Rattle.uimg_base.specs.{Device.{Device, Rose, RisesIf}, Held.Held, Lent.Lent, Sink.Sink}

@@ -1,5 +1,5 @@
--- What a command on an image has to write, how it has to end, how many bytes it may request, and
--- what memory it may take.
+-- What a command on an image must write, how it must end, how many bytes it may request, and what
+-- memory it may take.
 use Rattle.std.specs.Prelude.{◌≡◌, ◌↔◌, ℕ, ◌+◌, ◌-◌, ◌^◌, ◌<◌, ◌≤◌, max, List, [], Result, Some, ⊤}
 use Rattle.std.specs.Prelude.{Bool, true, false, IsTrue}
 use Rattle.uimg_base.specs.{Device.{Device, RisesIf}, Held.{Held, held_bytes}, Lent.Lent}

@@ -1,4 +1,4 @@
--- What the making of an image gives.
+-- The result of a build.
 use Rattle.std.specs.Prelude.{◌≡◌, ℕ, ⊤, ◌<◌, List, length, map, take, Result, Ok, Err, Option, Vec}
 use Rattle.std.specs.Prelude.{Some, IsSome, IsTrue, IfErr, All, false, slice_index_or, [], None}
 use Rattle.uimg_base.specs.{Device.{Device, RisesIf}, Lent.Lent, Named.{FileMap, SameFiles}}

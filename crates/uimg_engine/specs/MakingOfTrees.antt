@@ -1,4 +1,4 @@
--- What the making of a FIT image from a tree gives.
+-- The result of a build of a FIT image from a tree.
 use Rattle.std.specs.Prelude.{◌≡◌, List, Ok, IsTrue}
 use Rattle.uimg_base.specs.{Device.Device, Lent.Lent, Outcome.Tells, Sink.Sink}
 use Rattle.uimg_base.specs.declared.status.Status.{Status}

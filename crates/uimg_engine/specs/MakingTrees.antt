@@ -1,4 +1,4 @@
--- What the making of a FIT image from its source gives.
+-- The result of a build of a FIT image from its source.
 use Rattle.std.specs.Prelude.{◌≡◌, ◌≤◌, ℕ, max, List, [], Option, Some, IsSome, Result, Ok, Err}
 use Rattle.std.specs.{Prelude.{IsTrue, true, ⊤}, Bool.OnFalse}
 use Rattle.uimg_base.specs.{Device.Device, Held.{Held, held_bytes}, Outcome.done}

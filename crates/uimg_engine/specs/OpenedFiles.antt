@@ -1,4 +1,4 @@
--- Which files the making of an image opens.
+-- Which files a build opens.
 use Rattle.std.specs.Prelude.{◌≡◌, ℕ, List, [], ◌∷◌, ◌++◌, map, Option, Some, None, Bool, IsSome, IsTrue}
 use Rattle.std.specs.Prelude.{Result, Ok, Err, unwrap_or}
 use Rattle.std.specs.{Bool.OnFalse, Option.{IfSome, option_map_or}}

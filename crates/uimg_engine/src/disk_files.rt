@@ -103,7 +103,6 @@ impl<'a, R: rt::Files + AllocGlobal> Files for DiskFiles<'a, R> {
     }
 }
 
-// Returns whether a path leads to the file that is left out.
 fn is_left_out<R: rt::Files>(rt: &R, path: &str, left_out: Option<&str>) -> bool
     ensures { left_out.entry ≡ None → result ≡ false }
 {
@@ -113,7 +112,7 @@ fn is_left_out<R: rt::Files>(rt: &R, path: &str, left_out: Option<&str>) -> bool
     }
 }
 
-// Opens the file at a path, unless it is left out. Notes whether it is.
+// Notes whether the file is left out.
 fn open_other<R: rt::Files + AllocGlobal>(
     rt: &R,
     path: &str,

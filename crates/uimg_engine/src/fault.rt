@@ -1,4 +1,4 @@
-//! Why a command on an image, or the making of one, stopped.
+//! Why a command on an image, or the build of one, stopped.
 
 ghost use Rattle.std.specs.Prelude.{◌≡◌, Some};
 ghost use Rattle.std.specs.Option.{option_map};
@@ -14,7 +14,7 @@ use uimg_fit_base::FitFault;
 use uimg_its::ItsFault;
 use uimg_legacy::LegacyFault;
 
-/// Why a command on an image, or the making of one, stopped. Its text is the line that the program
+/// Why a command on an image, or the build of one, stopped. Its text is the line that the program
 /// prints after `uimg: `, except for `NoFile` and `Keep`, where the program prints the path.
 #[derive(Clone, Copy, Debug, PartialEq, Eq)]
 pub enum Fault {
@@ -28,24 +28,24 @@ pub enum Fault {
     /// The FIT image, or the tree to make one from, is refused.
     Fit(FitFault),
 
-    /// The image source is not compiled. A fault of making.
+    /// The image source is not compiled. A fault of a build.
     Its(ItsFault),
 
-    /// A read failed, or a file of an image that is made has another size than was found at first.
+    /// A read failed, or the size of a file of an image that is made changed since it was found.
     Read,
 
     /// A write failed.
     Put,
 
     /// The file of this number, counted from 0, could not be opened; an image source is number 0. A
-    /// fault of making.
+    /// fault of a build.
     NoFile(u64),
 
-    /// What was written could not be reopened. A fault of making.
+    /// What was written could not be reopened. A fault of a build.
     Keep,
 
-    /// Memory for the opened files, or for the text of the image source, was refused. A fault of
-    /// making.
+    /// Memory for the opened files, or for the text of the image source, was refused. A fault of a
+    /// build.
     OutOfMemory,
 }
 

@@ -19,11 +19,14 @@ use uimg_requests::{Command, Form, MakeCommand, Manner};
 /// Carries out a command on the bytes of an image, a listing with the names of a set. Returns the
 /// result of `run_by`, and all that was written.
 ///
-/// Result and text are exactly the outcome of the command, unless memory was refused. Then the
-/// result is `Fault::Put` for the text, or `OutOfMemory` of the blob for the table of a FIT image's
-/// nodes (a legacy image has none), and a prefix of the text was written. `Fault::Read` and the
-/// faults of making are never returned. A refused extraction writes nothing. The room takes at most
-/// 128 bytes for each node of a FIT image that is met, and none for a legacy image.
+/// Result and text are exactly the outcome of the command, unless memory was refused; then a prefix
+/// of the text was written. A refused extraction writes nothing. The room takes at most 128 bytes
+/// for each node of a FIT image that is met, and none for a legacy image. `Fault::Read` and the
+/// faults of a build are never returned.
+///
+/// Where memory was refused, the result is:
+/// - `Fault::Put`: for the text;
+/// - `OutOfMemory` of the blob: for the table of a FIT image's nodes (a legacy image has none).
 pub fn run_in_memory<A: Allocator, B: Allocator>(
     alloc: B,
     naming: Naming,
@@ -43,12 +46,12 @@ pub fn run_in_memory<A: Allocator, B: Allocator>(
     (end, out.into_inner())
 }
 
-/// Finds the part or the payload at a position in the bytes of an image, as `locate` does.
+/// Finds the part or the payload at a position in the bytes of an image, as `locate` does. Returns
+/// its span, or the fault of an extraction from there.
 ///
-/// Returns its span, or the fault of an extraction from there; or `OutOfMemory` of the blob if
-/// memory for the table of a FIT image's nodes was refused. `Fault::Read`, `Fault::Put` and the
-/// faults of making are never returned. The room takes at most 128 bytes for each node of a FIT
-/// image that is met, and none for a legacy image.
+/// If memory for the table of a FIT image's nodes was refused, returns `OutOfMemory` of the blob.
+/// `Fault::Read`, `Fault::Put` and the faults of a build are never returned. The room takes at most
+/// 128 bytes for each node of a FIT image that is met, and none for a legacy image.
 pub fn locate_in_memory<A: Allocator>(
     form: Form,
     position: u32,
@@ -68,16 +71,19 @@ pub fn locate_in_memory<A: Allocator>(
 /// Makes an image from files in memory, pairs of a name and its bytes, as `make_by` does. Returns
 /// the image as a source.
 ///
-/// It is the image of the files' bytes and reads back, and exactly its listing was written. Returns
-/// `Fault::NoFile` only for a name without a file; `Fault::OutOfMemory` if memory for the opened
-/// files or for the text was refused; `OutOfMemory` of `Its`, `Fit` and `Blob` if memory for the
-/// tree, or for the table of the image's nodes, was; and `Fault::Put` if a write of the listing
-/// failed, or memory for the image was refused. If no write failed then, or at a fault of making,
-/// nothing was listed. `Fault::Read`, `Fault::Keep`, `ReadFailed` of `Its`, and `ReadFailed` and
-/// `NoFile` of `Fit` are never returned.
+/// It is the image of the files' bytes and reads back, and exactly its listing was written. Nothing
+/// was listed at a fault of the build, or at `Fault::Put` if no write failed. The room takes memory
+/// for the listing only: none for a legacy image, and at most 128 bytes for each node of the FIT
+/// image. A fault of the build only clears it.
 ///
-/// The room takes memory for the listing alone: none for a legacy image, and at most 128 bytes for
-/// each node of the FIT image. A fault of making only clears it.
+/// - `Fault::NoFile`: only for a name without a file.
+/// - `Fault::OutOfMemory`: memory for the opened files or for the text was refused.
+/// - `OutOfMemory` of `Its`, `Fit` and `Blob`: memory for the tree, or for the table of the image's
+///   nodes, was refused.
+/// - `Fault::Put`: a write of the listing failed, or memory for the image was refused.
+///
+/// `Fault::Read`, `Fault::Keep`, `ReadFailed` of `Its`, and `ReadFailed` and `NoFile` of `Fit` are
+/// never returned.
 pub fn make_in_memory<W: Write, A: Allocator + Copy, B: Allocator>(
     alloc: A,
     command: &MakeCommand,

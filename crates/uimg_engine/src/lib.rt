@@ -1,5 +1,5 @@
-//! Commands on images of both formats, over any source and any files: reading and making, in memory
-//! and on a disk.
+//! Commands on images of both formats, over any source and any files: reading and building, in
+//! memory and on a disk.
 #![tactic(auto)]
 
 mod disk_files;

@@ -11,7 +11,6 @@ use std::alloc::Allocator;
 use uimg_base::{Room, Source, Span};
 use uimg_requests::Form;
 
-// Finds the part of a legacy image at a position.
 fn locate_part<S: Source, A: Allocator>(
     position: u32,
     source: &mut S,
@@ -23,7 +22,6 @@ fn locate_part<S: Source, A: Allocator>(
     Ok(span)
 }
 
-// Finds the payload of the FIT image's image at a position.
 fn locate_payload<S: Source, A: Allocator>(
     position: u32,
     source: &mut S,
@@ -39,10 +37,14 @@ fn locate_payload<S: Source, A: Allocator>(
 /// image's image, at a position, counted from 0. Returns their span in the file.
 ///
 /// Over an honest source, returns this span, also if it has no bytes, or the fault of that
-/// extraction; no more is requested than for a listing, so no byte of a FIT image's payload. Over
-/// any source the span ends inside the file. Returns `Fault::Read` exactly if a read failed, and
-/// `OutOfMemory` of the blob exactly if the room refused to grow, which only a FIT image needs.
-/// `Fault::Put` and the faults of making are never returned.
+/// extraction. Requests no more than a listing, so no byte of a FIT image's payload. Over any
+/// source the span ends inside the file.
+///
+/// - `Fault::Read`: if and only if a read failed.
+/// - `OutOfMemory` of the blob: if and only if the room refused to grow, which only a FIT image
+///   needs.
+///
+/// `Fault::Put` and the faults of a build are never returned.
 pub fn locate<S: Source, A: Allocator>(
     form: Form,
     position: u32,

@@ -1,4 +1,4 @@
-//! The making of a FIT image from a tree in memory.
+//! Builds of FIT images from trees in memory.
 
 ghost use Rattle.std.specs.Prelude.{◌≡◌, Some, [], IsTrue, IfOk};
 ghost use Rattle.uimg_blob_writing.specs.{LentFiles.IfInFull, Trees.node_of};
@@ -34,9 +34,11 @@ pub struct TreeManner<'a> {
 /// reservations, reopens it, and writes its listing to `out`. Returns what was kept.
 ///
 /// Over honest files of the sizes that the tree keeps, and an honest, empty shelf, what is kept are
-/// the bytes of `built_with`; if the tree is filled, they read back. Returns `Fault::Blob`,
-/// `Fault::Fit`, `Fault::Read` and `Fault::Put` as `uimg_fit::build` does, `Fault::Keep` if what was
-/// written could not be reopened, and the faults of the listing.
+/// the bytes of `built_with`; if the tree is filled, they read back.
+///
+/// - `Fault::Blob`, `Fault::Fit`, `Fault::Read`, `Fault::Put`: as `uimg_fit::build` returns them.
+/// - `Fault::Keep`: what was written could not be reopened.
+/// - The faults of the listing.
 pub fn make_tree<F: Files, H: Shelf, W: Write, A: Allocator + Copy, B: Allocator>(
     alloc: A,
     tree: &Tree<A>,

@@ -13,7 +13,7 @@ use std::io::Write;
 use uimg_base::{Files, Out, Source};
 use uimg_legacy::{Options, build};
 
-// Opens the files of the names, in order. Memory for all of them is taken first.
+// Memory for all files is taken first.
 fn open_all<F: Files, A: Allocator>(
     alloc: A,
     names: &[Vec<u8>],
@@ -41,7 +41,6 @@ fn open_all<F: Files, A: Allocator>(
     Ok(opened)
 }
 
-// Builds a legacy image from its parts.
 fn build_opened<S: Source, W: Write>(
     options: &Options,
     parts: &mut [S],
@@ -59,7 +58,6 @@ fn build_opened<S: Source, W: Write>(
     Ok(())
 }
 
-/// Builds a legacy image from the files of the names: opens them in order, and appends the image.
 pub(crate) fn build_parts<F: Files, W: Write, A: Allocator>(
     alloc: A,
     options: &Options,

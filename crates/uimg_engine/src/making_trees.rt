@@ -16,7 +16,6 @@ use uimg_fit_base::AlignedPlacement;
 use uimg_fit_building::{build_by, fill};
 use uimg_its::compile;
 
-// Reads all bytes of a source.
 fn whole_text<S: Source, A: Allocator>(alloc: A, source: &mut S) -> Result<Vec<u8, A>, Fault>
     ensures text { HonestSource S.device source →
         ReadsSourceText (λ text. text.items) (Some (S.device source.old).bytes) result }
@@ -35,7 +34,6 @@ fn whole_text<S: Source, A: Allocator>(alloc: A, source: &mut S) -> Result<Vec<u
     }
 }
 
-// Opens the source of a name, and reads all of it.
 fn read_text<F: Files, A: Allocator>(
     alloc: A,
     name: &[u8],
@@ -58,7 +56,6 @@ fn read_text<F: Files, A: Allocator>(
     }
 }
 
-// Returns the tree that the source of a name spells, filled at a time.
 fn filled_tree<F: Files, A: Allocator + Copy>(
     alloc: A,
     name: &[u8],
@@ -81,8 +78,6 @@ fn filled_tree<F: Files, A: Allocator + Copy>(
     Ok(filled)
 }
 
-/// Builds a FIT image from the source of a name: reads it, compiles it, fills its tree at a time,
-/// and appends the image.
 pub(crate) fn build_tree<F: Files, W: Write, A: Allocator + Copy>(
     alloc: A,
     name: &[u8],

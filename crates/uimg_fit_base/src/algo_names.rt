@@ -7,7 +7,7 @@ use uimg_base::Algo;
 use uimg_names::Naming;
 
 /// Returns the algorithm of a name, as in the `algo` property of a hash node, or `None` if the set
-/// of names has none. crc16-ccitt is in `Naming::All` alone. Case matters.
+/// of names has none. Only `Naming::All` has crc16-ccitt. Case matters.
 pub fn algo_by(naming: Naming, name: &[u8]) -> Option<Algo>
     ensures { result ≡ algo_by naming name.now }
 {

@@ -59,7 +59,6 @@ impl AlgoSet {
     }
 }
 
-// Adds a sum by an algorithm, if it is in the set.
 fn add_chosen(bundle: &mut Bundle, set: AlgoSet, algo: Algo)
     ensures { (algos : List Algo) → Holds bundle.old algos [] → length algos < 8 →
         Holds bundle.new (algos ++ (if has set algo then algo ∷ [] else [])) [] }

@@ -31,7 +31,7 @@ pub enum FitFault {
     OutOfMemory = 8,
     /// A payload's file could not be opened.
     NoFile = 9,
-    /// A read of a payload's file failed, or the file has another size than the tree keeps.
+    /// A read of a payload's file failed, or its size differs from the one that the tree keeps.
     ReadFailed = 10,
 }
 
@@ -91,7 +91,7 @@ pub enum Fault {
     Blob(BlobFault, u64),
     /// The images are refused.
     Fit(FitFault),
-    /// A read failed, or a payload's file has another size than the tree keeps.
+    /// A read failed, or the size of a payload's file differs from the one that the tree keeps.
     Read,
     /// A write failed.
     Put,

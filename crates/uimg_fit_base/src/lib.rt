@@ -1,7 +1,9 @@
 //! What both reading and building of FIT images use: faults, the words of a report, the span of a
-//! payload, and digests by sets of algorithms. `specs/` defines what FIT images mean. A lemma shows
-//! that in a file whose blob is accepted each name and each value is where its tree says
-//! (`proofs/ReadLaws.antt`). `proofs/ReadingExamples.antt` of `uimg_engine` tries the definitions.
+//! payload, and digests by sets of algorithms.
+//!
+//! `specs/` defines what FIT images mean. A lemma shows that in a file whose blob is accepted each
+//! name and each value is where its tree says (`proofs/ReadLaws.antt`).
+//! `proofs/ReadingExamples.antt` of `uimg_engine` tries the definitions.
 #![tactic(auto)]
 
 mod algo_names;

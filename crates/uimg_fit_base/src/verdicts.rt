@@ -12,7 +12,7 @@ pub enum Verdict {
     Unsupported,
     /// The value is the digest of the payload.
     Right,
-    /// The value is another one.
+    /// The value differs from it.
     Wrong,
 }
 

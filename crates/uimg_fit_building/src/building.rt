@@ -32,7 +32,6 @@ pub struct Frame<'a> {
     pub reservations: &'a [Reservation],
 }
 
-// Turns the fault of measuring a tree into one of building.
 fn of_measure(fault: BlobFault) -> Fault
     ensures { result ≡ of_measure fault }
 {
@@ -43,7 +42,6 @@ fn of_measure(fault: BlobFault) -> Fault
     }
 }
 
-// Turns the fault of writing a tree into one of building.
 fn of_writing(fault: TreeFault) -> Fault
     ensures { result ≡ of_writing fault }
 {
@@ -54,7 +52,6 @@ fn of_writing(fault: TreeFault) -> Fault
     }
 }
 
-// Measures the blob of a tree, with an alignment and reservations.
 fn measure_placed<'a, A: Allocator>(
     alloc: A,
     placed: &'a Tree<A>,
@@ -69,7 +66,7 @@ fn measure_placed<'a, A: Allocator>(
     }
 }
 
-// Writes the file of a tree; `placed` is its copy with cells for its payloads.
+// `placed` is the tree's copy with cells for its payloads.
 fn write_file<F: Files, W: Write, A: Allocator>(
     placed: &Tree<A>,
     layout: &Layout<A>,
@@ -94,7 +91,7 @@ fn write_file<F: Files, W: Write, A: Allocator>(
     put_behind(layout.totalsize(), tree, placement, files, out)
 }
 
-// Builds the file of a tree; `placed` is its copy with cells for its payloads.
+// `placed` is the tree's copy with cells for its payloads.
 fn build_placed<F: Files, W: Write, A: Allocator>(
     alloc: A,
     placed: &Tree<A>,
@@ -119,7 +116,6 @@ fn build_placed<F: Files, W: Write, A: Allocator>(
     }
 }
 
-// Places the payloads of a tree, and builds its file.
 #[tactic(auto, using(uimg_blob_writing::proofs::OpenedLaws::each_unopened))]
 fn place_and_build<F: Files, W: Write, A: Allocator + Copy>(
     alloc: A,
@@ -158,18 +154,24 @@ fn place_and_build<F: Files, W: Write, A: Allocator + Copy>(
 /// order. The blob's end and each payload's are padded with zeros to a multiple of 4, and zeros
 /// fill up to the position of the first. An image without `data` is unchanged.
 ///
-/// All memory is taken before the first byte, and refusals come before it, in this order:
-/// `BadNodeName` or `BadPropertyName` of the blob, at offset 0, for the first bad name in the order
-/// of writing; `TooLarge` if the blob has more than 4294967295 bytes; `PositionTooLow` if the
-/// payloads would begin before the blob's end; `TooLarge` if the file has more than 4294967295
-/// bytes; also `OutOfMemory` if memory was refused. Returns `Put` exactly if a write failed,
-/// `NoFile` exactly if the open of a file was refused, `Read` if a read of a file failed or its
-/// size is another than the tree keeps; over honest files of the kept sizes a prefix of the image
-/// was written then. Over honest files, at `Ok`, each file has the size that the tree keeps.
-///
 /// A file is opened once for each value stored in it, when the value is written, and read through a
-/// window of 8192 bytes. The image of a filled tree verifies, and each payload is found in it.
-/// Calls nest as deep as the tree.
+/// window of 8192 bytes. Over honest files, at `Ok`, each file has the size that the tree keeps.
+/// The image of a filled tree verifies, and each payload is found in it. Calls nest as deep as the
+/// tree.
+///
+/// All memory is taken before the first byte. Refusals come before it too, in this order:
+/// - `BadNodeName`, `BadPropertyName` of the blob, at offset 0: for the first bad name in the order
+///   of writing.
+/// - `TooLarge`: the blob has more than 4294967295 bytes.
+/// - `PositionTooLow`: the payloads would begin before the blob's end.
+/// - `TooLarge`: the file has more than 4294967295 bytes.
+/// - `OutOfMemory`, also before the first byte: memory was refused.
+///
+/// These come while the image is written. Over honest files of the kept sizes a prefix of it was
+/// written then:
+/// - `Put`: if and only if a write failed.
+/// - `NoFile`: if and only if the open of a file was refused.
+/// - `Read`: a read of a file failed, or its size differs from the one that the tree keeps.
 pub fn build<F: Files, W: Write, A: Allocator + Copy>(
     alloc: A,
     tree: &Tree<A>,

@@ -31,7 +31,6 @@ use uimg_blob_writing::{Node, Nodes, Props, Tree, Value};
 use uimg_fit_base::FitFault;
 use uimg_names::Naming;
 
-// Sets the timestamp among properties.
 fn with_time<A: Allocator + Copy>(
     alloc: A,
     props: Props<A>,
@@ -51,7 +50,6 @@ fn before_images<A: Allocator>(nodes: &[Node<A>]) -> usize
     nodes.iter().take_while(|node| !is_images(node)).count()
 }
 
-// Fills the images that are the children of a node.
 fn fill_parent<F: Files, A: Allocator + Copy>(
     alloc: A,
     parent: &mut Node<A>,
@@ -78,7 +76,6 @@ fn fill_parent<F: Files, A: Allocator + Copy>(
     answer
 }
 
-// Fills the images below a root with these children.
 fn fill_below<F: Files, A: Allocator + Copy>(
     alloc: A,
     nodes: &mut [Node<A>],
@@ -104,23 +101,29 @@ fn fill_below<F: Files, A: Allocator + Copy>(
     fill_parent(alloc, &mut nodes[at], naming, files)
 }
 
-/// Fills a tree before it is built: sets the root's `timestamp`, removes `data-offset`, `data-size`
-/// and `data-position` of each image, and sets the `value` of each hash node to the digest of the
-/// image's first `data` (Flattened Image Tree format, "Hash nodes"). An existing property is
-/// replaced in its place, a new one is appended. `time` is in seconds since 1970.
+/// Fills a tree before it is built (Flattened Image Tree format, "Hash nodes"). Sets the root's
+/// `timestamp` to `time`, in seconds since 1970. Removes `data-offset`, `data-size` and
+/// `data-position` of each image. Sets the `value` of each hash node to the digest of the image's
+/// first `data`. An existing property is replaced in its place, a new one is appended.
 ///
 /// Only properties named `data` may be files. An image's file is opened once if the image has hash
 /// nodes, and read once for all of them through a window of 8192 bytes; it stays a file in the
 /// tree. Over any files, only this is changed in the tree. Over honest files of the kept sizes its
 /// hashes are what `verify` expects.
 ///
-/// Returns the first fault and drops the tree: `NoImages`; then for each image `NoData`,
-/// `UnknownAlgo` if the `algo` of a hash node is missing or unknown, `NoFile` exactly if the open
-/// of its file was refused, and `ReadFailed` if a read of it failed or it has another size than the
-/// tree keeps. `OutOfMemory` comes if memory for a property was refused. Over honest files of any
-/// sizes any other fault of an image means that no image before it has one, and at `Ok` the file of
-/// each image with hash nodes has the size that the tree keeps. Over files of the kept sizes,
-/// `NoFile` never comes if they are complete, nor `ReadFailed` if they are honest and never fail.
+/// Returns the first fault and drops the tree: `NoImages`, then for each image one of the others.
+/// - `NoImages`: the root has no child `images`.
+/// - `NoData`: an image has no `data`.
+/// - `UnknownAlgo`: the `algo` of a hash node is missing or unknown.
+/// - `NoFile`: if and only if the open of an image's file was refused; never if the files are
+///   complete and of the kept sizes.
+/// - `ReadFailed`: a read of an image's file failed, or its size differs from the one that the tree
+///   keeps; never over files of the kept sizes that are honest and never fail.
+/// - `OutOfMemory`: memory for a property was refused.
+///
+/// Over honest files of any sizes, any other fault of an image than `OutOfMemory` means that no
+/// image before it has one. At `Ok` the file of each image with hash nodes has the size that the
+/// tree keeps.
 pub fn fill<F: Files, A: Allocator + Copy>(
     alloc: A,
     tree: Tree<A>,
@@ -151,7 +154,7 @@ pub fn fill<F: Files, A: Allocator + Copy>(
     fill_by(alloc, tree, time, Naming::Profile, files)
 }
 
-/// Fills a tree as `fill` does, by the algorithms of a set of names: with `Naming::All` a hash node
+/// Fills a tree as `fill` does, by the algorithms of a set of names. With `Naming::All` a hash node
 /// may be of crc16-ccitt, too, whose `value` `verify` does not check.
 pub fn fill_by<F: Files, A: Allocator + Copy>(
     alloc: A,

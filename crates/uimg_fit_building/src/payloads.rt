@@ -9,7 +9,6 @@ use crate::setting::first_value;
 use std::alloc::Allocator;
 use uimg_blob_writing::{Node, Prop, Props, Value};
 
-// Returns whether a property is named `data`.
 pub(crate) fn is_data<A: Allocator>(prop: &Prop<A>) -> bool
     ensures { result ≡ bytes_eq (codes "data") prop.now.name }
 {
@@ -23,7 +22,7 @@ pub fn is_images<A: Allocator>(node: &Node<A>) -> bool
     b"images".as_slice() == node.name.items()
 }
 
-// Returns the images of a tree, none if the root has no child `images`.
+// Without a child `images` of the root there are none.
 pub(crate) fn images_of<A: Allocator>(root: &Node<A>) -> &[Node<A>]
     ensures { map entry result.now ≡ images_in (node_of root.now) }
 {

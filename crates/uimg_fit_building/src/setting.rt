@@ -11,7 +11,6 @@ use std::alloc::Allocator;
 use uimg_blob_writing::{ByteList, Prop, Props, Value, copy_bytes};
 use uimg_fit_base::FitFault;
 
-/// Copies bytes.
 pub(crate) fn copied<A: Allocator>(alloc: A, bytes: &[u8]) -> Result<ByteList<A>, FitFault>
     ensures { MakesUnlessMemory result (λ l. l ≡ bytes.now) }
 {
@@ -49,7 +48,6 @@ fn place_of<A: Allocator>(props: &[Prop<A>], key: &[u8]) -> usize
     props.len()
 }
 
-// Adds a property.
 fn push_property<A: Allocator>(list: &mut Vec<Prop<A>, A>, prop: Prop<A>) -> Result<(), FitFault>
     ensures { MakesUnlessMemory result (λ u. list.new.items ≡ list.old.items ++ prop ∷ []) }
 {
@@ -100,14 +98,12 @@ fn is_external(name: &[u8]) -> bool
     name == b"data-position".as_slice()
 }
 
-// Removes the properties that give payloads offsets outside the blob.
 fn remove_external<A: Allocator>(list: &mut Vec<Prop<A>, A>)
     ensures { map property list.new.items ≡ without_external (map property list.old.items) }
 {
     list.retain(|prop| !is_external(prop.name.items()));
 }
 
-/// Removes the properties that give payloads offsets outside the blob.
 pub(crate) fn without_external<A: Allocator>(props: Props<A>) -> Props<A>
     ensures { result ≡ without_external props }
 {

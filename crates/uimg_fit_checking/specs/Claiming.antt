@@ -1,5 +1,5 @@
--- What the taker of a FIT image's payloads is told before any is unpacked: the claims, in order,
--- whatever it does with them.
+-- The claims that the taker of a FIT image's payloads gets before any is unpacked, in order, whatever
+-- it does with them.
 use Rattle.std.specs.Prelude.{◌≡◌, ⊤, ℕ, ◌-◌, List, [], ◌∷◌, ◌++◌, length, nat_lt, if◌then◌else◌}
 use Rattle.std.specs.Prelude.{Option, Some, None, Result, Ok, Err, Bool, IsTrue}
 use Rattle.uimg_base.specs.Lent.{Lent}

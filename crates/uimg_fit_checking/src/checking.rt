@@ -56,11 +56,13 @@ pub enum Finding<N> {
 /// then for `Wrong`, then for `Weak`. If nothing is found, returns `Right` or `Unhashed`. `need` is
 /// the needed strength, in the order of `Algo`.
 ///
-/// Returns the faults of the blob, then `NoImages`, then `NoData` and `DataOutside` of an image
-/// before any finding about it; `OutOfMemory` exactly if the room refused to grow. Each payload is
-/// requested at most once, and not at all if no hash node of its image is compared; all requested
-/// payloads have at most the file's length together. The span of a name ends inside the source,
-/// whatever that returns.
+/// Each payload is requested at most once, and not at all if no hash node of its image is compared.
+/// All requested payloads have at most the file's length together. The span of a name ends inside
+/// the source, whatever that returns.
+///
+/// - The faults of the blob, then `NoImages`.
+/// - `NoData`, `DataOutside`: of an image, before any finding about it.
+/// - `OutOfMemory`: if and only if the room refused to grow.
 pub fn check<S: Source, A: Allocator>(
     need: Option<Algo>,
     source: &mut S,

@@ -16,7 +16,6 @@ use uimg_fit_reading::images::first_image;
 use uimg_fit_reading::nodes::next_of;
 use uimg_fit_reading::read_tree;
 
-// Counts the images from one on.
 pub(crate) fn count_from<A: Allocator>(blob: &Blob, room: &Room<A>, first: Option<usize>) -> usize
     requires { IsEntryOrNone blob.now room.now first }
     ensures { InTreeFrom blob.now room.now in_images first (λ found. result ≡ length found) }
@@ -34,7 +33,6 @@ pub(crate) fn count_from<A: Allocator>(blob: &Blob, room: &Room<A>, first: Optio
     count
 }
 
-// Counts the images of a source.
 fn count_in<S: Source, A: Allocator>(source: &mut S, room: &mut Room<A>) -> Result<usize, Fault>
     ensures reads { ReadsAny result S.device source room }
     ensures told { IfHonest S.device source (λ file. Gives (λ count. count) result (count_of file)) }
@@ -46,8 +44,10 @@ fn count_in<S: Source, A: Allocator>(source: &mut S, room: &mut Room<A>) -> Resu
 
 /// Counts the images of a FIT image in memory.
 ///
-/// Returns the faults of the blob, then `NoImages`; `OutOfMemory` exactly if the room refused to
-/// grow, and never `Read`.
+/// - The faults of the blob, then `NoImages`.
+/// - `OutOfMemory`: if and only if the room refused to grow.
+///
+/// `Read` is never returned.
 pub fn count_images<A: Allocator>(file: &[u8], room: &mut Room<A>) -> Result<usize, Fault>
     ensures memory { ReadsInMemory file.now result room }
     ensures told { Gives (λ count. count) result (count_of file.now) }

@@ -22,7 +22,6 @@ use uimg_fit_reading::images::{first_image, image_at};
 use uimg_fit_reading::nodes::{name_of, next_of};
 use uimg_fit_reading::{payload_place, read_tree};
 
-// Returns the bytes of a file at a span.
 #[tactic(auto, unfolding(uimg_texts::specs::Slices::slice))]
 fn bytes_at(file: &[u8], span: Span) -> &[u8]
     requires { span.place + span.length ≤ length file.now }
@@ -33,7 +32,6 @@ fn bytes_at(file: &[u8], span: Span) -> &[u8]
     &file[start..end]
 }
 
-// Returns whether the image of a number has this name.
 fn is_named<A: Allocator>(
     file: &[u8],
     blob: &Blob,
@@ -50,7 +48,6 @@ fn is_named<A: Allocator>(
     name == its_name
 }
 
-// Returns the number of the first image of a name.
 fn image_named<A: Allocator>(
     file: &[u8],
     blob: &Blob,
@@ -73,7 +70,6 @@ fn image_named<A: Allocator>(
     Err(FitFault::NoSuchImage)
 }
 
-// Finds the payload of the first image of a name, in a source with the bytes of a file.
 fn locate_in<S: Source, A: Allocator>(
     name: &[u8],
     file: &[u8],
@@ -96,8 +92,12 @@ fn locate_in<S: Source, A: Allocator>(
 /// Finds the payload of the first image of a name in the bytes of a FIT image, and returns its
 /// span, which ends inside them.
 ///
-/// Returns the faults of the blob, then `NoImages`, `NoSuchImage`, `NoData` and `DataOutside` of
-/// that image, in this order; `OutOfMemory` exactly if the room refused to grow, and never `Read`.
+/// Returns the first of these faults, in this order:
+/// - The faults of the blob.
+/// - `NoImages`, `NoSuchImage`.
+/// - `NoData`, `DataOutside`: of that image.
+///
+/// Returns `OutOfMemory` if and only if the room refused to grow. `Read` is never returned.
 pub fn locate_named<A: Allocator>(
     name: &[u8],
     file: &[u8],
@@ -112,7 +112,6 @@ pub fn locate_named<A: Allocator>(
     locate_in(name, file, &mut source, room)
 }
 
-// Finds the name of the image at a position.
 fn name_in<S: Source, A: Allocator>(
     position: u32,
     source: &mut S,
@@ -131,8 +130,10 @@ fn name_in<S: Source, A: Allocator>(
 /// Finds the name of the image at a position, counted from 0, in the bytes of a FIT image, and
 /// returns its span, which ends inside them.
 ///
-/// Returns the faults of the blob, then `NoImages` and `NoSuchImage`; `OutOfMemory` exactly if the
-/// room refused to grow, and never `Read`.
+/// - The faults of the blob, then `NoImages` and `NoSuchImage`.
+/// - `OutOfMemory`: if and only if the room refused to grow.
+///
+/// `Read` is never returned.
 pub fn locate_name<A: Allocator>(
     position: u32,
     file: &[u8],

@@ -36,7 +36,6 @@ use uimg_fit_reading::nodes::{child_of, configurations_of, root_value, value_of}
 use uimg_fit_reading::read_tree;
 pub use values::read_bytes;
 
-// Collects `default` and the facts of the configurations, if there are any.
 fn configurations<A: Allocator>(
     alloc: Global,
     blob: &Blob,
@@ -57,7 +56,6 @@ fn configurations<A: Allocator>(
     Ok((preferred, all))
 }
 
-// Collects the facts of a FIT image with these images.
 fn gather<A: Allocator>(
     alloc: Global,
     blob: &Blob,
@@ -86,11 +84,12 @@ fn gather<A: Allocator>(
 /// Collects the facts of a FIT image without its payloads: of its root, its images with their hash
 /// nodes, and its configurations with the names of their child nodes. A fact is the span of a
 /// value; it ends inside the blob, and the blob inside the source, whatever that returns. Reads no
-/// value: of an honest source no more is requested than to index it.
+/// value: of an honest source no more is requested than to index it. The room holds the nodes
+/// meanwhile, and refuses memory as for a listing.
 ///
-/// Returns the faults of the blob, then `NoImages`. The room holds the nodes meanwhile, and refuses
-/// memory as for a listing. Returns `OutOfMemory` if memory for the facts was refused: some 300
-/// bytes for an image or a configuration, 80 for a hash node, 16 for a configuration's child node.
+/// - The faults of the blob, then `NoImages`.
+/// - `OutOfMemory`: memory for the facts was refused, some 300 bytes for an image or a
+///   configuration, 80 for a hash node, 16 for a configuration's child node.
 pub fn survey<S: Source, A: Allocator>(
     alloc: Global,
     source: &mut S,
@@ -107,16 +106,17 @@ pub fn survey<S: Source, A: Allocator>(
     Ok(gather(alloc, &blob, room, first)?)
 }
 
-/// Does the same as `survey`, and also lists the properties of each configuration, in their order,
-/// with or without a known key.
+/// Collects the facts as `survey` does, and also lists the properties of each configuration, in
+/// their order, with or without a known key.
 ///
 /// Reads the properties from the structure block again, after what `survey` requests: of an honest
 /// source at most 44 bytes for each configuration, 268 for each of its properties and 4 for each
 /// NOP of the blob. Reads no value.
 ///
-/// Returns the faults of `survey`; `Stopped` with `Read` exactly if a read failed, `OutOfMemory`
-/// also if memory for the properties was refused, 32 bytes for each, and `Changed` only if the blob
-/// is not the one that was indexed.
+/// - The faults of `survey`.
+/// - `Stopped` with `Read`: if and only if a read failed.
+/// - `OutOfMemory`, also: memory for the properties was refused, 32 bytes for each.
+/// - `Changed`: only if the blob is not the one that was indexed.
 pub fn survey_with_properties<S: Source, A: Allocator>(
     alloc: Global,
     source: &mut S,

@@ -46,16 +46,21 @@ pub enum Unpacked {
 /// image's hash nodes. It is kept if each hash node is right and, if a strength is needed, one of
 /// them is compared by that algorithm or a stronger one, in the order of `Algo`. Otherwise it is
 /// refused, and the next one follows. Each byte of a payload is requested once. So what an honest
-/// taker keeps has the digest that is given with it, even if the source changes between reads. Over
-/// an honest source at most the file's length is requested beside metadata, and an honest taker is
-/// given exactly what the definition says of each payload. Over an honest source the result is that
-/// of the definition, for any taker, unless memory is refused or a device fails. Over any source,
-/// `Taken(true)` means that an honest taker was given no refused payload in this call.
+/// taker keeps has the digest that is given with it, even if the source changes between reads.
 ///
-/// Returns the faults of the blob, then `NoImages`, then `NoData` and `DataOutside` of the images
-/// in their order, all before anything is given; nothing is given either if payloads overlap.
-/// Returns `OutOfMemory` exactly if the room refused to grow, `Read` exactly if a read failed, and
-/// `Put` if the taker or one of its shelves failed. What was given before a fault stays given.
+/// Over an honest source at most the file's length is requested beside metadata, and an honest
+/// taker is given exactly what the definition says of each payload. Over an honest source the
+/// result is that of the definition, for any taker, unless memory is refused or a device fails.
+/// Over any source, `Taken(true)` means that an honest taker was given no refused payload in this
+/// call.
+///
+/// - The faults of the blob, then `NoImages`, then `NoData` and `DataOutside` of the images in
+///   their order: all before anything is given. Nothing is given either if payloads overlap.
+/// - `OutOfMemory`: if and only if the room refused to grow.
+/// - `Read`: if and only if a read failed.
+/// - `Put`: the taker or one of its shelves failed.
+///
+/// What was given before a fault stays given.
 pub fn unpack<S: Source, A: Allocator, T: Taker>(
     only: Option<NodeName>,
     need: Option<Algo>,

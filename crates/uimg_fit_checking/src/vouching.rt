@@ -7,7 +7,6 @@ ghost use Rattle.uimg_fit_checking.specs.Vouching.{has_from};
 use uimg_base::{ALGOS, Algo};
 use uimg_fit_base::AlgoSet;
 
-// Returns whether a set has an algorithm at least as strong as the needed one.
 fn has_from(set: AlgoSet, need: Algo) -> bool
     ensures { result ≡ has_from set need }
 {

@@ -27,7 +27,7 @@ pub(crate) struct WrongHash {
 }
 
 impl WrongHash {
-    // Returns the finding about an image with such a hash node; `image` is the span of its name.
+    // `image` is the span of the image's name.
     pub(crate) fn finding(self, image: Span) -> Finding<Span>
         ensures { result ≡ Finding.Wrong image self.hash self.word }
     {
@@ -39,7 +39,6 @@ impl WrongHash {
     }
 }
 
-// Returns the first hash node from one on that is not right, by the digests of their payload.
 pub(crate) fn first_wrong<S: Source, A: Allocator>(
     source: &mut S,
     blob: &Blob,

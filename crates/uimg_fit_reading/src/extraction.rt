@@ -17,9 +17,11 @@ use uimg_base::{Out, Room, Source, Span, Status, copy_range};
 use uimg_fit_base::Fault;
 
 /// Finds the payload that `extract` writes: that of the image at a position, counted from 0.
-/// Returns its span, which ends inside the file whatever the source returns, or a fault of
-/// `extract`, in the same order. Reads no byte of the payload, and requests no more than a listing.
-/// Returns `OutOfMemory` exactly if the room refused to grow.
+/// Returns its span, which ends inside the file whatever the source returns. Reads no byte of the
+/// payload, and requests no more than a listing.
+///
+/// - The faults of `extract`, in the same order.
+/// - `OutOfMemory`: if and only if the room refused to grow.
 pub fn locate<S: Source, A: Allocator>(
     position: u32,
     source: &mut S,
@@ -39,11 +41,15 @@ pub fn locate<S: Source, A: Allocator>(
 
 /// Writes the payload of the image at a position, counted from 0.
 ///
-/// Refusals come before the first byte, in this order: those of the blob, `NoImages`,
-/// `NoSuchImage`, then `NoData` and `DataOutside` of that image. Returns `OutOfMemory` exactly if
-/// the room refused to grow. Over an honest source a prefix of the payload was written after `Read`
-/// or `Put`, and at every exit at most as many bytes were requested as for a listing, those that
-/// were written and 8192.
+/// Over an honest source a prefix of the payload was written after `Read` or `Put`. At every exit
+/// at most as many bytes were requested as for a listing, those that were written and 8192.
+///
+/// Refusals come before the first byte, in this order:
+/// - The faults of the blob.
+/// - `NoImages`, `NoSuchImage`.
+/// - `NoData`, `DataOutside`: of that image.
+///
+/// Returns `OutOfMemory` if and only if the room refused to grow.
 pub fn extract<S: Source, A: Allocator, W: Write>(
     position: u32,
     source: &mut S,

@@ -23,7 +23,8 @@ pub fn first_image<A: Allocator>(blob: &Blob, room: &Room<A>) -> Result<Option<u
     }
 }
 
-/// Returns the number of the image at a position, counted from 0; `NoImages`, then `NoSuchImage`.
+/// Returns the number of the image at a position, counted from 0. Returns `NoImages` or else
+/// `NoSuchImage` if there is none.
 pub fn image_at<A: Allocator>(blob: &Blob, room: &Room<A>, position: u32) -> Result<usize, FitFault>
     requires { Indexed blob.now room.now.entries }
     ensures within { IfOk result (λ i. i < length room.now.entries) }

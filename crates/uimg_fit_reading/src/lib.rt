@@ -1,6 +1,8 @@
 //! Reads FIT images: listing, verification and extraction. What checks and surveys of images need
-//! is public too. The contract of a function that takes the number of a node says which node of the
-//! tree that is, and what its values are (`specs/Nodes.antt`).
+//! is public too.
+//!
+//! The contract of a function that takes the number of a node says which node of the tree that is,
+//! and what its values are (`specs/Nodes.antt`).
 #![tactic(auto)]
 
 mod extraction;

@@ -38,7 +38,6 @@ use uimg_blob_reading::Key;
 use uimg_fit_base::Fault;
 use uimg_names::Naming;
 
-// Writes the lines of the configurations, if there are any.
 fn put_configurations<S: Source, A: Allocator, W: Write>(
     fit: &mut OpenFit<'_, S, A>,
     naming: Naming,
@@ -59,7 +58,6 @@ fn put_configurations<S: Source, A: Allocator, W: Write>(
     put_listed_nodes(fit, Listed::Configuration(naming), first, out)
 }
 
-// Writes the lines of the images, from the first one on, and of the configurations.
 fn put_body<S: Source, A: Allocator, W: Write>(
     fit: &mut OpenFit<'_, S, A>,
     naming: Naming,
@@ -101,12 +99,14 @@ fn list_body<S: Source, A: Allocator, W: Write>(
 /// Writes the listing of the image, with the names of the profile.
 ///
 /// Two head lines come first, then the lines of each image with those of its hash nodes, the
-/// default configuration, and the lines of each configuration. Faults of the blob come before the
-/// first line, `NoImages` after the head lines. Returns `OutOfMemory` exactly if the room refused
-/// to grow. No hash is checked and no payload is read; a payload without a span has the size
-/// `unavailable`. Over an honest source a prefix of the listing was written after `Read` or `Put`,
-/// and at most 60 bytes, 1024 for each node and property, and 4 for each NOP and each byte of a
-/// text were requested.
+/// default configuration, and the lines of each configuration. No hash is checked and no payload is
+/// read; a payload without a span has the size `unavailable`. Over an honest source at most 60
+/// bytes, 1024 for each node and property, and 4 for each NOP and each byte of a text were
+/// requested, and a prefix of the listing was written after `Read` or `Put`.
+///
+/// - The faults of the blob: before the first line.
+/// - `NoImages`: after the head lines.
+/// - `OutOfMemory`: if and only if the room refused to grow.
 pub fn list<S: Source, A: Allocator, W: Write>(
     source: &mut S,
     room: &mut Room<A>,

@@ -86,13 +86,10 @@ pub fn next_of<A: Allocator>(blob: &Blob, room: &Room<A>, node: usize) -> Option
 /// What a child of an image or a configuration is.
 #[derive(Clone, Copy, Debug, PartialEq, Eq)]
 pub(crate) enum Sum {
-    /// A hash node.
     Hash,
-    /// A signature node.
     Signature,
 }
 
-/// Returns what a child of an image or a configuration is, if it is one of these.
 pub(crate) fn sum_of<A: Allocator>(blob: &Blob, room: &Room<A>, node: usize) -> Option<Sum>
     requires { node < length room.now.entries }
     ensures { (t : Siblings) → IsIndexed t blob.now room.now.entries → (found : NodeOf Spot) →
@@ -107,7 +104,6 @@ pub(crate) fn sum_of<A: Allocator>(blob: &Blob, room: &Room<A>, node: usize) -> 
     }
 }
 
-// Returns the number of the first hash node from a child of an image on, if there is one.
 fn hash_from<A: Allocator>(blob: &Blob, room: &Room<A>, first: Option<usize>) -> Option<usize>
     requires { IsEntryOrNone blob.now room.now first }
     ensures within { IfSome result (λ i. i < length room.now.entries) }

@@ -95,10 +95,10 @@ pub(crate) fn decide(
     payload.ok_or(FitFault::NoData)
 }
 
-/// Finds the payload of an image in a file whose blob has this total size: at its `data-position`
-/// from the file's start, else at its `data-offset` from the blob's end, rounded up to a multiple
-/// of 4, each with its `data-size`, else at the span of its `data`. A cell without four bytes
-/// counts as missing.
+/// Finds the payload of an image in a file whose blob has this total size. These are tried in
+/// order: its `data-position` from the file's start; its `data-offset` from the blob's end, rounded
+/// up to a multiple of 4; the span of its `data`. The first two need a `data-size`. A cell without
+/// four bytes counts as missing.
 ///
 /// Returns `NoData` if nothing of this is present. The returned span may be outside the file.
 /// Requests at most 12 bytes.
@@ -126,7 +126,6 @@ pub fn find_payload<S: Source>(
     ))
 }
 
-// Finds the payload of an image, or that it has none.
 pub(crate) fn find_place<S: Source, A: Allocator>(
     source: &mut S,
     blob: &Blob,
@@ -145,8 +144,10 @@ pub(crate) fn find_place<S: Source, A: Allocator>(
     find_payload(source, blob.totalsize(), &facts)
 }
 
-/// Finds the payload of an image. Returns `NoData` if it has none, `DataOutside` if it ends after
-/// the source.
+/// Finds the payload of an image.
+///
+/// - `NoData`: the image has none.
+/// - `DataOutside`: the payload ends after the source.
 pub fn payload_place<S: Source, A: Allocator>(
     source: &mut S,
     blob: &Blob,

@@ -9,7 +9,6 @@ use std::alloc::Allocator;
 use std::io::Write;
 use uimg_base::{MoveFault, Out, Room, Source, Span, copy_range};
 
-// Writes a text.
 pub(crate) fn put<W: Write>(out: &mut Out<W>, text: &[u8]) -> Result<(), MoveFault>
     ensures { PutsOwn result out.old out.new text.now }
 {
@@ -19,7 +18,6 @@ pub(crate) fn put<W: Write>(out: &mut Out<W>, text: &[u8]) -> Result<(), MoveFau
     }
 }
 
-// Writes two texts.
 pub(crate) fn put_pair<W: Write>(
     out: &mut Out<W>,
     first: &[u8],
@@ -33,7 +31,6 @@ pub(crate) fn put_pair<W: Write>(
     }
 }
 
-// Writes a line of two texts.
 pub(crate) fn put_line<W: Write>(
     out: &mut Out<W>,
     label: &[u8],
@@ -47,7 +44,6 @@ pub(crate) fn put_line<W: Write>(
     }
 }
 
-// Reads the bytes at an offset.
 pub(crate) fn read<S: Source>(source: &mut S, at: u64, to: &mut [u8]) -> Result<(), MoveFault>
     requires { at + length to.old ≤ length (S.device source.old).bytes }
     ensures uses { Asks (length to.old) (is_err result) (S.device source.old) (S.device source.new) }
@@ -61,7 +57,6 @@ pub(crate) fn read<S: Source>(source: &mut S, at: u64, to: &mut [u8]) -> Result<
     }
 }
 
-// Writes the bytes at a span.
 pub(crate) fn put_span<S: Source, A: Allocator, W: Write>(
     source: &mut S,
     room: &mut Room<A>,

@@ -26,11 +26,13 @@ use uimg_fit_base::Fault;
 /// `<image> - none unhashed` for an image without hash nodes. Returns `Done` if each line ends with
 /// `ok` or `unhashed`, else `NotRight`.
 ///
-/// Faults of the blob and `NoImages` come without a line, `NoData` and `DataOutside` of an image
-/// before its lines. Returns `OutOfMemory` exactly if the room refused to grow. Each payload is
-/// requested at most once, however many hash nodes it has, and not at all if none of them is
-/// compared. Over an honest source a prefix of the report was written after `Read` or `Put`, and
-/// beside these payloads no more was requested than for a listing.
+/// Each payload is requested at most once, however many hash nodes it has, and not at all if none
+/// of them is compared. Over an honest source a prefix of the report was written after `Read` or
+/// `Put`, and beside these payloads no more was requested than for a listing.
+///
+/// - The faults of the blob and `NoImages`: without a line.
+/// - `NoData`, `DataOutside`: of an image, before its lines.
+/// - `OutOfMemory`: if and only if the room refused to grow.
 pub fn verify<S: Source, A: Allocator, W: Write>(
     source: &mut S,
     room: &mut Room<A>,

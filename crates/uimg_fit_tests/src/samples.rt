@@ -102,7 +102,6 @@ pub fn begin_images<A: Allocator>(alloc: A) -> Result<Sample<A>, AllocError> {
     Ok(sample)
 }
 
-// Adds two numbers whose names have these offsets.
 fn numbers<A: Allocator>(
     sample: &mut Sample<A>,
     names: [u32; 2],
@@ -217,7 +216,6 @@ fn demo_properties<A: Allocator>(
     sample.prop(after(ENTRY, shift), demo.entry)
 }
 
-// Adds the hash nodes of the kernel.
 fn demo_hashes<A: Allocator>(
     sample: &mut Sample<A>,
     sha512: bool,
@@ -240,7 +238,6 @@ fn demo_hashes<A: Allocator>(
     Ok(())
 }
 
-// Adds the configurations.
 fn demo_configurations<A: Allocator>(sample: &mut Sample<A>, shift: u8) -> Result<(), AllocError> {
     sample.begin(b"configurations")?;
     sample.prop(after(DEFAULT, shift), b"conf\0")?;

@@ -19,7 +19,7 @@ use uimg_blob_writing::{Node, Nodes, Prop, Props, Tree, Value, copy_bytes};
 use uimg_fit_base::{Fault, FitFault};
 use uimg_fit_building::{first_value, is_images};
 
-// Returns the number in a value of 4 bytes.
+// Returns `None` unless the value has 4 bytes.
 fn number(bytes: &[u8]) -> Option<u32>
     ensures { result ≡ files.number bytes.now }
 {
@@ -30,7 +30,6 @@ fn number(bytes: &[u8]) -> Option<u32>
     }
 }
 
-// Returns the number in the first property of a name.
 fn cell(props: &Props<Global>, key: &[u8]) -> Option<u32>
     ensures { result ≡ cell_in props.now key.now }
 {
@@ -132,7 +131,6 @@ fn import_image<S: Source, A: Allocator>(
     Ok(left - span.length)
 }
 
-// Takes the payloads of images into their nodes.
 fn import_images<S: Source, A: Allocator>(
     alloc: Global,
     source: &mut S,
@@ -152,7 +150,6 @@ fn import_images<S: Source, A: Allocator>(
     Ok(())
 }
 
-// Takes the payloads of the children of a node into their nodes.
 fn import_parent<S: Source, A: Allocator>(
     alloc: Global,
     source: &mut S,
@@ -182,7 +179,6 @@ fn before_images(nodes: &[Node<Global>]) -> usize
     nodes.iter().take_while(|node| !is_images(node)).count()
 }
 
-// Takes the payloads of the images below a root with these children into their nodes.
 fn import_below<S: Source, A: Allocator>(
     alloc: Global,
     source: &mut S,
@@ -203,13 +199,14 @@ fn import_below<S: Source, A: Allocator>(
     import_parent(alloc, source, room, totalsize, &mut nodes[at])
 }
 
-/// Takes the payloads that are after a blob of a size into the tree: an image with `data-offset` and
-/// `data-size` gets the bytes there as its `data`, in place of the first that it has, or of its
+/// Takes the payloads that are after a blob of a size into the tree. An image with `data-offset`
+/// and `data-size` gets the bytes there as its `data`, in place of its first `data`, or of its
 /// `data-offset`. The offset counts from the blob's end, rounded up to a multiple of 4 (Flattened
 /// Image Tree format, "External data").
 ///
-/// Returns `NoImages` if the root has no child `images`, `DataOutside` if a payload ends after the
-/// file, and `TooLarge` if all payloads together have more bytes than the file.
+/// - `NoImages`: the root has no child `images`.
+/// - `DataOutside`: a payload ends after the file.
+/// - `TooLarge`: all payloads together have more bytes than the file.
 pub(crate) fn import<S: Source, A: Allocator>(
     alloc: Global,
     source: &mut S,

@@ -26,7 +26,7 @@ pub(crate) use values::read_span;
 /// The most levels of nodes that are read; the root is at the first.
 const MOST_LEVELS: u8 = 64;
 
-// Returns the tree of a list of one node.
+// The list must have one node.
 fn tree_of(nodes: Nodes<Global>) -> Result<Tree<Global>, UpdateFault>
     ensures { IfOk result (λ tree. node_of tree.root ≡ nodes) }
 {
@@ -37,7 +37,6 @@ fn tree_of(nodes: Nodes<Global>) -> Result<Tree<Global>, UpdateFault>
     }
 }
 
-// Reads the tree of an indexed blob.
 fn read_indexed<S: Source, A: Allocator>(
     alloc: Global,
     source: &mut S,
@@ -58,12 +57,12 @@ fn read_indexed<S: Source, A: Allocator>(
 }
 
 /// Reads the blob that a FIT image begins with to a tree in memory: all nodes and properties in
-/// order (Devicetree Specification, chapter 5). Returns the entries of its reservation block and its
-/// size, too. What is after the blob is not read.
+/// order (Devicetree Specification, chapter 5). Returns the entries of its reservation block and
+/// its size, too. What is after the blob is not read. Memory is taken for all names and values.
 ///
-/// Returns the faults of the blob as `index` does, `Endless` if its reservation block has no end
-/// within it and 65536 bytes, and `TooDeep` if it has more than 64 levels. Memory is taken for all
-/// names and values.
+/// - The faults of the blob, as `index` returns them.
+/// - `Endless`: its reservation block has no end within it and 65536 bytes.
+/// - `TooDeep`: it has more than 64 levels.
 pub fn read_fit<S: Source, A: Allocator>(
     alloc: Global,
     source: &mut S,

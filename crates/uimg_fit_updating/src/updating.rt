@@ -22,7 +22,6 @@ use uimg_names::Naming;
 // The bytes by which mkimage makes a blob longer until all fits.
 const ROOM: u64 = 1024;
 
-// Fills a tree without files.
 fn fill_in_memory(alloc: Global, tree: Tree<Global>, time: u32) -> Result<Tree<Global>, FitFault>
     requires { AllValues IsBytes (node_of tree.root) }
     ensures { IfOk result (λ filled.
@@ -32,7 +31,7 @@ fn fill_in_memory(alloc: Global, tree: Tree<Global>, time: u32) -> Result<Tree<G
     fill_by(alloc, tree, time, Naming::All, &mut files)
 }
 
-// Fills a tree without files, and leaves the root's properties as they are.
+// Leaves the root's properties unchanged.
 fn fill_images(alloc: Global, tree: Tree<Global>) -> Result<Tree<Global>, UpdateFault>
     requires { AllValues IsBytes (node_of tree.root) }
     ensures { IfOk result (λ filled.
@@ -55,7 +54,7 @@ fn fill_images(alloc: Global, tree: Tree<Global>) -> Result<Tree<Global>, Update
     })
 }
 
-// Fills a tree without files. Without a time the root's properties are as they were.
+// Without a time the root's properties are unchanged.
 fn fill_again(
     alloc: Global,
     tree: Tree<Global>,
@@ -86,7 +85,6 @@ pub struct Updated {
     pub roomy_size: u32,
 }
 
-// Returns the size in bytes of the blob of a tree with reservations.
 fn packed_size(
     alloc: Global,
     tree: &Tree<Global>,
@@ -103,7 +101,7 @@ fn packed_size(
     }
 }
 
-// Returns the size of a packed blob that needs to have another, with the room that mkimage gives it.
+// Rounds the growth up to a multiple of `ROOM`, as mkimage does.
 fn with_room(packed: u32, needed: u32) -> Result<u32, UpdateFault>
     ensures { IfOk result (λ size. size ≡ with_room packed needed) }
 {
@@ -118,15 +116,17 @@ fn with_room(packed: u32, needed: u32) -> Result<u32, UpdateFault>
 }
 
 /// Reads a FIT image to a tree, takes the payloads that are after its blob into it, and fills it by
-/// the algorithms of `Naming::All`: the `value` of each hash node is set, and the root's `timestamp`
-/// if there is a time, in seconds since 1970. An existing property is replaced in its place, a new
-/// one is appended; all other nodes and properties and the reservations stay, but for `data-offset`,
-/// `data-size` and `data-position` of images.
+/// the algorithms of `Naming::All`. The `value` of each hash node is set, and the root's
+/// `timestamp` if there is a time, in seconds since 1970. An existing property is replaced in its
+/// place, a new one is appended. All other nodes and properties and the reservations stay, but for
+/// `data-offset`, `data-size` and `data-position` of images.
 ///
-/// Returns the faults of `read_fit`, of payloads outside the file (`DataOutside`) or of more bytes
-/// than it (`TooLarge`), of a blob that would have more than 4294967295 bytes (`TooLarge`) or a name
-/// of more than 255 bytes (`BadNodeName` or `BadPropertyName`, at offset 0), and of
-/// `uimg_fit_building::fill_by`.
+/// - The faults of `read_fit` and of `uimg_fit_building::fill_by`.
+/// - `DataOutside`: a payload is outside the file.
+/// - `TooLarge`: the payloads have more bytes than the file, or the blob would have more than
+///   4294967295 bytes.
+/// - `BadNodeName`, `BadPropertyName`, at offset 0: the blob would have a name of more than 255
+///   bytes.
 pub fn update<S: Source, A: Allocator>(
     alloc: Global,
     source: &mut S,

@@ -20,7 +20,6 @@ use uimg_blob_reading::PropertyPlace;
 use uimg_fit_checking::{ConfigurationFacts, SurveyFault};
 use uimg_printing::put_number;
 
-// Writes the name of a node.
 fn put_node<S: Source>(
     alloc: Global,
     source: &mut S,
@@ -34,7 +33,6 @@ fn put_node<S: Source>(
     put_object(alloc, source, writer, &[("name", Text, Some(name))])
 }
 
-// Writes the array of a configuration's child nodes.
 fn put_nodes<S: Source>(
     alloc: Global,
     source: &mut S,
@@ -53,7 +51,6 @@ fn put_nodes<S: Source>(
     Ok(())
 }
 
-// Writes a property: its name, and the length of its value.
 fn put_property<S: Source>(
     alloc: Global,
     source: &mut S,
@@ -71,7 +68,6 @@ fn put_property<S: Source>(
     Ok(())
 }
 
-// Writes the array of the properties of a configuration.
 fn put_properties<S: Source>(
     alloc: Global,
     source: &mut S,
@@ -91,7 +87,6 @@ fn put_properties<S: Source>(
     Ok(())
 }
 
-// Writes the facts of a configuration, without its child nodes and properties.
 fn put_configuration_rows<S: Source>(
     alloc: Global,
     source: &mut S,
@@ -119,7 +114,6 @@ fn put_configuration_rows<S: Source>(
     put_rows(alloc, source, writer, &rows)
 }
 
-// Writes a configuration and its properties.
 #[tactic(auto, unfolding(crate::specs::Work::configuration_size))]
 fn put_configuration<S: Source>(
     alloc: Global,
@@ -144,7 +138,6 @@ fn put_configuration<S: Source>(
     Ok(())
 }
 
-/// Writes the array of the configurations, each with its properties.
 pub(crate) fn put_configurations<S: Source>(
     alloc: Global,
     source: &mut S,

@@ -20,7 +20,6 @@ const MOST: u64 = 65536;
 /// A fact: the name of its member, the form of its value, and the value's span, if it is present.
 pub(crate) type Row<'a> = (&'a str, Form, Option<Span>);
 
-// Writes a value that is present.
 #[tactic(auto, unfolding(crate::specs::Members::value_members))]
 fn put_span<S: Source>(
     alloc: Global,
@@ -43,7 +42,6 @@ fn put_span<S: Source>(
     Ok(())
 }
 
-// Writes a fact.
 #[tactic(auto, unfolding(crate::specs::Members::fact_members))]
 fn put_row<S: Source>(
     alloc: Global,
@@ -62,7 +60,6 @@ fn put_row<S: Source>(
     }
 }
 
-/// Writes the members of facts, of each that is present.
 pub(crate) fn put_rows<S: Source>(
     alloc: Global,
     source: &mut S,
@@ -79,7 +76,6 @@ pub(crate) fn put_rows<S: Source>(
     Ok(())
 }
 
-/// Writes the object of these facts.
 pub(crate) fn put_object<S: Source>(
     alloc: Global,
     source: &mut S,

@@ -24,7 +24,6 @@ use uimg_fit_base::FitFault;
 use uimg_fit_checking::{FullSurvey, HashFacts, ImageFacts, Survey, SurveyFault};
 use uimg_printing::{put_number, put_string};
 
-// Writes a hash node.
 fn put_hash<S: Source>(
     alloc: Global,
     source: &mut S,
@@ -43,7 +42,6 @@ fn put_hash<S: Source>(
     put_object(alloc, source, writer, &rows)
 }
 
-// Writes the array of the hash nodes.
 fn put_hashes<S: Source>(
     alloc: Global,
     source: &mut S,
@@ -62,7 +60,6 @@ fn put_hashes<S: Source>(
     Ok(())
 }
 
-// Writes where a payload is, if it was found.
 fn put_place(writer: &mut Writer, found: Result<Span, FitFault>) -> Result<(), AllocError>
     ensures { AddsTokens result writer (tokens_of (place_members found)) }
 {
@@ -74,7 +71,6 @@ fn put_place(writer: &mut Writer, found: Result<Span, FitFault>) -> Result<(), A
     Ok(())
 }
 
-// Writes the facts of an image, without its payload and its hash nodes.
 fn put_image_rows<S: Source>(
     alloc: Global,
     source: &mut S,
@@ -98,7 +94,6 @@ fn put_image_rows<S: Source>(
     put_rows(alloc, source, writer, &rows)
 }
 
-// Writes an image of a blob of this total size.
 #[tactic(auto, unfolding(crate::specs::Work::image_size))]
 fn put_image<S: Source>(
     alloc: Global,
@@ -122,7 +117,6 @@ fn put_image<S: Source>(
     Ok(())
 }
 
-// Writes the array of the images.
 fn put_images<S: Source>(
     alloc: Global,
     source: &mut S,
@@ -144,7 +138,6 @@ fn put_images<S: Source>(
     Ok(())
 }
 
-// Writes the first members of each image.
 fn put_head(writer: &mut Writer, path: &str, size: u64, totalsize: u32) -> Result<(), AllocError>
     ensures { AddsTokens result writer (tokens_of (head_members path.now size totalsize)) }
 {
@@ -156,7 +149,6 @@ fn put_head(writer: &mut Writer, path: &str, size: u64, totalsize: u32) -> Resul
     Ok(())
 }
 
-// Writes the facts of the root, the default configuration, and the reserved memory.
 fn put_root<S: Source>(
     alloc: Global,
     source: &mut S,
@@ -178,7 +170,6 @@ fn put_root<S: Source>(
     Ok(())
 }
 
-/// Writes the object of a file of `size` bytes with these facts.
 pub(crate) fn put_fit<S: Source>(
     alloc: Global,
     source: &mut S,

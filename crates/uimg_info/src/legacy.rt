@@ -16,7 +16,6 @@ use uimg_legacy::{Header, header_bytes};
 use uimg_names::{Field, Naming};
 use uimg_printing::{put_number, put_string, put_text};
 
-// Writes the name of a code in a listing, and the code.
 fn put_code(
     writer: &mut Writer,
     field: Field,
@@ -31,7 +30,6 @@ fn put_code(
     Ok(())
 }
 
-// Writes the checksum of a header.
 fn put_crc(writer: &mut Writer, header: &Header) -> Result<(), AllocError>
     ensures { AddsTokens result writer
         (tokens_of (number_member (codes "header-crc") (be32 (spelled header.now) 4))) }
@@ -40,7 +38,6 @@ fn put_crc(writer: &mut Writer, header: &Header) -> Result<(), AllocError>
     put_number(writer, "header-crc", crc as u64)
 }
 
-// Writes the numbers of a header.
 fn put_numbers(writer: &mut Writer, header: &Header) -> Result<(), AllocError>
     ensures { AddsTokens result writer (tokens_of (numbers_members header.now)) }
 {
@@ -52,7 +49,6 @@ fn put_numbers(writer: &mut Writer, header: &Header) -> Result<(), AllocError>
     Ok(())
 }
 
-// Writes the codes of a header.
 fn put_codes(writer: &mut Writer, header: &Header) -> Result<(), AllocError>
     ensures { AddsTokens result writer (tokens_of (codes_members header.now)) }
 {
@@ -75,7 +71,6 @@ fn put_codes(writer: &mut Writer, header: &Header) -> Result<(), AllocError>
     Ok(())
 }
 
-// Writes the members of a header after its name.
 fn put_header(writer: &mut Writer, header: &Header) -> Result<(), AllocError>
     ensures { AddsTokens result writer (tokens_of (header_members header.now)) }
 {
@@ -85,7 +80,6 @@ fn put_header(writer: &mut Writer, header: &Header) -> Result<(), AllocError>
     Ok(())
 }
 
-// Writes where a part is.
 fn put_part(writer: &mut Writer, part: Span) -> Result<(), AllocError>
     ensures { AddsTokens result writer (json_tokens (part_json part)) }
 {
@@ -96,7 +90,6 @@ fn put_part(writer: &mut Writer, part: Span) -> Result<(), AllocError>
     Ok(())
 }
 
-// Writes the array of the parts.
 fn put_parts(writer: &mut Writer, parts: &[Span]) -> Result<(), AllocError>
     ensures { AddsTokens result writer (json_tokens (array_of (map part_json parts.now))) }
 {
@@ -108,7 +101,6 @@ fn put_parts(writer: &mut Writer, parts: &[Span]) -> Result<(), AllocError>
     Ok(())
 }
 
-// Writes the first members of each image.
 fn put_head(writer: &mut Writer, path: &str, size: u64) -> Result<(), AllocError>
     ensures { AddsTokens result writer (tokens_of (legacy_head path.now size)) }
 {
@@ -119,7 +111,6 @@ fn put_head(writer: &mut Writer, path: &str, size: u64) -> Result<(), AllocError
     Ok(())
 }
 
-// Writes the object of a legacy image.
 fn put_legacy(
     alloc: Global,
     writer: &mut Writer,

@@ -28,7 +28,6 @@ fn cut(bytes: &[u8]) -> (&[u8], &[u8])
     }
 }
 
-// Returns whether bytes are UTF-8.
 fn is_utf8(bytes: &[u8]) -> bool
     ensures { result ≡ is_utf8 bytes.now }
 {
@@ -38,7 +37,6 @@ fn is_utf8(bytes: &[u8]) -> bool
     }
 }
 
-// Returns whether each of several texts is UTF-8.
 fn are_utf8(bytes: &[u8]) -> bool
     ensures { result ≡ list_all is_utf8 (pieces bytes.now) }
 {
@@ -71,7 +69,6 @@ fn put_piece(
     Ok(())
 }
 
-// Writes the array of several texts, or of their bytes.
 fn put_pieces(
     alloc: Global,
     writer: &mut Writer,
@@ -106,7 +103,6 @@ fn put_texts(alloc: Global, writer: &mut Writer, name: &str, bytes: &[u8]) -> Re
     Ok(())
 }
 
-// Writes bytes in hexadecimal.
 fn put_digest(
     alloc: Global,
     writer: &mut Writer,
@@ -121,7 +117,6 @@ fn put_digest(
     Ok(())
 }
 
-// Returns the number of a cell.
 #[tactic(auto, unfolding(crate::specs::Members::cell_number))]
 fn cell_number(value: &[u8]) -> Option<u64>
     ensures { result ≡ cell_number value.now }
@@ -146,7 +141,6 @@ fn address_number(value: &[u8]) -> Option<u64>
     None
 }
 
-/// Writes a value as a member, by its form.
 pub(crate) fn put_value(
     alloc: Global,
     writer: &mut Writer,

@@ -13,7 +13,6 @@ use uimg_fit_base::{Fault, FitFault};
 use uimg_fit_checking::{ImageFacts, SurveyFault};
 use uimg_fit_reading::{PayloadFacts, find_payload};
 
-/// Finds the payload of an image, or that it has none.
 pub(crate) fn find_place<S: Source>(
     source: &mut S,
     totalsize: u32,
@@ -33,7 +32,6 @@ pub(crate) fn find_place<S: Source>(
     }
 }
 
-// Returns the fault of a payload that is not in a file of `size` bytes.
 fn fault_of(size: u64, found: Result<Span, FitFault>) -> Option<FitFault>
     requires { IfOk found (λ p. p.place + p.length < 2 ^ 64) }
     ensures { result ≡ fault_of size found }
@@ -49,7 +47,6 @@ fn fault_of(size: u64, found: Result<Span, FitFault>) -> Option<FitFault>
     }
 }
 
-/// Returns the fault of the first of these images whose payload is not in a file of `size` bytes.
 pub(crate) fn first_fault<S: Source>(
     source: &mut S,
     size: u64,

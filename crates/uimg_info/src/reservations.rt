@@ -30,7 +30,6 @@ pub(crate) struct Reservation {
     size: u64,
 }
 
-// Reads the entry at the beginning of bytes.
 fn entry_of(bytes: &[u8]) -> Reservation
     requires { 16 ≤ length bytes.now }
     ensures { result ≡ reservation_at bytes.now }
@@ -41,14 +40,12 @@ fn entry_of(bytes: &[u8]) -> Reservation
     }
 }
 
-// Returns whether an entry ends the list.
 fn is_end(entry: Reservation) -> bool
     ensures { result ≡ ends_list entry }
 {
     entry.address == 0 && entry.size == 0
 }
 
-// Returns the bytes after the first entry.
 fn behind(bytes: &[u8]) -> &[u8]
     requires { 16 ≤ length bytes.now }
     ensures { result.now ≡ drop 16 bytes.now }
@@ -56,7 +53,7 @@ fn behind(bytes: &[u8]) -> &[u8]
     &bytes[ENTRY_LEN..]
 }
 
-// Reads the entries before the one that ends the list. Returns none without such an end.
+// Returns none without an entry that ends the list.
 fn entries_in(alloc: Global, bytes: &[u8]) -> Result<Option<Vec<Reservation>>, AllocError>
     ensures { IfOk result (λ found. items_in found ≡ entries_in bytes.now) }
 {
@@ -85,7 +82,6 @@ fn place_of<S: Source>(source: &mut S) -> Result<u32, SourceFault>
     Ok(be32_at(&word, 0))
 }
 
-// Reads the entries of the block of a file whose blob has this total size.
 #[tactic(auto, unfolding(crate::specs::Reservations::reservations_of))]
 fn read_reservations<S: Source>(
     alloc: Global,
@@ -115,7 +111,6 @@ fn read_reservations<S: Source>(
     Ok(entries_in(alloc, bytes.as_slice())?)
 }
 
-// Writes an entry.
 fn put_reservation(writer: &mut Writer, entry: Reservation) -> Result<(), AllocError>
     ensures { AddsTokens result writer (json_tokens (reservation_json entry)) }
 {
@@ -126,7 +121,6 @@ fn put_reservation(writer: &mut Writer, entry: Reservation) -> Result<(), AllocE
     Ok(())
 }
 
-// Writes the array of the entries.
 fn put_entries(writer: &mut Writer, entries: &[Reservation]) -> Result<(), AllocError>
     ensures { AddsTokens result writer (json_tokens (array_of (map reservation_json entries.now))) }
 {
@@ -138,7 +132,6 @@ fn put_entries(writer: &mut Writer, entries: &[Reservation]) -> Result<(), Alloc
     Ok(())
 }
 
-// Writes the entries under their name.
 fn put_list(writer: &mut Writer, entries: &[Reservation]) -> Result<(), AllocError>
     ensures { AddsTokens result writer (tokens_of (reservations_members (Some entries.now))) }
 {
@@ -147,7 +140,6 @@ fn put_list(writer: &mut Writer, entries: &[Reservation]) -> Result<(), AllocErr
     Ok(())
 }
 
-// Does the same, if the block has an end.
 fn put_found(writer: &mut Writer, found: Option<Vec<Reservation>>) -> Result<(), AllocError>
     ensures { AddsTokens result writer (tokens_of (reservations_members (items_in found))) }
 {
@@ -157,8 +149,7 @@ fn put_found(writer: &mut Writer, found: Option<Vec<Reservation>>) -> Result<(),
     }
 }
 
-/// Writes the entries of the memory reservation block of a file whose blob has this total size, if
-/// the block ends within the blob and has at most 4095 entries.
+/// Writes them only if the block ends within the blob and has at most 4095 entries.
 pub(crate) fn put_reservations<S: Source>(
     alloc: Global,
     source: &mut S,

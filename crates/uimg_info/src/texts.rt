@@ -18,7 +18,6 @@ use uimg_base::{Room, Source};
 use uimg_fit_base::Fault;
 use uimg_fit_checking::{FullSurvey, SurveyFault, survey_with_properties};
 
-// Returns the text of the object of a file of `size` bytes with these facts.
 fn survey_text<S: Source>(
     alloc: Global,
     path: &str,
@@ -44,11 +43,13 @@ fn survey_text<S: Source>(
 /// Returns the text of the object of a FIT image's facts, of a file at a path. Over an honest
 /// source it is one line, without its end, and reads as this object; over any source it is UTF-8.
 ///
-/// Returns the faults of `survey_with_properties`, then `NoData` or `DataOutside` of the first image
-/// whose payload is not in the file. Reads each value at most once, none of more than 65,536 bytes,
-/// and no payload. Requests no more than that call, the values, the names of the properties, 24
-/// bytes for each image and 65,540 for the memory reservation block. The room holds
-/// the nodes meanwhile. Returns `OutOfMemory` if memory for facts, a value or the text was refused.
+/// Reads each value at most once, none of more than 65,536 bytes, and no payload. Requests no more
+/// than `survey_with_properties`, the values, the names of the properties, 24 bytes for each image
+/// and 65,540 for the memory reservation block. The room holds the nodes meanwhile.
+///
+/// - The faults of `survey_with_properties`.
+/// - `NoData`, `DataOutside`: of the first image whose payload is not in the file.
+/// - `OutOfMemory`: memory for facts, a value or the text was refused.
 pub fn fit_text<S: Source, A: Allocator>(
     alloc: Global,
     path: &str,

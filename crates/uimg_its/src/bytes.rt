@@ -5,7 +5,6 @@ ghost use Rattle.uimg_its.specs.Words.{mark_of, is_blank, is_name_byte, is_direc
 
 use crate::tokens::Mark;
 
-/// Returns the text after its first n bytes.
 pub(crate) fn after(text: &[u8], n: usize) -> &[u8]
     requires { n ≤ length text.now }
     ensures { result.now ≡ drop n text.now }
@@ -36,7 +35,6 @@ fn is_directive_byte(b: u8) -> bool
     b.is_ascii_alphabetic() || b.is_ascii_digit() || b == b'-'
 }
 
-/// Returns the mark of a byte that is a word by itself.
 pub(crate) fn mark_of(b: u8) -> Option<Mark>
     ensures { result ≡ mark_of b }
 {
@@ -59,7 +57,6 @@ pub(crate) fn mark_of(b: u8) -> Option<Mark>
     Some(mark)
 }
 
-/// Returns how many bytes of a name the text begins with.
 pub(crate) fn name_length(text: &[u8]) -> usize
     ensures length { result ≡ prefix_len is_name_byte text.now }
     ensures within { result ≤ length text.now }
@@ -67,7 +64,6 @@ pub(crate) fn name_length(text: &[u8]) -> usize
     text.iter().take_while(|b| is_name_byte(**b)).count()
 }
 
-/// Returns how many bytes of a directive the text begins with.
 pub(crate) fn directive_length(text: &[u8]) -> usize
     ensures length { result ≡ prefix_len is_directive_byte text.now }
     ensures within { result ≤ length text.now }
@@ -75,7 +71,6 @@ pub(crate) fn directive_length(text: &[u8]) -> usize
     text.iter().take_while(|b| is_directive_byte(**b)).count()
 }
 
-/// Returns how many bytes come before the first newline.
 pub(crate) fn line_length(text: &[u8]) -> usize
     ensures length { result ≡ prefix_len (λ b. not (b == 10)) text.now }
     ensures within { result ≤ length text.now }

@@ -34,7 +34,6 @@ fn is_version(word: Found<'_>) -> bool
     }
 }
 
-// Reads the directive that begins a source and returns the text after it.
 fn version(text: &[u8]) -> Result<&[u8], Stop>
     ensures { ReadsText (λ x. words x.now) result (version (words text.now)) }
 {
@@ -73,7 +72,6 @@ fn alone<A: Allocator>(root: Node<A>, text: &[u8]) -> Result<Node<A>, Stop>
     }
 }
 
-// Reads the root of the tree of a source text.
 #[tactic(auto, unfolding(crate::specs::Reader::source))]
 fn source<F: Files, A: Allocator + Copy>(
     alloc: A,
@@ -103,15 +101,18 @@ fn source<F: Files, A: Allocator + Copy>(
 /// named `data`, the file is opened only for its size and stays a [`Value::File`]; any other file
 /// is read whole.
 ///
-/// Returns the fault of the first word at which the text cannot continue. Returns `NoFile` if and
-/// only if an open was refused, `ReadFailed` if a read of an opened file failed (never over steady
-/// sources), and `OutOfMemory` if memory was refused. Over honest files any other fault means that
-/// the text spells no tree. Only tested are: which of the other faults it is, its line and the name
-/// of I3; that a sole `/incbin/` of `data` stays a file whose bytes are not requested; that
-/// `ReadFailed` and `OutOfMemory` come only after a failed read and a refused growth.
-///
 /// The time grows with the text and the files that are read. Calls nest as deep as the nodes, at
 /// most 64.
+///
+/// Returns the fault of the first word at which the text cannot continue. Over honest files any
+/// other fault than these three means that the text spells no tree.
+/// - `NoFile`: if and only if an open was refused.
+/// - `ReadFailed`: a read of an opened file failed; never over steady sources.
+/// - `OutOfMemory`: memory was refused.
+///
+/// Only tested are: which of the other faults it is, its line and the name of I3; that a sole
+/// `/incbin/` of `data` stays a file whose bytes are not requested; that `ReadFailed` and
+/// `OutOfMemory` come only after a failed read and a refused growth.
 ///
 /// [`Construct`]: crate::Construct
 /// [`Value::File`]: crate::Value::File

@@ -10,7 +10,6 @@ use crate::strings::push_string;
 use std::alloc::Allocator;
 use uimg_blob_writing::ByteList;
 
-/// Returns the fault of refused memory at a word.
 pub(crate) fn out_of_memory(left: usize) -> Stop
     ensures outside { is_outside_text result.kind ≡ true }
     ensures no_file { NotInFile result.kind }
@@ -21,7 +20,6 @@ pub(crate) fn out_of_memory(left: usize) -> Stop
     }
 }
 
-/// Appends bytes of a word.
 pub(crate) fn append<A: Allocator>(
     out: &mut Vec<u8, A>,
     bytes: &[u8],
@@ -36,7 +34,7 @@ pub(crate) fn append<A: Allocator>(
     }
 }
 
-/// Appends the bytes of a string, given the text after its opening quote.
+/// `text` is what follows the opening quote.
 pub(crate) fn append_string<A: Allocator>(
     out: &mut Vec<u8, A>,
     text: &[u8],
@@ -51,7 +49,6 @@ pub(crate) fn append_string<A: Allocator>(
     }
 }
 
-/// Copies a name.
 pub(crate) fn copied<A: Allocator>(alloc: A, name: &[u8], left: usize) -> Result<ByteList<A>, Stop>
     ensures name { IfOk result (λ l. l ≡ name.now) }
     ensures memory { OnlyMemory result }

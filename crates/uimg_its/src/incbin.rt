@@ -20,7 +20,6 @@ use std::alloc::Allocator;
 use uimg_base::{Files, MoveFault, Out, Source, WINDOW, copy_through};
 use uimg_blob_writing::{ByteList, Value};
 
-// Reads all the bytes of a source.
 fn read_whole<S: Source, A: Allocator>(
     alloc: A,
     source: &mut S,
@@ -48,8 +47,7 @@ fn read_whole<S: Source, A: Allocator>(
     }
 }
 
-// Reads the file with this name. Not inlined, to keep its window and its source out of the frames
-// of recursive functions.
+// Not inlined, to keep its window and its source out of the frames of recursive functions.
 #[inline(never)]
 fn read_file<F: Files, A: Allocator>(
     alloc: A,
@@ -70,7 +68,6 @@ fn read_file<F: Files, A: Allocator>(
     }
 }
 
-// Returns the text after the opening quote of a string.
 fn string_in(token: Token<'_>) -> Result<&[u8], Stop>
     ensures { ReadsText (λ s. string_bytes 0 s.now) result
         (string_in (seen_word token.entry.word)) }
@@ -81,7 +78,6 @@ fn string_in(token: Token<'_>) -> Result<&[u8], Stop>
     }
 }
 
-// Reads a string at the start of the text. Returns it and the text after it.
 fn string(text: &[u8]) -> Result<(&[u8], &[u8]), Stop>
     ensures { ReadsFront (λ x. string_bytes 0 x.0.now) (λ x. x.1.now) result string text.now }
 {
@@ -115,8 +111,6 @@ fn close(text: &[u8]) -> Result<&[u8], Stop>
     }
 }
 
-/// Appends the bytes of a file whose name is in parentheses after the word `/incbin/`. Returns the
-/// text after them.
 #[tactic(auto, unfolding(crate::specs::Reader::file))]
 pub(crate) fn file<'a, F: Files, A: Allocator + Copy>(
     alloc: A,
@@ -142,7 +136,6 @@ pub(crate) fn file<'a, F: Files, A: Allocator + Copy>(
     Ok(rest)
 }
 
-// Returns whether a word is the directive `/incbin/`.
 fn is_incbin(word: Word<'_>) -> bool
     ensures { result ≡ is_incbin (seen_word word.entry) }
 {

@@ -45,7 +45,6 @@ fn item_of<'a>(name: &'a [u8], token: Token<'a>) -> Result<Item<'a>, Stop>
     }
 }
 
-// Returns the fault of a name that is too long.
 fn long_name(left: usize) -> Stop
     ensures { IsInText result.kind }
 {
@@ -55,7 +54,7 @@ fn long_name(left: usize) -> Stop
     }
 }
 
-// Returns the item that a name begins, from the word after it, or `None` if the name is a label.
+// Returns `None` if the name is a label.
 fn item_after<'a>(name: &'a [u8], left: usize, token: Token<'a>) -> Result<Option<Item<'a>>, Stop>
     ensures { ReadsText (option_map item_is) result
         (item_after name.now (seen_word token.entry.word)) }
@@ -89,7 +88,6 @@ fn labelled(text: &[u8]) -> Result<(Option<Item<'_>>, Token<'_>, &[u8]), Stop>
     Ok((item, second, rest))
 }
 
-// Reads labels, then a name and what it begins.
 fn named(text: &[u8]) -> Result<Head<'_>, Stop>
     ensures { ReadsFront (λ h. item_is h.item) (λ h. h.rest.now) result unlabelled text.now }
 {
@@ -103,7 +101,6 @@ fn named(text: &[u8]) -> Result<Head<'_>, Stop>
     }
 }
 
-/// Reads an item of a body, or its end.
 #[tactic(auto, unfolding(crate::specs::Reader::item))]
 pub(crate) fn read_item(text: &[u8]) -> Result<Head<'_>, Stop>
     ensures { ReadsFront (λ h. item_is h.item) (λ h. h.rest.now) result item text.now }

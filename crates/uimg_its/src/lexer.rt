@@ -12,7 +12,6 @@ use crate::stop::{Place, Stop, ends_early, unexpected};
 use crate::strings::string_fault;
 use crate::tokens::{Mark, Token, Word};
 
-// Returns the fault of a text that does not begin with a word.
 fn stray(text: &[u8]) -> Stop
     ensures { IsInText result.kind }
 {

@@ -21,7 +21,7 @@ pub(crate) enum Listed {
     Bytes,
 }
 
-// Returns the name word of a list's element, or `None` at the end of the list.
+// Returns `None` at the end of the list.
 fn element_word(list: Listed, token: Token<'_>) -> Result<Option<&[u8]>, Stop>
     ensures { ReadsText (option_map (λ n. n.now)) result
         (element_word list (seen_word token.entry.word)) }
@@ -45,7 +45,6 @@ fn bad_number(left: usize) -> Stop
     }
 }
 
-// Appends a cell.
 fn push_cell<A: Allocator>(out: &mut Vec<u8, A>, name: &[u8], left: usize) -> Result<(), Stop>
     ensures { ReadsText (λ _. out.new.items) result
         (without_rest out.old.items (element Cells name.now)) }
@@ -56,7 +55,6 @@ fn push_cell<A: Allocator>(out: &mut Vec<u8, A>, name: &[u8], left: usize) -> Re
     }
 }
 
-// Appends bytes.
 fn push_bytes<A: Allocator>(out: &mut Vec<u8, A>, name: &[u8], left: usize) -> Result<(), Stop>
     ensures { ReadsText (λ _. out.new.items) result
         (without_rest out.old.items (element Bytes name.now)) }
@@ -75,7 +73,6 @@ fn push_bytes<A: Allocator>(out: &mut Vec<u8, A>, name: &[u8], left: usize) -> R
     Ok(())
 }
 
-// Appends an element of a list.
 fn push_element<A: Allocator>(
     out: &mut Vec<u8, A>,
     list: Listed,
@@ -91,7 +88,7 @@ fn push_element<A: Allocator>(
     }
 }
 
-// Appends the next element of a list. Returns whether the list ended, and the text after it.
+// Returns whether the list ended, and the text after the element.
 #[tactic(auto, unfolding(crate::specs::Reader::element_step))]
 fn element_step<'a, A: Allocator>(
     out: &mut Vec<u8, A>,
@@ -112,7 +109,6 @@ fn element_step<'a, A: Allocator>(
     }
 }
 
-/// Appends the bytes of a list up to its end. Returns the text after it.
 pub(crate) fn read_list<'a, A: Allocator>(
     out: &mut Vec<u8, A>,
     list: Listed,

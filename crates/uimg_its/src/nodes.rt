@@ -20,7 +20,6 @@ use std::alloc::Allocator;
 use uimg_base::Files;
 use uimg_blob_writing::{ByteList, Node, Nodes, Props};
 
-// Builds a node from its parts.
 fn node_of<A: Allocator>(name: ByteList<A>, props: Props<A>, children: Vec<Node<A>, A>) -> Node<A>
     ensures parts { (files : FileBytes) → parts_of files result ≡ record {
       name = name;
@@ -37,7 +36,6 @@ fn node_of<A: Allocator>(name: ByteList<A>, props: Props<A>, children: Vec<Node<
     }
 }
 
-// Adds a node.
 fn push_node<A: Allocator>(
     nodes: &mut Vec<Node<A>, A>,
     node: Node<A>,
@@ -55,7 +53,6 @@ fn push_node<A: Allocator>(
     Ok(())
 }
 
-// Returns the fault of a node that is too deep.
 fn too_deep(left: usize) -> Stop
     ensures { IsInText result.kind }
 {
@@ -113,7 +110,7 @@ pub(crate) fn node<'a, F: Files, A: Allocator + Copy>(
     inside(alloc, files, levels - 1, name, text)
 }
 
-// Reads the next child. Returns it, or `None` at the end of the body, and the text after it.
+// Returns `None` at the end of the body.
 #[cycle(tree)]
 #[tactic(auto, unfolding(crate::specs::Reader::child_step))]
 fn child<'a, F: Files, A: Allocator + Copy>(
@@ -142,7 +139,6 @@ fn child<'a, F: Files, A: Allocator + Copy>(
     }
 }
 
-// Reads children up to the end of the body. Returns them and the text after it.
 #[cycle(tree)]
 fn children<'a, F: Files, A: Allocator + Copy>(
     alloc: A,

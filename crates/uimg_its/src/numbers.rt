@@ -4,7 +4,7 @@ ghost use Rattle.std.specs.Prelude.{◌≡◌, ◌≤◌, ◌<◌, ◌+◌, ◌*
 ghost use Rattle.uimg_its.specs.Digits.{number_in_base, hex_digit, hex_pair};
 ghost use Rattle.uimg_its.specs.Cells.{number_of_cell};
 
-// Returns the number with these digits in a base, or `None` if one is no digit or 32 bits overflow.
+// Returns `None` if one is no digit or 32 bits overflow.
 #[tactic(auto, unfolding(crate::specs::Digits::number_in_base))]
 fn number(base: u32, digits: &[u8]) -> Option<u32>
     requires low { 2 ≤ base }
@@ -23,7 +23,7 @@ fn number(base: u32, digits: &[u8]) -> Option<u32>
     Some(value)
 }
 
-/// Returns a cell's number, or `None` if the word is not a number or has more than 32 bits.
+/// Returns `None` if the word is not a number or has more than 32 bits.
 #[tactic(auto, unfolding(crate::specs::Cells::number_of_cell))]
 pub(crate) fn cell(word: &[u8]) -> Option<u32>
     ensures { result ≡ number_of_cell word.now }
@@ -44,7 +44,7 @@ fn hex_digit(byte: u8) -> Option<u8>
     Some(digit as u8)
 }
 
-/// Returns the byte with these hexadecimal digits, or `None` if one is not such a digit.
+/// Returns `None` if one is no hexadecimal digit.
 pub(crate) fn hex_pair(a: u8, b: u8) -> Option<u8>
     ensures { result ≡ hex_pair a b }
 {

@@ -20,7 +20,7 @@ pub(crate) enum Piece<'a> {
     Stray,
 }
 
-// Returns the length of a comment after its opening, its end included.
+// Counts from after the comment's opening; its end is included.
 fn comment_length(text: &[u8]) -> Option<usize>
     ensures length { result ≡ comment text.now }
     ensures within { IfSome result (λ n. n ≤ length text.now) }
@@ -35,7 +35,7 @@ fn comment_length(text: &[u8]) -> Option<usize>
     None
 }
 
-// Reads what begins with a slash, given the text after the slash.
+// `text` is what follows the slash.
 fn slash_piece(text: &[u8]) -> Piece<'_>
     ensures { IsFoundPiece result (slash_piece text.now) (length text.now) }
 {
@@ -56,7 +56,7 @@ fn slash_piece(text: &[u8]) -> Piece<'_>
     }
 }
 
-// Reads what begins with a quote, given the text after the quote.
+// `text` is what follows the quote.
 fn string_piece(text: &[u8]) -> Piece<'_>
     ensures { IsFoundPiece result (string_piece text.now (string_end 0 text.now))
         (length text.now) }
@@ -77,7 +77,6 @@ fn name_word(name: &[u8]) -> Word<'_>
     }
 }
 
-/// Reads the start of a text that is not empty.
 #[tactic(auto, unfolding(crate::specs::Words::piece))]
 pub(crate) fn first_piece(text: &[u8]) -> Piece<'_>
     requires { 0 < length text.now }

@@ -15,7 +15,6 @@ use std::alloc::Allocator;
 use uimg_base::Files;
 use uimg_blob_writing::{ByteList, Prop, Props, Value};
 
-// Adds a property.
 fn push_property<A: Allocator>(
     alloc: A,
     props: &mut Vec<Prop<A>, A>,
@@ -36,7 +35,7 @@ fn push_property<A: Allocator>(
     Ok(())
 }
 
-// Adds the next property. Returns whether there was none, and the text after it.
+// Returns whether there was none, and the text after it.
 #[tactic(auto, unfolding(crate::specs::Reader::property_step))]
 fn property_step<'a, F: Files, A: Allocator + Copy>(
     alloc: A,
@@ -71,7 +70,6 @@ fn property_step<'a, F: Files, A: Allocator + Copy>(
     }
 }
 
-/// Reads the properties at the start of a body. Returns them and the text after them.
 pub(crate) fn properties<'a, F: Files, A: Allocator + Copy>(
     alloc: A,
     files: &mut F,

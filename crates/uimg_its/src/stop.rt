@@ -23,7 +23,6 @@ pub(crate) enum Place {
     Cells,
 }
 
-/// Returns the fault of a text that ends too early.
 pub(crate) fn ends_early() -> Stop
     ensures { IsInText result.kind }
 {
@@ -33,7 +32,6 @@ pub(crate) fn ends_early() -> Stop
     }
 }
 
-/// Returns the fault of a word that is not allowed at this place.
 pub(crate) fn unexpected(token: Token<'_>, place: Place) -> Stop
     ensures { IsInText result.kind }
 {

@@ -28,7 +28,7 @@ fn hex_escape(text: &[u8]) -> Option<(u8, usize)>
     }
 }
 
-// Decodes an escape. Returns its byte, and its length after the backslash.
+// Returns the byte, and the escape's length after the backslash.
 #[tactic(auto, unfolding(crate::specs::Strings::escape))]
 fn escape(text: &[u8]) -> Option<(u8, usize)>
     ensures value { result ≡ escape text.now }
@@ -47,7 +47,7 @@ fn escape(text: &[u8]) -> Option<(u8, usize)>
     }
 }
 
-// Decodes a byte of a string. Returns what it stands for, and how many bytes after it it takes.
+// Decodes a byte of a string. Returns the byte that it means, and how many bytes after it it takes.
 #[tactic(auto, unfolding(crate::specs::Strings::unit))]
 fn unit(a: u8, after: &[u8]) -> Option<(u8, usize)>
     ensures unit { result ≡ unit a after.now }
@@ -90,7 +90,7 @@ pub(crate) fn string_fault(text: &[u8]) -> FaultKind
     FaultKind::BadToken
 }
 
-/// Appends the bytes of a string, given the text after its opening quote.
+/// `text` is what follows the opening quote.
 pub(crate) fn push_string<A: Allocator>(out: &mut Vec<u8, A>, text: &[u8]) -> Result<(), AllocError>
     ensures { OnOk result (out.new.items ≡ out.old.items ++ string_bytes 0 text.now) }
 {

@@ -1,4 +1,4 @@
-//! Values, some of which stay files.
+//! Values of properties; some stay files.
 
 ghost use Rattle.std.specs.Prelude.{◌≡◌, ◌<◌, ◌≤◌, ◌∷◌, Some, IfSome, IfOk, length, codes, false};
 ghost use Rattle.std.specs.Option.{option_map_or};
@@ -30,7 +30,6 @@ fn ends(token: Token<'_>) -> Result<bool, Stop>
     }
 }
 
-// Appends the value that a word begins. Returns the text after it.
 #[tactic(auto, unfolding(crate::specs::Reader::spelled_value))]
 fn value_of<'a, F: Files, A: Allocator + Copy>(
     alloc: A,
@@ -83,7 +82,6 @@ fn value_step<'a, F: Files, A: Allocator + Copy>(
     Ok((last, rest))
 }
 
-// Appends values up to their end. Returns the text after it.
 fn values<'a, F: Files, A: Allocator + Copy>(
     alloc: A,
     files: &mut F,

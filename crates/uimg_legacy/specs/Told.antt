@@ -1,4 +1,4 @@
--- What the taker of a legacy image's parts is told, in order, whatever it does with that.
+-- The calls that the taker of a legacy image's parts gets, in order, whatever it does with them.
 use Rattle.std.specs.Prelude.{◌≡◌, ⊤, ℕ, zero, suc, List, [], ◌∷◌, ◌++◌, Option, Some, None}
 use Rattle.std.specs.Prelude.{Bool, true, false, ◌||◌, Result, Ok, Err, IsTrue, is_err}
 use Rattle.uimg_base.specs.Lent.{Lent}

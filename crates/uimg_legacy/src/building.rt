@@ -16,7 +16,6 @@ use crate::parts::has_parts;
 use std::io::Write;
 use uimg_base::{Out, Source, SourceFault, WINDOW};
 
-// Returns the header for data of this size and CRC.
 fn header_for(options: &Options, size: u32, dcrc: u32) -> Header
     ensures { (payload : List ℕ) → size ≡ length payload → dcrc ≡ crc payload →
         result ≡ header_for options.now payload }
@@ -35,7 +34,6 @@ fn header_for(options: &Options, size: u32, dcrc: u32) -> Header
     }
 }
 
-// Returns the header's bytes for the data built from the parts.
 fn head_of<S: Source>(
     parts: &mut [S],
     window: &mut [u8; WINDOW],
@@ -50,7 +48,6 @@ fn head_of<S: Source>(
     Ok(header_bytes(&header_for(options, size, dcrc)))
 }
 
-// Writes the header's bytes and the data.
 fn put_image<S: Source, W: Write>(
     parts: &mut [S],
     window: &mut [u8; WINDOW],
@@ -68,18 +65,23 @@ fn put_image<S: Source, W: Write>(
 
 /// Builds a legacy image from its parts: the header's 64 bytes with the fields of the options, and
 /// the data. For the types multi and script the data are the table of sizes and the parts, each but
-/// the last padded with zeros to a multiple of 4; for any other type they are the one part.
+/// the last padded with zeros to a multiple of 4. For any other type they are the one part.
 ///
-/// There has to be at least one part, and exactly one unless the type is multi or script. Refusals
-/// depend on the lengths of the parts alone, and come before a byte is written or a byte of a part
-/// requested: `EmptyPart` if a part of multi or script is empty, then `TooLarge` if the data have
-/// more than 4294967295 bytes. Returns `Read` exactly if a part failed, `Put` exactly if a write
-/// did; over honest parts a prefix of the image was written then. Over honest parts, at `Ok`, the
-/// report on the image is its two `ok` lines, its listing is not refused, and the extraction at
-/// each position is the part of that number.
+/// There must be at least one part, and exactly one unless the type is multi or script. Over honest
+/// parts, at `Ok`, the report on the image is its two `ok` lines, its listing is not refused, and
+/// the extraction at each position is the part of that number.
 ///
 /// Parts are read through a window of 8192 bytes. Tests show that each is read twice, for the
 /// checksum and to be written.
+///
+/// Refusals depend only on the lengths of the parts, and come before a byte is written or a byte of
+/// a part requested:
+/// - `EmptyPart`: a part of multi or script is empty.
+/// - `TooLarge`: none is empty, and the data have more than 4294967295 bytes.
+///
+/// These come later. Over honest parts a prefix of the image was written then:
+/// - `Read`: if and only if a part failed.
+/// - `Put`: if and only if a write failed.
 pub fn build<S: Source, W: Write>(
     options: &Options,
     parts: &mut [S],

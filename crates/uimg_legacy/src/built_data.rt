@@ -11,7 +11,6 @@ use crate::one_part::{feed_part, put_part, size_word, zeros_after};
 use std::io::Write;
 use uimg_base::{Crc, Out, Source, SourceFault, Summer, WINDOW};
 
-// Feeds the table of sizes to a sum.
 fn feed_table<M: Summer, S: Source>(parts: &mut [S], sum: &mut M) -> Result<(), SourceFault>
     requires small { FitWords (bytes_of (map S.device parts.old)) }
     ensures { FeedsParts AnyDevices M.holds size_table result S.device parts sum }
@@ -23,7 +22,7 @@ fn feed_table<M: Summer, S: Source>(parts: &mut [S], sum: &mut M) -> Result<(), 
     Ok(())
 }
 
-// Feeds the parts to a sum, each but the last padded to a multiple of 4.
+// Each part but the last is padded to a multiple of 4.
 fn feed_joined<M: Summer, S: Source>(
     parts: &mut [S],
     window: &mut [u8; WINDOW],
@@ -39,7 +38,6 @@ fn feed_joined<M: Summer, S: Source>(
     Ok(())
 }
 
-// Feeds the data built from the parts to a sum.
 fn feed_data<M: Summer, S: Source>(
     parts: &mut [S],
     window: &mut [u8; WINDOW],
@@ -56,7 +54,6 @@ fn feed_data<M: Summer, S: Source>(
     feed_joined(parts, window, sum)
 }
 
-// Returns the CRC of the data built from the parts.
 pub(crate) fn data_crc<S: Source>(
     parts: &mut [S],
     window: &mut [u8; WINDOW],
@@ -70,7 +67,6 @@ pub(crate) fn data_crc<S: Source>(
     Ok(sum.value())
 }
 
-// Writes the table of sizes.
 fn put_table<S: Source, W: Write>(parts: &mut [S], out: &mut Out<W>) -> Result<(), Fault>
     requires small { FitWords (bytes_of (map S.device parts.old)) }
     ensures { PutsParts AnyDevices size_table result S.device parts out }
@@ -82,7 +78,7 @@ fn put_table<S: Source, W: Write>(parts: &mut [S], out: &mut Out<W>) -> Result<(
     Ok(())
 }
 
-// Writes the parts, each but the last padded to a multiple of 4.
+// Each part but the last is padded to a multiple of 4.
 fn put_joined<S: Source, W: Write>(
     parts: &mut [S],
     window: &mut [u8; WINDOW],
@@ -98,7 +94,6 @@ fn put_joined<S: Source, W: Write>(
     Ok(())
 }
 
-// Writes the data built from the parts.
 pub(crate) fn put_data<S: Source, W: Write>(
     parts: &mut [S],
     window: &mut [u8; WINDOW],

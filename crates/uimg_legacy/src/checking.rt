@@ -51,7 +51,6 @@ fn check_parts<S: Source, A: Allocator>(
     check_table(source, room, header)
 }
 
-// Returns whether the data's checksum is right.
 fn is_right<S: Source, A: Allocator>(source: &mut S, room: &mut Room<A>) -> Result<bool, Fault>
     ensures { Reads UsesAtMost check_work Checks result S.device source room }
 {
@@ -60,10 +59,12 @@ fn is_right<S: Source, A: Allocator>(source: &mut S, room: &mut Room<A>) -> Resu
     has_right_data(source, room, &header)
 }
 
-/// Returns whether the checksum of the image's data is right. Returns the first fault of
-/// `TooShort`, `BadMagic`, `BadHeaderCrc` and, before the data are read, those of `locate_parts`.
-/// Requests no more than a listing, also of an image that a listing refuses; the room is only
-/// cleared.
+/// Returns whether the checksum of the image's data is right. Requests no more than a listing, also
+/// of an image that a listing refuses. Only clears the room.
+///
+/// Returns the first of these faults:
+/// - `TooShort`, `BadMagic`, `BadHeaderCrc`.
+/// - Those of `locate_parts`, before the data are read.
 pub fn check<S: Source, A: Allocator>(source: &mut S, room: &mut Room<A>) -> Result<bool, Fault>
     ensures inspects { Inspects check_work result S.device source room }
     ensures told { IfHonest S.device source (λ file. Checks file result) }

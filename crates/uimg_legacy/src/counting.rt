@@ -37,10 +37,10 @@ fn count_in_image<S: Source, A: Allocator>(source: &mut S, room: &mut Room<A>) -
     count_in_data(source, room, &header)
 }
 
-/// Counts the parts of an image: the sizes in its table for the types multi and script, else one.
-/// Returns the first fault of `TooShort`, `BadMagic`, `BadHeaderCrc`, `Truncated`, `BadDataCrc` and
-/// `NoTableEnd`; a part that ends after the data is counted too. Requests no more than a listing;
-/// the room is only cleared.
+/// Counts the parts of an image: the sizes in its table for the types multi and script, else one. A
+/// part that ends after the data is counted too. Returns the first fault of `TooShort`, `BadMagic`,
+/// `BadHeaderCrc`, `Truncated`, `BadDataCrc` and `NoTableEnd`. Requests no more than a listing.
+/// Only clears the room.
 pub fn count_parts<S: Source, A: Allocator>(
     source: &mut S,
     room: &mut Room<A>,

@@ -14,7 +14,6 @@ use std::alloc::Allocator;
 use std::io::Write;
 use uimg_base::{Out, Room, Source, Span, Status, copy_range};
 
-// Finds the part at a position of an image.
 fn locate_part<S: Source, A: Allocator>(
     source: &mut S,
     room: &mut Room<A>,
@@ -31,7 +30,7 @@ fn locate_part<S: Source, A: Allocator>(
 /// Finds the bytes that `extract` writes: the part of type multi or script at a position, counted
 /// from 0, or the data of any other type at position 0. Returns their span, which ends inside the
 /// file whatever the source returns, or a fault of `extract`, in the same order. Requests no more
-/// than a listing; the room is only cleared.
+/// than a listing. Only clears the room.
 pub fn locate<S: Source, A: Allocator>(
     position: u32,
     source: &mut S,
@@ -47,11 +46,15 @@ pub fn locate<S: Source, A: Allocator>(
 }
 
 /// Writes the part of the image at a position, counted from 0: a part of type multi or script, or
-/// the data of any other type at position 0. Refusals come before the first byte, in this order:
-/// `TooShort`, `BadMagic`, `BadHeaderCrc`, `Truncated`, `BadDataCrc`, `NoTableEnd`, `NoSuchPart`,
-/// and `PartOutside` of the part at that position. Over an honest source a prefix of the part was
-/// written after `Read` or `Put`, and at every exit at most as many bytes were requested as for a
-/// listing, those that were written and 8192. The room is only cleared.
+/// the data of any other type at position 0.
+///
+/// Over an honest source a prefix of the part was written after `Read` or `Put`. At every exit at
+/// most as many bytes were requested as for a listing, those that were written and 8192. The room
+/// is only cleared.
+///
+/// Refusals come before the first byte, in this order: `TooShort`, `BadMagic`, `BadHeaderCrc`,
+/// `Truncated`, `BadDataCrc`, `NoTableEnd`, `NoSuchPart`, and `PartOutside` of the part at that
+/// position.
 pub fn extract<S: Source, A: Allocator, W: Write>(
     position: u32,
     source: &mut S,

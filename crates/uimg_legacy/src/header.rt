@@ -42,7 +42,7 @@ pub struct Header {
     pub name: [u8; 32],
 }
 
-// Reads the 64 bytes of the header, or returns `TooShort` or `BadMagic`.
+// Returns `TooShort` if the source has fewer than 64 bytes, or `BadMagic`.
 #[tactic(auto, unfolding(crate::specs::Header::head))]
 pub(crate) fn read_head<S: Source>(source: &mut S) -> Result<[u8; HEADER_LEN], Fault>
     ensures reads { ReadsHead result S.device source }
@@ -59,7 +59,7 @@ pub(crate) fn read_head<S: Source>(source: &mut S) -> Result<[u8; HEADER_LEN], F
     Ok(bytes)
 }
 
-// Returns whether the header's CRC is that of its bytes with the CRC field zeroed.
+// The CRC is that of the bytes with the CRC field zeroed.
 #[tactic(auto, unfolding(crate::specs::Header::has_right_crc))]
 pub(crate) fn has_right_crc(bytes: &[u8; HEADER_LEN]) -> bool
     ensures { result ≡ has_right_crc bytes.now }
@@ -69,7 +69,6 @@ pub(crate) fn has_right_crc(bytes: &[u8; HEADER_LEN]) -> bool
     be32_at(bytes, 4) == crc_of(&cleared)
 }
 
-// Reads the fields at their offsets.
 pub(crate) fn fields(bytes: &[u8; HEADER_LEN]) -> Header
     ensures fields { result ≡ fields bytes.now }
     ensures spelled { be32 bytes.now 0 ≡ magic → has_right_crc bytes.now ≡ true →
@@ -91,11 +90,13 @@ pub(crate) fn fields(bytes: &[u8; HEADER_LEN]) -> Header
     }
 }
 
-/// Reads the header of the image. Returns `TooShort` for a source of fewer than 64 bytes,
-/// `BadMagic` if they do not begin with `0x27051956`, or `BadHeaderCrc` if the header's CRC is not
-/// that of its bytes with the CRC field zeroed; the first of these that holds. Returns `Read`
-/// exactly if a read failed. Requests at most 64 bytes. Over an honest source the returned header
-/// spells the first 64 bytes.
+/// Reads the header of the image. Requests at most 64 bytes. Over an honest source the returned
+/// header spells the first 64 bytes.
+///
+/// Returns the first of these faults, or `Read` if and only if a read failed:
+/// - `TooShort`: the source has fewer than 64 bytes.
+/// - `BadMagic`: they do not begin with `0x27051956`.
+/// - `BadHeaderCrc`: the header's CRC is not that of its bytes with the CRC field zeroed.
 pub fn read_header<S: Source>(source: &mut S) -> Result<Header, Fault>
     ensures reads { ReadsHead result S.device source }
     ensures gives { IfHonest S.device source (λ file. GivesBy header_of file result) }
@@ -108,7 +109,6 @@ pub fn read_header<S: Source>(source: &mut S) -> Result<Header, Fault>
     Ok(fields(&bytes))
 }
 
-// Returns the bytes of a header with this CRC field.
 #[tactic(auto, unfolding(crate::specs::Header::spelled_with))]
 fn spelled_with(sum: u32, header: &Header) -> [u8; HEADER_LEN]
     ensures bytes { result ≡ spelled_with sum header.now }

@@ -10,7 +10,7 @@ use crate::header::{Header, read_header};
 use std::alloc::Allocator;
 use uimg_base::{Room, Source, crc_range};
 
-// Returns whether the data's CRC is that in the header, or `Truncated`.
+// Returns `Truncated` if the image lacks data.
 #[tactic(auto, unfolding(crate::specs::Image::has_right_data, crate::specs::Work::data_read))]
 pub(crate) fn has_right_data<S: Source, A: Allocator>(
     source: &mut S,

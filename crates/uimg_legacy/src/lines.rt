@@ -11,7 +11,7 @@ use std::io::Write;
 use uimg_base::{Out, PutFault, before_nul, size_text, time_text};
 use uimg_names::{Field, Naming};
 
-// Formats an address as eight lower-case hexadecimal digits.
+// Eight lower-case hexadecimal digits.
 fn address_text(address: u32) -> [u8; 8]
     ensures { result ≡ address_text address }
 {
@@ -22,7 +22,6 @@ fn address_text(address: u32) -> [u8; 8]
     text
 }
 
-// Writes a line that ends with a size.
 #[tactic(auto, using(uimg_base::proofs::WritingLaws::writing))]
 fn put_size<W: Write>(before: &[u8], size: u32, out: &mut Out<W>) -> Result<(), PutFault>
     ensures { Writes (is_err result) out.old out.new (line (before.now ++ size_text size)) }
@@ -32,14 +31,13 @@ fn put_size<W: Write>(before: &[u8], size: u32, out: &mut Out<W>) -> Result<(), 
     out.put_all(b"\n")
 }
 
-// Writes a line of a label, which is padded with blanks, and a value.
+// Blanks pad the label.
 fn put_line<W: Write>(label: &[u8], value: &[u8], out: &mut Out<W>) -> Result<(), PutFault>
     ensures { Writes (is_err result) out.old out.new (line (label.now ++ value.now)) }
 {
     out.put_pieces(&[label, value, b"\n"])
 }
 
-// Writes the line of the type, from the names of its codes.
 fn put_type_names<W: Write>(
     arch: &str,
     os: &str,
@@ -63,7 +61,6 @@ fn put_type_names<W: Write>(
     ])
 }
 
-// Writes the line of the type, from the header's codes.
 #[tactic(auto, unfolding(crate::specs::Listing::type_line))]
 fn put_type<W: Write>(header: &Header, naming: Naming, out: &mut Out<W>) -> Result<(), PutFault>
     ensures { Writes (is_err result) out.old out.new (type_line naming header.now) }
@@ -75,7 +72,6 @@ fn put_type<W: Write>(header: &Header, naming: Naming, out: &mut Out<W>) -> Resu
     put_type_names(arch, os, kind, comp, out)
 }
 
-// Writes the line of the name.
 #[tactic(auto, unfolding(crate::specs::Listing::name_line))]
 fn put_name<W: Write>(header: &Header, out: &mut Out<W>) -> Result<(), PutFault>
     ensures { Writes (is_err result) out.old out.new (name_line header.now) }
@@ -83,7 +79,6 @@ fn put_name<W: Write>(header: &Header, out: &mut Out<W>) -> Result<(), PutFault>
     put_line(b"Image Name:   ", before_nul(&header.name), out)
 }
 
-// Writes the line of the time.
 #[tactic(auto, unfolding(crate::specs::Listing::time_line))]
 fn put_time<W: Write>(header: &Header, out: &mut Out<W>) -> Result<(), PutFault>
     ensures { Writes (is_err result) out.old out.new (time_line header.now) }
@@ -91,7 +86,6 @@ fn put_time<W: Write>(header: &Header, out: &mut Out<W>) -> Result<(), PutFault>
     put_line(b"Created:      ", &time_text(header.time), out)
 }
 
-// Writes the line of the data's size.
 #[tactic(auto, unfolding(crate::specs::Listing::size_line))]
 fn put_data_size<W: Write>(header: &Header, out: &mut Out<W>) -> Result<(), PutFault>
     ensures { Writes (is_err result) out.old out.new (size_line header.now) }
@@ -99,7 +93,6 @@ fn put_data_size<W: Write>(header: &Header, out: &mut Out<W>) -> Result<(), PutF
     put_size(b"Data Size:    ", header.size, out)
 }
 
-// Writes the line of the load address.
 #[tactic(auto, unfolding(crate::specs::Listing::load_line))]
 fn put_load<W: Write>(header: &Header, out: &mut Out<W>) -> Result<(), PutFault>
     ensures { Writes (is_err result) out.old out.new (load_line header.now) }
@@ -107,7 +100,6 @@ fn put_load<W: Write>(header: &Header, out: &mut Out<W>) -> Result<(), PutFault>
     put_line(b"Load Address: ", &address_text(header.load), out)
 }
 
-// Writes the line of the entry point.
 #[tactic(auto, unfolding(crate::specs::Listing::entry_line))]
 fn put_entry<W: Write>(header: &Header, out: &mut Out<W>) -> Result<(), PutFault>
     ensures { Writes (is_err result) out.old out.new (entry_line header.now) }
@@ -115,7 +107,6 @@ fn put_entry<W: Write>(header: &Header, out: &mut Out<W>) -> Result<(), PutFault
     put_line(b"Entry Point:  ", &address_text(header.ep), out)
 }
 
-// Writes the line of a part.
 #[tactic(auto, unfolding(crate::specs::Listing::part_line))]
 pub(crate) fn put_part_line<W: Write>(i: u32, size: u32, out: &mut Out<W>) -> Result<(), PutFault>
     ensures { Writes (is_err result) out.old out.new (part_line i size) }

@@ -63,11 +63,15 @@ fn list_tail<S: Source, A: Allocator, W: Write>(
 }
 
 /// Writes the listing of the image, with the names of the profile: six lines, and for the types
-/// multi and script `Contents:` and a line for each part. Faults of the header and the data come
-/// before the first line, in this order: `TooShort`, `BadMagic`, `BadHeaderCrc`, `Truncated`,
-/// `BadDataCrc`. `NoTableEnd` comes after six lines, `PartOutside` before the line of its part.
+/// multi and script `Contents:` and a line for each part.
+///
 /// Over an honest source a prefix of the listing was written after `Read` or `Put`, and at most 76
 /// bytes, the data and 16 for each size in the table were requested. The room is only cleared.
+///
+/// - `TooShort`, `BadMagic`, `BadHeaderCrc`, `Truncated`, `BadDataCrc`: before the first line, in
+///   this order.
+/// - `NoTableEnd`: after six lines.
+/// - `PartOutside`: before the line of its part.
 pub fn list<S: Source, A: Allocator, W: Write>(
     source: &mut S,
     room: &mut Room<A>,

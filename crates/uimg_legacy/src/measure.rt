@@ -10,7 +10,6 @@ use crate::one_part::part_size;
 use crate::parts::has_parts;
 use uimg_base::{Source, SourceFault};
 
-// Returns whether a part is empty.
 fn has_empty<S: Source>(parts: &mut [S]) -> Result<bool, SourceFault>
     ensures { Learns (λ ps b. b ≡ has_empty ps) result S.device parts }
 {

@@ -22,7 +22,6 @@ pub(crate) fn zeros_after(remainder: u64) -> &'static [u8]
     }
 }
 
-// Returns the length of a part in bytes.
 pub(crate) fn part_size<S: Source>(parts: &mut [S], i: usize) -> Result<u64, SourceFault>
     requires { i < length parts.old }
     ensures { Learns (λ ps n. n ≡ length (numbered i ps)) result S.device parts }
@@ -30,7 +29,6 @@ pub(crate) fn part_size<S: Source>(parts: &mut [S], i: usize) -> Result<u64, Sou
     parts[i].size()
 }
 
-// Returns the size of a part as a word of the table.
 pub(crate) fn size_word<S: Source>(parts: &mut [S], i: usize) -> Result<[u8; 4], SourceFault>
     requires within { i < length parts.old }
     requires small { length (numbered i (bytes_of (map S.device parts.old))) < 2 ^ 32 }
@@ -40,7 +38,6 @@ pub(crate) fn size_word<S: Source>(parts: &mut [S], i: usize) -> Result<[u8; 4],
     Ok((size as u32).to_be_bytes())
 }
 
-// Feeds a part to a sum, and returns its size.
 pub(crate) fn feed_part<M: Summer, S: Source>(
     parts: &mut [S],
     window: &mut [u8; WINDOW],
@@ -57,7 +54,6 @@ pub(crate) fn feed_part<M: Summer, S: Source>(
     Ok(size)
 }
 
-// Writes a part, and returns its size.
 pub(crate) fn put_part<S: Source, W: Write>(
     parts: &mut [S],
     window: &mut [u8; WINDOW],

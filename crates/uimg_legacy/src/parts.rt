@@ -20,7 +20,7 @@ pub fn has_parts(kind: u8) -> bool
     kind == MULTI || kind == SCRIPT
 }
 
-// Reads size `i` of the table, counted from 0.
+// Sizes are counted from 0.
 #[tactic(auto, unfolding(uimg_texts::specs::Numbers::be32))]
 pub(crate) fn size_at<S: Source>(source: &mut S, i: u32) -> Result<u32, SourceFault>
     requires { 64 + 4 * (i + 1) ≤ length (S.device source.old).bytes }
@@ -56,7 +56,6 @@ pub(crate) fn count_sizes<S: Source, A: Allocator>(
     Err(Fault::Legacy(LegacyFault::NoTableEnd))
 }
 
-// Finds the part at a position of a table of `count` sizes in `size` bytes of data.
 pub(crate) fn listed_part<S: Source, A: Allocator>(
     source: &mut S,
     room: &mut Room<A>,

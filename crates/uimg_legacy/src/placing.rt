@@ -57,7 +57,6 @@ impl From<AllocError> for PartsFault {
     }
 }
 
-// Appends a part's span.
 fn push_part(parts: &mut Vec<Span>, part: Span) -> Result<(), AllocError>
     ensures { OnOk result (parts.new.items ≡ parts.old.items ++ part ∷ []) }
 {
@@ -65,7 +64,7 @@ fn push_part(parts: &mut Vec<Span>, part: Span) -> Result<(), AllocError>
     Ok(())
 }
 
-// Finds the `count` parts of a table, up to the first that ends after the data.
+// Stops at the first part that ends after the data.
 fn place_parts<S: Source>(
     alloc: Global,
     source: &mut S,
@@ -95,7 +94,6 @@ fn place_parts<S: Source>(
     Ok(parts)
 }
 
-// Returns the span of the only part of an image without a table.
 fn only_part(alloc: Global, size: u32) -> Result<Vec<Span>, AllocError>
     ensures { IfOk result (λ parts. parts.items ≡ record { place = 64; length = size } ∷ []) }
 {
@@ -108,10 +106,13 @@ fn only_part(alloc: Global, size: u32) -> Result<Vec<Span>, AllocError>
 }
 
 /// Finds the parts of an image with this header: those of its table for the types multi and script,
-/// else the data. The checksum of the data is not checked. Returns their spans, or the first fault
-/// of `Truncated`, `NoTableEnd` and `PartOutside`; `Read` exactly if a read failed, `OutOfMemory`
-/// if memory for the spans was refused, 16 bytes for each. Of an honest source at most 12 bytes for
-/// each size in the table and 12 more are requested. Of the room only the window changes.
+/// else the data. The checksum of the data is not checked. Returns their spans. Of an honest source
+/// at most 12 bytes for each size in the table and 12 more are requested. Of the room only the
+/// window changes.
+///
+/// - `Truncated`, `NoTableEnd`, `PartOutside`: the first of these.
+/// - `Read`: if and only if a read failed.
+/// - `OutOfMemory`: memory for the spans was refused, 16 bytes for each.
 #[tactic(auto, unfolding(crate::specs::Placing::spans_of_parts))]
 pub fn locate_parts<S: Source, A: Allocator>(
     alloc: Global,

@@ -11,7 +11,6 @@ use std::alloc::Allocator;
 use std::io::Write;
 use uimg_base::{Out, Room, Source, Status};
 
-// Writes the line on the data's CRC.
 fn report_data<S: Source, A: Allocator, W: Write>(
     source: &mut S,
     room: &mut Room<A>,
@@ -32,9 +31,11 @@ fn report_data<S: Source, A: Allocator, W: Write>(
 
 /// Writes the report on the image's checksums: `header crc32 bad`, or `header crc32 ok` and then
 /// `data crc32 ok` or `data crc32 bad`, each with a newline. Returns `NotRight` after a line that
-/// ends with `bad`, `TooShort` or `BadMagic` without a line, and `Truncated` after the first line.
-/// Over an honest source a prefix of the report was written after `Read` or `Put`, and at most 76
-/// bytes and the data were requested. The room is only cleared.
+/// ends with `bad`. Over an honest source a prefix of the report was written after `Read` or `Put`,
+/// and at most 76 bytes and the data were requested. The room is only cleared.
+///
+/// - `TooShort`, `BadMagic`: without a line.
+/// - `Truncated`: after the first line.
 pub fn verify<S: Source, A: Allocator, W: Write>(
     source: &mut S,
     room: &mut Room<A>,

@@ -53,7 +53,6 @@ fn rounded_sum(bytes: &[u8]) -> u64
     sum
 }
 
-// Sums the words of a window of the data, each rounded up to a multiple of 4.
 fn sum_window<S: Source, A: Allocator>(
     source: &mut S,
     room: &mut Room<A>,
@@ -70,7 +69,6 @@ fn sum_window<S: Source, A: Allocator>(
     Ok(rounded_sum(window))
 }
 
-// Sums the first `count` words of the data, each rounded up to a multiple of 4.
 pub(crate) fn sum_first<S: Source, A: Allocator>(
     source: &mut S,
     room: &mut Room<A>,

@@ -40,22 +40,26 @@ fn settle<T: PartTaker>(right: bool, dcrc: u32, taker: &mut T) -> Result<bool, P
 /// Unpacks the parts of an image in their order: all, or the one of a number. For the types multi
 /// and script they are its parts, for another type its data as part 0.
 ///
-/// Checks the header, whose checksum has to be right. Each part is written to a shelf of the taker
+/// Checks the header, whose checksum must be right. Each part is written to a shelf of the taker
 /// while the data are summed, from the table of sizes to the last byte. If their checksum is that
 /// in the header, the taker keeps the parts; otherwise it refuses them. Returns whether they are
 /// kept. The sizes are read twice, to be summed and to cut the parts; unless both readings have the
-/// same sum, nothing is kept. So an honest taker keeps the parts of some image with right
-/// checksums, whatever the source returns, or nothing. Over an honest source that image is the
-/// source's, and each part is what an extraction from its position writes. Such a source is read
-/// for at most its header, the length of the data, 8 bytes for each size in the table and 8 more.
-/// The room is only cleared.
+/// same sum, nothing is kept.
 ///
-/// Returns the first of `TooShort`, `BadMagic`, `BadHeaderCrc`, `Truncated`, `NoTableEnd` and
-/// `NoSuchPart`, all before the taker is called, or `PartOutside` when that part is reached. A
-/// wrong checksum of the data is found last, as they are summed while they are written; it is the
-/// result `false`, no fault. Returns `BadDataCrc` if a size of the table is 0 when it is read
-/// again, `Read` exactly if a read failed, and `Put` if the taker or one of its shelves failed. If
-/// the taker fails as it keeps the parts, it keeps all or none.
+/// So an honest taker keeps the parts of some image with right checksums, whatever the source
+/// returns, or nothing. Over an honest source that image is the source's, and each part is what an
+/// extraction from its position writes. Such a source is read for at most its header, the length of
+/// the data, 8 bytes for each size in the table and 8 more. The room is only cleared.
+///
+/// A wrong checksum of the data is found last, as they are summed while they are written; it is the
+/// result `false`, no fault. If the taker fails as it keeps the parts, it keeps all or none.
+///
+/// - `TooShort`, `BadMagic`, `BadHeaderCrc`, `Truncated`, `NoTableEnd`, `NoSuchPart`: the first of
+///   these, before the taker is called.
+/// - `PartOutside`: when that part is reached.
+/// - `BadDataCrc`: a size of the table is 0 when it is read again.
+/// - `Read`: if and only if a read failed.
+/// - `Put`: the taker or one of its shelves failed.
 pub fn unpack<S: Source, A: Allocator, T: PartTaker>(
     only: Option<u32>,
     source: &mut S,

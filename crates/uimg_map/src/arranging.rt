@@ -8,7 +8,7 @@ use crate::row::Row;
 use crate::thing::Thing;
 use std::alloc::{AllocError, Global};
 
-// Returns where a thing ends; without one, the file's start.
+// Without a thing, the file's start.
 fn end_of(last: Option<Thing>) -> u64
     ensures { result ≡ thing_end last }
 {
@@ -54,7 +54,6 @@ fn add(rows: &mut Vec<Row>, size: u64, last: Option<Thing>, thing: Thing) -> Res
     Ok(())
 }
 
-// Adds the row of the bytes after all things, if there are any.
 #[tactic(auto, unfolding(crate::specs::Rows::rest))]
 fn add_rest(rows: &mut Vec<Row>, size: u64, last: Option<Thing>) -> Result<(), AllocError>
     ensures { OnOk result (rows.new.items ≡ rows.old.items ++ rest size (thing_end last)) }
@@ -65,7 +64,6 @@ fn add_rest(rows: &mut Vec<Row>, size: u64, last: Option<Thing>) -> Result<(), A
     Ok(())
 }
 
-// Returns the rows of sorted things.
 fn rows_of(alloc: Global, size: u64, things: &[Thing]) -> Result<Vec<Row>, AllocError>
     ensures { IfOk result (λ rows. rows.items ≡ rows_from size None things.now) }
 {

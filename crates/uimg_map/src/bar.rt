@@ -14,7 +14,6 @@ pub struct Bar {
 }
 
 impl Bar {
-    /// Returns whether a cell is filled.
     pub(crate) fn has(&self, cell: u32) -> bool
         ensures { result ≡ (nat_le self.now.from cell && nat_lt cell self.now.to) }
     {

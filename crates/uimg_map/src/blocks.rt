@@ -1,4 +1,4 @@
-//! The header of a devicetree blob and the blocks by its numbers.
+//! The header of a devicetree blob, and the blocks that its numbers give.
 
 ghost use Rattle.std.specs.Prelude.{◌≡◌, ◌+◌};
 ghost use Rattle.uimg_map.specs.Blocks.{blocks_by};
@@ -9,7 +9,6 @@ use crate::thing::Thing;
 /// The length of an entry of a memory reservation block.
 const ENTRY_LEN: u64 = 16;
 
-// Returns a thing of `size` bytes at an offset.
 fn block(place: u32, size: u32, number: usize) -> Thing
     ensures { result ≡ record { place = place; end = place + size; number = number } }
 {

@@ -63,7 +63,6 @@ pub(crate) struct Contents {
 }
 
 impl Contents {
-    /// Returns no contents, of a file of `size` bytes.
     pub(crate) fn new(alloc: Global, size: u64) -> Contents
         ensures size { result.size ≡ size }
         ensures things { result.things.items ≡ [] }
@@ -78,7 +77,6 @@ impl Contents {
         }
     }
 
-    /// Adds a thing from an offset up to an end.
     pub(crate) fn add(&mut self, place: u64, end: u64, label: Label) -> Result<(), MapFault>
         ensures { AddsFound
             (λ file. thing (read_label file label) place end) result self.old self.new }
@@ -89,7 +87,6 @@ impl Contents {
         Ok(())
     }
 
-    /// Adds a fault with an offset.
     pub(crate) fn refuse_at(&mut self, place: u64, fault: MapFault) -> Result<(), MapFault>
         ensures { AddsFound (λ _. refused_at place fault) result self.old self.new }
     {
@@ -98,7 +95,7 @@ impl Contents {
         Ok(())
     }
 
-    /// Sets the fault of the image, if it has none yet.
+    /// Keeps an earlier fault of the image.
     pub(crate) fn refuse(&mut self, fault: MapFault)
         ensures { (file : List ℕ) → GrowsBy file (refused fault) self.old self.new }
     {

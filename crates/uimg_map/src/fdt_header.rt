@@ -46,7 +46,6 @@ pub struct FdtHeader {
     pub size_dt_struct: u32,
 }
 
-// Reads the numbers at their offsets.
 fn fdt_header_at_start(bytes: &[u8; BLOB_HEADER_LEN]) -> FdtHeader
     ensures { result ≡ fdt_header_at_start bytes.now }
 {

@@ -56,7 +56,6 @@ fn add_blocks<S: Source>(source: &mut S, contents: &mut Contents) -> Result<(), 
     Ok(())
 }
 
-// Adds the payloads, or the fault of the image.
 fn add_surveyed<S: Source>(
     alloc: Global,
     source: &mut S,
@@ -108,7 +107,6 @@ fn add_refused(fault: Fault, contents: &mut Contents) -> Result<(), MapFault>
     }
 }
 
-// Returns whether a fault of a blob is refused memory.
 fn refuses_memory(fault: BlobFault) -> bool
     ensures { result ≡ refuses_memory fault }
 {
@@ -118,7 +116,6 @@ fn refuses_memory(fault: BlobFault) -> bool
     }
 }
 
-// Adds the payloads of the images of a survey.
 fn add_payloads<S: Source>(
     source: &mut S,
     survey: &Survey,
@@ -136,7 +133,6 @@ fn add_payloads<S: Source>(
     Ok(())
 }
 
-// Adds the payload of an image, or its fault.
 fn add_image<S: Source>(
     source: &mut S,
     totalsize: u32,
@@ -161,7 +157,6 @@ fn add_image<S: Source>(
     }
 }
 
-// Adds the payload of an image at this span.
 fn add_payload(image: &ImageFacts, span: Span, contents: &mut Contents) -> Result<(), MapFault>
     requires { (span.place < 2 ^ 41) × (span.length < 2 ^ 32) }
     ensures { AddsFound (λ file. payload_told contents.old.size (read_image file image.now) (Ok span)) result
@@ -173,7 +168,6 @@ fn add_payload(image: &ImageFacts, span: Span, contents: &mut Contents) -> Resul
     Ok(())
 }
 
-// Returns the label of an image's payload at this span.
 fn payload_label(image: &ImageFacts, span: Span) -> Label
     ensures { (file : List ℕ) → read_label file result ≡ what_payload (read_image file image.now) span }
 {

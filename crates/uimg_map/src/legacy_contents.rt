@@ -13,8 +13,8 @@ use crate::fault::MapFault;
 use uimg_base::{Source, SourceFault, be32_at, up4};
 use uimg_legacy::{Fault, HEADER_LEN, Header, LegacyFault, has_parts, read_header};
 
-/// Adds what is in the file of a legacy image: the header and the data, for the types multi and
-/// script the table of sizes and the parts; or the header's fault. Reads no data but the table.
+/// Adds the header and the data, for the types multi and script the table of sizes and the parts;
+/// or the header's fault. Reads no data but the table.
 pub(crate) fn add_legacy<S: Source>(source: &mut S, contents: &mut Contents) -> Result<(), MapFault>
     requires { contents.old.size ≡ length (S.device source.old).bytes }
     ensures { Gathers legacy_work legacy_contents result (S.device source.old) (S.device source.new)
@@ -35,7 +35,6 @@ pub(crate) fn add_legacy<S: Source>(source: &mut S, contents: &mut Contents) -> 
     }
 }
 
-// Returns a fault of a legacy image as one of a map.
 fn legacy_fault(fault: LegacyFault) -> MapFault
     ensures { result ≡ legacy_fault fault }
 {
@@ -55,7 +54,6 @@ fn add_refused(fault: LegacyFault, contents: &mut Contents) -> Result<(), MapFau
     Ok(())
 }
 
-// Returns whether a fault of a header is its CRC.
 fn is_bad_crc(fault: LegacyFault) -> bool
     ensures { result ≡ is_bad_crc fault }
 {
@@ -65,7 +63,6 @@ fn is_bad_crc(fault: LegacyFault) -> bool
     }
 }
 
-// Adds the header of `size` bytes of data.
 fn add_header(size: u32, contents: &mut Contents) -> Result<(), MapFault>
     ensures { AddsFound (λ _. header_told contents.old.size size) result contents.old contents.new }
 {
@@ -81,7 +78,6 @@ fn end_of(size: u32) -> u64
     HEADER_LEN as u64 + size as u64
 }
 
-// Adds the data of a header.
 fn add_data<S: Source>(
     source: &mut S,
     header: &Header,
@@ -128,7 +124,6 @@ fn first_part(count: u32) -> u64
     HEADER_LEN as u64 + 4 * (count as u64 + 1)
 }
 
-// Adds a table without an end, of `size` bytes of data.
 fn add_endless(size: u32, contents: &mut Contents) -> Result<(), MapFault>
     ensures { AddsFound (λ _. endless_told contents.old.size size LegacyFault.NoTableEnd) result
         contents.old contents.new }
@@ -159,7 +154,6 @@ fn count_sizes<S: Source>(source: &mut S, size: u32) -> Result<Option<u32>, Sour
     Ok(None)
 }
 
-// Reads a word after the header, by its number, if the file has it.
 #[tactic(auto, unfolding(crate::specs::Tables::word_at, uimg_texts::specs::Numbers::be32))]
 fn size_at<S: Source>(source: &mut S, number: u32) -> Result<Option<u32>, SourceFault>
     ensures uses { Asks 4 (is_err result) (S.device source.old) (S.device source.new) }
@@ -205,8 +199,8 @@ fn add_parts<S: Source>(
     Ok(())
 }
 
-// Adds a part of data that end at `end`, and the padding after it, unless it is the last. Returns
-// whether it ends after the data, which is a fault.
+// The data ends at `end`. Adds the padding after the part, unless it is the last. Returns whether
+// it ends after the data, which is a fault.
 fn add_part(
     number: u32,
     at: u64,

@@ -20,8 +20,8 @@ use uimg_base::Source;
 // The letters of a bar.
 const CELLS: u32 = 32;
 
-/// Writes the rows of a map, a line each: where it begins and ends, in hexadecimal, its size, its
-/// bar, and what it is. Names are read from the source. What was written before a failure stays.
+/// Writes the rows of a map, a line each: the range in hexadecimal, its size, its bar, and what it
+/// is. Names are read from the source. What was written before a failure stays.
 pub fn put_lines<S: Source, W: Write>(
     alloc: Global,
     source: &mut S,
@@ -39,7 +39,6 @@ pub fn put_lines<S: Source, W: Write>(
     Ok(())
 }
 
-// Writes the line of a row with this text.
 fn put_line<W: Write>(size: u64, row: &Row, text: &str, out: &mut W) -> io::Result<()>
     ensures { OnOk result (Appends (W.contents out.old) (W.contents out.new)
         (line_text size row.now text.now)) }
@@ -63,7 +62,6 @@ impl<'a> Display for Cells<'a> {
     }
 }
 
-// Writes the cells of a bar.
 fn put_cells<W: fmt::Write>(size: u64, row: &Row, f: &mut Formatter<W>) -> fmt::Result
     ensures { WritesOnOk W.Write.write_str_gives f.old result (bar_text size row.now) f.new }
 {

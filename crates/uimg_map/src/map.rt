@@ -47,14 +47,13 @@ pub(crate) enum Standing {
 }
 
 impl Map {
-    /// Returns what a thing is, if it is one of this map.
     pub(crate) fn label_of(&self, thing: Thing) -> Option<Label>
         ensures { result ≡ label_of self.now thing }
     {
         self.labels.get(thing.number).copied()
     }
 
-    /// Returns whether a thing shares bytes with an earlier one, `over`.
+    /// `over` is an earlier thing that shares bytes with this one.
     pub(crate) fn standing_of(&self, thing: Thing, over: Option<Thing>) -> Standing
         ensures { result ≡ standing_of self.now thing over }
     {
@@ -71,13 +70,15 @@ impl Map {
 
 /// Returns the map of a file: of a FIT image if it begins as a blob, else of a legacy image. A
 /// refused image has a map too, with what its header says and its fault, at its offset if it has
-/// one; a payload or part that ends after the file is a fault too. Reads no payload and no part.
+/// one. A payload or part that ends after the file is a fault too.
+///
+/// Reads no payload and no part. Requests the four bytes of the format. Of a FIT image it requests
+/// at most the header's numbers, the reservation block, which ends in the file, the index and 12
+/// bytes for each image. Of a legacy image it requests the header, 8 bytes for each size in its
+/// table and 4 for the word after them.
 ///
 /// Returns a fault only if a read failed, or memory was refused for a FIT image's nodes or for the
-/// map: some 500 bytes for an image, 300 for a part. Requests the four bytes of the format. Of a
-/// FIT image it requests at most the header's numbers, the reservation block, which ends in the
-/// file, the index and 12 bytes for each image; of a legacy image the header, 8 bytes for each size
-/// in its table and 4 for the word after them.
+/// map: some 500 bytes for an image, 300 for a part.
 pub fn map_of<S: Source>(alloc: Global, source: &mut S) -> Result<Map, MapFault>
     ensures uses { UsesAtMost (map_work (S.device source.old).bytes) (is_read result)
         (S.device source.old) (S.device source.new) }
@@ -105,7 +106,6 @@ pub fn map_of<S: Source>(alloc: Global, source: &mut S) -> Result<Map, MapFault>
     })
 }
 
-// Adds what is in the file of an image.
 fn add_contents<S: Source>(
     alloc: Global,
     source: &mut S,

@@ -42,7 +42,7 @@ const LETTERS: usize = 86;
 
 const TITLE_LETTERS: usize = 72;
 
-/// What a bar is the bar of, with its colour.
+/// What a bar shows, with its colour.
 #[derive(Clone, Copy, Debug, PartialEq, Eq)]
 enum Kind {
     Item,
@@ -89,7 +89,6 @@ pub fn put_picture<S: Source, W: Write>(
     Ok(())
 }
 
-// Writes the rows that are drawn.
 fn put_rows<S: Source, W: Write>(
     alloc: Global,
     source: &mut S,
@@ -109,7 +108,6 @@ fn put_rows<S: Source, W: Write>(
     Ok(())
 }
 
-// Returns the top of a row.
 fn top_of(index: usize) -> u32
     requires { index < 1000 }
     ensures { result ≡ 70 + 40 * index }
@@ -117,7 +115,6 @@ fn top_of(index: usize) -> u32
     HEAD + ROW * index as u32
 }
 
-// Writes what comes before the rows.
 fn put_head<W: Write>(map: &Map, name: &str, out: &mut W) -> io::Result<()>
     ensures { OnOk result (Appends (W.contents out.old) (W.contents out.new)
         (head_text name.now map.now.size (length map.now.rows.items))) }
@@ -131,7 +128,6 @@ fn put_head<W: Write>(map: &Map, name: &str, out: &mut W) -> io::Result<()>
     Ok(())
 }
 
-// Writes the beginning of a picture.
 fn put_opening<W: Write>(height: u64, out: &mut W) -> io::Result<()>
     ensures { OnOk result (Appends (W.contents out.old) (W.contents out.new)
         (opening_text height)) }
@@ -143,7 +139,6 @@ fn put_opening<W: Write>(height: u64, out: &mut W) -> io::Result<()>
     )
 }
 
-// Writes the background of a picture.
 fn put_background<W: Write>(height: u64, out: &mut W) -> io::Result<()>
     ensures { OnOk result (Appends (W.contents out.old) (W.contents out.new)
         (background_text height)) }
@@ -155,7 +150,6 @@ fn put_background<W: Write>(height: u64, out: &mut W) -> io::Result<()>
     )
 }
 
-// Writes the name and the size of the file.
 fn put_heading<W: Write>(name: &str, size: u64, out: &mut W) -> io::Result<()>
     ensures { OnOk result (Appends (W.contents out.old) (W.contents out.new)
         (heading_text name.now size)) }
@@ -170,7 +164,6 @@ fn put_heading<W: Write>(name: &str, size: u64, out: &mut W) -> io::Result<()>
     )
 }
 
-// Returns the height of a picture.
 fn height_of(rows: usize) -> u64
     ensures { result ≡ picture_height rows }
 {
@@ -178,7 +171,6 @@ fn height_of(rows: usize) -> u64
     HEAD as u64 + drawn * ROW as u64 + MARGIN
 }
 
-// Writes what the picture is of.
 fn put_title<W: Write>(name: &str, size: u64, out: &mut W) -> io::Result<()>
     ensures { OnOk result (Appends (W.contents out.old) (W.contents out.new)
         (title_text name.now size)) }
@@ -186,7 +178,6 @@ fn put_title<W: Write>(name: &str, size: u64, out: &mut W) -> io::Result<()>
     writeln!(out, "<title>{}, {size} bytes</title>", Escaped(name))
 }
 
-// Writes the legend: what each colour means.
 fn put_legend<W: Write>(out: &mut W) -> io::Result<()>
     ensures { OnOk result (Appends (W.contents out.old) (W.contents out.new)
         (legend_text)) }
@@ -199,7 +190,6 @@ fn put_legend<W: Write>(out: &mut W) -> io::Result<()>
     Ok(())
 }
 
-// Writes an item of the legend, so far from the left.
 fn put_item<W: Write>(kind: Kind, words: &str, left: u32, out: &mut W) -> io::Result<()>
     ensures { OnOk result (Appends (W.contents out.old) (W.contents out.new)
         (legend_item kind words.now left)) }
@@ -235,7 +225,6 @@ fn put_whole<W: Write>(row: &Row, text: &str, out: &mut W) -> io::Result<()>
     writeln!(out, "<title>{}{}</title>", Place(row), Escaped(text))
 }
 
-// Writes where a row is, and what it is.
 fn put_text<W: Write>(top: u32, row: &Row, text: &str, out: &mut W) -> io::Result<()>
     ensures { OnOk result (Appends (W.contents out.old) (W.contents out.new)
         (shown_text top row.now text.now)) }
@@ -265,7 +254,6 @@ fn put_bar<W: Write>(top: u32, map: &Map, row: &Row, out: &mut W) -> io::Result<
     put_rect(left, top as u64 + 20, bar.to - bar.from, kind.colour(), out)
 }
 
-// Writes a rectangle.
 fn put_rect<W: Write>(x: u64, y: u64, width: u32, colour: &str, out: &mut W) -> io::Result<()>
     ensures { OnOk result (Appends (W.contents out.old) (W.contents out.new)
         (rect_text x y width colour.now)) }
@@ -276,7 +264,8 @@ fn put_rect<W: Write>(x: u64, y: u64, width: u32, colour: &str, out: &mut W) -> 
     )
 }
 
-// Returns a bar that shows: a fault, and what begins outside the file, have a mark at their offset.
+// Widens a bar that would not show: a fault, and what begins outside the file, have a mark at their
+// offset.
 fn marked(bar: Bar, kind: Kind, map: &Map, row: &Row) -> Bar
     requires ordered { bar.from ≤ bar.to }
     requires cells { bar ≡ record {
@@ -304,7 +293,6 @@ fn marked(bar: Bar, kind: Kind, map: &Map, row: &Row) -> Bar
     }
 }
 
-// Returns what a row is.
 fn kind_of(map: &Map, row: &Row) -> Kind
     ensures { result ≡ kind_of map.now row.now }
 {

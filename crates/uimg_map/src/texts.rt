@@ -17,9 +17,9 @@ use uimg_printing::PrintedWord;
 // The longest name of a node, in bytes.
 const NAME_LEN: usize = 255;
 
-/// Returns the text of a row: for a thing its name, which is read from the source, then the earlier
-/// thing that it overlaps, if any, and whether it ends after the file. Two spaces before a payload
-/// mark the value of a property, which is in the structure block, as it should be.
+/// For a thing: its name, which is read from the source, then the earlier thing that it overlaps,
+/// if any, and whether it ends after the file. Two spaces before a payload mark the value of a
+/// property, which is in the structure block, as it should be.
 pub(crate) fn text_of<S: Source>(
     alloc: Global,
     source: &mut S,
@@ -38,7 +38,6 @@ pub(crate) fn text_of<S: Source>(
     }
 }
 
-// Returns the text of a thing, which may share bytes with an earlier one.
 fn thing_text<S: Source>(
     alloc: Global,
     source: &mut S,
@@ -63,7 +62,6 @@ fn thing_text<S: Source>(
     }
 }
 
-// Returns what is said of a thing that ends after a file of `size` bytes.
 #[tactic(auto, unfolding(crate::specs::Labels::outside_text))]
 fn outside_text(size: u64, thing: Thing) -> &'static str
     ensures { result.now ≡ outside_text size thing }
@@ -75,7 +73,6 @@ fn outside_text(size: u64, thing: Thing) -> &'static str
     }
 }
 
-// Returns the name of a thing by its label.
 fn label_text<S: Source>(
     alloc: Global,
     source: &mut S,
@@ -96,7 +93,6 @@ fn label_text<S: Source>(
     Ok(text)
 }
 
-// Returns the name of a payload by the span of its image's name.
 fn payload_text<S: Source>(alloc: Global, source: &mut S, name: Span) -> Result<String, MapFault>
     ensures uses { ReadsNames 255 result (S.device source.old) (S.device source.new) }
     ensures tells { HonestSource S.device source →
@@ -113,7 +109,6 @@ fn payload_text<S: Source>(alloc: Global, source: &mut S, name: Span) -> Result<
     Ok(format!(in alloc; "payload of {}", PrintedWord(&bytes[..length]))?)
 }
 
-// Returns the word for a thing without a name of its own.
 fn word_of(label: Label) -> &'static str
     ensures { result.now ≡ word_of label }
 {

@@ -38,14 +38,12 @@ impl<'a> Display for Cut<'a> {
     }
 }
 
-/// Returns whether a text has at most so many characters.
 pub(crate) fn fits(text: &str, most: usize) -> bool
     ensures { result ≡ nat_le (length (chars text.now)) most }
 {
     text.chars().count() <= most
 }
 
-// Writes a text.
 fn put_text<W: Write>(text: &str, f: &mut Formatter<W>) -> fmt::Result
     ensures { WritesOnOk W.Write.write_str_gives f.old result (escaped text.now) f.new }
 {
@@ -56,7 +54,6 @@ fn put_text<W: Write>(text: &str, f: &mut Formatter<W>) -> fmt::Result
     Ok(())
 }
 
-// Writes the first `count` characters of a text, or all.
 fn put_first<W: Write>(text: &str, count: usize, f: &mut Formatter<W>) -> fmt::Result
     ensures { WritesOnOk W.Write.write_str_gives f.old result
         (flat_map letter_text (take count (chars text.now))) f.new }

@@ -49,7 +49,6 @@ impl Field {
         }
     }
 
-    // Returns the printed name of a code in image.h.
     pub(crate) fn text_of(self, code: u8) -> &'static str
         ensures { result.now ≡ name_printed (all_rows self) (unknown self) code }
     {
@@ -62,7 +61,7 @@ impl Field {
         self.unknown()
     }
 
-    // Looks up the code of a name of image.h. Case does not matter.
+    // Case does not matter.
     pub(crate) fn code_of(self, name: &[u8]) -> Option<u8>
         ensures { result ≡ code_in_any_case (all_rows self) name.now }
     {
@@ -76,7 +75,7 @@ impl Field {
     }
 }
 
-// Returns whether two names are equal, ignoring case.
+// Case does not matter.
 fn is_same(short: &str, name: &[u8]) -> bool
     ensures { result ≡ str_eq_ignore_ascii_case short.now name.now }
 {

@@ -9,7 +9,6 @@ use uimg_texts::{
     arch_code, arch_text, comp_code, comp_text, kind_code, kind_text, os_code, os_text,
 };
 
-// Returns the printed name of a code in the profile.
 pub(crate) fn profile_text(field: Field, code: u8) -> &'static str
     ensures { result.now ≡ name_printed (profile_rows field) (unknown field) code }
 {
@@ -21,7 +20,6 @@ pub(crate) fn profile_text(field: Field, code: u8) -> &'static str
     }
 }
 
-// Looks up the code of a name of the profile.
 pub(crate) fn profile_code(field: Field, name: &[u8]) -> Option<u8>
     ensures { result ≡ code_of (profile_rows field) name.now }
 {

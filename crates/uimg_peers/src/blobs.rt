@@ -11,7 +11,7 @@ use uimg_dts::compile_all;
 use uimg_engine::DiskFiles;
 use uimg_its::compile;
 
-// Writes the blob of a source to standard output. The files that it names are in its folder.
+// The files that the source names are in its folder.
 pub(crate) fn compile_source<R: Files + Print + AllocGlobal>(rt: &R, path: &str) -> io::Result<()> {
     let text = fs::read(rt, path)?;
     let mut files = DiskFiles::new(rt, folder_of(path));
@@ -21,7 +21,7 @@ pub(crate) fn compile_source<R: Files + Print + AllocGlobal>(rt: &R, path: &str)
     write_blob(rt, &tree, &[], path)
 }
 
-// The same for a source in the whole language of dtc. A fault is printed.
+// The source is in the whole language of dtc. A fault is printed.
 pub(crate) fn compile_whole<R: Files + Print + AllocGlobal>(rt: &R, path: &str) -> io::Result<()> {
     let text = fs::read(rt, path)?;
     let mut files = DiskFiles::new(rt, folder_of(path));
@@ -34,7 +34,6 @@ pub(crate) fn compile_whole<R: Files + Print + AllocGlobal>(rt: &R, path: &str) 
     }
 }
 
-// Writes the blob of a tree with reservations to standard output.
 fn write_blob<R: Files + Print + AllocGlobal>(
     rt: &R,
     tree: &Tree<Global>,
@@ -60,7 +59,6 @@ fn folder_of(path: &str) -> &str {
     }
 }
 
-// Prints the number of a blob's nodes.
 pub(crate) fn count_nodes<R: Print + Alloc, S: Source>(rt: &R, source: &mut S) -> io::Result<()> {
     let mut room = Room::new(rt.alloc());
     match index(source, &mut room) {

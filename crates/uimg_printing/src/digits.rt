@@ -17,7 +17,6 @@ fn digit(value: u8) -> u8
     }
 }
 
-// Writes both hexadecimal digits of a byte.
 pub(crate) fn put_digits<W: Write>(byte: u8, f: &mut Formatter<W>) -> fmt::Result
     ensures { WritesOnOk W.Write.write_str_gives f.old result (digits_of byte) f.new }
 {

@@ -30,7 +30,6 @@ const HIDDEN: [(char, char); 22] = [
     ('\u{e0001}', '\u{e007f}'),
 ];
 
-// Returns whether a character is in one of the ranges.
 fn is_among(letter: char, ranges: &[(char, char)]) -> bool
     ensures { result ≡ list_any (is_in letter) ranges.now }
 {

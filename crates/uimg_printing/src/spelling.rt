@@ -17,7 +17,7 @@ pub struct Spelling {
     pub base64: Option<String>,
 }
 
-/// Spells a name. A UTF-8 name is its own text, alone. Returns `AllocError` if memory was refused.
+/// Spells a name. A UTF-8 name is only its own text. Returns `AllocError` if memory was refused.
 pub fn spell(alloc: Global, name: &[u8]) -> Result<Spelling, AllocError>
     ensures text { IfOk result (λ s. string_bytes s.text ≡ utf8_lossy name.now) }
     ensures same { IfOk result (λ s. IsUtf8 name.now →

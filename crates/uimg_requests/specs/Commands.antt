@@ -1,4 +1,4 @@
--- What making needs of its command.
+-- What a build needs of its command.
 use Rattle.std.{specs.Prelude.{◌≡◌, ◌≢◌, ℕ, List, length, map, false, ⊤}, proofs.Props.props}
 use Rattle.uimg_legacy.specs.{Parts.has_parts, declared.options.Options.Options}
 use Rattle.uimg_requests.specs.declared.make_command.MakeCommand.{MakeCommand}

@@ -1,4 +1,4 @@
--- What a making requests.
+-- The request of a build.
 use Rattle.std.specs.{Prelude.{◌≡◌, ◌++◌, ◌==◌, ℕ, List, [], ◌∷◌, map, if◌then◌else◌}, List.list_any}
 use Rattle.uimg_fit_base.specs.declared.placement.Placement.{Placement}
 use Rattle.uimg_legacy.specs.declared.options.Options.{Options}

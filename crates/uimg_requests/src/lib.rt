@@ -1,4 +1,4 @@
-//! Requests to the program: commands on an image, the making of one, and words that they share.
+//! Requests to the program: commands on an image, the build of one, and arguments that they share.
 #![tactic(auto)]
 
 mod command;

@@ -30,7 +30,7 @@ pub enum MakeCommand {
 /// How an image is made.
 #[derive(Clone, Copy, Debug)]
 pub struct Manner {
-    /// The time of the making, in seconds since 1970.
+    /// The time of the build, in seconds since 1970.
     pub time: u32,
 
     /// The names for the listing of the image.

@@ -6,8 +6,8 @@ ghost use Rattle.uimg_requests.specs.Names.{between_colons, part_names};
 use std::alloc::{AllocError, Global};
 use uimg_legacy::has_parts;
 
-/// Returns the file names in the word of -d, by the image type: those between its colons for a type
-/// with parts, else the word itself.
+/// Returns the file names in the argument of -d, by the image type: those between its colons for a
+/// type with parts, else the argument itself.
 pub fn file_names(alloc: Global, kind: u8, word: &str) -> Result<Vec<Vec<u8>>, AllocError>
     ensures { IfOk result
         (λ names. map (λ name. name.items) names.items ≡ part_names kind word.now) }
@@ -21,7 +21,6 @@ pub fn file_names(alloc: Global, kind: u8, word: &str) -> Result<Vec<Vec<u8>>, A
     }
 }
 
-// Returns the names between the colons of a word.
 fn cut_at_colons(alloc: Global, word: &str) -> Result<Vec<Vec<u8>>, AllocError>
     ensures { IfOk result (λ names. map (λ name. name.items) names.items ≡ between_colons word.now) }
 {

@@ -25,7 +25,7 @@ pub fn hexadecimal(text: &str) -> Option<u32>
     }
 }
 
-// Returns the number of digits of a base. The standard library would accept a plus before them.
+// The standard library would accept a plus before the digits.
 fn number(text: &str, base: u32) -> Option<u32>
     requires least { 2 ≤ base }
     requires most { base ≤ 36 }

@@ -28,7 +28,7 @@ pub struct RunRequest<'a> {
     pub outfile: Option<&'a str>,
 }
 
-/// The making of an image.
+/// The build of an image.
 #[derive(Drop)]
 pub struct MakeRequest<'a> {
     /// What it is made from, with names of files that `make` accepts.
@@ -55,8 +55,8 @@ pub struct MakeRequest<'a> {
 impl<'a> MakeRequest<'a> {
     ghost use Rattle.uimg_requests.specs.Plain.{IsAt, IsPlain};
 
-    /// Returns the request for a legacy image from the files in the word of -d, listed with the
-    /// names of the profile. Memory for the files' names may be refused.
+    /// Returns the request for a legacy image from the files in the argument of -d, listed with the
+    /// names of the profile. Fails if memory for the files' names is refused.
     #[tactic(auto, using(crate::proofs::NameLaws::names_fit))]
     pub fn of_parts(
         alloc: Global,
@@ -85,10 +85,10 @@ impl<'a> MakeRequest<'a> {
         })
     }
 
-    /// Returns the request for a FIT image from the source at a path, with files in the source's
-    /// folder, listed with the names of the profile, and with payloads padded to multiples of 4.
-    /// Memory for its name may be refused. Folder and name together are the path; the folder ends
-    /// with the last slash.
+    /// Returns the request for a FIT image from the source at a path. Files are in the source's
+    /// folder. The image is listed with the names of the profile, and its payloads are padded to
+    /// multiples of 4. Folder and name together are the path; the folder ends with the last slash.
+    /// Fails if memory for the name is refused.
     pub fn of_source(
         alloc: Global,
         path: &'a str,

@@ -1,4 +1,4 @@
-//! What strictness refuses of a legacy image.
+//! Strict checks of the headers of legacy images.
 
 ghost use Rattle.std.specs.Prelude.{◌≡◌};
 ghost use Rattle.uimg_base.specs.Honest.{IfHonest};
@@ -10,7 +10,6 @@ use uimg_base::Source;
 use uimg_legacy::{Fault, Header, read_header};
 use uimg_names::Field;
 
-// Returns whether a name in image.h has this code.
 fn has_code(field: Field, code: u8) -> bool
     ensures { result ≡ has_code field code }
 {
@@ -23,7 +22,6 @@ fn has_code(field: Field, code: u8) -> bool
     false
 }
 
-// Returns what is refused of a header.
 fn loose_header(header: &Header) -> Option<Looseness>
     ensures { result ≡ loose_header header.now }
 {

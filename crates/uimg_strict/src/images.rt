@@ -1,4 +1,4 @@
-//! What strictness refuses of images by where their payloads are.
+//! Strict checks of where the payloads of images are.
 
 ghost use Rattle.std.specs.Prelude.{◌≡◌, Some};
 ghost use Rattle.uimg_base.specs.Using.{Uses};
@@ -26,7 +26,6 @@ fn is_odd(cell: Option<Span>) -> bool
     }
 }
 
-// Returns what is refused by the spans of the properties that say where a payload is.
 fn loose_place(
     embedded: Option<Span>,
     size: Option<Span>,
@@ -48,7 +47,6 @@ fn loose_place(
     None
 }
 
-/// Returns that something is refused of an image.
 pub(crate) fn in_image<S: Source, A: Allocator>(
     alloc: Global,
     source: &mut S,
@@ -68,7 +66,6 @@ pub(crate) fn in_image<S: Source, A: Allocator>(
     Ok(found)
 }
 
-// Returns what is refused of an image.
 fn loose_image<S: Source, A: Allocator>(
     alloc: Global,
     source: &mut S,
@@ -94,7 +91,6 @@ fn loose_image<S: Source, A: Allocator>(
     in_image(alloc, source, blob, room, image, why)
 }
 
-/// Returns what is refused of the first such image from one on.
 pub(crate) fn first_loose_image<S: Source, A: Allocator>(
     alloc: Global,
     source: &mut S,

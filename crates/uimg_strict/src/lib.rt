@@ -1,5 +1,5 @@
-//! What a strict check refuses of an image whose checksums or hashes are right: a FIT image that
-//! U-Boot reads in another way than the check, or not at all, and a legacy image whose header means
+//! Strict checks of images whose checksums or hashes are right. They refuse a FIT image that U-Boot
+//! reads in another way than the check, or not at all, and a legacy image whose header means
 //! nothing.
 #![tactic(auto)]
 

@@ -1,4 +1,4 @@
-//! What strictness refuses.
+//! Why a strict check refuses an image.
 
 ghost use Rattle.std.specs.Prelude.{◌≡◌};
 ghost use Rattle.uimg_strict.specs.Words.{word_of};
@@ -22,7 +22,7 @@ pub enum Looseness {
     OddCell,
     /// An image has one of these beside `data`.
     TwoPayloads,
-    /// An image has `data-size` alone, or an offset or a position without it.
+    /// An image has only `data-size`, or an offset or a position without it.
     HalfPlace,
     /// libfdt's `fdt_check_full` refuses the header, the reservation block or the root's name.
     UnsoundBlob,
@@ -40,7 +40,7 @@ pub enum Looseness {
     UnknownCompression,
 }
 
-/// What strictness refuses, and the node.
+/// The reason of a refusal, and the node.
 #[derive(Drop)]
 pub struct Loose {
     /// Why.

@@ -1,4 +1,4 @@
-//! Names in memory: which come again, and whether one is among them.
+//! Names in memory: which occur again, and whether one is among them.
 
 ghost use Rattle.std.specs.Prelude.{◌≡◌, ◌+◌, map, IfOk};
 ghost use Rattle.std.specs.Option.{option_map};
@@ -9,7 +9,6 @@ ghost use Rattle.uimg_strict.specs.Telling.{items_of};
 use std::alloc::{AllocError, Global};
 use std::collections::BTreeSet;
 
-// Returns whether a name has an `@`.
 pub(crate) fn has_at(name: &[u8]) -> bool
     ensures { result ≡ has_at name.now }
 {
@@ -21,7 +20,6 @@ pub(crate) fn has_at(name: &[u8]) -> bool
     false
 }
 
-// Returns whether a name is among these.
 pub(crate) fn has_name(name: &[u8], names: &[Vec<u8>]) -> bool
     ensures { result ≡ has_name name.now (map items_of names.now) }
 {
@@ -33,7 +31,6 @@ pub(crate) fn has_name(name: &[u8], names: &[Vec<u8>]) -> bool
     false
 }
 
-// Adds a name to a set.
 fn add_name(alloc: Global, names: &mut BTreeSet<Vec<u8>>, name: &[u8]) -> Result<(), AllocError>
     ensures { OnOk result (AddsName name.now names.old names.new) }
 {

@@ -17,7 +17,6 @@ use uimg_fit_base::Fault;
 use uimg_fit_checking::{SurveyFault, read_bytes};
 use uimg_fit_reading::nodes::{child_of, name_of, next_of};
 
-/// The names in a node.
 #[derive(Drop)]
 pub(crate) struct NodeNames {
     // Its own.
@@ -28,7 +27,6 @@ pub(crate) struct NodeNames {
     pub(crate) properties: Vec<Vec<u8>>,
 }
 
-// Reads the names of the nodes from one on.
 fn node_names<S: Source, A: Allocator>(
     alloc: Global,
     source: &mut S,
@@ -54,7 +52,6 @@ fn node_names<S: Source, A: Allocator>(
     Ok(names)
 }
 
-// Reads the names of properties.
 fn property_names<S: Source>(
     alloc: Global,
     source: &mut S,
@@ -76,7 +73,6 @@ fn property_names<S: Source>(
     Ok(names)
 }
 
-// Lists the properties of a node.
 fn list_properties<S: Source, A: Allocator>(
     alloc: Global,
     source: &mut S,
@@ -100,7 +96,6 @@ fn list_properties<S: Source, A: Allocator>(
     }
 }
 
-// Reads the names of a node's properties.
 fn own_names<S: Source, A: Allocator>(
     alloc: Global,
     source: &mut S,
@@ -118,7 +113,6 @@ fn own_names<S: Source, A: Allocator>(
     Ok(names)
 }
 
-/// Reads the names in a node.
 pub(crate) fn names_of<S: Source, A: Allocator>(
     alloc: Global,
     source: &mut S,

@@ -1,4 +1,4 @@
-//! What strictness refuses of nodes by the names in them.
+//! Strict checks of the names in nodes.
 
 ghost use Rattle.std.specs.Prelude.{◌≡◌, Some, length, IfOk};
 ghost use Rattle.std.specs.Option.{option_map};
@@ -20,7 +20,7 @@ use uimg_fit_checking::SurveyFault;
 /// The property by which U-Boot skips a hash node.
 const IGNORE: &[u8] = b"uboot-ignore";
 
-/// Returns that something is refused of the node of a name. Fails if memory was refused.
+/// Fails if memory was refused.
 pub(crate) fn in_node(
     alloc: Global,
     why: Looseness,
@@ -35,7 +35,7 @@ pub(crate) fn in_node(
     }))
 }
 
-// Returns what is refused by the names in a node. Fails if memory was refused.
+// Fails if memory was refused.
 fn loose_names(alloc: Global, names: &NodeNames) -> Result<Option<Loose>, AllocError>
     ensures { IfOk result (λ found.
         option_map read_loose found ≡ loose_names (read_names names.now)) }
@@ -56,7 +56,6 @@ fn loose_names(alloc: Global, names: &NodeNames) -> Result<Option<Loose>, AllocE
     Ok(None)
 }
 
-// Returns what is refused of a node.
 fn loose_node<S: Source, A: Allocator>(
     alloc: Global,
     source: &mut S,
@@ -74,7 +73,6 @@ fn loose_node<S: Source, A: Allocator>(
     Ok(found)
 }
 
-/// Returns what is refused of the first such node.
 pub(crate) fn first_loose_node<S: Source, A: Allocator>(
     alloc: Global,
     source: &mut S,

@@ -1,4 +1,4 @@
-//! What strictness refuses of payloads after the tree, by their order.
+//! Strict checks of the order of payloads after the tree.
 
 ghost use Rattle.std.specs.Prelude.{◌≡◌, ◌+◌, ◌<◌, ◌^◌, ℕ, List, is_err, IfOk, IfSome};
 ghost use Rattle.uimg_base.specs.Using.{Uses};
@@ -18,7 +18,7 @@ use uimg_fit_checking::SurveyFault;
 use uimg_fit_reading::nodes::next_of;
 use uimg_fit_reading::{find_payload, payload_facts};
 
-// Returns the place of a payload after the tree, or none of another payload.
+// Returns `None` for a payload in the tree, or one that is not found.
 fn external_place<S: Source, A: Allocator>(
     source: &mut S,
     blob: &Blob,

@@ -41,7 +41,6 @@ fn is_last<S: Source>(source: &mut S, at: u64) -> Result<bool, SourceFault>
     Ok(be32_at(&entry, 8) == 0 && be32_at(&entry, 12) == 0)
 }
 
-// Returns whether one of `count` entries from an offset on is the last.
 fn ends_among<S: Source>(source: &mut S, at: u64, count: u64) -> Result<bool, SourceFault>
     requires { at + 16 * count ≤ length (S.device source.old).bytes }
     ensures uses { Uses (is_err result) (S.device source.old) (S.device source.new) }

@@ -1,4 +1,4 @@
-//! The first thing in a FIT image that strictness refuses.
+//! Finds the first reason for which a strict check refuses a FIT image.
 
 ghost use Rattle.std.specs.Prelude.{◌≡◌, ℕ, List, length, false, IfOk};
 ghost use Rattle.std.specs.Option.{option_map};
@@ -29,14 +29,12 @@ use uimg_fit_reading::images::first_image;
 use uimg_fit_reading::nodes::root_value;
 use uimg_fit_reading::read_tree;
 
-// Returns that something is refused of the root or the blob.
 fn in_root(why: Looseness) -> Loose
     ensures { read_loose result ≡ in_root why }
 {
     Loose { why, node: None }
 }
 
-// Returns what is refused of the root.
 fn loose_root<A: Allocator>(blob: &Blob, room: &Room<A>) -> Option<Loose>
     ensures { (file : List ℕ) (t : Siblings) → IsRead file blob.now room.now.entries t →
         option_map read_loose result ≡ loose_root
@@ -52,7 +50,6 @@ fn loose_root<A: Allocator>(blob: &Blob, room: &Room<A>) -> Option<Loose>
     None
 }
 
-// Returns what is refused of a tree with these images.
 fn loose_in<S: Source, A: Allocator>(
     alloc: Global,
     source: &mut S,
@@ -82,7 +79,6 @@ fn loose_in<S: Source, A: Allocator>(
     Ok(place)
 }
 
-// Returns whether the root has no name.
 fn is_nameless<A: Allocator>(blob: &Blob, room: &Room<A>) -> bool
     ensures { (file : List ℕ) (t : Siblings) → IsRead file blob.now room.now.entries t →
         result ≡ is_nameless (spots t) }
@@ -93,7 +89,6 @@ fn is_nameless<A: Allocator>(blob: &Blob, room: &Room<A>) -> bool
     blob.name(room, 0).length == 0
 }
 
-// Returns what is refused of a file with such a tree.
 fn loose_file<S: Source, A: Allocator>(
     alloc: Global,
     source: &mut S,
@@ -118,14 +113,16 @@ fn loose_file<S: Source, A: Allocator>(
     Ok(found)
 }
 
-/// Returns the first thing that strictness refuses in a FIT image, with the name of its node: of
-/// the blob, else of the root, else of a node by the names in it, in reading order, else of an
-/// image by where its payload is.
+/// Returns the first thing that strictness refuses in a FIT image, with the name of its node. The
+/// order is: the blob, the root, a node by the names in it, in reading order, an image by where its
+/// payload is.
 ///
-/// Indexes the blob again. Reads the header, the reservation block, names, and the cells of payloads
-/// after the tree. It takes memory for the names in one node.
-/// Returns the faults of the blob, then `NoImages`; `OutOfMemory` if memory for names was refused,
-/// and `Changed` only if the source does not have the blob that was indexed.
+/// Indexes the blob again. Reads the header, the reservation block, names, and the cells of
+/// payloads after the tree. Takes memory for the names in one node.
+///
+/// - The faults of the blob, then `NoImages`.
+/// - `OutOfMemory`: memory for names was refused.
+/// - `Changed`: only if the source does not have the blob that was indexed.
 pub fn find_loose<S: Source, A: Allocator>(
     alloc: Global,
     source: &mut S,

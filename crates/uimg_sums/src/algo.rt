@@ -29,7 +29,6 @@ pub const ALGOS: [Algo; 7] = [
     Algo::Sha512,
 ];
 
-// Looks up an algorithm by its name among others.
 fn named_among(among: &[Algo], name: &[u8]) -> Option<Algo>
     ensures { result ≡ named_among among.now name.now }
 {
@@ -60,7 +59,7 @@ impl Algo {
         named_among(&ALGOS, name)
     }
 
-    // Returns the name, and the length of a digest in bytes.
+    // The length of a digest is in bytes.
     fn row(self) -> (&'static str, usize)
         ensures name { result.0.now ≡ algo_name self }
         ensures size { result.1 ≡ digest_size self }

@@ -72,7 +72,7 @@ impl AnySum {
     }
 }
 
-// Returns the digest of a sum, padded with zeros, and its length in bytes.
+// Zeros pad the digest. The length is in bytes.
 fn finished<M: Summer>(sum: M) -> ([u8; 64], usize)
     ensures { (fed : List ℕ) → M.holds sum fed → result ≡ padded_digest (M.digest fed) }
 {

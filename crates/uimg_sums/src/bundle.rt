@@ -109,7 +109,6 @@ impl Sums for Bundle {
     }
 }
 
-// Feeds the bytes to the sum of a slot, if it has one.
 fn feed_slot(slot: &mut Option<AnySum>, bytes: &[u8])
     ensures algo { option_map algo_of slot.new ≡ option_map algo_of slot.old }
     ensures fed { (fed : List ℕ) → SlotHolds fed slot.old → SlotHolds (fed ++ bytes.now) slot.new }
@@ -119,7 +118,7 @@ fn feed_slot(slot: &mut Option<AnySum>, bytes: &[u8])
     }
 }
 
-// Returns the digest of a slot's sum, or zeros and length 0 if it has none.
+// Zeros and length 0 if the slot has no sum.
 fn digest_of(slot: Option<AnySum>) -> ([u8; 64], usize)
     ensures { (fed : List ℕ) → SlotHolds fed slot →
         result ≡ padded_digest (digest_at fed (option_map algo_of slot)) }

@@ -27,7 +27,6 @@ fn bring_down(remainder: u16, bit: u32) -> u16
     }
 }
 
-// Brings down the bits of a byte.
 fn byte_down(remainder: u16, byte: u8) -> u16
     ensures { result ≡ byte_down remainder byte }
 {
@@ -42,7 +41,6 @@ fn byte_down(remainder: u16, byte: u8) -> u16
     bring_down(remainder, byte % 2)
 }
 
-// Brings down the bits of bytes.
 fn bytes_down(mut remainder: u16, bytes: &[u8]) -> u16
     ensures { result ≡ fold byte_down remainder bytes.now }
 {

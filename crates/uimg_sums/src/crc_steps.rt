@@ -54,8 +54,7 @@ fn word_step_of(register: u32, word: [u8; 16]) -> u32
     entries_after(0, (number >> 64) as u64) ^ entries_after(8, low)
 }
 
-// Steps over the words in order. It is not inlined so that its loop has the processor's registers
-// to itself.
+// Steps over the words in order. Not inlined, to keep the processor's registers for its loop.
 #[inline(never)]
 pub(crate) fn word_steps_of(mut register: u32, words: &[[u8; 16]]) -> u32
     ensures { result ≡ fold byte_step register (concat words.now) }

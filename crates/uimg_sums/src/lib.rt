@@ -1,5 +1,5 @@
-//! Checksums and hashes over bytes that come in pieces: CRC, MD5 and SHA, by name, one or
-//! several at once.
+//! Checksums and hashes over bytes that come in pieces: CRC, MD5 and SHA, by name, one or several
+//! at once.
 #![tactic(auto)]
 
 mod algo;

@@ -1,5 +1,5 @@
-//! Tests of the names and signatures of all calls that callers outside name, a file for each crate:
-//! each call is written down with its types, and called once.
+//! Tests of the names and signatures of all public calls, a file for each crate. Each call is
+//! written down with its types, and called once.
 #![tactic(auto)]
 
 #[cfg(test)]

@@ -1,4 +1,4 @@
-//! The calls of each crate, by its name alone.
+//! The calls of each crate, which is the only one that its file names.
 
 mod base;
 mod blob;

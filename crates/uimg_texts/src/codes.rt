@@ -7,7 +7,6 @@ ghost use Rattle.uimg_texts.specs.{Names.{code_of, name_printed}, CodeRows.row_o
 /// header, and the name as in listings.
 pub type CodeRow = (&'static str, u8, &'static str);
 
-// Looks up the code in the first row with this short name.
 pub(crate) fn code_in(rows: &[CodeRow], name: &[u8]) -> Option<u8>
     ensures { result ≡ code_of (map row_of rows.now) name.now }
 {
@@ -19,7 +18,6 @@ pub(crate) fn code_in(rows: &[CodeRow], name: &[u8]) -> Option<u8>
     None
 }
 
-// Looks up the printed name in the first row with this code. Returns `unknown` if no row has it.
 pub(crate) fn printed_in(rows: &[CodeRow], unknown: &'static str, code: u8) -> &'static str
     ensures { result.now ≡ name_printed (map row_of rows.now) unknown.now code }
 {

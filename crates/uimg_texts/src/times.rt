@@ -30,7 +30,7 @@ struct Moment {
     ghost second_in: { second < 60 },
 }
 
-// Returns the date and time of day in UTC that many seconds after 1 January 1970.
+// UTC, that many seconds after 1 January 1970.
 fn utc_datetime(seconds: u32) -> DateTime
     ensures { civil_nanos result ≡ pos (seconds * 1_000_000_000) }
 {
@@ -40,14 +40,13 @@ fn utc_datetime(seconds: u32) -> DateTime
     Offset::UTC.to_datetime(instant).to_plain()
 }
 
-// Returns the day of the week, 0 for Sunday. Day 0 was a Thursday.
+// 0 is Sunday. Day 0 was a Thursday.
 fn weekday_of(seconds: u32) -> u8
     ensures { result ≡ weekday (seconds / 86400) }
 {
     ((seconds / 86_400 + 4) % 7) as u8
 }
 
-// Returns the parts of the date and time that many seconds after 1 January 1970.
 fn moment_at(seconds: u32) -> Moment
     ensures year { result.year ≡ (civil_date (seconds / 86400)).year }
     ensures month { result.month ≡ (civil_date (seconds / 86400)).month }

@@ -1,4 +1,4 @@
--- What a command of `uimg` tells on standard error, over the files of a world.
+-- What a command of `uimg` prints on standard error, over the files of a world.
 use Rattle.std.specs.Prelude.{◌≡◌, ◌⊎◌, ℕ, List, Option, Some, None, Err, Result}
 use Rattle.std.specs.Borrow.{Bor}
 use Rattle.uimg_base.specs.{Device.Device, Named.FileMap, Sink.Sink}

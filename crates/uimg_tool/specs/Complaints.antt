@@ -1,4 +1,4 @@
--- What a command leaves: its exit status, and how many faults it told on standard error.
+-- What a command leaves: its exit status, and how many faults it printed on standard error.
 use Rattle.std.specs.Prelude.{◌≡◌, ℕ, ◌+◌, ◌≤◌, List, ◌++◌, codes, Option, Some, None, IfSome, Bool, true, false}
 use Rattle.std.specs.{Bool.OnFalse, Io.KnownBytes.Appends}
 use Rattle.uimg_base.specs.Lent.{Lent}

@@ -1,4 +1,4 @@
--- What the making of an image answers, over the files of a world.
+-- The answer of a build, over the files of a world.
 use Rattle.std.specs.Prelude.{◌≡◌, ◌⊎◌, ℕ, List, [], Option, Result, Ok, Err, Bool, true, false, is_err}
 use Rattle.std.specs.{Io.KnownBytes.Keeps, List.list_any}
 use Rattle.uimg_base.specs.{Device.Device, Named.FileMap, Sink.Sink}

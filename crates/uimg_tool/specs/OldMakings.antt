@@ -1,5 +1,5 @@
--- What the making of an image by the names of mkimage asks of a world, which files it changes, and
--- what it answers.
+-- Builds by the names of mkimage: what they request of a world, which files they change, and what they
+-- answer.
 use Rattle.std.specs.Prelude.{◌≡◌, ⊤, ◌⊎◌, ◌≤◌, ℕ, List, [], ◌∷◌, Option, Some, None, Bool, false, true, not, Result, string_bytes}
 use Rattle.std.specs.Io.KnownBytes.{Keeps}
 use Rattle.uimg_base.specs.{Device.Device, Named.FileMap, Sink.Sink}

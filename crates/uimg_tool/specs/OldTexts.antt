@@ -1,5 +1,5 @@
--- What mkimage and dumpimage tell of the end of a request, the texts that they print, and the exit status
--- of these.
+-- What mkimage and dumpimage print: the end of a request and requested texts; and the exit status of
+-- these.
 use Rattle.std.specs.Prelude.{◌≡◌, ℕ, ◌-◌, ◌^◌, List, [], ◌++◌, codes, Option, Some, None, Result, Ok, Err, false, if◌then◌else◌}
 use Rattle.std.specs.{Fmt.{format_spec, padded}, Str.bytes_eq}
 use Rattle.std.specs.Io.KnownBytes.{Appends}

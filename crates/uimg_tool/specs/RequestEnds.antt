@@ -1,4 +1,4 @@
--- How a request ends: which faults it can have, and that each names a path that the words gave.
+-- How a request ends: which faults it can have, and that each names a path of the command line.
 use Rattle.std.specs.Prelude.{◌≡◌, ⊤, ◌⊎◌, ℕ, List, [], map, slice_get, Some, None, Result, Ok, Err, Bool, true, false}
 use Rattle.std.specs.Borrow.{Bor}
 use Rattle.uimg_base.specs.declared.status.Status.{Status, TheVariants.Done}

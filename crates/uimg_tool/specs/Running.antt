@@ -1,4 +1,4 @@
--- What a command on an image tells and answers, over the files of a world.
+-- What a command on an image prints and answers, over the files of a world.
 use Rattle.std.specs.Prelude.{◌≡◌, ⊤, ◌⊎◌, ℕ, IfSome, List, [], ◌∷◌, Option, Some, None, Result, Ok, Err, Bool, true, false}
 use Rattle.std.specs.{Borrow.Bor, Io.KnownBytes.Appends}
 use Rattle.uimg_base.specs.{Named.FileMap, Outcome.{End, Outcome, done, not_right, refused, Tells}, Sink.Sink}

@@ -1,5 +1,5 @@
--- What mkimage -f asks of a world: whether a key is there, the files of the source that it makes itself,
--- and a new file for a source that has none.
+-- What mkimage -f requests of a world: whether a key exists, the files of the source that it makes
+-- itself, and a new file for a source that has none.
 use Rattle.std.specs.Prelude.{◌≡◌, ◌⊎◌, ◌≤◌, ℕ, List, [], ◌∷◌, ◌++◌, codes, map, Option, Some, None, Bool, false, true}
 use Rattle.std.specs.Borrow.{Bor}
 use Rattle.uimg_compat.specs.AutoSource.{trees_of}

@@ -1,4 +1,4 @@
--- What an unpacking tells on standard error, over the files of a world.
+-- What an unpacking prints on standard error, over the files of a world.
 use Rattle.std.specs.Prelude.{◌≡◌, ⊤, ◌⊎◌, ℕ, List, codes, Bool, true, false, Option, Some, None, if◌then◌else◌}
 use Rattle.std.specs.Borrow.{Bor}
 use Rattle.uimg_base.specs.Named.{FileMap}

@@ -1,4 +1,4 @@
--- What the words of `uimg` answer, over the files of a world.
+-- What a command line of `uimg` answers, over the files of a world.
 use Rattle.std.specs.Prelude.{ℕ, List, IsTrue, Option, Ok}
 use Rattle.uimg_base.specs.{Device.Device, Named.FileMap}
 use Rattle.uimg_cli.specs.Reading.{ReadsWords}

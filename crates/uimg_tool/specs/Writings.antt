@@ -1,4 +1,4 @@
--- Where the file for a path is written, and what is asked of the world to find that.
+-- Where the file for a path is written, and the requests to the world that find this.
 use Rattle.std.specs.Prelude.{◌≡◌, ⊤, ◌⊎◌, ◌<◌, ◌+◌, ℕ, zero, suc, List, [], ◌∷◌, ◌++◌, codes, decimal, Option, Some, None, Result, Ok, Err, Bool, true, false, string_bytes}
 use Rattle.std.specs.declared.io.Error.{Error}
 use Rattle.uimg_unpacking.specs.Deeds.{Deed, Creates, Done, Exists, Failed, Finds, Looks, Resolves}

@@ -21,7 +21,7 @@ use uimg_unpacking::{MakingWorld, World};
 /// What faults call the source.
 const SOURCE_NAME: &str = "-f auto";
 
-/// Makes the requested image. The text of its source is beside the image meanwhile.
+/// The text of the image's source is beside the image meanwhile.
 pub(crate) fn make_auto<'p, D: MakingWorld<'p>, W: Write, V: Write>(
     world: &mut D,
     request: &AutoRequest<'p>,
@@ -41,7 +41,7 @@ pub(crate) fn make_auto<'p, D: MakingWorld<'p>, W: Write, V: Write>(
     }
 }
 
-// Makes the image. The text of its source is in a new file beside the image meanwhile.
+// The text of the image's source is in a new file beside the image meanwhile.
 fn make_beside<'p, D: MakingWorld<'p>, W: Write, V: Write>(
     world: &mut D,
     request: &AutoRequest<'p>,
@@ -68,7 +68,6 @@ fn make_beside<'p, D: MakingWorld<'p>, W: Write, V: Write>(
     }
 }
 
-// Returns the path of a text that was written.
 pub(crate) fn at_path(written: io::Result<()>, path: &str) -> io::Result<&str> {
     match written {
         Ok(()) => Ok(path),
@@ -76,7 +75,6 @@ pub(crate) fn at_path(written: io::Result<()>, path: &str) -> io::Result<&str> {
     }
 }
 
-// Makes the image of a text at a path, if it was written.
 fn make_of_text<'p, D: MakingWorld<'p>, W: Write, V: Write>(
     world: &mut D,
     how: How<'p>,
@@ -96,7 +94,6 @@ fn make_of_text<'p, D: MakingWorld<'p>, W: Write, V: Write>(
     }
 }
 
-// Makes the image of a source whose text is at a path.
 fn make_at<'p, D: MakingWorld<'p>, W: Write, V: Write>(
     world: &mut D,
     how: How<'p>,
@@ -116,8 +113,7 @@ fn make_at<'p, D: MakingWorld<'p>, W: Write, V: Write>(
     }
 }
 
-// Returns the making of an image of the text at a path, with files in the current folder. The source
-// is reported as the one that the tool makes.
+// Files are in the current folder. Reports the source as the one that the tool makes.
 fn making_of_text<'a>(
     alloc: Global,
     request: &AutoRequest<'_>,
@@ -154,7 +150,6 @@ fn unread_file<'a, D: World>(world: &mut D, source: &AutoSource<'a>) -> Option<&
     }
 }
 
-// Returns the first path of a device tree or the RAM disk whose file cannot be opened.
 fn unread_part<'a, D: World>(world: &mut D, source: &AutoSource<'a>) -> Option<&'a str>
     ensures { OpensEach (part_paths source.now) (option_map (λ path. path.now) result)
         (D.trace world.old) (D.trace world.new) }
@@ -188,7 +183,6 @@ fn unread_ramdisk<'a, D: World>(world: &mut D, source: &AutoSource<'a>) -> Optio
     }
 }
 
-// Returns a path if the file at it cannot be opened.
 fn unless_opened<'a, D: World>(world: &mut D, path: &'a str) -> Option<&'a str>
     ensures { OpensEach (path.entry.now ∷ []) (option_map (λ path. path.now) result)
         (D.trace world.old) (D.trace world.new) }
@@ -199,7 +193,6 @@ fn unless_opened<'a, D: World>(world: &mut D, path: &'a str) -> Option<&'a str>
     }
 }
 
-// Writes the text of a source to a new file.
 fn write_text<F: Write>(alloc: Global, file: &mut F, source: &AutoSource<'_>) -> io::Result<()> {
     let mut gathered = BufWriter::new(alloc, file)?;
     let written = write!(gathered, "{source}").and_then(|()| gathered.flush());

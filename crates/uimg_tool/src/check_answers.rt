@@ -59,7 +59,6 @@ pub(crate) struct Names {
 }
 
 impl Names {
-    /// Returns room for the names of a result.
     pub(crate) fn new(alloc: Global) -> Names {
         Names {
             alloc,
@@ -71,7 +70,6 @@ impl Names {
     }
 }
 
-/// Returns the result for a file that could not be opened.
 pub(crate) fn answer_of_unread<'a, D: World>(
     world: &mut D,
     path: &str,
@@ -92,8 +90,8 @@ pub(crate) fn answer_of_unread<'a, D: World>(
 #[error("cannot read: {0}")]
 struct Unread(io::Error);
 
-/// Returns the result for a line that has no code: the image is refused, or else a read, a write or
-/// the like failed.
+/// A line without a code means that the image is refused, or else that a read, a write or the like
+/// failed.
 pub(crate) fn answer_of_line<'a, D: Display>(
     line: &D,
     is_refused: bool,
@@ -118,8 +116,8 @@ pub(crate) fn answer_of_line<'a, D: Display>(
     }
 }
 
-/// Returns the result for a finding, with the number of nodes of configurations, if they were
-/// counted. The names are read from the source; if a read fails, that is the result.
+/// Without a count of the nodes of configurations none is reported. The names are read from the
+/// source; if a read fails, that is the result.
 pub(crate) fn answer_of_found<'a, S: Source>(
     found: Checked<Span>,
     unchecked: Option<u64>,
@@ -138,7 +136,6 @@ pub(crate) fn answer_of_found<'a, S: Source>(
     }
 }
 
-/// Returns the result for a finding about a FIT image.
 #[tactic(auto, using(crate::proofs::VerdictLaws::unread_found, crate::proofs::VerdictLaws::unread_shows))]
 pub(crate) fn answer_of_finding<'a, S: Source>(
     finding: Finding<Span>,
@@ -156,7 +153,6 @@ pub(crate) fn answer_of_finding<'a, S: Source>(
     Answer::Found(Checked::Fit(named(finding, names)), unchecked)
 }
 
-/// Returns the result for a missing name.
 #[tactic(auto, using(crate::proofs::VerdictLaws::unread_missing))]
 pub(crate) fn answer_of_missing<'a, S: Source>(
     missing: Missing,
@@ -190,8 +186,7 @@ pub(crate) fn answer_of_missing<'a, S: Source>(
     }
 }
 
-/// Returns the result for what a strict check refuses of a FIT image. The root, whose name is empty,
-/// is told as `/`.
+/// The root, whose name is empty, is reported as `/`.
 pub(crate) fn answer_of_loose<'a>(loose: Loose, names: &'a mut Names) -> Answer<'a>
     ensures { IsVerdict result (loosens (read_loose loose)) }
 {
@@ -212,7 +207,6 @@ pub(crate) fn answer_of_loose<'a>(loose: Loose, names: &'a mut Names) -> Answer<
     }
 }
 
-/// Returns the result for what a strict check refuses of a legacy image.
 pub(crate) fn answer_of_header<'a>(why: Looseness) -> Answer<'a>
     ensures { result ≡ Answer.Loose Format.Legacy why None }
 {
@@ -223,7 +217,6 @@ pub(crate) fn answer_of_header<'a>(why: Looseness) -> Answer<'a>
     }
 }
 
-/// Returns the result for a fault.
 pub(crate) fn answer_of_fault<'a>(fault: Fault, names: &'a mut Names) -> Answer<'a>
     ensures { AnswersFault fault result }
 {
@@ -244,7 +237,7 @@ pub(crate) fn answer_of_fault<'a>(fault: Fault, names: &'a mut Names) -> Answer<
     }
 }
 
-// Returns the format of the image, if the fault shows it.
+// Only some faults show the format.
 fn format_of(fault: Fault) -> Option<Format>
     ensures { result ≡ format_of fault }
 {
@@ -256,7 +249,6 @@ fn format_of(fault: Fault) -> Option<Format>
     }
 }
 
-// Returns the offset of a fault, if it has one.
 fn offset_of(fault: Fault) -> Option<u64>
     ensures { result ≡ offset_of fault }
 {
@@ -266,7 +258,7 @@ fn offset_of(fault: Fault) -> Option<u64>
     }
 }
 
-// Reads the names of a finding. Returns false if one cannot be read.
+// Returns false if a name cannot be read.
 fn read_names<S: Source>(finding: Finding<Span>, source: &mut S, names: &mut Names) -> bool
     ensures { IfHonest S.device source (λ file. result ≡ true →
         kept_names names.new.image names.new.hash finding ≡ named_finding file finding) }
@@ -285,7 +277,6 @@ fn read_names<S: Source>(finding: Finding<Span>, source: &mut S, names: &mut Nam
     }
 }
 
-// Returns a finding with its names, which were read.
 fn named<'a>(finding: Finding<Span>, names: &'a Names) -> Finding<&'a [u8]>
     ensures any { nameless_fit result ≡ nameless_fit finding }
     ensures names { fit_names result ≡ kept_names names.now.image names.now.hash finding }
@@ -304,21 +295,20 @@ fn named<'a>(finding: Finding<Span>, names: &'a Names) -> Finding<&'a [u8]>
     }
 }
 
-// Returns the length of a name, at most that of the longest.
+// At most the length of the longest name.
 fn name_length(name: Span) -> usize
     ensures { result ≡ min name.length 255 }
 {
     u64::min(name.length, NAME_LEN as u64) as usize
 }
 
-// Returns a name that was read into `bytes`.
 fn name_in(bytes: &[u8; NAME_LEN], name: Span) -> &[u8]
     ensures { result.now ≡ take (min name.length 255) bytes.now }
 {
     &bytes[..name_length(name)]
 }
 
-// Reads a name into `bytes`, and returns its length, or none if it cannot be read.
+// Returns `None` if the name cannot be read.
 fn read_name<S: Source>(source: &mut S, name: Span, bytes: &mut [u8; NAME_LEN]) -> Option<usize>
     ensures same { SameDevice (S.device source.old) (S.device source.new) }
     ensures length { IfSome result (λ length. length ≡ min name.length 255) }

@@ -25,12 +25,13 @@ use uimg_unpacking::World;
 /// The path of standard input as a file.
 const STANDARD_INPUT: &str = "/dev/stdin";
 
-/// Checks the requested images, those of the command line first, with a line for each on `out`,
-/// even after one that is not right. Changes no file. Returns the greatest status, or that of a
-/// wrong command line if there is no image, unless none is allowed. A file of names that cannot be
-/// read, a line that cannot be written and refused memory end it with a line on standard error; a
-/// closed `out` ends it without one, as failed, because not all images were checked. Returns `out`,
-/// too.
+/// Checks the requested images, those of the command line first, and writes a line for each on
+/// `out`, even after one that is not right. Changes no file. Returns `out` and the greatest status.
+/// Without an image the status is that of a wrong command line, unless none is allowed.
+///
+/// A file of names that cannot be read, a line that cannot be written and refused memory end the
+/// check with a line on standard error. A closed `out` ends it without one, as failed, because not
+/// all images were checked.
 pub(crate) fn check_images<D: World, W: Write + Drop, V: Write>(
     world: &mut D,
     request: &CheckRequest<'_>,
@@ -75,7 +76,7 @@ fn found(greatest: u8, has_checked: bool, allows_none: bool) -> Option<u8>
     }
 }
 
-// Returns the greatest status, if there is one, or tells why there is none.
+// Returns the greatest status, if there is one, or reports why there is none.
 fn tell_ended<V: Write>(
     ended: Result<(), Stop<'_>>,
     greatest: Option<u8>,
@@ -137,7 +138,6 @@ struct Checks<W: Write + Drop> {
 impl<W: Write + Drop> Checks<W> {
     ghost use Rattle.uimg_tool.specs.Checks.{Answers, AnswersAll, AnswersFile, AnswersNamed, AnswersUnlessEmpty, LooksAt, told};
 
-    // Checks all requested images.
     fn check_all<'b, D: World>(
         &mut self,
         world: &mut D,
@@ -161,7 +161,6 @@ impl<W: Write + Drop> Checks<W> {
         }
     }
 
-    // Checks the images whose paths are in a file.
     fn check_named<'b, D: World>(
         &mut self,
         world: &mut D,
@@ -193,7 +192,7 @@ impl<W: Write + Drop> Checks<W> {
         Ok(())
     }
 
-    // Checks the image at a path, unless the path is empty, as on an empty line.
+    // The path is empty on an empty line.
     fn check_unless_empty<'b, D: World>(
         &mut self,
         world: &mut D,
@@ -215,7 +214,6 @@ impl<W: Write + Drop> Checks<W> {
         self.check(world, request, path)
     }
 
-    // Checks the image at a path, and writes its line.
     fn check<'b, D: World>(
         &mut self,
         world: &mut D,
@@ -241,7 +239,6 @@ impl<W: Write + Drop> Checks<W> {
         Ok(())
     }
 
-    // Notes the status of a result.
     fn note(&mut self, answer: &Answer<'_>)
         ensures greatest { self.new.greatest ≡ max self.old.greatest (answer_status answer.now) }
         ensures checked { self.new.has_checked ≡ true }
@@ -251,7 +248,7 @@ impl<W: Write + Drop> Checks<W> {
         self.has_checked = true;
     }
 
-    // Checks the file at a path, which may have any bytes.
+    // The path may have any bytes.
     #[tactic(auto, using(crate::proofs::VerdictLaws::failed_file))]
     fn answer<'n, D: World>(
         &mut self,
@@ -273,7 +270,6 @@ impl<W: Write + Drop> Checks<W> {
         }
     }
 
-    // Checks the file at a path that is text.
     #[tactic(auto, using(crate::proofs::VerdictLaws::file_answered, crate::proofs::VerdictLaws::failed_file))]
     fn answer_text<'n, D: World>(
         &mut self,
@@ -298,21 +294,20 @@ impl<W: Write + Drop> Checks<W> {
     }
 }
 
-// Returns the path of the file of names; `-` is standard input.
+// `-` is standard input.
 fn names_path(path: &str) -> &str
     ensures { result.now ≡ names_path path.entry.now }
 {
     if path == "-" { STANDARD_INPUT } else { path }
 }
 
-// Returns the byte after each name.
 fn names_end(request: &CheckRequest<'_>) -> u8
     ensures { result ≡ names_end request.now }
 {
     if request.has_nuls { 0 } else { b'\n' }
 }
 
-// Writes what is told of a result, and flushes it.
+// Writes the line of a result, and flushes it.
 fn put_answer<'b, W: Write + Drop>(
     alloc: Global,
     as_json: bool,
@@ -365,7 +360,6 @@ fn put_line<'b, W: Write + Drop>(
     Ok(())
 }
 
-// Returns why reading the paths stopped.
 fn stop_of_names<'b>(error: io::Error, path: &'b str) -> Stop<'b> {
     match error.kind() {
         ErrorKind::OutOfMemory => Stop::NoMemory,

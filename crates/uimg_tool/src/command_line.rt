@@ -1,9 +1,8 @@
 //! Command lines.
 
-/// A command line.
 #[derive(Clone, Copy)]
 pub(crate) struct CommandLine<'a> {
-    /// Its words, the program's name first.
+    /// Its arguments, the program's name first.
     pub(crate) words: &'a [&'a str],
 
     /// The text of SOURCE_DATE_EPOCH, if it is set.

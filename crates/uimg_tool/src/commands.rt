@@ -1,4 +1,4 @@
-//! Carries out a request of `uimg` over a world of files, and turns its end into a line and an exit
+//! Carries out a request of `uimg` over a world of files. Returns its end as a line and an exit
 //! status.
 
 ghost use Rattle.std.specs.Prelude.{◌≡◌, ◌≢◌, ◌∷◌, [], IsTrue};
@@ -24,7 +24,7 @@ use uimg_cli::{Asked, Request};
 use uimg_requests::{MakeRequest, RunRequest};
 use uimg_unpacking::{MakingWorld, World};
 
-/// Carries out a request in a world. Returns the status and what `out` buffers for.
+/// Returns the status and what `out` buffers for.
 pub(crate) fn carry_out_asked<'a, D: MakingWorld<'a>, W: Write + Drop, V: Write>(
     world: &mut D,
     asked: &'a Asked<'a>,
@@ -48,7 +48,6 @@ pub(crate) fn carry_out_asked<'a, D: MakingWorld<'a>, W: Write + Drop, V: Write>
     (status, out)
 }
 
-// Does the same, and returns the buffer.
 fn carry_out_buffered<'a, D: MakingWorld<'a>, W: Write + Drop, V: Write>(
     world: &mut D,
     asked: &'a Asked<'a>,
@@ -85,7 +84,7 @@ fn carry_out_buffered<'a, D: MakingWorld<'a>, W: Write + Drop, V: Write>(
     }
 }
 
-// Carries out a command on one image, the making of one, or prints a text. Returns `out`, too.
+// The request is a command on one image, a build, or a text to print. Returns `out`, too.
 fn carry_out_one<'a, D: MakingWorld<'a>, W: Write + Drop, V: Write>(
     world: &mut D,
     request: &'a Request<'a>,
@@ -110,7 +109,6 @@ fn carry_out_one<'a, D: MakingWorld<'a>, W: Write + Drop, V: Write>(
     }
 }
 
-// Runs a command on an image.
 fn run_image<D: World, W: Write + Drop, V: Write>(
     world: &mut D,
     request: &RunRequest<'_>,
@@ -138,7 +136,6 @@ fn run_image<D: World, W: Write + Drop, V: Write>(
     (tell_end(&made.told(), complaints), out)
 }
 
-// Makes an image, and prints its listing.
 fn make_one<'a, D: MakingWorld<'a>, W: Write + Drop, V: Write>(
     world: &mut D,
     request: &'a MakeRequest<'a>,
@@ -166,7 +163,7 @@ fn make_one<'a, D: MakingWorld<'a>, W: Write + Drop, V: Write>(
     (tell_end(&made.told(), complaints), out)
 }
 
-// Prints help or the version. Nothing is told if nobody reads it.
+// Prints help or the version. A closed output is not reported.
 fn show_text<D: Display, W: Write + Drop, V: Write>(
     text: &D,
     mut out: BufWriter<W, Global>,
@@ -189,7 +186,7 @@ fn show_text<D: Display, W: Write + Drop, V: Write>(
     (tell_end(&end, complaints), out)
 }
 
-// Returns whether a request ended because nobody reads what it prints.
+// The output was closed by its reader.
 fn is_unread(end: &Result<Status, RequestFault<'_>>) -> bool {
     match end {
         Err(RequestFault::NotPrinted(error)) => is_closed(error),

@@ -1,4 +1,4 @@
-//! Standard error, where a fault is told in one line.
+//! Standard error, which has one line for a fault.
 
 ghost use Rattle.std.specs.{Prelude.{◌≡◌, ◌∷◌, ◌+◌, ◌-◌, ◌^◌, ◌≤◌, None, Some, codes, false, min}, IoError.error_kind};
 ghost use Rattle.uimg_tool.specs.Complaints.{AddsText, Complains, is_closed_pipe};
@@ -11,23 +11,22 @@ use std::io::{ErrorKind, Write};
 use uimg_printing::Printed;
 use uimg_unpacking::World;
 
-/// Standard error of a program, whose name each line of a fault begins with. Failed writes are
+/// Standard error of a program. The program's name begins each line of a fault. Failed writes are
 /// ignored.
 #[derive(Drop)]
 pub(crate) struct Complaints<'a, V: Write> {
     name: &'a str,
-    /// Where other lines are written, too.
+    /// Other lines are written here, too.
     pub(crate) err: &'a mut V,
 
-    /// How many faults were told.
+    /// How many faults were printed.
     pub(crate) count: u64,
 
-    /// Whether a write failed, so that a line may be missing.
+    /// Whether a write failed: a line may be missing.
     pub(crate) is_lost: bool,
 }
 
 impl<'a, V: Write> Complaints<'a, V> {
-    /// Returns standard error of the program of this name, to which no fault was told.
     pub(crate) fn new(name: &'a str, err: &'a mut V) -> Complaints<'a, V>
         ensures count { result.count ≡ 0 }
         ensures lost { result.is_lost ≡ false }
@@ -41,7 +40,7 @@ impl<'a, V: Write> Complaints<'a, V> {
         }
     }
 
-    /// Tells a fault in a line, and returns the status.
+    /// Prints the line of a fault, and returns the status.
     pub(crate) fn tell<D: Display>(&mut self, fault: &D, status: u8) -> u8
         ensures status { result ≡ status }
         ensures counted { self.new.count ≡ min (self.old.count + 1) (2 ^ 64 - 1) }
@@ -54,7 +53,7 @@ impl<'a, V: Write> Complaints<'a, V> {
         status
     }
 
-    /// Writes a text that is more than the line of a fault.
+    /// The text is more than the line of a fault.
     pub(crate) fn put_text(&mut self, text: &str)
         ensures count { self.new.count ≡ self.old.count }
         ensures text { AddsText V.contents text.now self.old self.new }
@@ -64,7 +63,6 @@ impl<'a, V: Write> Complaints<'a, V> {
         }
     }
 
-    /// Tells that memory was refused, and returns the status.
     pub(crate) fn tell_no_memory(&mut self) -> u8
         ensures status { result ≡ 3 }
         ensures once { self.new.count ≤ self.old.count + 1 }
@@ -73,7 +71,7 @@ impl<'a, V: Write> Complaints<'a, V> {
         self.tell(&RequestFault::OutOfMemory, FAILED)
     }
 
-    /// Tells that a file cannot be opened, with the reason if there is one. Returns the status.
+    /// Prints that a file cannot be opened, with the reason if there is one. Returns the status.
     pub(crate) fn tell_unread<D: World>(&mut self, world: &mut D, path: &str) -> u8
         ensures status { result ≡ 3 }
         ensures once { self.new.count ≤ self.old.count + 1 }
@@ -91,7 +89,6 @@ impl<'a, V: Write> Complaints<'a, V> {
         }
     }
 
-    /// Tells that a file cannot be written, with the reason. Returns the status.
     pub(crate) fn tell_unwritten(&mut self, path: &str, reason: &io::Error) -> u8
         ensures status { result ≡ 3 }
         ensures once { self.new.count ≤ self.old.count + 1 }
@@ -101,7 +98,7 @@ impl<'a, V: Write> Complaints<'a, V> {
         self.tell(&format_args!("cannot write {path}: {reason}"), FAILED)
     }
 
-    /// Tells that a text cannot be printed, unless nobody reads any more. Returns the status.
+    /// A closed output is not reported. Returns the status.
     pub(crate) fn tell_unprinted(&mut self, error: &io::Error) -> u8
         ensures status { result ≡ 3 }
         ensures once { self.new.count ≤ self.old.count + 1 }
@@ -117,7 +114,7 @@ impl<'a, V: Write> Complaints<'a, V> {
     }
 }
 
-/// Returns whether a write failed because nobody reads any more.
+/// The output was closed by its reader.
 pub(crate) fn is_closed(error: &io::Error) -> bool
     ensures { result ≡ is_closed_pipe (error_kind error.now) }
 {

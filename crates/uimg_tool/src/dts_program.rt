@@ -32,7 +32,7 @@ pub(crate) struct Beyond<'a> {
     pub(crate) fault: ItsFault,
 }
 
-/// Makes the image of a source that the profile refuses.
+/// The profile refuses the source.
 pub(crate) fn make_beyond<'x, 'p, D: MakingWorld<'p>, W: Write, V: Write>(
     world: &mut D,
     request: &'x FitRequest<'x>,
@@ -87,7 +87,6 @@ where
     }
 }
 
-/// Returns what is made of the tree of a source that reserves no memory.
 pub(crate) fn tree_request<'a>(
     request: &FitRequest<'_>,
     source: &'a str,
@@ -110,7 +109,7 @@ pub(crate) fn tree_request<'a>(
     }
 }
 
-/// Fills the tree of a source by all algorithms, and makes its image.
+/// Fills the tree by all algorithms.
 pub(crate) fn make_compiled<'p, D: MakingWorld<'p>, F: Files, W: Write, V: Write>(
     world: &mut D,
     making: TreeRequest<'_>,
@@ -136,8 +135,8 @@ where
     }
 }
 
-// Reports why a source is refused: by the fault of the profile if that is for the same line and not
-// for a construct of the whole language.
+// Reports the fault of the profile if that is for the same line and not for a construct of the
+// whole language.
 fn tell_refused<D: World, V: Write>(
     world: &mut D,
     beyond: &Beyond<'_>,

@@ -34,7 +34,7 @@ const INPUT: &str = "/dev/stdin";
 /// The most bytes that are read of standard input.
 const MOST_INPUT: u64 = 1 << 26;
 
-/// Makes the requested image. A source from standard input is beside the image meanwhile.
+/// A source from standard input is beside the image meanwhile.
 pub(crate) fn make_fit<'p, D: MakingWorld<'p>, W: Write, V: Write>(
     world: &mut D,
     request: &'p FitRequest<'p>,
@@ -67,7 +67,6 @@ pub(crate) fn is_key<D: World>(world: &mut D, key: Option<&str>) -> bool
     }
 }
 
-// Returns whether a path leads to anything.
 fn leads_somewhere(target: Target) -> bool
     ensures { result ≡ leads_somewhere target }
 {
@@ -105,7 +104,6 @@ where
     }
 }
 
-// Returns the path of the source in the first folder for dtc that has it.
 fn path_in_folders<D: World>(
     world: &mut D,
     request: &FitRequest<'_>,
@@ -145,7 +143,7 @@ where
     }
 }
 
-// Returns the making of an image of the source at a path, with files in its folder.
+// The files are in the source's folder.
 fn making_of_path<'a>(
     alloc: Global,
     request: &FitRequest<'_>,
@@ -170,7 +168,7 @@ fn making_of_path<'a>(
     Ok(making)
 }
 
-// Makes the image of standard input, unless that would be written to.
+// Refuses to write to standard input.
 fn make_of_input<'p, D: MakingWorld<'p>, W: Write, V: Write>(
     world: &mut D,
     how: How<'p>,
@@ -200,7 +198,7 @@ where
     make_of_bytes(world, how, request, &text, out, complaints)
 }
 
-// Makes the image of a source of these bytes, which are in a new file beside the image meanwhile.
+// The source is in a new file beside the image meanwhile.
 fn make_of_bytes<'p, D: MakingWorld<'p>, W: Write, V: Write>(
     world: &mut D,
     how: How<'p>,
@@ -256,8 +254,7 @@ where
     }
 }
 
-// Returns the making of an image of the copy of standard input at a path, with files in the current
-// folder.
+// The files are in the current folder.
 fn making_of_copy<'a>(
     alloc: Global,
     request: &FitRequest<'_>,
@@ -293,8 +290,8 @@ fn read_input<D: World>(world: &mut D) -> io::Result<Vec<u8>>
     Ok(text)
 }
 
-// Warns about the source, and makes the image: of a source that the profile refuses by the language
-// of dtc, and of one with algorithms outside the profile by all of them.
+// A source that the profile refuses is read in the language of dtc. One with algorithms outside the
+// profile gets all of them.
 fn warn_and_make<'p, D: MakingWorld<'p>, W: Write, V: Write>(
     world: &mut D,
     how: How<'p>,
@@ -342,7 +339,7 @@ where
     }
 }
 
-// Makes the image of a compiled source by all algorithms.
+// Fills the tree by all algorithms.
 fn make_known<'p, D: MakingWorld<'p>, W: Write, V: Write>(
     world: &mut D,
     request: &FitRequest<'_>,
@@ -365,7 +362,6 @@ where
     make_compiled(world, making, tree, &mut files, out, complaints)
 }
 
-// Returns how the image of a source is made.
 fn how_of<'a>(request: &'a FitRequest<'a>) -> How<'a>
     ensures quiet { result.is_quiet ≡ request.now.is_quiet }
     ensures folders { result.folders.now ≡ request.now.dtc.folders.items }

@@ -12,7 +12,7 @@ use std::path::{Path, PathBuf};
 use uimg_base::{Files, OpenedNames, Source, SourceFault};
 use uimg_unpacking::Reader;
 
-/// The file that is left out of a folder, for contracts alone.
+/// The file that is left out of a folder. Only contracts use it.
 pub(crate) trait LeftOut {
     /// Whether a name leads to it.
     ghost leads: { List ℕ → Bool };
@@ -43,8 +43,7 @@ pub(crate) struct FolderFiles<'a, R: Reader, L: LeftOut> {
 }
 
 impl<'a, R: Reader, L: LeftOut> FolderFiles<'a, R, L> {
-    /// Returns the files of a folder, none of them opened, without the file at a path, whose open
-    /// is refused.
+    /// No file is opened yet. An open of the file at the path that is left out is refused.
     pub(crate) fn new(
         reader: R,
         alloc: Global,
@@ -76,7 +75,7 @@ impl<'a, R: Reader, L: LeftOut> FolderFiles<'a, R, L> {
         }
     }
 
-    /// Returns whether the file that is left out was requested, and so refused.
+    /// The file that is left out was requested, and so refused.
     pub(crate) fn has_met_left_out(&self) -> bool
         ensures noted { result ≡ self.now.has_met_left_out }
         ensures met { IsTrue (R.map self.now.reader).honest → result ≡ true →
@@ -99,10 +98,8 @@ impl<'a, R: Reader, L: LeftOut> Files for FolderFiles<'a, R, L> {
       opened = files.opened.names;
     } };
 
-    /// Opens the file of this name.
-    ///
     /// Returns `SourceFault` if the name is not UTF-8, if memory for the path was refused, if the
-    /// file is the one that is left out, or if the reader does.
+    /// file is left out, or if the reader does.
     fn open(&mut self, name: &[u8]) -> Result<R::Opened, SourceFault> {
         self.opened.note(name);
         let opened = open_in(
@@ -120,8 +117,8 @@ impl<'a, R: Reader, L: LeftOut> Files for FolderFiles<'a, R, L> {
     }
 }
 
-/// Opens the file of a name in a folder, unless it is the one that is left out. Notes whether it is,
-/// if there is a path of this name and memory for it.
+/// Opens the file, unless it is left out. Notes whether it is, if there is a path of this name and
+/// memory for it.
 pub(crate) fn open_in<R: Reader>(
     reader: &mut R,
     alloc: Global,
@@ -147,7 +144,7 @@ pub(crate) fn open_in<R: Reader>(
     }
 }
 
-// Opens the file at a path, unless it is the one that is left out. Notes whether it is.
+// Notes whether the file is left out.
 fn open_other<R: Reader>(
     reader: &mut R,
     path: &str,
@@ -171,7 +168,7 @@ fn open_other<R: Reader>(
     reader.open(path)
 }
 
-// Returns whether two paths lead to the same file, also by links.
+// The paths may be links.
 fn is_same_file<R: Reader>(reader: &mut R, path: &str, other: &str) -> bool
     ensures same { SameFiles (R.map reader.old) (R.map reader.new) }
     ensures kept { R.identities reader.new ≡ R.identities reader.old }
@@ -184,7 +181,7 @@ fn is_same_file<R: Reader>(reader: &mut R, path: &str, other: &str) -> bool
     }
 }
 
-// Returns the path of a name in a folder: the name itself if it begins with `/`.
+// The path is the name itself if it begins with `/`.
 fn path_in(alloc: Global, folder: &str, name: &[u8]) -> Result<PathBuf, SourceFault>
     ensures { IfOk result (λ path. path_buf_bytes path ≡ path_join folder.now name.now) }
 {

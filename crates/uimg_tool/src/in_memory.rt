@@ -29,15 +29,15 @@ pub struct Answered {
     pub new_files: NewFiles,
 }
 
-/// Carries out the words of a command line of `uimg`, the program's name first, over files in
-/// memory, pairs of a path and its bytes. Of equal paths, the first counts. `epoch` and `now` are
-/// as for [`program`](crate::program); a fault is one line on `err`.
+/// Carries out a command line of `uimg`, the program's name first, over files in memory, pairs of a
+/// path and its bytes. Of equal paths, the first counts. `epoch` and `now` are as for
+/// [`program`](crate::program); a fault is one line on `err`.
 ///
-/// Unless the status is 3, the words are refused by their definition, or a listing, a verification,
-/// a check, facts, the lines of a map, and the listing of an image that is made are exactly those
-/// that the definitions give for the bytes at the paths. If an image is unpacked with status 0 and
-/// without `--clean`, new files hold exactly the requested payloads or parts. The file of an extraction
-/// and an image that is made are not among the new files.
+/// Unless the status is 3, the arguments are refused by their definition, or a listing, a
+/// verification, a check, facts, the lines of a map, and the listing of an image that is made are
+/// exactly those that the definitions give for the bytes at the paths. If an image is unpacked with
+/// status 0 and without `--clean`, new files hold exactly the requested payloads or parts. The file
+/// of an extraction and an image that is made are not among the new files.
 pub fn answer_in_memory<'f, V: Write>(
     alloc: Global,
     words: &[&str],
@@ -81,7 +81,6 @@ pub fn answer_in_memory<'f, V: Write>(
     carry_out(alloc, line, &asked, files, out, complaints)
 }
 
-// Carries out what the words ask for.
 fn carry_out<'f, V: Write>(
     alloc: Global,
     line: CommandLine<'_>,
@@ -99,7 +98,7 @@ fn carry_out<'f, V: Write>(
     carry_out_over(alloc, line, asked, files, out, complaints)
 }
 
-// The same, where the files and what is asked for live equally long.
+// As `carry_out`, where the files and the request live equally long.
 fn carry_out_over<'a, V: Write>(
     alloc: Global,
     line: CommandLine<'_>,

@@ -26,8 +26,7 @@ use uimg_legacy::{PartsFault, locate_parts, read_header};
 use uimg_unpacking::World;
 
 /// Writes the facts of the requested image as a line on `out`, or why there are none. Returns the
-/// status. Refused memory and a line that cannot be written are reported by a line on standard
-/// error.
+/// status. Refused memory and a line that cannot be written are reported on standard error.
 #[tactic(auto, using(crate::proofs::InfoLaws::line_told, crate::proofs::InfoLaws::status_given))]
 pub(crate) fn tell_facts<D: World, W: Write + Drop, V: Write>(
     world: &mut D,
@@ -51,7 +50,7 @@ pub(crate) fn tell_facts<D: World, W: Write + Drop, V: Write>(
     }
 }
 
-/// Writes an object as a line. Returns the status, or that of a failure.
+/// Returns the status, or that of a failure.
 pub(crate) fn put_object<W: Write + Drop, V: Write>(
     text: &[u8],
     status: u8,
@@ -70,7 +69,6 @@ pub(crate) fn put_object<W: Write + Drop, V: Write>(
     }
 }
 
-// Writes a text as a line of JSON, and flushes it.
 fn put_flushed<W: Write + Drop>(text: &[u8], out: &mut BufWriter<W, Global>) -> io::Result<()>
     ensures put { OnOk result (Appends (writer_contents W.contents out.old)
         (writer_contents W.contents out.new) (shown_line text.now)) }
@@ -122,7 +120,6 @@ impl From<PartsFault> for Stop {
     }
 }
 
-// Returns the object of the image at a path, and its status.
 #[tactic(auto, using(crate::proofs::InfoLaws::object_told, crate::proofs::InfoLaws::unread_told, crate::proofs::InfoLaws::unread_fails))]
 fn object_of<D: World>(world: &mut D, path: &str) -> Result<(Vec<u8>, u8), AllocError>
     ensures most { IfOk result (λ found. found.1 ≤ 3) }
@@ -140,7 +137,6 @@ fn object_of<D: World>(world: &mut D, path: &str) -> Result<(Vec<u8>, u8), Alloc
     object_in(world.alloc(), path, &mut source)
 }
 
-// Returns the object of an image, and its status.
 #[tactic(auto, using(crate::proofs::InfoLaws::facts_told, crate::proofs::InfoLaws::refused_told))]
 fn object_in<S: Source>(
     alloc: Global,
@@ -160,7 +156,6 @@ fn object_in<S: Source>(
     }
 }
 
-// Returns the object of a result, and its status.
 fn object_with(alloc: Global, path: &str, answer: &Answer<'_>) -> Result<(Vec<u8>, u8), AllocError>
     ensures most { IfOk result (λ found. found.1 ≤ 3) }
     ensures status { IfOk result (λ found. found.1 ≡ answer_status answer.now) }
@@ -171,7 +166,6 @@ fn object_with(alloc: Global, path: &str, answer: &Answer<'_>) -> Result<(Vec<u8
     Ok((text, answer.status()))
 }
 
-// Returns the object of the facts of an image.
 #[tactic(auto, using(crate::proofs::InfoLaws::fit_given, crate::proofs::InfoLaws::fit_refused, crate::proofs::InfoLaws::as_legacy))]
 fn facts_of<S: Source>(alloc: Global, path: &str, source: &mut S) -> Result<Vec<u8>, Stop>
     ensures { IfHonest S.device source (λ file. GivesFacts (facts_of path.now file) result) }
@@ -187,7 +181,6 @@ fn facts_of<S: Source>(alloc: Global, path: &str, source: &mut S) -> Result<Vec<
     }
 }
 
-// Returns the object of the facts of a legacy image.
 #[tactic(auto, using(crate::proofs::InfoLaws::header_refused, crate::proofs::InfoLaws::parts_refused))]
 fn legacy_facts<S: Source>(
     alloc: Global,

@@ -12,8 +12,8 @@ use std::io::Write;
 // numbers.
 const LEAD: u8 = 0xc2;
 
-/// A writer of JSON texts. DEL and the characters U+0080 to U+009F, which a JSON text may have as
-/// they are (RFC 8259, section 7), are escaped, so that no terminal takes them for commands.
+/// A writer of JSON texts. A JSON text may have DEL and the characters U+0080 to U+009F as they are
+/// (RFC 8259, section 7). They are escaped, and no terminal takes them for commands.
 #[derive(Drop)]
 pub(crate) struct JsonOut<'a, W: Write> {
     out: &'a mut W,
@@ -21,7 +21,6 @@ pub(crate) struct JsonOut<'a, W: Write> {
 }
 
 impl<'a, W: Write> JsonOut<'a, W> {
-    /// Returns a writer of JSON texts to `out`.
     pub(crate) fn new(out: &'a mut W) -> JsonOut<'a, W> {
         JsonOut {
             out,
@@ -44,7 +43,7 @@ impl<'a, W: Write> Write for JsonOut<'a, W> {
     }
 }
 
-/// Writes a JSON text and a newline, escaped as by `JsonOut`.
+/// Escapes as `JsonOut` does.
 pub(crate) fn put_json<W: Write>(text: &[u8], out: &mut W) -> io::Result<()>
     ensures { OnOk result (Appends (W.contents out.old) (W.contents out.new)
         (shown_line text.now)) }
@@ -53,14 +52,13 @@ pub(crate) fn put_json<W: Write>(text: &[u8], out: &mut W) -> io::Result<()>
     out.write_all(b"\n")
 }
 
-// Returns whether a byte, after a lead byte or not, is that of DEL or ends one of U+0080 to U+009F.
+// A byte is DEL, or ends one of U+0080 to U+009F.
 fn is_control(byte: u8, is_after_lead: bool) -> bool
     ensures { result ≡ is_control is_after_lead byte }
 {
     byte == 0x7f || is_after_lead && 0x80 <= byte && byte <= 0x9f
 }
 
-// Returns a hexadecimal digit.
 fn digit(value: u8) -> u8
     requires { value < 16 }
     ensures { result ≡ digit_glyph false value }
@@ -72,14 +70,14 @@ fn digit(value: u8) -> u8
     }
 }
 
-// Returns the escape of a character below U+0100.
+// The character is below U+0100.
 fn escape(byte: u8) -> [u8; 6]
     ensures { result ≡ escape_of byte }
 {
     [b'\\', b'u', b'0', b'0', digit(byte / 16), digit(byte % 16)]
 }
 
-// Writes a byte. A lead byte is written with the one after it.
+// Writes a lead byte together with the one after it.
 #[tactic(auto, unfolding(crate::specs::JsonLines::shown))]
 fn put_byte<W: Write>(byte: u8, is_after_lead: bool, out: &mut W) -> io::Result<()>
     ensures { OnOk result (Appends (W.contents out.old) (W.contents out.new)
@@ -97,7 +95,6 @@ fn put_byte<W: Write>(byte: u8, is_after_lead: bool, out: &mut W) -> io::Result<
     out.write_all(&[byte])
 }
 
-// Writes a text, after a lead byte or not.
 fn put_text<W: Write>(text: &[u8], is_after_lead: bool, out: &mut W) -> io::Result<()>
     ensures { OnOk result (Appends (W.contents out.old) (W.contents out.new)
         (shown_from is_after_lead text.now)) }

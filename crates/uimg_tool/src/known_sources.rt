@@ -20,12 +20,11 @@ pub(crate) enum Known {
     Tree(Tree<Global>),
     /// The profile refuses its text with a fault.
     Beyond(Vec<u8>, ItsFault),
-    /// It is none, or it or a file of it cannot be read, or there is no memory for it: making the
-    /// image reports that.
+    /// There is no source, it or a file of it cannot be read, or there is no memory for it: the
+    /// build reports that.
     Unread,
 }
 
-/// Compiles the source of a request with these words for dtc.
 pub(crate) fn known_source<R: Reader>(
     reader: R,
     alloc: Global,
@@ -51,7 +50,6 @@ pub(crate) fn known_source<R: Reader>(
     }
 }
 
-/// Returns the files of the source of a request.
 pub(crate) fn files_of<'a, R: Reader>(
     reader: R,
     alloc: Global,
@@ -62,7 +60,7 @@ pub(crate) fn files_of<'a, R: Reader>(
     SearchedFiles::new(reader, alloc, request.folder, others, request.outfile)
 }
 
-// Returns whether a fault is of the text alone.
+// The fault is of the text only.
 fn is_of_text(kind: FaultKind) -> bool
     ensures { result ≡ not (is_outside_text kind) }
 {
@@ -73,7 +71,7 @@ fn is_of_text(kind: FaultKind) -> bool
     }
 }
 
-/// Returns whether the source of a request has labels. One that cannot be read has none.
+/// A source that cannot be read has none.
 pub(crate) fn source_has_labels<R: Reader>(
     reader: R,
     alloc: Global,
@@ -90,7 +88,7 @@ pub(crate) fn source_has_labels<R: Reader>(
     }
 }
 
-// Reads all bytes of a source. Its window is in no stack frame below which the source is compiled.
+// The window is in no stack frame below which the source is compiled.
 #[inline(never)]
 fn text_of<S: Source>(alloc: Global, source: &mut S) -> Option<Vec<u8>> {
     let size = source.size().ok()?;

@@ -1,4 +1,4 @@
-//! The program uimg, as a function of words, streams and files.
+//! The program uimg, as a function of arguments, streams and files.
 #![tactic(auto)]
 
 mod auto_program;

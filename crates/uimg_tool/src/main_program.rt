@@ -1,5 +1,4 @@
-//! The function `program`, the whole program: reads the words of a command line, and carries out
-//! their request.
+//! The function `program`, the whole program: reads a command line, and carries out its request.
 
 ghost use Rattle.std.specs.Prelude.{◌≡◌, ◌≤◌, [], IsTrue, Ok, map, option_map};
 ghost use Rattle.std.specs.Io.Buffered.{writer_buffer, writer_inner};
@@ -20,9 +19,9 @@ use std::rt::Files;
 use uimg_cli::{Asked, WordsFault, read_words};
 use uimg_unpacking::{DiskWorld, MakingWorld};
 
-/// Carries out the words of a command line, the program's name first, and returns the exit status.
-/// A program whose name, after its last slash, is `mkimage`, `dumpimage`, `uimg-mkimage` or
-/// `uimg-dumpimage` takes the words of U-Boot 2023.01's tool of that name.
+/// Carries out a command line, the program's name first, and returns the exit status. A program
+/// whose name, after its last slash, is `mkimage`, `dumpimage`, `uimg-mkimage` or `uimg-dumpimage`
+/// takes the arguments of U-Boot 2023.01's tool of that name.
 ///
 /// `epoch` is the text of SOURCE_DATE_EPOCH if it is set, and `now` the current time in seconds
 /// since 1970; they give the time of a new image. Listings, reports and help go to `out`, buffered,
@@ -56,7 +55,6 @@ pub fn program<R: Files + AllocGlobal, W: Write, V: Write>(
     }
 }
 
-// Carries out the words of `uimg`, over the files of the system.
 #[tactic(auto, using(uimg_cli::proofs::ReadingLaws::nothing_read))]
 fn run_as_uimg<R: Files + AllocGlobal, W: Write, V: Write>(
     rt: &R,
@@ -82,7 +80,6 @@ fn run_as_uimg<R: Files + AllocGlobal, W: Write, V: Write>(
     carry_out_on_disk(rt, line, &asked, gathered, complaints)
 }
 
-// Carries out what the words ask for, over the files of the system.
 fn carry_out_on_disk<R: Files + AllocGlobal, W: Write + Drop, V: Write>(
     rt: &R,
     line: CommandLine<'_>,
@@ -97,7 +94,7 @@ fn carry_out_on_disk<R: Files + AllocGlobal, W: Write + Drop, V: Write>(
     carry_out_over(rt, line, asked, out, complaints)
 }
 
-// The same, where the system and what is asked for live equally long.
+// As `carry_out_on_disk`, where the system and the request live equally long.
 fn carry_out_over<'a, R: Files + AllocGlobal, W: Write + Drop, V: Write>(
     rt: &'a R,
     line: CommandLine<'_>,
@@ -114,12 +111,12 @@ fn carry_out_over<'a, R: Files + AllocGlobal, W: Write + Drop, V: Write>(
     status
 }
 
-/// Carries out what the words of a command line ask for, over a world of files. Returns the status,
-/// and what `out` buffers for. The line is here for the contract alone, which says that its words
-/// were read to what is asked for.
+/// Carries out the request of a command line over a world of files. Returns the status, and what
+/// `out` buffers for. The line is a parameter for the contract only, which says that the request
+/// was read from its arguments.
 ///
-/// Over an honest world, what is told and made and the status are those of the definition for the
-/// bytes at the paths of the words, as far as `AnswersWords` says.
+/// Over an honest world, the output, the new files and the status are those of the definition for
+/// the bytes at the paths of the arguments, as far as `AnswersWords` says.
 pub(crate) fn carry_out_words<'a, D: MakingWorld<'a>, W: Write + Drop, V: Write>(
     world: &mut D,
     _line: CommandLine<'_>,
@@ -139,8 +136,7 @@ pub(crate) fn carry_out_words<'a, D: MakingWorld<'a>, W: Write + Drop, V: Write>
     carry_out_asked(world, asked, out, complaints)
 }
 
-/// Reads the words. Not inlined, so that what this takes of the stack is free when the request is
-/// carried out.
+/// Not inlined, to free the stack that this takes before the request is carried out.
 #[inline(never)]
 pub(crate) fn asked_by<'a>(alloc: Global, line: CommandLine<'a>) -> Result<Asked<'a>, WordsFault>
     ensures { ReadsWords (epoch_of line.entry) line.entry.time (words_of line.entry) result }
@@ -148,7 +144,7 @@ pub(crate) fn asked_by<'a>(alloc: Global, line: CommandLine<'a>) -> Result<Asked
     read_words(alloc, line.words, line.epoch, line.time)
 }
 
-/// Reports what is wrong with the words of a command line. Returns the status.
+/// Returns the status.
 pub(crate) fn tell_words_fault<V: Write>(
     fault: &WordsFault,
     complaints: &mut Complaints<'_, V>,

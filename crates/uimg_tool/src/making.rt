@@ -23,8 +23,7 @@ use uimg_engine::{Fault, make_by};
 use uimg_requests::{MakeCommand, MakeRequest};
 use uimg_unpacking::{MakingWorld, Reader};
 
-/// Makes the requested image over a world: on a shelf of the image's path, of the files in the
-/// folder of the request.
+/// Makes the image on a shelf of its path, of the files in the folder of the request.
 pub(crate) fn make_in<'a, D: MakingWorld<'a>, W: Write>(
     world: &mut D,
     request: &'a MakeRequest<'a>,
@@ -44,8 +43,7 @@ pub(crate) fn make_in<'a, D: MakingWorld<'a>, W: Write>(
     end_written(request, end, code.get())
 }
 
-// Makes the requested image on a shelf, of the files in the folder of the request, which are opened
-// by a reader. The file that is written is left out.
+// A reader opens the files in the folder of the request. The file that is written is left out.
 fn make_among<'a, R: Reader, H: Shelf, W: Write, L: LeftOut>(
     alloc: Global,
     request: &'a MakeRequest<'a>,
@@ -66,8 +64,7 @@ fn make_among<'a, R: Reader, H: Shelf, W: Write, L: LeftOut>(
     end_of(request, made, has_met_outfile)
 }
 
-/// Makes the requested image by the names of mkimage, of files that a reader opens: in a file that
-/// was begun, or else at the path of the image.
+/// Writes to a file that was begun, or else to one at the path of the image.
 pub(crate) fn make_command<'a, 'p, D: MakingWorld<'p>, W: Write>(
     world: &mut D,
     request: &'a MakeRequest<'a>,
@@ -102,8 +99,7 @@ pub(crate) fn make_command<'a, 'p, D: MakingWorld<'p>, W: Write>(
     end_written(request, made, code.get())
 }
 
-// Makes the requested image on a shelf, of files that a reader opens. Those that are not in the
-// folder of the request are looked for in the others.
+// Files that are not in the folder of the request are looked for in the others.
 fn make_image<'a, R: Reader, H: Shelf, W: Write>(
     alloc: Global,
     request: &'a MakeRequest<'a>,
@@ -128,7 +124,7 @@ fn make_image<'a, R: Reader, H: Shelf, W: Write>(
     end_of(request, made, files.has_met_left_out())
 }
 
-// Makes an image whose header replaces the beginning of its file.
+// The image's header replaces the beginning of its file.
 fn make_xip<'a, R: Reader, H: Shelf, W: Write>(
     alloc: Global,
     request: &'a MakeRequest<'a>,
@@ -149,7 +145,6 @@ fn make_xip<'a, R: Reader, H: Shelf, W: Write>(
     }
 }
 
-// Makes an image over files.
 fn make_over<F: Files, H: Shelf, W: Write>(
     alloc: Global,
     request: &MakeRequest<'_>,
@@ -176,7 +171,7 @@ fn make_over<F: Files, H: Shelf, W: Write>(
     )
 }
 
-// Returns how making an image ended, with the path from the command line.
+// The path is that of the command line.
 fn end_of<'a, K: Drop>(
     request: &'a MakeRequest<'a>,
     made: Result<K, Fault>,
@@ -191,8 +186,7 @@ fn end_of<'a, K: Drop>(
     }
 }
 
-// Returns how a making ended that wrote to a file: a failed write is told with the image's path and
-// the system's reason, if there is one.
+// A failed write is reported with the image's path and the system's reason, if there is one.
 fn end_written<'a>(
     request: &'a MakeRequest<'a>,
     made: Result<Status, RequestFault<'a>>,
@@ -212,7 +206,7 @@ fn end_written<'a>(
     }
 }
 
-// Returns why making an image stopped, with the path from the command line.
+// The path is that of the command line.
 fn stopped_making<'a>(request: &'a MakeRequest<'_>, fault: Fault) -> RequestFault<'a>
     ensures { StoppedAs request.now fault result }
 {
@@ -223,7 +217,7 @@ fn stopped_making<'a>(request: &'a MakeRequest<'_>, fault: Fault) -> RequestFaul
     }
 }
 
-// Returns the path of a file as the command line has it.
+// The path is that of the command line.
 fn file_path<'a>(request: &'a MakeRequest<'_>, number: u64) -> &'a str
     ensures { IsFileAt request.now number result.now }
 {
@@ -236,7 +230,7 @@ fn file_path<'a>(request: &'a MakeRequest<'_>, number: u64) -> &'a str
     }
 }
 
-// Returns a name as a text, or none if it is not UTF-8.
+// An empty text if the name is not UTF-8.
 fn text_of(name: &[u8]) -> &str
     ensures { (result.now ≡ []) ⊎ (result.now ≡ name.now) }
 {

@@ -30,7 +30,7 @@ use uimg_printing::Printed;
 use uimg_unpacking::{Target, World, name_file};
 
 /// Writes the map of the requested image: lines on `out`, or a picture as a file that gets its name
-/// when it is complete. Returns the status. A fault is reported by a line on standard error; a
+/// when it is complete. Returns the status. A fault is reported by a line on standard error. A
 /// refused image has a map too.
 pub(crate) fn map_image<D: World, W: Write + Drop, V: Write>(
     world: &mut D,
@@ -58,7 +58,6 @@ pub(crate) fn map_image<D: World, W: Write + Drop, V: Write>(
     }
 }
 
-// Writes the map of the image at a path as lines. Returns the status.
 #[tactic(auto, using(crate::proofs::MapLaws::map_told, crate::proofs::MapLaws::map_complained, crate::proofs::MapLaws::unless_failed))]
 fn print_image<D: World, W: Write + Drop, V: Write>(
     world: &mut D,
@@ -84,7 +83,7 @@ fn print_image<D: World, W: Write + Drop, V: Write>(
     tell_ended(printed, complaints)
 }
 
-// Writes the map of an image as lines. Returns its fault.
+// Returns the image's fault.
 fn print_source<'a, S: Source, W: Write + Drop>(
     alloc: Global,
     source: &mut S,
@@ -106,7 +105,6 @@ fn print_source<'a, S: Source, W: Write + Drop>(
     }
 }
 
-// Writes the map of the requested image as the picture at a path. Returns the status.
 #[tactic(auto, using(crate::proofs::MapLaws::drawn_complained))]
 fn draw_image<D: World, V: Write>(
     world: &mut D,
@@ -134,8 +132,7 @@ fn draw_image<D: World, V: Write>(
     draw_unless_taken(world, request, path, &mut source, &map, complaints)
 }
 
-// Writes a map as the picture at a path, unless that would replace what must not be. Returns the
-// status.
+// Writes the picture, unless that would replace a file or a symbolic link. Returns the status.
 fn draw_unless_taken<D: World, S: Source, V: Write>(
     world: &mut D,
     request: &MapRequest<'_>,
@@ -161,7 +158,6 @@ fn draw_unless_taken<D: World, S: Source, V: Write>(
     tell_drawn(drawn, map, complaints)
 }
 
-// Reports how the drawing of a map ended, and returns the status.
 fn tell_drawn<V: Write>(
     drawn: Result<(), Stop<'_>>,
     map: &Map,
@@ -177,8 +173,7 @@ fn tell_drawn<V: Write>(
     }
 }
 
-// Returns whether a picture at a path would replace a file or a symbolic link. Devices and pipes
-// are written to.
+// Devices and pipes are written to.
 fn is_taken<D: World>(world: &mut D, path: &str) -> bool
     ensures { LooksTaken path.now result (D.trace world.old) (D.trace world.new) }
 {
@@ -222,7 +217,6 @@ fn tell_ended<V: Write>(
     }
 }
 
-// Prints a map as lines.
 #[tactic(auto, using(crate::proofs::MapLaws::lines_kept))]
 fn print<'a, S: Source, W: Write + Drop>(
     alloc: Global,
@@ -251,7 +245,7 @@ fn print<'a, S: Source, W: Write + Drop>(
     }
 }
 
-// Writes a map as the picture at a path, first to a new file beside it, if that is possible.
+// Writes the picture to a new file beside its path first, if that is possible.
 fn draw<'a, D: World, S: Source>(
     world: &mut D,
     request: &MapRequest<'_>,
@@ -274,7 +268,7 @@ fn draw<'a, D: World, S: Source>(
     }
 }
 
-// Writes a map as a picture to what exists at a path.
+// Something exists at the path.
 fn draw_in_place<'a, D: World, S: Source>(
     world: &mut D,
     request: &MapRequest<'_>,
@@ -291,8 +285,8 @@ fn draw_in_place<'a, D: World, S: Source>(
     }
 }
 
-// Moves a picture that was written beside its path to it. Removes one that is incomplete, or whose
-// path is taken meanwhile.
+// Moves a complete picture to its path. Removes one that is incomplete, or whose path is taken
+// meanwhile.
 fn name_picture<'a, D: World>(
     world: &mut D,
     path: &'a str,
@@ -320,7 +314,6 @@ fn name_picture<'a, D: World>(
     }
 }
 
-// Writes a picture to a file, which is returned.
 #[tactic(auto, using(crate::proofs::MapLaws::picture_written))]
 fn draw_into<'a, F: Write + Drop, S: Source>(
     alloc: Global,
@@ -355,7 +348,6 @@ fn draw_into<'a, F: Write + Drop, S: Source>(
     }
 }
 
-// Closes the file of a picture.
 fn close<'a, F: Drop>(drawn: Result<F, Stop<'a>>) -> Result<(), Stop<'a>>
     ensures { (path : Bor (List ℕ)) → DrawEnds path drawn.entry → DrawEnds path result }
 {

@@ -25,8 +25,8 @@ use uimg_printing::Printed;
 use uimg_requests::{MakeRequest, RunRequest};
 use uimg_unpacking::{MakingWorld, World};
 
-/// Whether a making prints nothing, the folders where it looks for files that are not in the folder
-/// of a source, and the path of its image.
+/// How an image is made: whether nothing is printed, the folders where files are searched that are
+/// not in the folder of a source, and the path of the image.
 #[derive(Clone, Copy)]
 pub(crate) struct How<'a> {
     pub(crate) is_quiet: bool,
@@ -35,7 +35,7 @@ pub(crate) struct How<'a> {
 }
 
 impl<'a> How<'a> {
-    /// Returns how an image is made for a path if no other folder is looked in.
+    /// No other folder is searched.
     pub(crate) fn new(is_quiet: bool, outfile: &'a str) -> How<'a>
         ensures quiet { result.is_quiet ≡ is_quiet }
         ensures folders { result.folders.now ≡ [] }
@@ -49,8 +49,8 @@ impl<'a> How<'a> {
     }
 }
 
-/// Runs a command on an image; if it is to be quiet, nothing is printed. An extracted part is written
-/// beside its name, which it gets when it is complete. Returns `out`, too.
+/// A quiet command prints nothing. An extracted part is written beside its name, which it gets when
+/// it is complete. Returns `out`, too.
 pub(crate) fn run_old<D: World, W: Write + Drop, V: Write>(
     world: &mut D,
     is_quiet: bool,
@@ -136,7 +136,7 @@ fn run_beside<D: World, V: Write>(
     tell_written(world, path, &end, request.image, complaints)
 }
 
-/// Makes an image, whose listing goes to a lent output.
+/// The listing goes to a lent output.
 pub(crate) fn make_image<'a, 'p, D: MakingWorld<'p>, W: Write, V: Write>(
     world: &mut D,
     how: How<'p>,
@@ -165,7 +165,7 @@ pub(crate) fn make_image<'a, 'p, D: MakingWorld<'p>, W: Write, V: Write>(
 }
 
 /// Makes an image beside its name, which it gets when it is complete, even if its listing could not
-/// be printed. Returns `out`, too, to which nothing is printed if it is to be quiet.
+/// be printed. A quiet build prints nothing. Returns `out`, too.
 pub(crate) fn make_old<'a, 'p, D: MakingWorld<'p>, W: Write + Drop, V: Write>(
     world: &mut D,
     how: How<'p>,
@@ -206,7 +206,7 @@ pub(crate) fn make_old<'a, 'p, D: MakingWorld<'p>, W: Write + Drop, V: Write>(
     }
 }
 
-// Makes an image in a new file or in place; if it is to be quiet, nothing is printed.
+// Makes an image in a new file or in place. A quiet build prints nothing.
 fn make_by<'a, 'p, D: MakingWorld<'p>, W: Write + Drop>(
     world: &mut D,
     request: &'a MakeRequest<'a>,
@@ -240,8 +240,8 @@ fn make_by<'a, 'p, D: MakingWorld<'p>, W: Write + Drop>(
     (Made { end, printed }, out)
 }
 
-/// Gives an image that was made its name, even if its listing could not be printed, or removes its
-/// file. Reports the end, the path that it is about, and a listing that was not printed.
+/// Gives an image its name, even if its listing could not be printed, or removes its file. Reports
+/// the end with its path, and a listing that was not printed.
 pub(crate) fn tell_made<D: World, V: Write>(
     world: &mut D,
     path: &SafePath,
@@ -267,8 +267,7 @@ pub(crate) fn tell_made<D: World, V: Write>(
     }
 }
 
-/// Returns the path that the end of a making is about: the source if its text or the tree that it
-/// means is refused, else the image.
+/// The path is that of the source if its text or its tree is refused, else that of the image.
 pub(crate) fn about_end<'a>(
     end: &Result<Status, RequestFault<'_>>,
     source: &'a str,
@@ -285,7 +284,7 @@ pub(crate) fn about_end<'a>(
     }
 }
 
-// Gives the written file its name or removes it; reports the end and the path that it is about.
+// Gives the written file its name or removes it. Reports the end with its path.
 fn tell_written<D: World, V: Write>(
     world: &mut D,
     path: &SafePath,
@@ -308,7 +307,7 @@ fn tell_written<D: World, V: Write>(
     }
 }
 
-/// Returns the status of an end, and reports its fault with the path that it is about.
+/// Returns the status of an end. Reports a fault with its path.
 pub(crate) fn tell_end<D: World, V: Write>(
     world: &mut D,
     end: &Result<Status, RequestFault<'_>>,

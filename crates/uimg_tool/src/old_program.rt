@@ -25,8 +25,8 @@ use uimg_names::Field;
 use uimg_requests::{MakeRequest, RunRequest, VERSION};
 use uimg_unpacking::DiskWorld;
 
-/// Carries out the words of a tool of U-Boot 2023.01. An image is written to a new file and gets its
-/// name when it is complete, unless something exists there that is not a regular file.
+/// Carries out the arguments of a tool of U-Boot 2023.01. An image is written to a new file and
+/// gets its name when it is complete, unless something exists there that is not a regular file.
 #[tactic(auto, using(crate::proofs::OldWordLaws::nothing_read))]
 pub(crate) fn run_as_tool<R: Files + AllocGlobal, W: Write, V: Write>(
     rt: &R,
@@ -58,7 +58,6 @@ pub(crate) fn run_as_tool<R: Files + AllocGlobal, W: Write, V: Write>(
     }
 }
 
-// Lists an image of the system, or extracts a part of it.
 fn run_on_disk<R: Files + AllocGlobal, W: Write, V: Write>(
     rt: &R,
     is_quiet: bool,
@@ -78,7 +77,6 @@ fn run_on_disk<R: Files + AllocGlobal, W: Write, V: Write>(
     status
 }
 
-// Makes a legacy image, over the files of the system.
 fn make_on_disk<R: Files + AllocGlobal, W: Write, V: Write>(
     rt: &R,
     is_quiet: bool,
@@ -91,7 +89,7 @@ fn make_on_disk<R: Files + AllocGlobal, W: Write, V: Write>(
     make_over(rt, is_quiet, request, out, complaints)
 }
 
-// The same, where the system and the request live equally long.
+// As `make_on_disk`, where the system and the request live equally long.
 fn make_over<'a, R: Files + AllocGlobal, W: Write, V: Write>(
     rt: &'a R,
     is_quiet: bool,
@@ -112,7 +110,6 @@ fn make_over<'a, R: Files + AllocGlobal, W: Write, V: Write>(
     status
 }
 
-// Makes a FIT image of a source, over the files of the system.
 fn make_fit_on_disk<R: Files + AllocGlobal, W: Write, V: Write>(
     rt: &R,
     request: &FitRequest<'_>,
@@ -124,7 +121,7 @@ fn make_fit_on_disk<R: Files + AllocGlobal, W: Write, V: Write>(
     make_fit_over(rt, request, out, complaints)
 }
 
-// The same, where the system and the request live equally long.
+// As `make_fit_on_disk`, where the system and the request live equally long.
 fn make_fit_over<'a, R: Files + AllocGlobal, W: Write, V: Write>(
     rt: &'a R,
     request: &'a FitRequest<'a>,
@@ -136,7 +133,6 @@ fn make_fit_over<'a, R: Files + AllocGlobal, W: Write, V: Write>(
     make_fit(&mut DiskWorld::new(rt), request, out, complaints)
 }
 
-// Makes a FIT image of a source that the tool makes, over the files of the system.
 fn make_auto_on_disk<R: Files + AllocGlobal, W: Write, V: Write>(
     rt: &R,
     request: &AutoRequest<'_>,
@@ -148,7 +144,7 @@ fn make_auto_on_disk<R: Files + AllocGlobal, W: Write, V: Write>(
     make_auto_over(rt, request, out, complaints)
 }
 
-// The same, where the system and the request live equally long.
+// As `make_auto_on_disk`, where the system and the request live equally long.
 fn make_auto_over<'a, R: Files + AllocGlobal, W: Write, V: Write>(
     rt: &'a R,
     request: &'a AutoRequest<'a>,
@@ -160,8 +156,7 @@ fn make_auto_over<'a, R: Files + AllocGlobal, W: Write, V: Write>(
     make_auto(&mut DiskWorld::new(rt), request, out, complaints)
 }
 
-// Reads the words. Not inlined, so that what this takes of the stack is free when the request is
-// carried out.
+// Not inlined, to free the stack that this takes before the request is carried out.
 #[inline(never)]
 #[tactic(auto, unfolding(crate::specs::Programs::ReadsOld))]
 fn read_old_words<'a>(
@@ -188,7 +183,7 @@ fn tell_old_fault<V: Write>(fault: &OldFault<'_>, complaints: &mut Complaints<'_
     }
 }
 
-// Prints a text. The names of a field go to standard error, as with the originals.
+// The names of a field go to standard error, as with the originals.
 fn show_text<W: Write, V: Write>(
     tool: Tool,
     show: Show,
@@ -211,7 +206,7 @@ fn show_text<W: Write, V: Write>(
     }
 }
 
-// Prints the version, whose last word others take, and that of uimg to standard error.
+// Others read the last word of the version. The version of uimg goes to standard error.
 fn put_version<W: Write, V: Write>(tool: Tool, out: &mut W, err: &mut V) -> io::Result<()>
     ensures { OnOk result (Appends (W.contents out.old) (W.contents out.new) (version_line tool)) }
 {
@@ -220,8 +215,7 @@ fn put_version<W: Write, V: Write>(tool: Tool, out: &mut W, err: &mut V) -> io::
     Ok(())
 }
 
-// Prints the names of a field's codes, a line each. The originals leave out `ppc`, which is another
-// name of `powerpc`.
+// The originals leave out `ppc`, which is another name of `powerpc`.
 fn put_names<V: Write>(field: Field, err: &mut V) -> io::Result<()> {
     writeln!(err, "\nInvalid {}, supported are:", title_of(field))?;
     for (name, _, long) in field.rows() {
@@ -230,7 +224,6 @@ fn put_names<V: Write>(field: Field, err: &mut V) -> io::Result<()> {
     writeln!(err)
 }
 
-// Prints a short and a long name.
 fn put_name<V: Write>(name: &str, long: &str, err: &mut V) -> io::Result<()>
     ensures { OnOk result (Appends (V.contents err.old) (V.contents err.new)
         (name_line name.now long.now)) }

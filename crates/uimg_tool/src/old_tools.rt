@@ -15,7 +15,7 @@ impl Tool {
     ghost use Rattle.std.specs.Prelude.{◌≡◌, map};
     ghost use Rattle.uimg_tool.specs.Programs.{tool_named, tool_of, name_of};
 
-    /// Returns the tool of a command line, whose first word is the program's path.
+    /// The first word is the program's path.
     pub(crate) fn of_words(words: &[&str]) -> Option<Tool>
         ensures { result ≡ tool_of (map (λ word. word.now) words.now) }
     {
@@ -25,7 +25,6 @@ impl Tool {
         }
     }
 
-    // Returns the tool of a name.
     #[tactic(auto, unfolding(crate::specs::Programs::tool_named))]
     fn named(name: &[u8]) -> Option<Tool>
         ensures { result ≡ tool_named name.now }
@@ -39,7 +38,7 @@ impl Tool {
         }
     }
 
-    /// Returns the tool's own name, which begins each line of a fault.
+    /// The name begins each line of a fault.
     pub(crate) fn name(self) -> &'static str
         ensures { result.now ≡ name_of self }
     {

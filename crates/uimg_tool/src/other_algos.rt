@@ -11,7 +11,7 @@ use uimg_fit_base::algo_by;
 use uimg_fit_building::{first_value, is_images};
 use uimg_names::Naming;
 
-/// Returns whether a hash node of an image of a tree has an algorithm that only `Naming::All` has.
+/// A hash node of an image has an algorithm that only `Naming::All` has.
 pub(crate) fn has_other_algos(tree: &Tree<Global>) -> bool {
     for node in tree.root.children.items() {
         if is_images(node) {
@@ -21,7 +21,6 @@ pub(crate) fn has_other_algos(tree: &Tree<Global>) -> bool {
     false
 }
 
-// Returns whether one of an image's hash nodes has such an algorithm.
 fn is_image_of_others(image: &Node<Global>) -> bool {
     image.children.items().iter().any(is_hash_of_others)
 }
@@ -34,7 +33,6 @@ fn is_hash_of_others(node: &Node<Global>) -> bool
         && algo_of(Naming::All, node).is_some()
 }
 
-// Returns the algorithm of a hash node, if the set of names has it.
 #[tactic(auto, using(uimg_fit_building::proofs::FilledHashLaws::no_name))]
 fn algo_of(naming: Naming, node: &Node<Global>) -> Option<Algo>
     ensures { result ≡ hash_algo naming in_memory node.now.props }

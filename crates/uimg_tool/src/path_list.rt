@@ -1,4 +1,4 @@
-//! A file with paths, none of which is endless.
+//! A file with paths, each of a limited length.
 
 ghost use Rattle.std.specs.{Io.Iter.split_byte, Prelude.{◌≡◌, IfOk}};
 ghost use Rattle.uimg_tool.specs.Paths.{bytes_left};
@@ -49,7 +49,7 @@ impl<F: Read> Read for PathList<F> {
     }
 }
 
-/// Returns the paths in a file, of which nothing was read. This byte is after each path.
+/// Nothing of the file was read. `end` is after each path.
 #[tactic(auto, using(crate::proofs::PathLaws::unbuffered_left))]
 pub(crate) fn paths_in<F: Read + Drop>(
     alloc: Global,

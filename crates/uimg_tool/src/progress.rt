@@ -40,7 +40,6 @@ impl<'a, R: Clock, V: Write + Copy> Meter<'a, R, V> {
         }
     }
 
-    /// Returns whether anything is ever drawn.
     pub(crate) fn is_shown(&self) -> bool {
         self.next.get().is_some()
     }
@@ -80,7 +79,7 @@ pub struct Cleared<'a, R: Clock, V: Write + Copy, W: Write> {
 }
 
 impl<'a, R: Clock, V: Write + Copy, W: Write> Cleared<'a, R, V, W> {
-    /// Creates it over an output.
+    /// Creates an output over `out`.
     pub fn new(meter: &'a Meter<'a, R, V>, out: W) -> Cleared<'a, R, V, W> {
         Cleared { meter, out }
     }

@@ -7,7 +7,7 @@ use std::io;
 use std::io::{ErrorKind, Write};
 use uimg_base::{Shelf, SourceFault};
 
-/// Returns why a write failed, by the code of the system's error, if it had one.
+/// The code is that of the system's error, if it had one.
 pub(crate) fn reason_of_code(code: Option<i32>) -> io::Error {
     match code {
         Some(code) => io::Error::from_raw_os_error(code),
@@ -23,14 +23,12 @@ pub(crate) struct Watched<'a, W: Write> {
 }
 
 impl<'a, W: Write> Watched<'a, W> {
-    /// Returns a writer that notes its errors in this cell.
     pub(crate) fn new(writer: W, code: &'a Cell<Option<i32>>) -> Watched<'a, W>
         ensures { result.writer ≡ writer }
     {
         Watched { writer, code }
     }
 
-    /// Returns the writer.
     pub(crate) fn into_inner(self) -> W
         ensures { result ≡ self.entry.writer }
     {

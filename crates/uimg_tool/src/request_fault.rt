@@ -89,7 +89,6 @@ impl<'a> From<Fault> for RequestFault<'a> {
     }
 }
 
-/// Returns the exit status of a request that was not carried out.
 pub(crate) fn status_of(fault: &RequestFault<'_>) -> u8
     ensures { result ≡ request_status fault.now }
 {
@@ -102,7 +101,6 @@ pub(crate) fn status_of(fault: &RequestFault<'_>) -> u8
     }
 }
 
-/// Returns the exit status of a command that stopped.
 pub(crate) fn status_of_fault(fault: Fault) -> u8
     ensures { result ≡ fault_status fault }
 {

@@ -30,8 +30,7 @@ pub(crate) struct Made<'a> {
 impl<'a> Made<'a> {
     ghost use Rattle.uimg_tool.specs.MadeEnds.{told_end};
 
-    /// Returns the end, or that the text could not be printed, which comes before what ended the
-    /// request.
+    /// A text that could not be printed comes before what ended the request.
     pub(crate) fn told(self) -> Result<Status, RequestFault<'a>>
         ensures { result ≡ told_end self.entry }
     {
@@ -42,7 +41,6 @@ impl<'a> Made<'a> {
     }
 }
 
-/// Prints help or the version.
 pub(crate) fn show<'a, D: Display, W: Write>(
     text: &D,
     out: &mut W,
@@ -57,8 +55,7 @@ pub(crate) fn show<'a, D: Display, W: Write>(
     }
 }
 
-/// Runs the requested command on its image. An extraction goes to the file that is given, or else to
-/// the one at the request's path.
+/// An extraction goes to the file that is given, or else to the one at the request's path.
 pub(crate) fn run_command<'a, D: World, W: Write>(
     world: &mut D,
     request: &RunRequest<'a>,
@@ -89,8 +86,7 @@ pub(crate) fn run_command<'a, D: World, W: Write>(
     }
 }
 
-// Runs the requested command on an open image, and writes to a file: the one that is given, or else
-// the one at a path, which is created or emptied.
+// The file is the one that is given, or else the one at a path, which is created or emptied.
 fn extract_to<'a, D: World, S: Source>(
     world: &mut D,
     request: &RunRequest<'a>,
@@ -124,7 +120,6 @@ fn extract_to<'a, D: World, S: Source>(
     }
 }
 
-// Runs the requested command on an open image.
 fn run_over<'a, S: Source, W: Write>(
     alloc: Global,
     request: &RunRequest<'a>,
@@ -142,8 +137,7 @@ fn run_over<'a, S: Source, W: Write>(
     }
 }
 
-// Returns the file for an extraction: the one that is given, or else the one at a path, which is
-// created or emptied.
+// The file is the one that is given, or else the one at a path, which is created or emptied.
 fn outfile_at<'a, D: World>(
     world: &mut D,
     path: &'a str,
@@ -164,7 +158,7 @@ fn outfile_at<'a, D: World>(
     }
 }
 
-/// Returns whether two paths lead to the same file, also by links.
+/// The paths may be links.
 pub(crate) fn is_same_file<D: World>(world: &mut D, path: &str, other: &str) -> bool
     ensures compares { ComparesFiles path.now other.now result (D.trace world.old)
         (D.trace world.new) }

@@ -36,8 +36,8 @@ pub(crate) struct SafePath {
 }
 
 impl SafePath {
-    /// Gives the file its path if it is complete. If it is not, or cannot get that, it is removed.
-    /// Returns what the naming answered, or for an incomplete file the removal.
+    /// Gives the file its path if it is complete. An incomplete file, or one that cannot get its
+    /// path, is removed. Returns the answer of the naming, or of the removal of an incomplete file.
     pub(crate) fn finish<W: World>(&self, world: &mut W, is_complete: bool) -> io::Result<()>
         ensures { Finishes (string_bytes self.now.new) (string_bytes self.now.whole) is_complete
             (answer_of result) (W.trace world.old) (W.trace world.new) }

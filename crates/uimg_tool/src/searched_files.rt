@@ -11,12 +11,12 @@ use std::path::Path;
 use uimg_base::{Files, OpenedNames, Source, SourceFault};
 use uimg_unpacking::{FileId, Reader};
 
-/// The files of a folder, and of others for what is not there. The file that is left out is found
-/// in none of them.
+/// The files of a folder, and of other folders for those that it lacks. The file that is left out
+/// is found in none of them.
 ///
 /// A name may have the folder of the file that names it, then `/./`, and then what that file calls
-/// it. As dtc does, the others are searched for the last part alone, and if a file that was found in
-/// one of them may name this one, for the whole name too.
+/// it. As dtc does, the others are searched only for the last part. If a file that was found in one
+/// of them may name this one, they are searched for the whole name too.
 ///
 /// No contract says what a file has, so the files are not claimed to be honest.
 #[derive(Drop)]
@@ -38,8 +38,8 @@ pub(crate) struct SearchedFiles<'a, R: Reader> {
 }
 
 impl<'a, R: Reader> SearchedFiles<'a, R> {
-    /// Returns the files of a folder, then of others in order, without the file at a path, whose
-    /// open is refused.
+    /// The files of `folder` come first, then those of the others in order. An open of the file
+    /// that is left out is refused.
     pub(crate) fn new(
         reader: R,
         alloc: Global,
@@ -62,15 +62,15 @@ impl<'a, R: Reader> SearchedFiles<'a, R> {
         }
     }
 
-    /// Returns whether a file was in several folders, and another that may name it was found in one of
-    /// the others. If that one names it, dtc looks in its folder first.
+    /// Returns whether a file was in several folders, and another that may name it was found in one
+    /// of the others. If that one names it, dtc looks in its folder first.
     pub(crate) fn is_ambiguous(&self) -> bool
         ensures { result ≡ self.now.is_ambiguous }
     {
         self.is_ambiguous
     }
 
-    /// Returns the name of the last file that was not opened.
+    /// The name is that of the last file that was not opened.
     pub(crate) fn missing(&self) -> &[u8]
         ensures { result.now ≡ option_map_or (λ name. name.items) self.now.missing [] }
     {
@@ -80,14 +80,14 @@ impl<'a, R: Reader> SearchedFiles<'a, R> {
         }
     }
 
-    /// Returns whether the file that is left out was requested, and so refused.
+    /// The file that is left out was requested, and so refused.
     pub(crate) fn has_met_left_out(&self) -> bool
         ensures { result ≡ self.now.has_met_left_out }
     {
         self.has_met_left_out
     }
 
-    // Returns whether a file of this folder was found in one of the others.
+    // A file of this folder was found in one of the others.
     fn has_searched(&self, folder: &[u8]) -> bool {
         self.searched
             .as_slice()
@@ -95,8 +95,7 @@ impl<'a, R: Reader> SearchedFiles<'a, R> {
             .any(|it| it.as_slice() == folder)
     }
 
-    // Opens a file in the first folder. Not inlined, as the next one, so that only one of them is on
-    // the stack.
+    // Not inlined, as the next one: only one of them is on the stack.
     #[inline(never)]
     fn open_here(&mut self, name: &[u8]) -> Result<R::Opened, SourceFault>
         ensures fresh { IfOk result (λ source. IsFresh (R.Opened.device source)) }
@@ -114,8 +113,8 @@ impl<'a, R: Reader> SearchedFiles<'a, R> {
         )
     }
 
-    // Opens a file in one of the others, by what the source calls it, or, if a file that was found
-    // there may name it, by its whole name.
+    // Opens a file in one of the others, by what the source calls it. If a file that was found
+    // there may name it, opens it by its whole name.
     #[inline(never)]
     fn search(
         &mut self,
@@ -143,7 +142,6 @@ impl<'a, R: Reader> SearchedFiles<'a, R> {
         Ok(found)
     }
 
-    // Opens the file of a name in the first of the others that has one.
     fn open_in_others(&mut self, name: &[u8]) -> Result<R::Opened, SourceFault>
         ensures fresh { IfOk result (λ source. IsFresh (R.Opened.device source)) }
         ensures same { self.new.refusals ≡ self.old.refusals }
@@ -171,8 +169,7 @@ impl<'a, R: Reader> Files for SearchedFiles<'a, R> {
       opened = s.opened.names;
     } };
 
-    /// Opens the file of this name in the first folder that has one. Returns `SourceFault` if none
-    /// has, or as `FolderFiles::open` does.
+    /// Returns `SourceFault` if no folder has the file, or as `FolderFiles::open` does.
     fn open(&mut self, name: &[u8]) -> Result<R::Opened, SourceFault> {
         self.opened.note(name);
         let own = own_name(name);
@@ -201,7 +198,7 @@ impl<'a, R: Reader> Files for SearchedFiles<'a, R> {
     }
 }
 
-// Returns what the source calls a file: the name after the last `/./`.
+// The name after the last `/./` is what the source calls the file.
 fn own_name(name: &[u8]) -> &[u8]
     ensures { result.now ≡ or_own (own_in name.now) name.now }
 {
@@ -216,7 +213,7 @@ fn own_name(name: &[u8]) -> &[u8]
     own
 }
 
-// Returns the folder in a name, with its last slash.
+// The last slash is included.
 fn folder_of(name: &[u8]) -> &[u8]
     ensures { result.now ≡ folder_in name.now }
 {
@@ -238,7 +235,6 @@ fn folder_before<'n>(name: &'n [u8], own: &[u8]) -> &'n [u8]
     name.get(..length).unwrap_or(&[])
 }
 
-// Opens the file of a name in the first of these folders that has one.
 fn open_first<R: Reader>(
     reader: &mut R,
     alloc: Global,
@@ -257,8 +253,7 @@ fn open_first<R: Reader>(
     Err(SourceFault)
 }
 
-// Returns whether a name in a folder, and both names in others, are those of several files. A file
-// that is met again, by another path of its folder, is one.
+// A file that is met again, by another path of its folder, is not counted twice.
 #[inline(never)]
 fn is_in_several<R: Reader>(
     reader: &mut R,
@@ -282,7 +277,7 @@ fn is_in_several<R: Reader>(
     false
 }
 
-// Returns the file of a name in a folder, if one is there that can be opened.
+// Returns `None` if no file there can be opened.
 fn file_in<R: Reader>(reader: &mut R, alloc: Global, folder: &str, name: &[u8]) -> Option<FileId> {
     let name = str::from_utf8(name).ok()?;
     let path = Path::new(folder).join(alloc, name).ok()?;
@@ -290,7 +285,6 @@ fn file_in<R: Reader>(reader: &mut R, alloc: Global, folder: &str, name: &[u8]) 
     reader.file_at(path.as_str())
 }
 
-// Copies a name, if there is memory for it.
 fn copied(alloc: Global, name: &[u8]) -> Option<Vec<u8>>
     ensures { IfSome result (λ copy. copy.items ≡ name.now) }
 {

@@ -1,4 +1,4 @@
-//! Answers a check of a source, and checks strictly what was found to be right.
+//! Returns the result of a check of a source, and checks strictly what was found to be right.
 
 ghost use Rattle.std.specs.Prelude.{◌≡◌, ◌-◌, ◌^◌, ℕ, List, min, length, false, IfErr};
 ghost use Rattle.std.specs.List.{sum_by};
@@ -35,7 +35,6 @@ enum Further {
     Nodes(u64),
 }
 
-/// Returns the result of a requested check of an image.
 #[tactic(auto, using(crate::proofs::VerdictLaws::check_shown))]
 pub(crate) fn answer_of_source<'a, S: Source>(
     alloc: Global,
@@ -51,7 +50,6 @@ pub(crate) fn answer_of_source<'a, S: Source>(
     answer_of_check(alloc, request.is_strict, end, source, room, names)
 }
 
-// Returns the result for the end of a check.
 fn answer_of_check<'a, S: Source>(
     alloc: Global,
     is_strict: bool,
@@ -76,7 +74,6 @@ fn answer_of_check<'a, S: Source>(
     }
 }
 
-// Returns the result of a strict check for a finding.
 fn answer_strictly<'a, S: Source>(
     alloc: Global,
     found: Checked<Span>,
@@ -95,7 +92,6 @@ fn answer_strictly<'a, S: Source>(
     }
 }
 
-// Returns the result of a strict check for a finding about a FIT image.
 #[tactic(auto, using(crate::proofs::StrictLaws::right_shown, crate::proofs::StrictLaws::other_shown))]
 fn answer_fit_strictly<'a, S: Source>(
     alloc: Global,
@@ -113,7 +109,7 @@ fn answer_fit_strictly<'a, S: Source>(
     answer_of_finding(finding, None, source, names)
 }
 
-// Returns whether all hash nodes are right, and each image has one.
+// All hash nodes are right, and each image has one.
 fn is_right(finding: Finding<Span>) -> bool
     ensures { result ≡ is_right finding }
 {
@@ -123,8 +119,7 @@ fn is_right(finding: Finding<Span>) -> bool
     }
 }
 
-// Returns the result for a FIT image whose hashes are right: the finding, unless a strict check
-// refuses the image.
+// The result is the finding, unless a strict check refuses the image.
 fn answer_of_fit<'a, S: Source>(
     alloc: Global,
     finding: Finding<Span>,
@@ -145,7 +140,6 @@ fn answer_of_fit<'a, S: Source>(
     }
 }
 
-// Looks for what a strict check refuses of a FIT image.
 fn look_further<S: Source>(
     alloc: Global,
     source: &mut S,
@@ -165,7 +159,6 @@ fn look_further<S: Source>(
     Ok(Further::Nodes(count_nodes(facts.configurations.as_slice())))
 }
 
-// Counts the child nodes of configurations.
 fn count_nodes(configurations: &[ConfigurationFacts]) -> u64
     ensures { result ≡ min (sum_by (λ c. length c.nodes.items) configurations.now) (2 ^ 64 - 1) }
 {
@@ -176,7 +169,6 @@ fn count_nodes(configurations: &[ConfigurationFacts]) -> u64
     count
 }
 
-// Returns the result for a legacy image whose checksums are right.
 fn answer_of_legacy<'a, S: Source>(source: &mut S, names: &'a mut Names) -> Answer<'a>
     ensures any { AnswersLegacy S.device source result }
     ensures shows { IfHonest S.device source

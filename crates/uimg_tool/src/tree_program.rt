@@ -23,8 +23,8 @@ use uimg_fit_base::Placement;
 use uimg_requests::Manner;
 use uimg_unpacking::MakingWorld;
 
-/// The image that is made of a tree: of the file at which path, at which path and how,
-/// the memory that it reserves, and the size of its blob if that has free room.
+/// The image that is made of a tree: the path of its source, its own path, how it is made, the
+/// memory that it reserves, and the size of its blob if that has free room.
 #[derive(Clone, Copy)]
 pub(crate) struct TreeRequest<'a> {
     pub(crate) source: &'a str,
@@ -36,7 +36,7 @@ pub(crate) struct TreeRequest<'a> {
     pub(crate) is_quiet: bool,
 }
 
-/// Writes the image of a tree over its files beside its name, which it gets when it is complete.
+/// Writes the image beside its name, which it gets when it is complete.
 pub(crate) fn write_image<'p, D: MakingWorld<'p>, F: Files, W: Write, V: Write>(
     world: &mut D,
     request: TreeRequest<'_>,
@@ -65,12 +65,11 @@ where
     }
 }
 
-// Returns why a device or a pipe is not written to.
 fn not_regular() -> io::Error {
     io::Error::other("it is not a regular file")
 }
 
-// Makes the image of a tree in a new file; if it is to be quiet, nothing is printed.
+// A quiet build prints nothing.
 fn make_listed<'a, 'p, D: MakingWorld<'p>, F: Files, W: Write>(
     world: &mut D,
     request: TreeRequest<'a>,
@@ -93,8 +92,7 @@ where
     }
 }
 
-// Makes the image of a tree in a new file. Returns how that ended, and how the flush of the buffered
-// listing did.
+// Returns how the build ended, and how the flush of the buffered listing did.
 fn make_beside<'a, 'p, D: MakingWorld<'p>, F: Files, W: Write>(
     world: &mut D,
     request: TreeRequest<'a>,
@@ -137,7 +135,7 @@ where
     Made { end, printed }
 }
 
-// Returns that a making ended before anything was printed.
+// Nothing was printed before the build ended.
 fn unprinted<'a>(fault: RequestFault<'a>) -> Made<'a>
     ensures { result.end ≡ Err fault.entry }
 {
@@ -147,7 +145,6 @@ fn unprinted<'a>(fault: RequestFault<'a>) -> Made<'a>
     }
 }
 
-// Makes the image of a tree on a shelf.
 fn make_on<'a, F: Files, H: Shelf, W: Write>(
     alloc: Global,
     request: TreeRequest<'a>,

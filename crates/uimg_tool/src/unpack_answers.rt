@@ -15,7 +15,7 @@ use uimg_unpacking::{Ended, PartsEnded, Trouble, World};
 /// How the unpacking of an image ended.
 #[derive(Drop)]
 pub(crate) enum Ending {
-    /// All is told by lines. It is done if all is kept.
+    /// Lines have reported all. It is done if all is kept.
     Told(Status),
 
     /// The image could not be opened.
@@ -67,7 +67,7 @@ impl From<PartsEnded> for Ending {
     }
 }
 
-/// Returns the result for an end that no line tells.
+/// The end is one that no line reports.
 pub(crate) fn answer_of_ending<'a, D: World>(
     world: &mut D,
     path: &str,
@@ -90,7 +90,6 @@ pub(crate) fn answer_of_ending<'a, D: World>(
     }
 }
 
-/// Returns the exit status for a trouble with the files of an image.
 pub(crate) fn status_of_trouble(trouble: &Trouble) -> u8
     ensures { result ≡ trouble_status trouble.now }
 {

@@ -22,9 +22,9 @@ use uimg_engine::{Fault, Form, is_fit};
 use uimg_printing::Printed;
 use uimg_unpacking::{FileId, Folder, Limits, Trouble, Unpacking, World, unpack, unpack_parts};
 
-/// Cleans the folder and unpacks the image, as requested, with a line for each removed file, payload
-/// or part on `out`. Returns the status. A fault is reported by a line on standard error, or
-/// for JSON on `out`.
+/// Cleans the folder and unpacks the image, as requested. Writes a line for each removed file,
+/// payload or part on `out`. Returns the status. A fault is reported by a line on standard error,
+/// or for JSON on `out`.
 #[tactic(auto, using(crate::proofs::UnpackLaws::cleaned_alone, crate::proofs::UnpackLaws::cleaned_first))]
 pub(crate) fn unpack_image<D: World, W: Write + Drop, V: Write>(
     world: &mut D,
@@ -48,7 +48,6 @@ pub(crate) fn unpack_image<D: World, W: Write + Drop, V: Write>(
     }
 }
 
-// Cleans the folder, if that is requested.
 #[tactic(auto, using(crate::proofs::UnpackLaws::unchanged))]
 fn clean_if<D: World, W: Write>(
     world: &mut D,
@@ -67,7 +66,6 @@ fn clean_if<D: World, W: Write>(
     Ok(())
 }
 
-// Unpacks the image at a path, and reports how that ended.
 #[tactic(auto, using(crate::proofs::UnpackLaws::told_after, crate::proofs::UnpackLaws::right_told))]
 fn unpack_and_tell<D: World, W: Write + Drop, V: Write>(
     world: &mut D,
@@ -88,7 +86,6 @@ fn unpack_and_tell<D: World, W: Write + Drop, V: Write>(
     tell_ending(world, path, request.as_json, ending, out, complaints)
 }
 
-// Returns the folder of a request, for an image that is this file.
 fn folder_of<'a>(request: &UnpackRequest<'a>, image: Option<FileId>) -> Folder<'a>
     ensures { result ≡ record {
       path = request.now.folder;
@@ -105,7 +102,6 @@ fn folder_of<'a>(request: &UnpackRequest<'a>, image: Option<FileId>) -> Folder<'
     }
 }
 
-// Returns what a request asks of the image at a path, which is this file.
 fn unpacking_of<'a>(
     request: &UnpackRequest<'a>,
     image: Option<FileId>,
@@ -126,7 +122,6 @@ fn unpacking_of<'a>(
     }
 }
 
-// Unpacks the image at a path.
 #[tactic(auto, using(crate::proofs::UnpackLaws::unchanged, crate::proofs::UnpackLaws::looked_before, crate::proofs::UnpackLaws::right_at))]
 fn unpack_at<'a, D: World, W: Write + Drop>(
     world: &mut D,
@@ -153,7 +148,7 @@ fn unpack_at<'a, D: World, W: Write + Drop>(
     }
 }
 
-// Unpacks an image. The first four bytes decide its format.
+// The first four bytes decide the image's format.
 #[tactic(auto, using(crate::proofs::UnpackLaws::unchanged, crate::proofs::UnpackLaws::nothing_later))]
 fn unpack_source<D: World, S: Source, W: Write + Drop>(
     world: &mut D,
@@ -178,7 +173,6 @@ fn unpack_source<D: World, S: Source, W: Write + Drop>(
     }
 }
 
-// Reports how the unpacking of the image at a path ended, and returns the status.
 fn tell_ending<D: World, W: Write + Drop, V: Write>(
     world: &mut D,
     path: &str,
@@ -214,8 +208,8 @@ fn tell_ending<D: World, W: Write + Drop, V: Write>(
     }
 }
 
-// Returns whether a trouble is of the command line, of memory or of the output, and so is reported
-// on standard error, though JSON is requested.
+// Such a trouble is of the command line, of memory or of the output. It is reported on standard
+// error, even for JSON.
 fn is_of_command(trouble: &Trouble) -> bool
     ensures { result ≡ is_of_command trouble.now }
 {
@@ -226,7 +220,6 @@ fn is_of_command(trouble: &Trouble) -> bool
     }
 }
 
-// Reports an end as a JSON object.
 fn tell_object<D: World, W: Write + Drop, V: Write>(
     world: &mut D,
     path: &str,
@@ -248,7 +241,7 @@ fn tell_object<D: World, W: Write + Drop, V: Write>(
     }
 }
 
-// Reports that a legacy image has CRC-32 alone.
+// Reports that a legacy image has CRC-32 only.
 fn tell_weak<W: Write, V: Write>(path: &str, out: &mut W, complaints: &mut Complaints<'_, V>) -> u8
     ensures ends { Ends result complaints.old.count complaints.new.count }
     ensures status { (result ≡ 1) ⊎ (result ≡ 3) }

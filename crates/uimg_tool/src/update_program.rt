@@ -17,7 +17,7 @@ use uimg_fit_updating::{UpdateFault, Updated, update};
 use uimg_printing::Printed;
 use uimg_unpacking::{MakingWorld, World};
 
-/// Updates an image: makes the new one beside its name, which it gets when it is complete.
+/// Makes the new image beside its name, which it gets when it is complete.
 pub(crate) fn update_image<'p, D: MakingWorld<'p>, W: Write, V: Write>(
     world: &mut D,
     request: &UpdateRequest<'_>,
@@ -44,7 +44,6 @@ where
     }
 }
 
-// Returns the time that the image gets, if it gets one.
 fn time_of(request: &UpdateRequest<'_>) -> Option<u32>
     ensures { result ≡ (if request.now.sets_time then Some request.now.manner.time else None) }
 {
@@ -55,7 +54,6 @@ fn time_of(request: &UpdateRequest<'_>) -> Option<u32>
     }
 }
 
-// Returns what is made of an updated image.
 fn tree_request<'a>(
     request: &UpdateRequest<'_>,
     image: &'a str,
@@ -80,7 +78,7 @@ fn tree_request<'a>(
     }
 }
 
-// Returns the size of a blob that has free room; one with payloads after it has none.
+// A blob with payloads after it has no free room.
 fn roomy_size(placement: Placement, updated: &Updated) -> Option<u32>
     ensures { result ≡ roomy_size_of placement updated.now.roomy_size }
 {
@@ -91,7 +89,6 @@ fn roomy_size(placement: Placement, updated: &Updated) -> Option<u32>
     }
 }
 
-// Reports why an image is not updated.
 fn tell_fault<D: World, V: Write>(
     world: &mut D,
     image: &str,

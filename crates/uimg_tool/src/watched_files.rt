@@ -15,14 +15,14 @@ const LARGE: u64 = 4 << 20;
 /// How many bytes are read between two looks at the clock: 1 MiB.
 const STEP: u64 = 1 << 20;
 
-/// A file that tells a meter how many bytes of it were read.
+/// A file that reports to a meter how many bytes of it were read.
 #[derive(Drop)]
 pub struct WatchedFile<'a, R: Files + Clock, V: Write + Copy> {
     file: R::File,
     meter: &'a Meter<'a, R, V>,
     length: u64,
     position: u64,
-    // the position from which on the meter is told
+    // the position from which on the meter gets a report
     next: u64,
 }
 
@@ -102,7 +102,7 @@ pub struct WatchedFiles<'a, R: Files + Clock, V: Write + Copy> {
 }
 
 impl<'a, R: Files + Clock, V: Write + Copy> WatchedFiles<'a, R, V> {
-    /// Creates them.
+    /// Creates the files of a runtime, watched by `meter`.
     pub fn new(rt: &'a R, meter: &'a Meter<'a, R, V>) -> WatchedFiles<'a, R, V> {
         WatchedFiles { rt, meter }
     }

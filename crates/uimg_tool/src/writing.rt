@@ -25,8 +25,7 @@ pub(crate) enum Lead {
     File(String),
 }
 
-/// Returns where the file for a path is written, which is created if it is a new one. Fails if
-/// memory for the paths is refused.
+/// Creates the file if it is a new one. Fails if memory for the paths is refused.
 pub(crate) fn writing_of<D: World>(
     world: &mut D,
     alloc: Global,
@@ -49,8 +48,7 @@ pub(crate) fn writing_of<D: World>(
     }
 }
 
-// Returns what a path leads to. Symbolic links are followed to a file. Fails if memory for its path
-// is refused.
+// Follows symbolic links to a file. Fails if memory for its path is refused.
 fn lead_of<D: World>(world: &mut D, alloc: Global, path: &str) -> Result<Lead, AllocError>
     ensures { LeadsTo path.now result (D.trace world.old) (D.trace world.new) }
 {
@@ -75,7 +73,6 @@ fn lead_of<D: World>(world: &mut D, alloc: Global, path: &str) -> Result<Lead, A
     }
 }
 
-// Returns a path as that of a file. Fails if memory for it is refused.
 fn file(alloc: Global, path: &str) -> Result<Lead, AllocError>
     ensures { IsFile path.now result }
 {
@@ -85,7 +82,7 @@ fn file(alloc: Global, path: &str) -> Result<Lead, AllocError>
     }
 }
 
-/// Creates a file beside a path, under the first free name. Returns why it cannot be created; fails
+/// Creates a file beside a path, under the first free name. Returns why it cannot be created. Fails
 /// if memory for its path is refused.
 pub(crate) fn new_beside<W: World>(
     world: &mut W,

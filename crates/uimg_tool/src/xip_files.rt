@@ -19,7 +19,6 @@ pub(crate) struct XipFiles<F: Files> {
 }
 
 impl<F: Files> XipFiles<F> {
-    /// Returns these files, none of them opened.
     pub(crate) fn new(files: F) -> XipFiles<F>
         ensures files { result.files ≡ files }
         ensures none { result.opened.names ≡ [] }
@@ -32,14 +31,13 @@ impl<F: Files> XipFiles<F> {
         }
     }
 
-    /// Returns whether a file was refused because it has no room for a header.
+    /// A file was refused because it has no room for a header.
     pub(crate) fn has_met_no_room(&self) -> bool
         ensures { result ≡ self.now.has_met_no_room }
     {
         self.has_met_no_room
     }
 
-    /// Returns the whole files.
     pub(crate) fn whole(&self) -> &F
         ensures { result.now ≡ self.now.files }
     {
@@ -58,8 +56,8 @@ impl<F: Files> Files for XipFiles<F> {
       opened = s.opened.names;
     } };
 
-    /// Opens the file of this name, without the room at its beginning. Returns `SourceFault` if it
-    /// has no such room, if that cannot be read, or as the files do.
+    /// Leaves out the room at the file's beginning. Returns `SourceFault` if it has no such room,
+    /// if that cannot be read, or as the files do.
     fn open(&mut self, name: &[u8]) -> Result<BodySource<F::Opened>, SourceFault> {
         self.opened.note(name);
         let opened = open_body(&mut self.files, name, &mut self.has_met_no_room);
@@ -70,7 +68,6 @@ impl<F: Files> Files for XipFiles<F> {
     }
 }
 
-// Opens a file without the room at its beginning.
 fn open_body<F: Files>(
     files: &mut F,
     name: &[u8],

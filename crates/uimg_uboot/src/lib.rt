@@ -1,5 +1,5 @@
 //! How U-Boot reads a FIT image (`specs/UBoot.antt`), and a strict check: what it finds right,
-//! U-Boot reads as it was checked.
+//! U-Boot reads in the same way.
 #![tactic(auto)]
 
 mod strict_check;

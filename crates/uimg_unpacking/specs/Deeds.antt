@@ -1,4 +1,4 @@
--- What was asked of a world of files, and what it answered.
+-- What was requested of a world of files, and what it answered.
 use Rattle.std.specs.Prelude.{◌≡◌, ℕ, List, [], ◌∷◌, ◌++◌, ◌==◌, if◌then◌else◌, slice_index, Option, Some, None, Result, Ok, Err, Bool, true, ◌&&◌, IsTrue}
 use Rattle.std.specs.Fs.{IsDir, IsSymlink, file_type}
 use Rattle.std.specs.declared.fs.attrs.Metadata.{Metadata}

@@ -14,8 +14,7 @@ pub(crate) struct Begun {
     pub(crate) whole: String,
 }
 
-/// Returns a file with its paths: those in the temporary folder that was made, and the one that it
-/// gets.
+/// The paths are those in the temporary folder, and the one that the file gets.
 pub(crate) fn begun_in(
     alloc: Global,
     made: &str,

@@ -47,7 +47,6 @@ pub(crate) const LENDS_SHELF: u64 = 17;
 
 pub(crate) const CLOSES: u64 = 18;
 
-/// Returns the number of an answer.
 pub(crate) fn code_of<X>(answer: &io::Result<X>) -> u64
     ensures { answer_at result ≡ answer_of answer.now }
 {
@@ -60,7 +59,6 @@ pub(crate) fn code_of<X>(answer: &io::Result<X>) -> u64
     }
 }
 
-/// Returns the number of an opening.
 pub(crate) fn code_of_opening<X>(opened: &Result<X, SourceFault>) -> u64
     ensures { is_opened_at result ≡ is_ok opened.now }
 {
@@ -70,7 +68,6 @@ pub(crate) fn code_of_opening<X>(opened: &Result<X, SourceFault>) -> u64
     }
 }
 
-/// Returns the number of a kind.
 pub(crate) fn code_of_kind(kind: Kind) -> u64
     ensures { kind_at result ≡ kind }
 {
@@ -82,7 +79,6 @@ pub(crate) fn code_of_kind(kind: Kind) -> u64
     }
 }
 
-/// Returns the number of what a path leads to.
 pub(crate) fn code_of_target(target: Target) -> u64
     ensures { target_at result ≡ target }
 {

@@ -1,4 +1,4 @@
-//! What the operating system tells of a path, and how it is opened.
+//! What the operating system returns for a path, and how it is opened.
 
 ghost use Rattle.std.specs.Prelude.{◌≡◌, IfErr, IfOk, OnOk, Some, pos};
 ghost use Rattle.std.specs.IoError.{raw_os_error};
@@ -17,8 +17,7 @@ const IS_A_FOLDER: i32 = 21;
 /// The error of a file system that cannot wait for a folder (`EINVAL`).
 const INVALID: i32 = 22;
 
-/// Opens the file at a path as a source. One that is a pipe is not opened, which would wait for a
-/// writer.
+/// Does not open a pipe, which would wait for a writer.
 pub(crate) fn open_source<R: Files + AllocGlobal>(
     rt: &R,
     path: &str,
@@ -31,8 +30,8 @@ pub(crate) fn open_source<R: Files + AllocGlobal>(
     }
 }
 
-/// Returns why the file at a path could not be opened to be read, if another look at it shows that.
-/// Only a regular file is opened for that.
+/// Returns the reason only if another look at the file shows it. Only a regular file is opened for
+/// that.
 pub(crate) fn reason_at<R: Files>(rt: &R, path: &str) -> Option<io::Error> {
     match fs::metadata(rt, path) {
         Ok(found) if found.is_file() => fs::open(rt, path).err(),
@@ -43,7 +42,6 @@ pub(crate) fn reason_at<R: Files>(rt: &R, path: &str) -> Option<io::Error> {
     }
 }
 
-/// Returns what a path leads to.
 pub(crate) fn target_at<R: Files>(rt: &R, path: &str) -> Target {
     match fs::metadata(rt, path) {
         Ok(found) if found.is_file() => Target::File,
@@ -53,7 +51,6 @@ pub(crate) fn target_at<R: Files>(rt: &R, path: &str) -> Target {
     }
 }
 
-/// Returns what a path's properties say that exists there.
 pub(crate) fn kind_of(found: &io::Result<fs::Metadata>) -> Kind
     ensures { IsKindOf found.now result }
 {
@@ -71,7 +68,7 @@ pub(crate) fn sync_folder<R: Files>(rt: &R, path: &str) -> io::Result<()> {
     unless_unable(fs::OpenFile::sync_all(&folder))
 }
 
-// Returns what a wait has answered, but that it is done if the file system cannot wait.
+// Returns the answer of a wait. A file system that cannot wait counts as done.
 fn unless_unable(synced: io::Result<()>) -> io::Result<()>
     ensures { IfErr synced (λ error. OnOk result (raw_os_error error ≡ Some (pos 22))) }
 {

@@ -1,4 +1,4 @@
-//! What the files of the operating system lend for the making of an image.
+//! What the files of the operating system lend for the build of an image.
 
 ghost use Rattle.std.specs.Prelude.{[], None, false};
 

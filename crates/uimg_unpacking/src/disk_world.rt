@@ -1,5 +1,5 @@
-//! The files of the operating system: each method makes one call, of the standard library or of
-//! `disk_looks`, notes it, and returns what it answers.
+//! The files of the operating system. Each method makes one call, of the standard library or of
+//! `disk_looks`, notes it, and returns the answer.
 
 ghost use Rattle.std.specs.Prelude.{◌≡◌, [], None, false};
 
@@ -29,7 +29,7 @@ pub struct DiskWorld<'a, R: Files + AllocGlobal> {
 }
 
 impl<'a, R: Files + AllocGlobal> DiskWorld<'a, R> {
-    /// Returns the files of a system, which were not asked for anything yet.
+    /// Returns the files of a system, none of them requested yet.
     pub fn new(rt: &'a R) -> DiskWorld<'a, R>
         ensures { ⟦<DiskWorld<'a, R> as World>⟧.trace result ≡ [] }
     {

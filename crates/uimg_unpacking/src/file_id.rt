@@ -26,7 +26,6 @@ impl FileId {
     ghost use Rattle.std.specs.Prelude.{◌≡◌};
     ghost use Rattle.uimg_unpacking.specs.Allowing.{is_same};
 
-    // Returns whether another file is this one.
     fn is_same(self, other: FileId) -> bool
         ensures { result ≡ is_same self other }
     {
@@ -35,7 +34,6 @@ impl FileId {
 
     ghost use Rattle.uimg_unpacking.specs.Allowing.{is_image};
 
-    /// Returns whether a file that was found is that of an image.
     pub(crate) fn is_image(found: Option<FileId>, image: Option<FileId>) -> bool
         ensures { result ≡ is_image found image }
     {

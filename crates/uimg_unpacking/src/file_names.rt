@@ -10,21 +10,18 @@ const ALLOWED: &[u8] = b"ABCDEFGHIJKLMNOPQRSTUVWXYZabcdefghijklmnopqrstuvwxyz012
 // Those of them that it may not begin with.
 const NOT_FIRST: &[u8] = b".-";
 
-// Returns whether a file name may have a byte.
 fn is_allowed(byte: u8) -> bool
     ensures { result ≡ is_allowed byte }
 {
     ALLOWED.contains(&byte)
 }
 
-// Returns whether a file name may begin with an allowed byte.
 fn begins(byte: u8) -> bool
     ensures { result ≡ may_begin byte }
 {
     !NOT_FIRST.contains(&byte)
 }
 
-// Returns whether a file name may have all these bytes.
 fn are_allowed(name: &[u8]) -> bool
     ensures { result ≡ list_all is_allowed name.now }
 {

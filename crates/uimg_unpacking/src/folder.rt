@@ -38,7 +38,6 @@ pub struct Folder<'a> {
 }
 
 impl<'a> Folder<'a> {
-    /// Returns the path of a file in it. Fails if memory for it is refused.
     pub(crate) fn path_of(&self, alloc: Global, name: &str) -> Result<String, AllocError>
         ensures { IfOk result (λ path. string_bytes path
             ≡ self.now.path.now ++ codes "/" ++ name.now) }
@@ -46,7 +45,7 @@ impl<'a> Folder<'a> {
         format!(in alloc; "{}/{name}", self.path)
     }
 
-    /// Returns a path, if it is free, or a file to replace exists there, which is not the image.
+    /// Returns the path if it is free, or a file to replace exists there, which is not the image.
     pub(crate) fn allows<W: World>(&self, world: &mut W, path: String) -> Result<String, Trouble>
         ensures told { Allows self.now.image self.now.is_forced (string_bytes path)
             (refused_of result) (W.trace world.old) (W.trace world.new) }
@@ -69,8 +68,8 @@ impl<'a> Folder<'a> {
         }
     }
 
-    /// Creates a folder in it, and returns its path: the first free one of `.uimg-new1` to
-    /// `.uimg-new10000`. Returns why none can be created; fails if memory for the path is refused.
+    /// Creates the first free one of `.uimg-new1` to `.uimg-new10000`. Returns why none can be
+    /// created. Fails if memory for the path is refused.
     pub(crate) fn new_folder<W: World>(
         &self,
         world: &mut W,
@@ -94,7 +93,6 @@ impl<'a> Folder<'a> {
         Ok(Err(io::Error::from(ErrorKind::AlreadyExists)))
     }
 
-    // Returns a path in it for what has no name yet. Fails if memory for it is refused.
     fn unnamed(&self, alloc: Global, number: u32) -> Result<String, AllocError>
         ensures { IfOk result (λ path. string_bytes path
             ≡ self.now.path.now ++ codes "/.uimg-new" ++ decimal number) }
@@ -159,7 +157,6 @@ fn clean_at<W: World>(world: &mut W, path: String, image: Option<&str>) -> Resul
     }
 }
 
-// Removes what exists at a path, by what it is.
 fn remove_at<W: World>(world: &mut W, path: &str, kind: Kind) -> io::Result<()>
     ensures { W.trace world.new ≡ removal path.now kind (answer_of result) (W.trace world.old) }
 {
@@ -171,8 +168,8 @@ fn remove_at<W: World>(world: &mut W, path: &str, kind: Kind) -> io::Result<()>
     }
 }
 
-// Returns whether the file of an image is at a path, or in a folder there, or may be: below a folder
-// whose name is not UTF-8, nothing tells.
+// Returns whether the image's file is at a path, or in a folder there, or may be. Below a folder
+// whose name is not UTF-8 this is not known.
 fn is_or_has<W: World>(world: &mut W, path: &str, image: Option<&str>) -> bool
     ensures { SeeksImage path.now image.entry result (W.trace world.old) (W.trace world.new) }
 {
@@ -190,14 +187,12 @@ fn is_or_has<W: World>(world: &mut W, path: &str, image: Option<&str>) -> bool
     }
 }
 
-// Returns whether the file of an image may be at a path, or in a folder there.
 fn may_be_in<W: World>(world: &mut W, path: &str, image: &str) -> bool
     ensures { MayBeIn path.now image.now result (W.trace world.old) (W.trace world.new) }
 {
     is_no_link(world.kind_at(path)) && world.kind_at(image).is_something()
 }
 
-// Returns whether a path is that of a folder, or that of something in it.
 fn is_at_or_below(path: &[u8], folder: &[u8]) -> bool
     ensures { result ≡ is_at_or_below folder.now path.now }
 {
@@ -207,7 +202,7 @@ fn is_at_or_below(path: &[u8], folder: &[u8]) -> bool
     }
 }
 
-// Returns whether a name ends before what follows it: nothing, or a slash and more.
+// A name ends before nothing, or before a slash and more.
 fn ends_name(rest: &[u8]) -> bool
     ensures { result ≡ ends_name rest.now }
 {
@@ -217,7 +212,6 @@ fn ends_name(rest: &[u8]) -> bool
     }
 }
 
-// Returns whether what exists is not a symbolic link.
 fn is_no_link(kind: Kind) -> bool
     ensures { result ≡ is_no_link kind }
 {

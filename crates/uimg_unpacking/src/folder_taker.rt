@@ -48,8 +48,7 @@ pub(crate) struct FolderTaker<'a, 'c, W: World, O: Write + Drop> {
 }
 
 impl<'a, 'c, W: World, O: Write + Drop> FolderTaker<'a, 'c, W, O> {
-    /// Returns a taker for a folder in a world, which writes its lines to `out`. Failed writes are
-    /// noted in `code`.
+    /// Writes lines to `out`. Notes failed writes in `code`.
     pub(crate) fn new(
         world: W,
         alloc: Global,
@@ -79,8 +78,8 @@ impl<'a, 'c, W: World, O: Write + Drop> FolderTaker<'a, 'c, W, O> {
     }
 
     /// Gives the complete files their names, if `names`. Removes the others, and prints the lines.
-    /// Returns the world, their writer, the number of
-    /// payloads that were begun, and the trouble, if it is known.
+    /// Returns the world, their writer, the number of payloads that were begun, and the trouble, if
+    /// it is known.
     pub(crate) fn end(self, names: bool) -> (W, O, usize, Option<Trouble>)
         ensures within { stays_within self.entry.staging.folder.path.now names
             (W.trace result.0) ≡ true }
@@ -125,7 +124,7 @@ impl<'a, 'c, W: World, O: Write + Drop> FolderTaker<'a, 'c, W, O> {
         }
     }
 
-    // Creates the file of a payload, which gets its name later.
+    // The file gets its name later.
     fn begin(&mut self, name: &NodeName) -> Result<NewFile<'c, W::File>, Trouble>
         ensures folder { self.new.staging.folder ≡ self.old.staging.folder }
         ensures counted { OnOk result (nat_lt 0 self.new.taken.count ≡ true) }
@@ -141,7 +140,6 @@ impl<'a, 'c, W: World, O: Write + Drop> FolderTaker<'a, 'c, W, O> {
         }
     }
 
-    // Completes the begun file.
     fn finish(
         &mut self,
         name: &NodeName,
@@ -176,7 +174,6 @@ impl<'a, 'c, W: World, O: Write + Drop> FolderTaker<'a, 'c, W, O> {
         self.add(&line)
     }
 
-    // Adds a line.
     fn add(&mut self, line: &Line<'_>) -> Result<(), Trouble>
         ensures staging { self.new.staging ≡ self.old.staging }
         ensures taken { self.new.taken ≡ self.old.taken }
@@ -189,7 +186,6 @@ impl<'a, 'c, W: World, O: Write + Drop> FolderTaker<'a, 'c, W, O> {
         Ok(())
     }
 
-    // Removes a refused payload.
     fn throw_away(&mut self, name: &NodeName, refusal: Refusal) -> Result<(), Trouble>
         ensures folder { self.new.staging.folder ≡ self.old.staging.folder }
         ensures taken { self.new.taken ≡ self.old.taken }
@@ -214,8 +210,8 @@ impl<'a, 'c, W: World, O: Write + Drop> FolderTaker<'a, 'c, W, O> {
     }
 }
 
-// Gives the files their names, and removes what refused ones were to replace, if `names`. Returns
-// the trouble that no file has its name, or that old files are left.
+// Removes what refused ones were to replace, if `names`. Returns the trouble that no file has its
+// name, or that old files are left.
 fn name<W: World>(
     staging: &mut Staging<'_, '_, W>,
     names: bool,

@@ -25,7 +25,6 @@ pub(crate) struct Claimed {
 }
 
 impl Claimed {
-    /// Returns that nothing was claimed.
     pub(crate) fn new(limits: Limits) -> Claimed
         ensures { result ≡ none_claimed limits }
     {
@@ -36,7 +35,7 @@ impl Claimed {
         }
     }
 
-    /// Claims a file of a length. Fails if the files are too many or too long with it.
+    /// Fails if the files are too many or too long with this one.
     pub(crate) fn claim(&mut self, length: u64) -> Result<(), Trouble>
         ensures claimed { self.new ≡ with_file length self.old }
         ensures told { trouble_in result ≡ exceeded self.new }

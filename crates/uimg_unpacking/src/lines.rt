@@ -62,7 +62,6 @@ impl<'a> Display for Line<'a> {
     }
 }
 
-// Returns a number of bytes, to print.
 fn bytes(count: u64) -> Counted
     ensures { counted result.count result.one.now result.many.now ≡ bytes_text count }
 {
@@ -73,8 +72,8 @@ fn bytes(count: u64) -> Counted
     }
 }
 
-// Writes the line of a kept payload: the name of its image, its size, the name of its file if that
-// differs, and what vouches for it.
+// Writes the name of the image, the size, the name of the file if that differs, and what vouches
+// for the payload.
 fn put_kept<W: Write>(
     name: &NodeName,
     file: &str,
@@ -90,7 +89,7 @@ fn put_kept<W: Write>(
     put_vouched(vouched, f)
 }
 
-// Writes the name of a file, if it differs from that of the image.
+// Writes nothing if the name is that of the image.
 #[tactic(auto, unfolding(crate::specs::Lines::as_text))]
 fn put_file<W: Write>(name: &[u8], file: &str, f: &mut Formatter<W>) -> fmt::Result
     ensures { WritesOnOk W.Write.write_str_gives f.old result (as_text name.now file.now) f.new }
@@ -101,7 +100,6 @@ fn put_file<W: Write>(name: &[u8], file: &str, f: &mut Formatter<W>) -> fmt::Res
     write!(f, " as {file}")
 }
 
-// Writes what vouches for a payload.
 fn put_vouched<W: Write>(vouched: Option<Vouched>, f: &mut Formatter<W>) -> fmt::Result
     ensures { WritesOnOk W.Write.write_str_gives f.old result (vouched_text vouched) f.new }
 {
@@ -114,7 +112,6 @@ fn put_vouched<W: Write>(vouched: Option<Vouched>, f: &mut Formatter<W>) -> fmt:
     }
 }
 
-// Writes the line of a refused payload.
 fn put_refused<W: Write>(name: &NodeName, refusal: Refusal, f: &mut Formatter<W>) -> fmt::Result
     ensures { WritesOnOk W.Write.write_str_gives f.old result
         (refusal_text (as_bytes name.now) refusal) f.new }
@@ -133,7 +130,6 @@ fn put_refused<W: Write>(name: &NodeName, refusal: Refusal, f: &mut Formatter<W>
     }
 }
 
-// Returns the bytes of a checksum.
 #[tactic(auto, unfolding(crate::specs::Lines::crc_bytes))]
 fn crc_bytes(dcrc: u32) -> [u8; 4]
     ensures { result ≡ crc_bytes dcrc }
@@ -141,7 +137,6 @@ fn crc_bytes(dcrc: u32) -> [u8; 4]
     dcrc.to_be_bytes()
 }
 
-// Writes the checksum of a part's data.
 fn put_crc<W: Write>(dcrc: u32, f: &mut Formatter<W>) -> fmt::Result
     ensures { WritesOnOk W.Write.write_str_gives f.old result (crc_text dcrc) f.new }
 {
@@ -149,7 +144,6 @@ fn put_crc<W: Write>(dcrc: u32, f: &mut Formatter<W>) -> fmt::Result
     write!(f, ", data crc32 {}", Hexadecimal(crc.as_slice()))
 }
 
-// Writes the line of a kept part: its file, its size, and the checksum of its data.
 fn put_part<W: Write>(number: u32, size: u64, dcrc: u32, f: &mut Formatter<W>) -> fmt::Result
     ensures { WritesOnOk W.Write.write_str_gives f.old result
         (unpacked_line number size dcrc) f.new }

@@ -5,8 +5,8 @@ use crate::world::World;
 use std::alloc::AllocError;
 use uimg_base::{Shelf, Source, SourceFault};
 
-/// What opens the files of a world, and finds which they are. It changes none, and so is lent to
-/// what makes an image while that is written.
+/// What opens the files of a world, and finds which they are. It changes none, and so it can be
+/// lent to a build while the image is written.
 pub trait Reader: Drop {
     ghost use Rattle.std.specs.Prelude.{◌≡◌, ℕ, List, IfOk, IsTrue, Option};
     ghost use Rattle.uimg_base.specs.Named.{FileMap, SameFiles, Opens};
@@ -21,10 +21,10 @@ pub trait Reader: Drop {
     /// The file at each path; links are followed.
     ghost identities: { Self → List ℕ → Option FileId };
 
-    /// Opens the file at a path as a source, of which nothing was requested yet.
+    /// Opens the file at a path as a source. Nothing was requested of it yet.
     ///
-    /// Returns `SourceFault` if the file cannot be opened, is a folder, or has no known length, as a
-    /// pipe.
+    /// Returns `SourceFault` if the file cannot be opened, is a folder, or has no known length, as
+    /// a pipe.
     fn open(&mut self, path: &str) -> Result<Self::Opened, SourceFault>
         ensures same { SameFiles (map self.old) (map self.new) }
         ensures kept { identities self.new ≡ identities self.old }

@@ -19,7 +19,6 @@ pub struct MemoryFile<'a> {
 }
 
 impl<'a> MemoryFile<'a> {
-    /// Returns a file of these bytes, of which nothing was read, and to which nothing was written.
     pub(crate) fn new(alloc: Global, rest: &'a [u8]) -> MemoryFile<'a>
         ensures read { ⟦<MemoryFile<'a> as Read>⟧.remaining result ≡ Some rest.now }
         ensures written { ⟦<MemoryFile<'a> as Write>⟧.contents result ≡ Some [] }
@@ -30,7 +29,6 @@ impl<'a> MemoryFile<'a> {
         }
     }
 
-    /// Returns what was written to it.
     pub(crate) fn written(&self) -> &[u8]
         ensures { result.now ≡ self.now.written.items }
     {
@@ -38,7 +36,7 @@ impl<'a> MemoryFile<'a> {
     }
 }
 
-/// Returns the error of a call that would change files.
+/// The error of a call that would change files.
 pub(crate) fn read_only() -> io::Error
     ensures { error_kind result ≡ ReadOnlyFilesystem }
 {

@@ -1,4 +1,4 @@
-//! What files in memory lend for the making of an image.
+//! What files in memory lend for the build of an image.
 
 ghost use Rattle.std.specs.Prelude.{[], None, true};
 ghost use Rattle.uimg_base.specs.Named.{bytes_named};

@@ -37,7 +37,7 @@ pub struct MemoryWorld<'a> {
 }
 
 impl<'a> MemoryWorld<'a> {
-    /// Returns a world of these files, which was not asked for anything yet.
+    /// Returns a world of these files, none of them requested yet.
     pub fn new(alloc: Global, files: &'a [(&'a [u8], &'a [u8])]) -> MemoryWorld<'a>
         ensures map { ⟦<MemoryWorld<'a> as World>⟧.map result ≡ record {
           bytes = λ path. bytes_named path files.now;
@@ -64,7 +64,7 @@ impl<'a> MemoryWorld<'a> {
         self.new_files
     }
 
-    // Notes a call, and returns that it failed.
+    // Notes the call.
     fn refuse<X>(&mut self, call: u64, path: &str, other: &str) -> io::Result<X>
         ensures failed { answer_of result ≡ Answer.Failed }
         ensures noted { self.new.record.deeds
@@ -76,7 +76,7 @@ impl<'a> MemoryWorld<'a> {
         Err(read_only())
     }
 
-    // Puts a new file, which is empty, or a folder at a path where nothing is.
+    // Puts a new, empty file, or a folder, at a path where nothing is.
     fn make(&mut self, path: &str, bytes: Option<&[u8]>) -> io::Result<()>
         ensures deeds { self.new.record ≡ self.old.record }
         ensures files { self.new.files ≡ self.old.files }
@@ -258,7 +258,6 @@ impl<'a> World for MemoryWorld<'a> {
     }
 }
 
-// Returns what a path leads to where this is.
 fn target_of_kind(kind: Kind) -> Target
     ensures { result ≡ target_of_kind kind }
 {
@@ -269,7 +268,6 @@ fn target_of_kind(kind: Kind) -> Target
     }
 }
 
-/// Returns the bytes of the first file at a path.
 pub(crate) fn bytes_at<'a>(files: &'a [(&'a [u8], &'a [u8])], path: &str) -> Option<&'a [u8]>
     ensures { option_map (λ bytes. bytes.now) result ≡ bytes_named path.now files.entry.now }
 {

@@ -22,7 +22,6 @@ pub(crate) struct Names {
 }
 
 impl Names {
-    /// Returns an empty set of names.
     pub(crate) fn new(alloc: Global) -> Names
         ensures none { result.given.keys ≡ [] }
         ensures count { result.count ≡ 0 }
@@ -34,9 +33,9 @@ impl Names {
         }
     }
 
-    /// Returns the name of the next file: that of the image if it is a file name and was not used,
-    /// else `image-` with the number of the file or with the first following number that was not
-    /// used. Returns none if a hundred of these were used. Fails if memory is refused.
+    /// Returns the name of the next file: that of the image if it is a file name and was not used.
+    /// Otherwise it is `image-` with the number of the file, or with the first following number
+    /// that was not used. Returns none if a hundred of these were used. Fails if memory is refused.
     #[tactic(auto, using(crate::proofs::Placing::image_name))]
     pub(crate) fn next(&mut self, name: &NodeName) -> Result<Option<String>, AllocError>
         ensures is_name { IfOk result (λ it. IfSome it (λ text.
@@ -65,14 +64,13 @@ impl Names {
         Ok(None)
     }
 
-    /// Returns the number of files.
     pub(crate) fn count(&self) -> usize
         ensures { result ≡ self.now.count }
     {
         self.count
     }
 
-    // Uses a name, and returns whether it was not used before.
+    // Returns whether the name was not used before.
     fn give(&mut self, name: &str) -> Result<bool, AllocError>
         ensures is_new { IfOk result (λ is_new. is_new ≡ not (is_used self.old.given name.now)) }
         ensures same { IfOk result (λ is_new. OnFalse is_new (self.new.given.keys ≡ self.old.given.keys)) }

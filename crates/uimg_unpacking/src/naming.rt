@@ -17,8 +17,8 @@ use std::alloc::Global;
 use std::io;
 use std::io::ErrorKind;
 
-/// Moves a file to another path. Unless it replaces an existing file, it makes a hard link first,
-/// which fails if something exists there; on a file system without links it checks that itself.
+/// Moves a file to another path. Unless it replaces an existing file, makes a hard link first,
+/// which fails if something exists there. On a file system without links it checks that itself.
 pub fn name_file<W: World>(world: &mut W, path: &str, whole: &str, replaces: bool) -> io::Result<()>
     ensures { GivesName path.now whole.now replaces (answer_of result)
         (W.trace world.old) (W.trace world.new) }
@@ -44,7 +44,7 @@ pub fn name_file<W: World>(world: &mut W, path: &str, whole: &str, replaces: boo
     }
 }
 
-/// Gives a file another name too; on a file system without links it loses the first one.
+/// Gives a file another name too. On a file system without links it loses the first one.
 pub(crate) fn keep_as<W: World>(world: &mut W, whole: &str, old: &str) -> io::Result<()>
     ensures { KeepsAs whole.now old.now (answer_of result) (W.trace world.old) (W.trace world.new) }
 {
@@ -54,7 +54,7 @@ pub(crate) fn keep_as<W: World>(world: &mut W, whole: &str, old: &str) -> io::Re
     }
 }
 
-/// Puts back what was kept under another name; if there is nothing, removes what got the name.
+/// Puts back what was kept under another name. If there is nothing, removes what got the name.
 /// Returns whether that is done.
 pub(crate) fn put_back<W: World>(world: &mut W, whole: &str, old: &str, has_name: bool) -> bool
     ensures { PutsBack whole.now old.now has_name result (W.trace world.old) (W.trace world.new) }
@@ -72,8 +72,8 @@ pub(crate) fn put_back<W: World>(world: &mut W, whole: &str, old: &str, has_name
     }
 }
 
-/// Gives files their names, up to one that cannot get it. Returns how many have it, and why the next
-/// one has not: none if all have it.
+/// Stops at a file that cannot get its name. Returns how many have it, and why the next one has
+/// not: none if all have it.
 pub(crate) fn name_files<W: World>(
     world: &mut W,
     alloc: Global,
@@ -145,7 +145,7 @@ pub(crate) fn forget_old<W: World>(world: &mut W, folder: &Folder<'_>, files: &[
     }
 }
 
-// Gives a file its name. What it replaces is kept under another.
+// What the file replaces is kept under another name.
 fn name<W: World>(
     world: &mut W,
     alloc: Global,
@@ -169,7 +169,7 @@ fn name<W: World>(
     created(named, whole)
 }
 
-// Gives a file its name, where something may exist.
+// Something may exist at the name.
 fn name_over<W: World>(world: &mut W, its: &Begun) -> io::Result<()>
     ensures { NamesOver (string_bytes its.now.new) (string_bytes its.now.old)
         (string_bytes its.now.whole) (answer_of result) (W.trace world.old) (W.trace world.new) }
@@ -184,7 +184,6 @@ fn name_over<W: World>(world: &mut W, its: &Begun) -> io::Result<()>
     }
 }
 
-// Returns the trouble that a file cannot be created, if it is not.
 fn created(named: io::Result<()>, whole: String) -> Result<(), Trouble>
     ensures is { is_ok result ≡ is_ok named }
     ensures told { TellsCreated (string_bytes whole) named result }
@@ -195,7 +194,6 @@ fn created(named: io::Result<()>, whole: String) -> Result<(), Trouble>
     }
 }
 
-/// Removes what files were to replace.
 pub(crate) fn remove_all_old<W: World>(
     world: &mut W,
     alloc: Global,
@@ -214,7 +212,6 @@ pub(crate) fn remove_all_old<W: World>(
     Ok(())
 }
 
-// Removes what a file was to replace.
 fn remove_old<W: World>(
     world: &mut W,
     alloc: Global,

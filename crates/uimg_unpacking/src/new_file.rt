@@ -25,7 +25,6 @@ pub struct NewFile<'a, F: Write + OpenFile + Drop> {
 }
 
 impl<'a, F: Write + OpenFile + Drop> NewFile<'a, F> {
-    /// Returns a file to which nothing was written, and which notes its errors here.
     pub(crate) fn new(file: BufWriter<F, Global>, code: &'a ErrorCode) -> NewFile<'a, F>
         ensures size { result.size ≡ 0 }
         ensures bytes { writer_contents F.contents result.file ≡ writer_contents F.contents file }

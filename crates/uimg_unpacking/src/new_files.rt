@@ -43,7 +43,6 @@ impl NewFiles {
         }
     }
 
-    /// Returns what is at a path.
     pub(crate) fn kind_at(&self, path: &str) -> Kind
         ensures { result ≡ kind_made (made_at self.now.made path.now) }
     {
@@ -54,7 +53,7 @@ impl NewFiles {
         }
     }
 
-    /// Returns the same files and folders, if there is memory for them.
+    /// If memory is refused, the copy is empty and takes no files.
     pub(crate) fn copied(&self) -> NewFiles {
         match self.made.clone() {
             Ok(made) => NewFiles {
@@ -70,7 +69,6 @@ impl NewFiles {
         }
     }
 
-    /// Puts a file of these bytes, or a folder, at a path where nothing is.
     pub(crate) fn make(&mut self, path: &str, bytes: Option<&[u8]>) -> io::Result<()>
         ensures done { OnOk result (MadeBut self.old.made self.new.made path.now
             (Some (option_map (λ bytes. bytes.now) bytes.entry))) }
@@ -82,7 +80,6 @@ impl NewFiles {
         self.put(path, bytes)
     }
 
-    /// Puts a file of these bytes, or a folder, at a path.
     pub(crate) fn put(&mut self, path: &str, bytes: Option<&[u8]>) -> io::Result<()>
         ensures done { OnOk result (MadeBut self.old.made self.new.made path.now
             (Some (option_map (λ bytes. bytes.now) bytes.entry))) }
@@ -96,7 +93,7 @@ impl NewFiles {
         Ok(())
     }
 
-    /// Gives a file a second path, where nothing is.
+    /// Nothing is at the second path.
     pub(crate) fn hard_link(&mut self, from: &str, to: &str) -> io::Result<()>
         ensures done { OnOk result (MadeBut self.old.made self.new.made to.now (made_at self.old.made from.now)) }
     {
@@ -104,7 +101,7 @@ impl NewFiles {
         self.make(to, Some(&bytes))
     }
 
-    /// Moves a file to another path, over the file that is there.
+    /// Replaces a file at the new path.
     pub(crate) fn rename(&mut self, from: &str, to: &str) -> io::Result<()>
         ensures done { OnOk result (MovesMade self.old.made self.new.made from.now to.now) }
     {
@@ -117,14 +114,12 @@ impl NewFiles {
         Ok(())
     }
 
-    /// Removes a file.
     pub(crate) fn remove_file(&mut self, path: &str) -> io::Result<()>
         ensures done { OnOk result (MadeBut self.old.made self.new.made path.now None) }
     {
         self.remove(path, Kind::File)
     }
 
-    /// Removes a folder in which nothing is.
     pub(crate) fn remove_dir(&mut self, path: &str) -> io::Result<()>
         ensures done { OnOk result (MadeBut self.old.made self.new.made path.now None) }
     {
@@ -134,7 +129,6 @@ impl NewFiles {
         self.remove(path, Kind::Folder)
     }
 
-    // Removes what is at a path, if it is of this kind.
     fn remove(&mut self, path: &str, kind: Kind) -> io::Result<()>
         ensures done { OnOk result (MadeBut self.old.made self.new.made path.now None) }
     {
@@ -145,21 +139,18 @@ impl NewFiles {
         Ok(())
     }
 
-    // Removes what is at a path.
     fn forget(&mut self, path: &str)
         ensures { MadeBut self.old.made self.new.made path.now None }
     {
         self.made.remove(path);
     }
 
-    // Returns whether something is in a folder.
     fn has_within(&self, folder: &str) -> bool {
         self.made
             .keys()
             .any(|path| is_within(folder, path.as_str()))
     }
 
-    // Returns a copy of the bytes of the file at a path.
     fn copy_at(&self, path: &str) -> io::Result<Vec<u8>>
         ensures { IfOk result (λ bytes. made_at self.now.made path.now ≡ Some (Some bytes.items)) }
     {
@@ -170,7 +161,6 @@ impl NewFiles {
     }
 }
 
-// Returns whether a path is in a folder.
 fn is_within(folder: &str, path: &str) -> bool {
     match path.strip_prefix(folder) {
         Some(rest) => rest.starts_with('/'),
@@ -178,7 +168,6 @@ fn is_within(folder: &str, path: &str) -> bool {
     }
 }
 
-// Returns what is at the path of a file of these bytes, or of a folder.
 fn found_of(alloc: Global, bytes: Option<&[u8]>) -> io::Result<Option<Vec<u8>>>
     ensures { IfOk result (λ found. option_map (λ copy. copy.items) found
         ≡ option_map (λ bytes. bytes.now) bytes.entry) }
@@ -189,7 +178,6 @@ fn found_of(alloc: Global, bytes: Option<&[u8]>) -> io::Result<Option<Vec<u8>>>
     }
 }
 
-// Returns a copy of bytes.
 fn copy_of(alloc: Global, bytes: &[u8]) -> io::Result<Vec<u8>>
     ensures { IfOk result (λ copy. copy.items ≡ bytes.now) }
 {

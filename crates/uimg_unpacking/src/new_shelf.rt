@@ -12,8 +12,8 @@ use std::io;
 use std::io::{BufWriter, Write};
 use uimg_base::{Shelf, Source, SourceFault};
 
-/// A shelf in a new file, which is open already, so that nothing that gets its path meanwhile is
-/// written to. A reader reopens it. It is like a `FileShelf` otherwise.
+/// A shelf in a new file, which is open already: nothing that gets its path meanwhile is written
+/// to. A reader reopens it. It is like a `FileShelf` otherwise.
 #[derive(Drop)]
 pub struct NewShelf<R: Reader, F: Write + Drop> {
     reader: R,
@@ -22,8 +22,7 @@ pub struct NewShelf<R: Reader, F: Write + Drop> {
 }
 
 impl<R: Reader, F: Write + Drop> NewShelf<R, F> {
-    /// Returns a shelf in a file to which nothing was written, at this path. Fails if memory for its
-    /// path or its buffer is refused.
+    /// Fails if memory for the path or the buffer is refused.
     pub(crate) fn new(
         alloc: Global,
         reader: R,
@@ -82,8 +81,6 @@ impl<R: Reader, F: Write + Drop> Shelf for NewShelf<R, F> {
 
     ghost honest = { false };
 
-    /// Writes the buffered bytes, closes the file and reopens it as a source.
-    ///
     /// Returns `SourceFault` if the last piece cannot be written, or as the reader does.
     fn keep(self) -> Result<R::Opened, SourceFault> {
         self.reopen()

@@ -15,8 +15,8 @@ use uimg_fit_base::word_text;
 use uimg_fit_checking::{NodeName, Refusal, Vouched};
 use uimg_printing::{Hexadecimal, put_number, put_string, put_text};
 
-/// Returns the line of a payload or part with its end: its text, or an object with the path of the
-/// image, if that is given. Fails if memory for it is refused.
+/// Returns a line of text, or an object with the path of the image, if that is given. Fails if
+/// memory for it is refused.
 pub(crate) fn told(
     alloc: Global,
     path: Option<&str>,
@@ -30,7 +30,6 @@ pub(crate) fn told(
     }
 }
 
-// Returns the object of a line, and its end.
 fn object_of(alloc: Global, path: &str, line: &Line<'_>) -> Result<Vec<u8>, AllocError>
     ensures { IfOk result (λ text. text.items
         ≡ print (json_tokens (object_with path.now (members_of line.now))) ++ codes "\n") }
@@ -42,7 +41,6 @@ fn object_of(alloc: Global, path: &str, line: &Line<'_>) -> Result<Vec<u8>, Allo
     Ok(text)
 }
 
-// Writes the object of a line.
 fn put_object(
     alloc: Global,
     writer: &mut Writer,
@@ -59,7 +57,6 @@ fn put_object(
     Ok(())
 }
 
-// Writes the members of a line.
 fn put_line(alloc: Global, writer: &mut Writer, line: &Line<'_>) -> Result<(), AllocError>
     ensures { Appends result writer.old writer.new (tokens_of (members_of line.now)) }
 {
@@ -76,7 +73,6 @@ fn put_line(alloc: Global, writer: &mut Writer, line: &Line<'_>) -> Result<(), A
     }
 }
 
-// Writes the members of each payload: status, verdict, format and the name of its image.
 fn put_about(
     alloc: Global,
     writer: &mut Writer,
@@ -94,7 +90,6 @@ fn put_about(
     Ok(())
 }
 
-// Writes the name of a file and its size.
 fn put_file(writer: &mut Writer, file: &str, size: u64) -> Result<(), AllocError>
     ensures { Appends result writer.old writer.new (tokens_of (file_members file.now size)) }
 {
@@ -103,7 +98,6 @@ fn put_file(writer: &mut Writer, file: &str, size: u64) -> Result<(), AllocError
     Ok(())
 }
 
-// Returns the verdict on a kept payload.
 fn kept_verdict(vouched: Option<Vouched>) -> &'static str
     ensures { result.now ≡ kept_verdict vouched }
 {
@@ -113,7 +107,6 @@ fn kept_verdict(vouched: Option<Vouched>) -> &'static str
     }
 }
 
-// Writes the members of a kept payload.
 fn put_kept(
     alloc: Global,
     writer: &mut Writer,
@@ -131,7 +124,6 @@ fn put_kept(
     Ok(())
 }
 
-// Writes what vouches for a payload, if anything does.
 fn put_vouched(
     alloc: Global,
     writer: &mut Writer,
@@ -145,7 +137,6 @@ fn put_vouched(
     }
 }
 
-// Writes an algorithm and the digest by it.
 fn put_digest(alloc: Global, writer: &mut Writer, vouched: &Vouched) -> Result<(), AllocError>
     ensures { Appends result writer.old writer.new (tokens_of (vouched_members (Some vouched.now))) }
 {
@@ -156,7 +147,6 @@ fn put_digest(alloc: Global, writer: &mut Writer, vouched: &Vouched) -> Result<(
     Ok(())
 }
 
-// Writes the members of a refused payload.
 fn put_refused(
     alloc: Global,
     writer: &mut Writer,
@@ -176,7 +166,6 @@ fn put_refused(
     }
 }
 
-// Writes the members of a part.
 fn put_part(
     alloc: Global,
     writer: &mut Writer,

@@ -47,8 +47,7 @@ pub(crate) struct PartFolder<'a, 'c, W: World, O: Write + Drop> {
 }
 
 impl<'a, 'c, W: World, O: Write + Drop> PartFolder<'a, 'c, W, O> {
-    /// Returns a taker for a folder in a world, which writes its lines to `out`. Failed writes are
-    /// noted in `code`.
+    /// Writes lines to `out`. Notes failed writes in `code`.
     pub(crate) fn new(
         world: W,
         alloc: Global,
@@ -98,7 +97,6 @@ impl<'a, 'c, W: World, O: Write + Drop> PartFolder<'a, 'c, W, O> {
         (staging.end(), trouble.or(unwritten))
     }
 
-    // Returns the name of a part's file.
     #[tactic(auto, using(crate::proofs::Placing::image_name))]
     fn name_of(&self, number: u32) -> Result<String, Trouble>
         ensures named { IfOk result (λ name. string_bytes name ≡ image_name number) }
@@ -120,7 +118,7 @@ impl<'a, 'c, W: World, O: Write + Drop> PartFolder<'a, 'c, W, O> {
         self.staging.look(name.as_str())
     }
 
-    // Creates the file of a part, which gets its name later. Fails if the files have their names.
+    // The file gets its name later. Fails if the files have their names.
     fn begin(&mut self, number: u32) -> Result<NewFile<'c, W::File>, Trouble>
         ensures folder { self.new.staging.folder ≡ self.old.staging.folder }
         ensures name { names_of self.new.staging.files.items
@@ -139,7 +137,7 @@ impl<'a, 'c, W: World, O: Write + Drop> PartFolder<'a, 'c, W, O> {
         self.staging.begin(name)
     }
 
-    // Completes the file of a part. Fails if another one was begun, or if the files have their names.
+    // Fails if another file was begun, or if the files have their names.
     fn complete(&mut self, number: u32, file: NewFile<'c, W::File>) -> Result<(), Trouble>
         ensures folder { self.new.staging.folder ≡ self.old.staging.folder }
         ensures noted { OnOk result (self.new.parts.items
@@ -168,8 +166,8 @@ impl<'a, 'c, W: World, O: Write + Drop> PartFolder<'a, 'c, W, O> {
         }
     }
 
-    // Returns whether the file that was begun last is that of a part which comes after all others,
-    // before files have their names.
+    // The file that was begun last is that of a part which comes after all others, before files
+    // have their names.
     fn is_next(&self, number: u32) -> Result<bool, Trouble>
         ensures { IfOk result (λ is. is ≡ (not self.now.is_named && nat_le self.now.next number
             && bytes_eq (last_name self.now.staging.files.items) (image_name number))) }
@@ -179,7 +177,7 @@ impl<'a, 'c, W: World, O: Write + Drop> PartFolder<'a, 'c, W, O> {
         Ok(is_next && self.staging.last_name() == name.as_str())
     }
 
-    // Gives the files their names. Fails if they have them.
+    // Fails if the files have their names.
     fn name_all(&mut self) -> Result<(), Trouble>
         ensures folder { self.new.staging.folder ≡ self.old.staging.folder }
         ensures parts { self.new.parts ≡ self.old.parts }
@@ -198,7 +196,6 @@ impl<'a, 'c, W: World, O: Write + Drop> PartFolder<'a, 'c, W, O> {
         Ok(())
     }
 
-    // Gives the files their names, and prints the line of each.
     fn finish(&mut self, dcrc: u32) -> Result<(), Trouble>
         ensures folder { self.new.staging.folder ≡ self.old.staging.folder }
         ensures kept { OnOk result (⟦<PartFolder<'a, 'c, W, O> as PartTaker>⟧.kept self.new
@@ -225,7 +222,6 @@ impl<'a, 'c, W: World, O: Write + Drop> PartFolder<'a, 'c, W, O> {
     }
 }
 
-// Prints the line of each part.
 fn tell<O: Write>(
     alloc: Global,
     json: Option<&str>,
@@ -242,7 +238,6 @@ fn tell<O: Write>(
     Ok(())
 }
 
-// Prints the line of a part.
 fn tell_part<O: Write>(
     alloc: Global,
     json: Option<&str>,

@@ -44,12 +44,13 @@ pub enum PartsEnded {
 /// the data is right, with a line for each on `out`. For the types multi and script these are its
 /// parts, for another type its data as one part.
 ///
-/// The files are `image-0`, `image-1` and so on, by the parts' numbers; one of them can be
-/// requested alone. Nothing is written if something exists at one of these paths, unless files are
+/// The files are `image-0`, `image-1` and so on, by the parts' numbers. One of them can be
+/// requested. Nothing is written if something exists at one of these paths, unless files are
 /// replaced, if one leads to the image, or if there are more files or bytes than the limits allow.
-/// Files get their names once all are written; unless all get them, the folder is unchanged. Where
-/// parts are kept, the source is honest and contracts know what new files hold, the file of each
-/// requested part holds exactly its bytes.
+/// Files get their names once all are written; unless all get them, the folder is unchanged.
+///
+/// Where parts are kept, the source is honest and contracts know what new files hold, the file of
+/// each requested part holds exactly its bytes.
 #[tactic(auto, using(crate::proofs::PartChanges::within, crate::proofs::PartChanges::follows))]
 pub fn unpack_parts<W: World, S: Source, O: Write + Drop>(
     world: &mut W,
@@ -69,7 +70,7 @@ pub fn unpack_parts<W: World, S: Source, O: Write + Drop>(
     ended
 }
 
-// As `unpack_parts`, in a world that is returned. Nothing is changed outside the folder.
+// Returns the world. Changes nothing outside the folder.
 #[tactic(auto, using(crate::proofs::Placing::stays_naming))]
 fn unpack_parts_in<W: World, S: Source, O: Write + Drop>(
     world: W,
@@ -105,7 +106,6 @@ fn unpack_parts_in<W: World, S: Source, O: Write + Drop>(
     (world, ended(unpacked, trouble))
 }
 
-// Returns how it ended by what was unpacked, with the trouble if it is known.
 fn ended(unpacked: Result<bool, Fault>, trouble: Option<Trouble>) -> PartsEnded
     ensures { result ≡ end_of_parts unpacked trouble }
 {
@@ -117,7 +117,7 @@ fn ended(unpacked: Result<bool, Fault>, trouble: Option<Trouble>) -> PartsEnded
     }
 }
 
-// Returns the trouble that the requested parts have more bytes than are enough, if they have.
+// Returns the trouble if the requested parts have more bytes than are enough.
 fn excess<S: Source>(
     most: Option<u64>,
     only: Option<u32>,
@@ -135,7 +135,7 @@ fn excess<S: Source>(
     Ok(None)
 }
 
-// Returns an end, unless the image's header or its table of parts is refused.
+// Returns the end, unless the image's header or its table of parts is refused.
 fn unless_refused<S: Source>(source: &mut S, room: &mut Room<Global>, end: PartsEnded) -> PartsEnded
     ensures told { IfHonest S.device source (λ file. EndsUnlessRefused file end result) }
     ensures same { SameDevice (S.device source.old) (S.device source.new) }
@@ -146,7 +146,7 @@ fn unless_refused<S: Source>(source: &mut S, room: &mut Room<Global>, end: Parts
     }
 }
 
-// Returns how many bytes the requested parts have together, by the header or the table of sizes.
+// Counts by the header or the table of sizes.
 fn bytes_of<S: Source>(only: Option<u32>, source: &mut S) -> Result<u64, Fault>
     ensures { SameDevice (S.device source.old) (S.device source.new) }
 {
@@ -171,7 +171,6 @@ fn bytes_of<S: Source>(only: Option<u32>, source: &mut S) -> Result<u64, Fault>
     Ok(sum)
 }
 
-// Returns whether the part of a number is requested.
 fn takes(only: Option<u32>, number: u32) -> bool
     ensures { result ≡ is_part_asked only number }
 {
@@ -181,7 +180,7 @@ fn takes(only: Option<u32>, number: u32) -> bool
     }
 }
 
-// Returns the size of a number in the table, or 0 if the file is too short.
+// Returns 0 if the file is too short.
 fn size_at<S: Source>(source: &mut S, number: u32) -> Result<u32, SourceFault>
     ensures uses { Asks 4 (is_err result) (S.device source.old) (S.device source.new) }
     ensures size { HonestSource S.device source →
@@ -197,7 +196,6 @@ fn size_at<S: Source>(source: &mut S, number: u32) -> Result<u32, SourceFault>
     Ok(u32::from_be_bytes(word))
 }
 
-// Returns whether CRC-32 is strong enough.
 fn stands_by_crc32(need: Option<Algo>) -> bool
     ensures { result ≡ stands_by_crc32 need }
 {
@@ -207,7 +205,7 @@ fn stands_by_crc32(need: Option<Algo>) -> bool
     }
 }
 
-// Returns the number of the requested part, if one is requested by the name of its file.
+// The part is requested by the name of its file.
 fn requested(only: Option<&str>) -> Option<u32>
     ensures { Requests only.entry result }
 {
@@ -217,7 +215,7 @@ fn requested(only: Option<&str>) -> Option<u32>
     }
 }
 
-// Returns the number of the part whose file has this name, or else one that no image has.
+// Returns a number that no image has if no part has the name.
 fn number_of(name: &str) -> u32
     ensures { IsNumberOf name.now result }
 {
@@ -227,7 +225,7 @@ fn number_of(name: &str) -> u32
     }
 }
 
-// Returns the same by what is after `image-` in the name.
+// `digits` is what follows `image-` in the name.
 fn number_in(digits: &str) -> u32
     ensures { IsNumberOf (codes "image-" ++ digits.now) result }
 {
@@ -240,7 +238,7 @@ fn number_in(digits: &str) -> u32
     }
 }
 
-// Returns whether a word is a number as in a file name: digits, and no zero before others.
+// The number is as in a file name: digits, and no zero before others.
 fn is_number(word: &[u8]) -> bool
     ensures { result ≡ is_number word.now }
 {

@@ -18,7 +18,6 @@ impl Model for Record {
 }
 
 impl Record {
-    /// Returns an empty record.
     pub(crate) fn new() -> Record
         ensures { result.deeds ≡ [] }
     {
@@ -27,12 +26,11 @@ impl Record {
         }
     }
 
-    /// Notes a call: which it is and its answer, its path, and its other path if it has two.
+    /// A call is its number and its answer. It has a second path in `_other`, if it has two.
     pub(crate) fn note(&mut self, _call: &[u64], _path: &[u8], _other: &[u8])
         ensures { self.new.deeds ≡ deed_of _call.now _path.now _other.now ∷ self.old.deeds }
     {}
 
-    /// Returns these deeds after earlier ones.
     pub(crate) fn after(&self, _earlier: &Record) -> Record
         ensures { result.deeds ≡ self.now.deeds ++ _earlier.now.deeds }
     {

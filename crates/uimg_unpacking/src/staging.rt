@@ -1,4 +1,4 @@
-//! Files that are written in a folder of their own, and get their names together.
+//! Files that are written in a folder of their own, and get their names all at once.
 
 ghost use Rattle.std.specs.Prelude.{◌≡◌, ◌++◌, ◌∷◌, [], List, ℕ, Some, map, true, false, codes, IfOk, IfSome, IsTrue, MatchOption, OnOk, is_ok, not, string_bytes};
 ghost use Rattle.std.specs.{Io.Buffered.writer_contents, List.list_all};
@@ -35,7 +35,7 @@ pub(crate) struct Staging<'a, 'c, W: World> {
     files: Vec<Begun>,
     // The paths of all files that were created in the temporary folder.
     created: Vec<String>,
-    // Refused files, of which what they were to replace is removed with the names.
+    // Refused files. What they were to replace is removed with the names.
     outdated: Vec<Begun>,
     // Whether the last file is not complete.
     is_writing: bool,
@@ -52,7 +52,7 @@ pub(crate) struct Staging<'a, 'c, W: World> {
 }
 
 impl<'a, 'c, W: World> Staging<'a, 'c, W> {
-    /// Returns that nothing was written for a folder. Failed writes are noted in `code`.
+    /// Notes failed writes in `code`.
     pub(crate) fn new(
         world: W,
         alloc: Global,
@@ -79,7 +79,6 @@ impl<'a, 'c, W: World> Staging<'a, 'c, W> {
         }
     }
 
-    /// Checks whether a file of the folder may be written.
     pub(crate) fn look(&mut self, name: &str) -> Result<(), Trouble>
         ensures folder { self.new.folder ≡ self.old.folder }
         ensures naming { self.new.is_naming ≡ self.old.is_naming }
@@ -93,7 +92,7 @@ impl<'a, 'c, W: World> Staging<'a, 'c, W> {
         Ok(())
     }
 
-    /// Creates the file that gets a name later. Fails if another one is not complete.
+    /// The file gets its name later. Fails if another one is not complete.
     pub(crate) fn begin(&mut self, name: String) -> Result<NewFile<'c, W::File>, Trouble>
         requires { is_file_name (string_bytes name) ≡ true }
         ensures folder { self.new.folder ≡ self.old.folder }
@@ -127,7 +126,7 @@ impl<'a, 'c, W: World> Staging<'a, 'c, W> {
         Ok(NewFile::new(file, self.code))
     }
 
-    // Creates the temporary folder, unless it is created.
+    // Does nothing if the folder is created.
     fn make_folder(&mut self) -> Result<io::Result<()>, AllocError>
         ensures folder { self.new.folder ≡ self.old.folder }
         ensures naming { self.new.is_naming ≡ self.old.is_naming }
@@ -149,7 +148,6 @@ impl<'a, 'c, W: World> Staging<'a, 'c, W> {
         }
     }
 
-    // Returns a file to begin, with its paths.
     fn begun(&self, name: String, whole: String) -> Result<Begun, Trouble>
         requires named { is_file_name (string_bytes name) ≡ true }
         requires whole { string_bytes whole
@@ -168,7 +166,6 @@ impl<'a, 'c, W: World> Staging<'a, 'c, W> {
         }
     }
 
-    // Notes the path of a file to create.
     fn note(&mut self, begun: &Begun) -> Result<(), Trouble>
         requires { is_begun_in self.old.folder.path.now begun.now ≡ true }
         ensures folder { self.new.folder ≡ self.old.folder }
@@ -186,7 +183,6 @@ impl<'a, 'c, W: World> Staging<'a, 'c, W> {
         }
     }
 
-    // Creates a file.
     fn create(&mut self, begun: &Begun) -> io::Result<W::File>
         requires begun { is_begun_in self.old.folder.path.now begun.now ≡ true }
         requires numbered { are_numbered_in (option_map string_bytes self.old.made)
@@ -205,7 +201,7 @@ impl<'a, 'c, W: World> Staging<'a, 'c, W> {
         self.world.create_new(begun.new.as_str())
     }
 
-    // Adds a file that was created, and is not complete.
+    // The file was created, and is not complete.
     fn add(&mut self, begun: Begun) -> Result<(), Trouble>
         requires begun { is_begun_in self.old.folder.path.now begun ≡ true }
         requires numbered { are_numbered_in (option_map string_bytes self.old.made)
@@ -230,7 +226,7 @@ impl<'a, 'c, W: World> Staging<'a, 'c, W> {
         }
     }
 
-    /// Completes the file that was begun last. Returns its length in bytes. Fails if it is complete.
+    /// Returns the length of the file in bytes. Fails if it is complete.
     pub(crate) fn complete(&mut self, file: NewFile<'c, W::File>) -> Result<u64, Trouble>
         ensures size { IfOk result (λ size. size ≡ file.entry.size) }
         ensures folder { self.new.folder ≡ self.old.folder }
@@ -259,20 +255,17 @@ impl<'a, 'c, W: World> Staging<'a, 'c, W> {
         }
     }
 
-    // Returns whether no file is being written.
     fn is_complete(&self) -> bool
         ensures { result ≡ not self.now.is_writing }
     {
         !self.is_writing
     }
 
-    // Returns the trouble that the last file could not be completed.
     fn unclosed(&self, error: io::Error) -> Trouble {
         self.code.set(error.raw_os_error());
         self.unwritten().unwrap_or(Trouble::NoName)
     }
 
-    // Closes the file that was begun last.
     fn close_last(&mut self, file: W::File) -> io::Result<()>
         requires { self.old.is_writing ≡ true }
         ensures closed { ClosesLast W.knows self.old.folder.is_synced
@@ -302,8 +295,8 @@ impl<'a, 'c, W: World> Staging<'a, 'c, W> {
         }
     }
 
-    /// Removes the file that was begun last. If it is outdated, what it was to replace is removed
-    /// with the names. Fails if it is complete.
+    /// If the file is outdated, what it was to replace is removed with the names. Fails if it is
+    /// complete.
     pub(crate) fn refuse_last(&mut self, is_outdated: bool) -> Result<(), Trouble>
         ensures folder { self.new.folder ≡ self.old.folder }
         ensures names { Drops (names_of self.old.files.items) (names_of self.new.files.items)
@@ -327,7 +320,6 @@ impl<'a, 'c, W: World> Staging<'a, 'c, W> {
         Ok(())
     }
 
-    // Removes the file that was begun last, and returns it.
     fn drop_last(&mut self) -> Result<Begun, Trouble>
         ensures begun { IfOk result (λ last. is_begun_in self.old.folder.path.now last ≡ true) }
         ensures folder { self.new.folder ≡ self.old.folder }
@@ -356,7 +348,6 @@ impl<'a, 'c, W: World> Staging<'a, 'c, W> {
         }
     }
 
-    // Takes the file that was begun last away.
     fn pop(&mut self) -> Option<Begun>
         ensures begun { IfSome result (λ last. is_begun_in self.old.folder.path.now last ≡ true) }
         ensures folder { self.new.folder ≡ self.old.folder }
@@ -372,7 +363,6 @@ impl<'a, 'c, W: World> Staging<'a, 'c, W> {
         self.files.pop()
     }
 
-    // Removes a file without a name.
     fn remove(&mut self, begun: &Begun) -> io::Result<()>
         requires { is_begun_in self.old.folder.path.now begun.now ≡ true }
         ensures folder { self.new.folder ≡ self.old.folder }
@@ -386,7 +376,6 @@ impl<'a, 'c, W: World> Staging<'a, 'c, W> {
         self.world.remove_file(begun.new.as_str())
     }
 
-    /// Returns the name that the file that was begun last gets.
     pub(crate) fn last_name(&self) -> &str
         ensures { result.now ≡ last_name self.now.files.items }
     {
@@ -410,7 +399,6 @@ impl<'a, 'c, W: World> Staging<'a, 'c, W> {
         }
     }
 
-    // Returns why the last file was not written.
     fn reason(&self) -> io::Error {
         match self.code.get() {
             Some(code) => io::Error::from_raw_os_error(code),

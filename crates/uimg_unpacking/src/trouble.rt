@@ -94,7 +94,6 @@ pub enum Trouble {
     Closed,
 }
 
-/// Notes a trouble, and returns it as a fault.
 pub(crate) fn kept<X>(
     done: Result<X, Trouble>,
     trouble: &mut Option<Trouble>,

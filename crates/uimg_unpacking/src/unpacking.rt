@@ -29,7 +29,7 @@ pub struct Unpacking<'a> {
     /// The folder for its payloads.
     pub folder: Folder<'a>,
 
-    /// The name of the image whose payload is requested alone, unless all are.
+    /// The name of the image, if only its payload is requested.
     pub only: Option<&'a str>,
 
     /// The weakest algorithm that is enough, if one is needed.
@@ -101,7 +101,7 @@ pub fn unpack<W: World, S: Source, O: Write + Drop>(
     ended
 }
 
-// As `unpack`, in a world that is returned. Nothing is changed outside the folder.
+// Returns the world. Changes nothing outside the folder.
 #[tactic(auto, using(crate::proofs::Placing::stays_naming))]
 fn unpack_in<W: World, S: Source, O: Write + Drop>(
     world: W,
@@ -132,8 +132,7 @@ fn unpack_in<W: World, S: Source, O: Write + Drop>(
     (world, ended)
 }
 
-// Returns how it ended by what was unpacked or by a fault: after how many payloads, with which
-// trouble.
+// Returns after how many payloads it ended, and with which trouble.
 fn how_ended<W: Write + Drop>(
     alloc: Global,
     asked: &Unpacking<'_>,
@@ -150,7 +149,7 @@ fn how_ended<W: Write + Drop>(
     }
 }
 
-// Returns whether each requested payload was given and is kept.
+// Each requested payload was given and is kept.
 fn is_whole(unpacked: &Result<Unpacked, Fault>) -> bool
     ensures { result ≡ is_whole unpacked.now }
 {
@@ -161,7 +160,6 @@ fn is_whole(unpacked: &Result<Unpacked, Fault>) -> bool
     }
 }
 
-// Returns how it ended if the image is not refused: after how many payloads, with which trouble.
 fn given<W: Write + Drop>(
     alloc: Global,
     asked: &Unpacking<'_>,
@@ -182,7 +180,6 @@ fn given<W: Write + Drop>(
     }
 }
 
-// Returns how it ended at a fault, with the trouble if it is known.
 fn stopped(fault: Fault, trouble: Option<Trouble>) -> Ended
     ensures { result ≡ end_of_fault fault trouble }
 {
@@ -192,7 +189,7 @@ fn stopped(fault: Fault, trouble: Option<Trouble>) -> Ended
     }
 }
 
-// Returns the requested name, if there is one; `None` if it is too long for an image's name.
+// Returns `None` if the name is too long for an image's name.
 fn only_of(only: Option<&str>) -> Option<Option<NodeName>>
     ensures { option_map (option_map as_bytes) result ≡ asked_name only.entry }
 {
@@ -205,7 +202,6 @@ fn only_of(only: Option<&str>) -> Option<Option<NodeName>>
     }
 }
 
-// Returns how it ended after `count` payloads.
 fn taken(asked: &Unpacking<'_>, all: bool, count: usize) -> Ended
     ensures { result ≡ end_of_taken asked.now all count }
 {
@@ -218,7 +214,6 @@ fn taken(asked: &Unpacking<'_>, all: bool, count: usize) -> Ended
     if all { Ended::Kept } else { Ended::Refused }
 }
 
-// Prints the line of payloads that overlap, and returns how it ended.
 fn overlapping<W: Write + Drop>(
     alloc: Global,
     json: Option<&str>,

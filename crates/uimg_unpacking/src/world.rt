@@ -1,4 +1,4 @@
-//! What a program asks of the operating system's files.
+//! The files of the operating system, as the program uses them.
 
 use crate::file_id::FileId;
 use crate::kind::{Kind, Target};
@@ -41,20 +41,20 @@ pub trait World: Drop {
     /// Returns the allocator of the program's memory.
     fn alloc(&self) -> Global;
 
-    /// Returns the same files as a world of their own, which was not asked for anything yet. What it
-    /// is asked for belongs to this world, too, once it is rejoined.
+    /// Returns the same files as a world of their own, with no request yet. Its requests belong to
+    /// this world, too, once it is rejoined.
     fn part(&self) -> Self
         ensures trace { trace result ≡ [] }
         ensures same { SameFiles (map self.now) (map result) };
 
-    /// Notes what a part of the world was asked for.
+    /// Notes the requests of a part of the world.
     fn rejoin(&mut self, part: Self)
         ensures { trace self.new ≡ trace part ++ trace self.old };
 
-    /// Opens the file at a path as a source, of which nothing was requested yet.
+    /// Opens the file at a path as a source. Nothing was requested of it yet.
     ///
-    /// Returns `SourceFault` if the file cannot be opened, is a folder, or has no known length, as a
-    /// pipe.
+    /// Returns `SourceFault` if the file cannot be opened, is a folder, or has no known length, as
+    /// a pipe.
     fn open(&mut self, path: &str) -> Result<Self::Opened, SourceFault>
         ensures noted { trace self.new ≡ Deed.Opens path.now (is_ok result) ∷ trace self.old }
         ensures same { SameFiles (map self.old) (map self.new) }

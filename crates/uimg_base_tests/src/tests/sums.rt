@@ -32,7 +32,6 @@ fn is_entry(entry: &([u8; 64], usize), hex: &str) -> bool {
         && bytes[*length..].iter().all(|byte| *byte == 0)
 }
 
-// Checks that `hex` spells these bytes in lowercase.
 fn is_spelled(bytes: &[u8], hex: &[u8]) -> bool {
     let digits = b"0123456789abcdef";
     let mut same = hex.len() % 2 == 0 && hex.len() / 2 == bytes.len();

@@ -131,7 +131,6 @@ fn given_by(configuration: &ConfigurationFacts) -> [(Reference, Option<Span>); 9
     ]
 }
 
-// Returns the first text in several properties that is not among these names, if there is one.
 fn missing_among<S: Source>(
     alloc: Global,
     source: &mut S,
@@ -152,7 +151,6 @@ fn missing_among<S: Source>(
     Ok(None)
 }
 
-// Returns the first name in a configuration that no image has.
 fn missing_of<S: Source>(
     alloc: Global,
     source: &mut S,
@@ -167,7 +165,6 @@ fn missing_of<S: Source>(
     missing_among(alloc, source, images, Some(configuration.name), &given)
 }
 
-// Returns the first name in several configurations that no image has.
 fn first_missing<S: Source>(
     alloc: Global,
     source: &mut S,
@@ -187,14 +184,17 @@ fn first_missing<S: Source>(
     Ok(None)
 }
 
-/// Finds the first name that a FIT image uses but lacks: its default, if no configuration has this
-/// name, or else a name that no image has, or that is empty, or a value that does not end with a
-/// NUL, under `kernel`, `ramdisk`, `fdt`, `loadables`,
-/// `firmware`, `fpga`, `setup`, `standalone` or `script` of a configuration, in this order.
+/// Finds the first name that a FIT image uses but lacks. The first is its default, if no
+/// configuration has this name. After that come the properties `kernel`, `ramdisk`, `fdt`,
+/// `loadables`, `firmware`, `fpga`, `setup`, `standalone` and `script` of each configuration, in
+/// this order: a name that no image has, or that is empty, or a value that does not end with a NUL.
 /// Configurations are checked in their order, and each text of a value is a name.
 ///
 /// Reads each name and each value once, up to the missing name, and holds the names and one value
-/// in memory. Returns `OutOfMemory` if that was refused, `Stopped` if a read failed.
+/// in memory.
+///
+/// - `OutOfMemory`: that memory was refused.
+/// - `Stopped`: a read failed.
 pub fn find_missing<S: Source>(
     alloc: Global,
     source: &mut S,

@@ -13,7 +13,6 @@ use std::collections::BTreeSet;
 use uimg_base::{Source, Span};
 use uimg_fit_checking::{ConfigurationFacts, ImageFacts, SurveyFault, read_bytes};
 
-// Adds the name at a span to a set.
 fn add_name<S: Source>(
     alloc: Global,
     source: &mut S,
@@ -33,7 +32,6 @@ fn add_name<S: Source>(
     Ok(())
 }
 
-// Returns the names of images.
 pub(crate) fn image_names<S: Source>(
     alloc: Global,
     source: &mut S,
@@ -52,7 +50,6 @@ pub(crate) fn image_names<S: Source>(
     Ok(names)
 }
 
-// Returns the names of configurations.
 pub(crate) fn configuration_names<S: Source>(
     alloc: Global,
     source: &mut S,

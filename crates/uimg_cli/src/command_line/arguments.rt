@@ -9,7 +9,6 @@ ghost use Rattle.uimg_cli.specs.Rules.{flag_rule, image_rule, long_rule, switch_
 use clap::{Arg, ArgAction, Command};
 use std::alloc::{AllocError, Global};
 
-// Returns a command without arguments, with what it is about and the notes of its help.
 pub(super) fn titled<'a>(
     alloc: Global,
     name: &'a str,
@@ -22,7 +21,6 @@ pub(super) fn titled<'a>(
     Command::new(alloc, name).about(about).after_help(notes)
 }
 
-// Adds an argument to a command.
 pub(super) fn with<'a>(command: Command<'a>, arg: Arg<'a>) -> Result<Command<'a>, AllocError>
     requires local { arg.global ≡ false }
     ensures rules { IfOk result (λ new. app_of new ≡ with_rule (app_of command.entry)
@@ -33,7 +31,7 @@ pub(super) fn with<'a>(command: Command<'a>, arg: Arg<'a>) -> Result<Command<'a>
     command.arg(arg)
 }
 
-// Returns an option. Each further step takes the prover four times as long: two steps a function.
+// Each further step takes the prover four times as long: two steps a function.
 fn option<'a>(alloc: Global, id: &'a str, short: char, help: &'a str) -> Arg<'a>
     ensures rule { rule_of result ≡ record (new_rule id.entry.now) { short = Some short } }
     ensures local { result.global ≡ false }
@@ -41,7 +39,6 @@ fn option<'a>(alloc: Global, id: &'a str, short: char, help: &'a str) -> Arg<'a>
     Arg::new(alloc, id).short(short).help(help)
 }
 
-// Adds an option with a value.
 pub(super) fn with_value<'a>(
     command: Command<'a>,
     alloc: Global,
@@ -60,7 +57,6 @@ pub(super) fn with_value<'a>(
     with(command, value)
 }
 
-// Adds an option without a value.
 pub(super) fn with_flag<'a>(
     command: Command<'a>,
     alloc: Global,
@@ -77,7 +73,6 @@ pub(super) fn with_flag<'a>(
     with(command, flag)
 }
 
-// Returns a long option.
 fn long<'a>(alloc: Global, id: &'a str, help: &'a str) -> Arg<'a>
     ensures rule { rule_of result ≡ record (new_rule id.entry.now) { long = Some id.entry.now } }
     ensures local { result.global ≡ false }
@@ -101,7 +96,6 @@ pub(super) fn with_switch<'a>(
     with(command, switch)
 }
 
-// Adds a long option with a value, which has this name in the help.
 pub(super) fn with_long<'a>(
     command: Command<'a>,
     alloc: Global,
@@ -120,7 +114,6 @@ pub(super) fn with_long<'a>(
     with(command, value)
 }
 
-// Adds the operand for the image.
 pub(super) fn with_image<'a>(
     command: Command<'a>,
     alloc: Global,

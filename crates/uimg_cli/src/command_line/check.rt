@@ -1,4 +1,4 @@
-//! The words of `check`.
+//! The arguments of `check`.
 
 ghost use Rattle.std.specs.Prelude.{◌≡◌, IfOk, codes, false};
 ghost use Rattle.clap.specs.Simple.{app_of};
@@ -78,7 +78,6 @@ pub(super) fn command<'a>(alloc: Global) -> Result<clap::Command<'a>, AllocError
     with(command, images(alloc))
 }
 
-// Returns the operands for the images.
 fn images<'a>(alloc: Global) -> Arg<'a>
     ensures rule { rule_of result ≡ images_rule }
     ensures local { result.global ≡ false }
@@ -128,7 +127,6 @@ fn request_with<'a>(
     })
 }
 
-// Returns the operands.
 fn images_of<'a>(alloc: Global, matches: &ArgMatches<'a>) -> Result<Vec<&'a str>, AllocError>
     ensures { IfOk result (λ images.
         texts images.items ≡ texts_given (codes "image") (given matches.now)) }
@@ -139,7 +137,7 @@ fn images_of<'a>(alloc: Global, matches: &ArgMatches<'a>) -> Result<Vec<&'a str>
     }
 }
 
-// Returns the algorithm that is needed: at least CRC-32 for a strict check.
+// A strict check needs at least CRC-32.
 fn least_need(is_strict: bool, need: Option<Algo>) -> Option<Algo>
     ensures { result ≡ least_need is_strict need }
 {

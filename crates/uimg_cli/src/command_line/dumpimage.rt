@@ -1,4 +1,4 @@
-//! The words of `dumpimage`.
+//! The arguments of `dumpimage`.
 
 ghost use Rattle.std.specs.Prelude.{◌≡◌, IfOk, false, option_map};
 ghost use Rattle.clap.specs.Simple.{app_of};
@@ -83,7 +83,7 @@ fn extraction<'a>(matches: &ArgMatches<'a>, outfile: &'a str) -> Result<RunReque
     })
 }
 
-// Returns the format of an image type's short name, or a guess without one.
+// Without a name, the format is a guess.
 fn form(name: Option<&str>) -> Result<Form, WordsFault>
     ensures { told (λ form. form) result ≡ form_asked (option_map (λ text. text.now) name.entry) }
 {
@@ -97,7 +97,7 @@ fn form(name: Option<&str>) -> Result<Form, WordsFault>
     }
 }
 
-// Returns the position, 0 without an option.
+// 0 without the option.
 fn position(text: Option<&str>) -> Result<u32, WordsFault>
     ensures { told (λ position. position) result
         ≡ position_asked (option_map (λ text. text.now) text.entry) }

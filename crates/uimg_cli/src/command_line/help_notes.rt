@@ -1,11 +1,9 @@
 //! The notes after the options, in the help of the program and of each command.
 
-/// The notes of the program.
 pub(super) const PROGRAM_NOTES: &str = "Examples:
   uimg dumpimage -l kernel.itb
   uimg mkimage --help";
 
-/// The notes of mkimage.
 pub(super) const MKIMAGE_NOTES: &str = "Short names:
   <arch>  arm x86 mips mips64 ppc powerpc sandbox arm64 x86_64 riscv
   <os>    netbsd linux vxworks qnx u-boot rtems plan9 arm-trusted-firmware tee
@@ -29,7 +27,6 @@ Exit status:
   2  The command line is wrong, or the image would replace a file that it is made of
   3  A file cannot be opened, a read or write failed, or memory ran out";
 
-/// The notes of dumpimage.
 pub(super) const DUMPIMAGE_NOTES: &str = "Short names:
   <type>  standalone kernel ramdisk multi firmware script filesystem
           flat_dt kernel_noload
@@ -48,7 +45,6 @@ Exit status:
   2  The command line is wrong, or the outfile would replace the image
   3  A file cannot be opened, a read or write failed, or memory ran out";
 
-/// The notes of verify.
 pub(super) const VERIFY_NOTES: &str =
     "Prints a line for each checksum. A legacy image has one of the header and, if that
 is right, one of the data; a FIT image has one for each hash node of each image.
@@ -67,7 +63,6 @@ Exit status:
   2  The command line is wrong
   3  A file cannot be opened, a read or write failed, or memory ran out";
 
-/// The notes of check.
 pub(super) const CHECK_NOTES: &str = "Algorithms, from the weakest to the strongest:
   <algo>  crc32 md5 sha1 sha256 sha384 sha512
 
@@ -115,7 +110,6 @@ Exit status, the greatest of all lines:
   2  The command line is wrong
   3  failed, or a line cannot be written";
 
-/// The notes of unpack.
 pub(super) const UNPACK_NOTES: &str = "Algorithms, from the weakest to the strongest:
   <algo>  crc32 md5 sha1 sha256 sha384 sha512
 
@@ -164,7 +158,6 @@ Exit status:
   3  The image cannot be opened, a file exists (without --force) or cannot be
      written, or memory ran out";
 
-/// The notes of map.
 pub(super) const MAP_NOTES: &str =
     "A line for each item, by its offset and then by its end: offset and end in
 hexadecimal, size, a bar of the file, and what it is.
@@ -191,7 +184,6 @@ Exit status:
   3  A file cannot be opened or written, the picture exists (without --force), a
      read failed, or memory ran out";
 
-/// The notes of info.
 pub(super) const INFO_NOTES: &str =
     "Prints one line, a JSON object. For a FIT image it has path, status, format, size,
 totalsize, description, timestamp, default, reservations, images and

@@ -1,4 +1,4 @@
-//! The words of `map`.
+//! The arguments of `map`.
 
 ghost use Rattle.std.specs.Prelude.{◌≡◌, IfOk, codes, false, option_map};
 ghost use Rattle.std.specs.Option.{option_map_or};

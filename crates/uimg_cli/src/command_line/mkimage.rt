@@ -1,4 +1,4 @@
-//! The words of `mkimage`.
+//! The arguments of `mkimage`.
 
 ghost use Rattle.std.specs.Prelude.{◌≡◌, IfOk, Ok, false, option_map};
 ghost use Rattle.clap.specs.Simple.{app_of};
@@ -41,7 +41,6 @@ const LIST: &str = "List the image instead of making one";
 
 const IMAGE: &str = "The image to make, or with -l the image to list";
 
-// The codes of a header.
 #[derive(Clone, Copy)]
 struct Codes {
     arch: u8,
@@ -68,7 +67,6 @@ pub(super) fn command<'a>(alloc: Global) -> Result<clap::Command<'a>, AllocError
     with_image(command, alloc, IMAGE)
 }
 
-// Adds the options of an image that is made from data.
 fn header_options<'a>(
     alloc: Global,
     command: clap::Command<'a>,
@@ -108,7 +106,6 @@ fn header_options<'a>(
     with_value(command, alloc, "data", 'd', DATA)
 }
 
-// Adds the options of an image that is made from a source.
 fn source_options<'a>(
     alloc: Global,
     command: clap::Command<'a>,
@@ -157,7 +154,6 @@ fn listing<'a>(matches: &ArgMatches<'a>) -> RunRequest<'a>
     }
 }
 
-// Returns the request for an image that is made from data or a source.
 fn making<'a>(
     alloc: Global,
     matches: &ArgMatches<'a>,
@@ -175,7 +171,7 @@ fn making<'a>(
     }
 }
 
-// Returns the request for an image from a source. Where its payloads go is checked before the time.
+// Where the payloads go is checked before the time.
 fn made_of_source<'a>(
     alloc: Global,
     matches: &ArgMatches<'a>,
@@ -191,7 +187,7 @@ fn made_of_source<'a>(
     from_source(alloc, path, placement, time, text_or(matches, "image", ""))
 }
 
-// Returns the request for an image from data. Its options are checked before the time.
+// The options are checked before the time.
 fn made_of_parts<'a>(
     alloc: Global,
     matches: &ArgMatches<'a>,
@@ -241,7 +237,7 @@ fn from_parts<'a>(
     }
 }
 
-// Returns where the options place the payloads. The number of -p is checked even without -E.
+// The number of -p is checked even without -E.
 fn placement(matches: &ArgMatches<'_>) -> Result<Placement, WordsFault>
     ensures { told (λ placement. placement) result ≡ placement_asked (given matches.now) }
 {
@@ -253,7 +249,7 @@ fn placement(matches: &ArgMatches<'_>) -> Result<Placement, WordsFault>
     }
 }
 
-// Returns the fields of the header from the options. Names are checked before numbers.
+// Names are checked before numbers.
 fn options(matches: &ArgMatches<'_>) -> Result<Options, WordsFault>
     ensures { told (λ options. options) result ≡ options_asked (given matches.now) }
 {
@@ -274,7 +270,6 @@ fn options(matches: &ArgMatches<'_>) -> Result<Options, WordsFault>
     })
 }
 
-// Returns the codes of the short names that the options or their defaults give.
 fn named_codes(matches: &ArgMatches<'_>) -> Result<Codes, WordsFault>
     ensures { told (λ by. by) result ≡ codes_asked (given matches.now) }
 {
@@ -290,7 +285,6 @@ fn named_codes(matches: &ArgMatches<'_>) -> Result<Codes, WordsFault>
     })
 }
 
-// Returns the code of a short name that is known.
 fn known(code: Option<u8>) -> Result<u8, WordsFault>
     ensures { told (λ code. code) result ≡ or_wrong unknown_name code }
 {
@@ -300,7 +294,6 @@ fn known(code: Option<u8>) -> Result<u8, WordsFault>
     }
 }
 
-// Returns the addresses that the options or their defaults give.
 fn given_addresses(matches: &ArgMatches<'_>) -> Result<Addresses, WordsFault>
     ensures { told (λ at. at) result ≡ addresses_asked (given matches.now) }
 {
@@ -309,7 +302,7 @@ fn given_addresses(matches: &ArgMatches<'_>) -> Result<Addresses, WordsFault>
     Ok(Addresses { load, entry })
 }
 
-// Returns the number of a hexadecimal text, or the default without one.
+// The text is hexadecimal.
 fn address(text: Option<&str>, default: u32) -> Result<u32, WordsFault>
     ensures { told (λ address. address) result
         ≡ address_asked (option_map (λ word. word.now) text.entry) default }
@@ -320,7 +313,7 @@ fn address(text: Option<&str>, default: u32) -> Result<u32, WordsFault>
     }
 }
 
-// Returns the time by SOURCE_DATE_EPOCH, if it is set, else the current time.
+// SOURCE_DATE_EPOCH, if it is set, overrides the current time.
 fn time(epoch: Option<&str>, now: u32) -> Result<u32, WordsFault>
     ensures { told (λ time. time) result ≡ time_asked (option_map (λ text. text.now) epoch.entry) now }
 {

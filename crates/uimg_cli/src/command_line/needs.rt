@@ -12,7 +12,6 @@ use clap::ArgMatches;
 use std::alloc::Global;
 use uimg_base::Algo;
 
-// Returns the algorithm of --need, if it was given.
 pub(super) fn need_of(alloc: Global, matches: &ArgMatches<'_>) -> Result<Option<Algo>, WordsFault>
     ensures { Tells (λ need. need) (need_asked (given matches.now)) result }
 {

@@ -1,4 +1,4 @@
-//! What the words gave for each argument.
+//! The values of arguments.
 
 ghost use Rattle.std.specs.Prelude.{◌≡◌, is_none, option_map};
 ghost use Rattle.clap.specs.Walk.{all_of, first_of, texts};
@@ -7,14 +7,13 @@ ghost use Rattle.uimg_cli.specs.Readings.{hexadecimal_of, is_set, text_or};
 
 use clap::ArgMatches;
 
-// Returns the first value of an argument.
+// The first value counts.
 pub(super) fn text_of<'a>(matches: &ArgMatches<'a>, id: &str) -> Option<&'a str>
     ensures { option_map (λ text. text.now) result ≡ first_of id.now (given matches.now) }
 {
     matches.get_str(id)
 }
 
-// Returns the first value of an argument, or a default without one.
 pub(super) fn text_or<'a>(matches: &ArgMatches<'a>, id: &str, default: &'a str) -> &'a str
     ensures { result.now ≡ text_or id.now (given matches.now) default.entry.now }
 {
@@ -24,21 +23,18 @@ pub(super) fn text_or<'a>(matches: &ArgMatches<'a>, id: &str, default: &'a str) 
     }
 }
 
-// Returns all values of an operand.
 pub(super) fn values_of<'m, 'a>(matches: &'m ArgMatches<'a>, id: &str) -> Option<&'m [&'a str]>
     ensures { option_map (λ values. texts values.now) result ≡ all_of id.now (given matches.now) }
 {
     matches.get_strs(id)
 }
 
-// Returns whether there is no text.
 pub(super) fn is_missing(text: Option<&str>) -> bool
     ensures { result ≡ is_none (option_map (λ word. word.now) text.entry) }
 {
     text.is_none()
 }
 
-// Returns whether an option without a value was given.
 pub(super) fn is_set(matches: &ArgMatches<'_>, id: &str) -> bool
     ensures { result ≡ is_set id.now (given matches.now) }
 {
@@ -48,7 +44,6 @@ pub(super) fn is_set(matches: &ArgMatches<'_>, id: &str) -> bool
     }
 }
 
-// Returns a decimal number of 32 bits.
 #[tactic(auto, using(crate::proofs::Numbers::number_is))]
 pub(super) fn decimal(text: &str) -> Option<u32>
     ensures { result ≡ decimal_of text.now }
@@ -56,7 +51,6 @@ pub(super) fn decimal(text: &str) -> Option<u32>
     uimg_requests::decimal(text)
 }
 
-// Returns a hexadecimal number of 32 bits.
 #[tactic(auto, using(crate::proofs::Numbers::hexadecimal_is))]
 pub(super) fn hexadecimal(text: &str) -> Option<u32>
     ensures { result ≡ hexadecimal_of text.now }
@@ -64,7 +58,7 @@ pub(super) fn hexadecimal(text: &str) -> Option<u32>
     uimg_requests::hexadecimal(text)
 }
 
-// Returns a decimal number of 64 bits.
+// The text is decimal.
 #[tactic(auto, using(crate::proofs::Numbers::count_is))]
 pub(super) fn count(text: &str) -> Option<u64>
     ensures { result ≡ count_of text.now }
@@ -72,7 +66,7 @@ pub(super) fn count(text: &str) -> Option<u64>
     digits(text)
 }
 
-// Returns the number of decimal digits. The standard library would accept a plus before them.
+// The standard library would accept a plus before the digits.
 fn digits(text: &str) -> Option<u64>
     ensures { IsCount text.now result }
 {

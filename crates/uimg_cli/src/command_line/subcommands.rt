@@ -1,4 +1,4 @@
-//! The commands of the program, and the request of the one that the words name.
+//! The commands of the program, and the request of the one that a command line names.
 
 ghost use Rattle.std.specs.Prelude.{◌≡◌, ◌∷◌, [], IfOk, Ok, false, fold, option_map};
 ghost use Rattle.clap.specs.Simple.{app_of};
@@ -25,7 +25,6 @@ use uimg_requests::VERSION;
 // What the program is about.
 const ABOUT: &str = "Makes, lists, verifies and unpacks U-Boot images";
 
-// Returns the program's command with all its subcommands.
 pub(super) fn commands<'a>(alloc: Global) -> Result<Command<'a>, AllocError>
     ensures { IfOk result (λ command. app_of command ≡ uimg) }
 {
@@ -37,7 +36,6 @@ pub(super) fn commands<'a>(alloc: Global) -> Result<Command<'a>, AllocError>
     with_command(command, map::command(alloc)?)
 }
 
-// Adds the commands that make, list and verify an image.
 fn with_image_commands<'a>(alloc: Global, command: Command<'a>) -> Result<Command<'a>, AllocError>
     ensures { IfOk result (λ new. app_of new
         ≡ fold with_command (app_of command.entry) (mkimage ∷ dumpimage ∷ verify ∷ [])) }
@@ -47,7 +45,6 @@ fn with_image_commands<'a>(alloc: Global, command: Command<'a>) -> Result<Comman
     with_command(command, verify::command(alloc)?)
 }
 
-// Adds a command.
 fn with_command<'a>(above: Command<'a>, command: Command<'a>) -> Result<Command<'a>, AllocError>
     requires { (fields_of command).has_globals ≡ false }
     ensures { IfOk result (λ new.
@@ -56,7 +53,6 @@ fn with_command<'a>(above: Command<'a>, command: Command<'a>) -> Result<Command<
     above.subcommand(command)
 }
 
-// Returns the program's command without its subcommands.
 fn program<'a>(alloc: Global) -> Result<Command<'a>, AllocError>
     ensures { IfOk result (λ command. app_of command ≡ program) }
 {
@@ -77,7 +73,6 @@ fn named_program<'a>(alloc: Global) -> Command<'a>
         .disable_version_flag(true)
 }
 
-// Returns the request of the command of a name.
 pub(super) fn request_by<'a>(
     alloc: Global,
     name: &str,

@@ -1,4 +1,4 @@
-//! The words of `unpack`.
+//! The arguments of `unpack`.
 
 ghost use Rattle.std.specs.Prelude.{◌≡◌, Err, IfOk, Option, Result, codes, false, option_map, ℕ};
 ghost use Rattle.clap.specs.Simple.{app_of, new_rule};
@@ -26,7 +26,7 @@ pub struct UnpackRequest<'a> {
     /// The folder for its payloads.
     pub folder: &'a str,
 
-    /// The image's name, or the part's file name, that is requested alone, unless all are.
+    /// The image's name, or the part's file name, if only one is requested.
     pub only: Option<&'a str>,
 
     /// The weakest algorithm that is enough, if one is needed.
@@ -95,7 +95,7 @@ pub(super) fn command<'a>(alloc: Global) -> Result<clap::Command<'a>, AllocError
     with(command, image(alloc))
 }
 
-// Returns the operand for the image, which --clean can do without.
+// With --clean the image may be left out.
 fn image<'a>(alloc: Global) -> Arg<'a>
     ensures rule { rule_of result ≡ new_rule (codes "image") }
     ensures local { result.global ≡ false }
@@ -103,7 +103,6 @@ fn image<'a>(alloc: Global) -> Arg<'a>
     Arg::new(alloc, "image").help("The image")
 }
 
-// Adds the options of what is unpacked.
 #[tactic(auto, unfolding(crate::specs::Unpack::chosen_rules))]
 fn chosen_options<'a>(
     alloc: Global,
@@ -118,7 +117,6 @@ fn chosen_options<'a>(
     with(command, need(alloc)?)
 }
 
-// Adds the options of how files are written, and of how many.
 fn written_options<'a>(
     alloc: Global,
     command: clap::Command<'a>,
@@ -134,7 +132,7 @@ fn written_options<'a>(
     with_long(command, alloc, "max-bytes", "number", MAX_BYTES)
 }
 
-// Returns the option for a needed strength, by both its names.
+// The option has two names.
 fn need<'a>(alloc: Global) -> Result<Arg<'a>, AllocError>
     ensures rule { IfOk result (λ need. rule_of need ≡ need_rule) }
     ensures local { IfOk result (λ need. need.global ≡ false) }
@@ -184,7 +182,6 @@ fn clash(matches: &ArgMatches<'_>) -> Option<WordsFault>
     }
 }
 
-// Returns the request with its limits.
 fn limited<'a>(
     alloc: Global,
     matches: &ArgMatches<'a>,
@@ -209,7 +206,7 @@ fn limited<'a>(
     })
 }
 
-// Returns the number of an option, if it was given: decimal digits, below 2^64.
+// Reads decimal digits of a number below 2^64.
 fn number_of(
     alloc: Global,
     matches: &ArgMatches<'_>,

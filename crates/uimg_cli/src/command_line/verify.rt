@@ -1,4 +1,4 @@
-//! The words of `verify`.
+//! The arguments of `verify`.
 
 ghost use Rattle.std.specs.Prelude.{◌≡◌, IfOk, false};
 ghost use Rattle.clap.specs.Simple.{app_of};

@@ -1,4 +1,4 @@
-//! Why the words of a command line request nothing.
+//! Why a command line requests nothing.
 
 ghost use Rattle.std.specs.Prelude.{Some};
 ghost use Rattle.uimg_cli.specs.FaultTexts.{not_number, text_of};
@@ -8,11 +8,11 @@ use std::error::Error;
 use std::fmt;
 use std::fmt::{Display, Formatter, Write};
 
-/// Why the words of a command line request nothing. Its text is the line that the program prints
-/// after `uimg: `, except for `NoCommand`, whose text is all that it prints.
+/// Why a command line requests nothing. Its text is the line that the program prints after `uimg:
+/// `, except for `NoCommand`, whose text is all that it prints.
 #[derive(Debug, Drop)]
 pub enum WordsFault {
-    /// The words are not those of a command; this text says why.
+    /// The arguments are not those of a command; this text says why.
     NoCommand(String),
 
     /// There is no subcommand. The command line library reports this itself.
@@ -30,10 +30,10 @@ pub enum WordsFault {
     /// The name of a folder is empty.
     NoFolder,
 
-    /// The word of --need is not the name of an algorithm.
+    /// The argument of --need is not the name of an algorithm.
     UnknownAlgo(String),
 
-    /// The word of this option is not a decimal number of 64 bits.
+    /// The argument of this option is not a decimal number of 64 bits.
     NotNumber(&'static str, String),
 
     /// A picture would be written to standard output.
@@ -45,7 +45,7 @@ pub enum WordsFault {
     /// Both data and a source are named.
     DataWithSource,
 
-    /// The word of -A, -O, -T or -C is not a known short name.
+    /// The argument of -A, -O, -T or -C is not a known short name.
     UnknownName,
 
     /// -d was given with the type of FIT images.
@@ -61,7 +61,7 @@ pub enum WordsFault {
     OutOfMemory,
 }
 
-// A word that is no number, and what it should be.
+// An argument that is no number, and what it should be.
 #[derive(Drop)]
 struct NotNumber<'a>(&'a str);
 

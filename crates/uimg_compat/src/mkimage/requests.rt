@@ -1,4 +1,4 @@
-//! What the words of mkimage request.
+//! The requests of mkimage's command line.
 
 ghost use Rattle.std.specs.Prelude.{◌≡◌, true, map, option_map, Ok};
 ghost use Rattle.uimg_compat.specs.Asked.{asked_of, auto_of, making_of};
@@ -25,7 +25,7 @@ use uimg_names::Naming;
 use uimg_printing::Printed;
 use uimg_requests::{Action, Command, MakeRequest, Manner, RunRequest};
 
-/// The word of -f for a source that mkimage makes itself.
+/// The argument of -f for a source that mkimage makes itself.
 const AUTO: &str = "auto";
 
 /// The length of a header, in bytes.
@@ -35,7 +35,6 @@ const HEADER_BYTES: u32 = 64;
 const NO_DATA: &str = "/dev/null";
 
 impl<'a> Settings<'a> {
-    /// Returns the request, once all words are read.
     pub(super) fn request(
         self,
         alloc: Global,
@@ -58,7 +57,6 @@ impl<'a> Settings<'a> {
         }
     }
 
-    // Returns the request of an update or a making at a time.
     fn timed(
         self,
         alloc: Global,
@@ -76,7 +74,6 @@ impl<'a> Settings<'a> {
         }
     }
 
-    // Returns the request of a making with a source.
     fn sourced(
         self,
         alloc: Global,
@@ -97,7 +94,6 @@ impl<'a> Settings<'a> {
         self.making_of_source(alloc, source, time, image)
     }
 
-    // Returns the request of an update.
     fn update(self, image: &'a str, time: u32) -> Result<OldRequest<'a>, OldFault<'a>>
         ensures { Tells asked_of (update_asked (setting_of self.entry) image.entry.now time) result }
     {
@@ -180,7 +176,7 @@ impl<'a> Settings<'a> {
         }))
     }
 
-    // Refuses the options of keys, which only legacy images ignore.
+    // Only legacy images ignore the options of keys.
     fn check_signing(&self) -> Result<(), OldFault<'a>>
         ensures { Tells (λ _. true) (unsigned (setting_of self.now).signing (Ok true)) result }
     {
@@ -264,7 +260,6 @@ impl<'a> Settings<'a> {
         }
     }
 
-    // Returns where the payloads go.
     fn placement(&self) -> Placement
         ensures { result ≡ placed self.now.is_external self.now.position }
     {
@@ -275,7 +270,6 @@ impl<'a> Settings<'a> {
         }
     }
 
-    // Returns how a FIT image is made at a time.
     fn manner(&self, time: u32) -> Result<Manner, OldFault<'a>>
         ensures { Tells (λ manner. manner) (manner_asked (setting_of self.now) time) result }
     {
@@ -286,8 +280,8 @@ impl<'a> Settings<'a> {
         })
     }
 
-    // Returns the alignment of payloads after the tree, at which readers of the image find them. It
-    // is ignored if they are in the tree.
+    // Readers of the image find payloads after the tree at this alignment. It is ignored if they
+    // are in the tree.
     fn align(&self) -> Result<u32, OldFault<'a>>
         ensures { Tells (λ align. align) (align_asked (setting_of self.now)) result }
     {
@@ -301,7 +295,7 @@ impl<'a> Settings<'a> {
         }
     }
 
-    // Returns the default entry point: after the header of an image that runs in place.
+    // An image that runs in place is entered after its header.
     fn default_entry(&self) -> u32
         ensures { result ≡ default_entry (setting_of self.now) }
     {
@@ -312,7 +306,7 @@ impl<'a> Settings<'a> {
         }
     }
 
-    // Returns the fields of the header. The type `invalid` counts as none.
+    // The type `invalid` counts as none.
     fn options(&self) -> Options
         ensures { result ≡ options_of (setting_of self.now) }
     {
@@ -334,7 +328,6 @@ impl<'a> Settings<'a> {
     }
 }
 
-// Returns the request for a legacy image of the files in a word.
 #[tactic(auto, using(crate::proofs::MakingLaws::parts_made))]
 fn made_of_parts<'a>(
     alloc: Global,
@@ -357,7 +350,7 @@ fn made_of_parts<'a>(
     Ok(request)
 }
 
-// Returns the time by SOURCE_DATE_EPOCH, if it is set, else the current time.
+// SOURCE_DATE_EPOCH, if it is set, overrides the current time.
 fn time<'a>(epoch: Option<&str>, now: u32) -> Result<u32, OldFault<'a>>
     ensures { Tells (λ time. time) (time_asked (option_map (λ text. text.now) epoch.entry) now)
         result }

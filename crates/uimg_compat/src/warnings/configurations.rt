@@ -30,8 +30,8 @@ use uimg_blob_writing::{Node, Prop};
 /// The properties of a configuration whose values are names of images.
 const REFERENCES: [&str; 6] = ["kernel", "ramdisk", "fdt", "loadables", "firmware", "fpga"];
 
-/// Warns about the configurations, the child nodes of a node; `images` is the node of the images.
-/// Fails if memory is refused.
+/// The configurations are the child nodes of a node; `images` is the node of the images. Fails if
+/// memory is refused.
 pub(crate) fn tell_of_configurations<W: Write>(
     alloc: Global,
     configurations: &Node<Global>,
@@ -46,7 +46,6 @@ pub(crate) fn tell_of_configurations<W: Write>(
     tell_each_configuration(alloc, configurations, &names, teller)
 }
 
-// Warns about the node of the configurations.
 fn tell_of_node<W: Write>(
     alloc: Global,
     configurations: &Node<Global>,
@@ -78,7 +77,7 @@ fn tell_defaults<W: Write>(
     }
 }
 
-// Warns about a default without a configuration. What follows a NUL is ignored.
+// What follows a NUL is ignored.
 fn tell_default<W: Write>(
     path: NodePath<'_>,
     property: &Prop<Global>,
@@ -242,7 +241,6 @@ fn after_nul(texts: &[u8], end: usize) -> &[u8]
     &texts[end + 1..]
 }
 
-// Returns a value without the NUL at its end.
 fn without_nul(value: &[u8]) -> &[u8]
     ensures { result.now ≡ without_nul value.now }
 {

@@ -70,7 +70,7 @@ fn tell_equal_properties<W: Write>(
     Ok(())
 }
 
-// Adds a name to those that were seen, with this warning if it is one of them.
+// Adds a name to those that were seen. Warns if it is one of them.
 fn tell_again<'a, W: Write>(
     path: NodePath<'_>,
     name: &'a [u8],

@@ -23,7 +23,7 @@ use uimg_base::before_nul;
 use uimg_blob_writing::{Node, Prop};
 use uimg_names::{Field, Naming};
 
-/// Warns about the images, the child nodes of a node. Fails if memory is refused.
+/// The images are the child nodes of a node. Fails if memory is refused.
 pub(crate) fn tell_of_images<W: Write>(
     alloc: Global,
     images: &Node<Global>,
@@ -107,7 +107,7 @@ fn tell_of_hashes<W: Write>(
     Ok(())
 }
 
-// Warns about a name that no code has. What follows a NUL is ignored.
+// What follows a NUL is ignored.
 fn tell_unknown_name<W: Write>(
     path: NodePath<'_>,
     property: &Prop<Global>,
@@ -140,7 +140,6 @@ fn tell_unless_named<W: Write>(
     teller.tell(path, Warning::UnknownName { field, name });
 }
 
-// Returns the field whose names a property has.
 fn field_of(property: &[u8]) -> Option<Field>
     ensures { result ≡ field_of property.now }
 {

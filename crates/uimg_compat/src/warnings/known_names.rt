@@ -15,7 +15,7 @@ use std::collections::BTreeSet;
 use std::io::Write;
 use uimg_blob_writing::Node;
 
-/// Returns the names of a node's child nodes; none without a node.
+/// Without a node there are no names.
 pub(crate) fn names_in<'a>(
     alloc: Global,
     node: Option<&'a Node<Global>>,
@@ -29,7 +29,6 @@ pub(crate) fn names_in<'a>(
     }
 }
 
-/// Returns the names of a node's child nodes.
 pub(crate) fn names_below(alloc: Global, node: &Node<Global>) -> Result<BTreeSet<&[u8]>, AllocError>
     ensures { IfOk result (λ names. HasNames names (node_names node.entry.now.children)) }
 {
@@ -40,7 +39,6 @@ pub(crate) fn names_below(alloc: Global, node: &Node<Global>) -> Result<BTreeSet
     Ok(names)
 }
 
-/// Writes a warning, unless a name is one of these.
 pub(crate) fn tell_unless_known<W: Write>(
     path: NodePath<'_>,
     name: &[u8],

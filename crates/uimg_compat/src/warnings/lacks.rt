@@ -1,4 +1,4 @@
-//! Properties that a node lacks.
+//! Warns about properties that a node lacks.
 
 ghost use Rattle.uimg_compat.specs.Telling.{HasTold};
 ghost use Rattle.uimg_compat.specs.Warnings.{path_of};
@@ -12,7 +12,6 @@ use std::alloc::Global;
 use std::io::Write;
 use uimg_blob_writing::Node;
 
-/// Warns about a property that a node lacks.
 pub(crate) fn tell_lack<W: Write>(
     path: NodePath<'_>,
     node: &Node<Global>,

@@ -7,7 +7,6 @@ ghost use Rattle.uimg_compat.specs.WarningsOfNodes.{bytes_of, found_node, has_pr
 use std::alloc::Global;
 use uimg_blob_writing::{Node, Value};
 
-/// Returns the first child node of a name.
 pub(crate) fn child_of<'a>(node: &'a Node<Global>, name: &[u8]) -> Option<&'a Node<Global>>
     ensures { found_node result ≡ node_named name.now node.entry.now.children }
 {
@@ -19,7 +18,6 @@ pub(crate) fn child_of<'a>(node: &'a Node<Global>, name: &[u8]) -> Option<&'a No
     None
 }
 
-/// Returns whether a node has a property of this name.
 pub(crate) fn has_property(node: &Node<Global>, name: &str) -> bool
     ensures { result ≡ has_property name.now node.now.props }
 {
@@ -31,7 +29,7 @@ pub(crate) fn has_property(node: &Node<Global>, name: &str) -> bool
     false
 }
 
-/// Returns the bytes of a value, unless they are left in a file.
+/// Returns `None` if the value is left in a file.
 pub(crate) fn bytes_of(value: &Value<Global>) -> Option<&[u8]>
     ensures { option_map (λ bytes. bytes.now) result ≡ bytes_of (content value.now) }
 {

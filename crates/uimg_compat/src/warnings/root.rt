@@ -21,11 +21,14 @@ use std::io::Write;
 use uimg_blob_writing::{Node, Tree};
 
 /// Warns about the tree of a source, a line for each of the first 20 warnings, then the number of
-/// further ones: a description that the root, an image or a configuration lacks, and the root's
-/// `#address-cells`; a name in a configuration without an image, and a default without a
-/// configuration; a type, architecture, operating system or compression that is no name of image.h;
-/// and equal names of nodes or properties in one node, down to the child nodes of images. Silenced
-/// warnings are not counted.
+/// further ones. Silenced warnings are not counted.
+///
+/// These are the warnings:
+/// - a description that the root, an image or a configuration lacks, and the root's
+///   `#address-cells`;
+/// - a name in a configuration without an image, and a default without a configuration;
+/// - a type, architecture, operating system or compression that is no name of image.h;
+/// - equal names of nodes or properties in one node, down to the child nodes of images.
 ///
 /// Takes memory for the names of one node and those of the images; if that is refused, the rest is
 /// not checked. It goes on after failed writes. Returns how far it came.
@@ -67,7 +70,6 @@ fn tell_lack_of_cells<W: Write>(path: NodePath<'_>, root: &Node<Global>, teller:
     tell_lack(path, root, "#address-cells", teller);
 }
 
-// Warns about the images and the configurations.
 fn tell_of_parts<W: Write>(
     alloc: Global,
     root: &Node<Global>,

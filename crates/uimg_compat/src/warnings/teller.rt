@@ -13,7 +13,7 @@ use std::io::Write;
 /// The most warnings with a line of their own.
 const MOST_LINES: u64 = 20;
 
-/// How far the warnings about a source were told.
+/// How far the warnings about a source were printed.
 #[derive(Clone, Copy, Debug, PartialEq, Eq)]
 pub struct Told {
     /// Whether memory sufficed to find all of them.
@@ -33,7 +33,6 @@ pub(crate) struct Teller<'a, W: Write> {
 }
 
 impl<'a, W: Write> Teller<'a, W> {
-    /// Returns a teller without warnings.
     pub(crate) fn new(silenced: Silenced, err: &'a mut W) -> Teller<'a, W>
         ensures reference { result.err.ghost_name ≡ err.entry.ghost_name }
         ensures same { result.err.now ≡ err.entry.now }
@@ -64,7 +63,6 @@ impl<'a, W: Write> Teller<'a, W> {
         self.count = self.count.saturating_add(1);
     }
 
-    // Writes the line of a warning.
     #[tactic(auto, unfolding(crate::specs::Warnings::line))]
     fn put(&mut self, path: NodePath<'_>, warning: Warning<'_>)
         ensures reference { self.new.err.ghost_name ≡ self.old.err.ghost_name }
@@ -105,7 +103,6 @@ impl<'a, W: Write> Teller<'a, W> {
     }
 }
 
-// Returns whether a command line silences a warning.
 fn is_silenced(silenced: Silenced, warning: Warning<'_>) -> bool
     ensures { result ≡ is_silenced silenced (trouble_of warning.entry) }
 {

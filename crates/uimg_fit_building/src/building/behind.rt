@@ -44,7 +44,6 @@ fn check_end(size: u32, padded: u64, placement: AlignedPlacement) -> Result<(), 
     }
 }
 
-// Refuses a tree whose payloads cannot follow its blob of this size.
 pub(crate) fn check_payloads<A: Allocator>(
     size: u32,
     tree: &Tree<A>,
@@ -58,7 +57,6 @@ pub(crate) fn check_payloads<A: Allocator>(
     check_end(size, padded, placement)
 }
 
-// Writes the payload of an image, padded with zeros to an alignment.
 fn put_payload<F: Files, W: Write, A: Allocator>(
     image: &Node<A>,
     align: u32,
@@ -75,7 +73,6 @@ fn put_payload<F: Files, W: Write, A: Allocator>(
     }
 }
 
-// Writes the payloads of images, each padded with zeros to an alignment.
 fn put_payloads<F: Files, W: Write, A: Allocator>(
     images: &[Node<A>],
     align: u32,
@@ -92,7 +89,6 @@ fn put_payloads<F: Files, W: Write, A: Allocator>(
     Ok(())
 }
 
-// Writes what follows a blob of this size.
 pub(crate) fn put_behind<F: Files, W: Write, A: Allocator>(
     size: u32,
     tree: &Tree<A>,

@@ -23,7 +23,7 @@ fn padded_size_of<A: Allocator>(props: &Props<A>, align: u32) -> u64
     }
 }
 
-// Returns the same as a cell keeps it.
+// The size is as a cell keeps it.
 pub(crate) fn padded_size_in_cell<A: Allocator>(props: &Props<A>, align: u32) -> u32
     ensures { result ≡ padded_size_of align props.now % 4294967296 }
 {

@@ -14,7 +14,6 @@ use uimg_blob_writing::{
     copy_property, value_size,
 };
 
-// Returns a property of one cell.
 fn cell<A: Allocator + Copy>(alloc: A, name: &[u8], number: u32) -> Result<Prop<A>, AllocError>
     ensures { IfOk result (λ prop. prop ≡ cell_property name.now number) }
 {
@@ -70,7 +69,6 @@ fn place_properties<A: Allocator + Copy>(
     Ok(Props::of(copies))
 }
 
-// Copies an image, with two cells in place of its payload.
 fn place_image<A: Allocator + Copy>(
     alloc: A,
     image: &Node<A>,
@@ -110,7 +108,6 @@ fn place_images<A: Allocator + Copy>(
     Ok(Nodes::of(copies))
 }
 
-// Copies the node `images`, with cells in place of its children's payloads.
 fn place_in<A: Allocator + Copy>(
     alloc: A,
     node: &Node<A>,
@@ -130,7 +127,6 @@ fn place_in<A: Allocator + Copy>(
     })
 }
 
-// Copies the root's children, with cells in place of the images' payloads.
 fn place_children<A: Allocator + Copy>(
     alloc: A,
     nodes: &Nodes<A>,
@@ -155,8 +151,8 @@ fn place_children<A: Allocator + Copy>(
     Ok(Nodes::of(copies))
 }
 
-// Copies a tree, with two cells in place of each payload: `data-size`, and one of this name for its
-// offset, from `at` on, each rounded up to an alignment. No payload of an image is copied.
+// Each payload is replaced by `data-size`, and by a cell of this name for its offset. Offsets count
+// from `at` on, each rounded up to an alignment. No payload of an image is copied.
 pub(crate) fn place<A: Allocator + Copy>(
     alloc: A,
     tree: &Tree<A>,

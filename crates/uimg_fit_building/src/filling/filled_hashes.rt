@@ -18,14 +18,13 @@ use uimg_blob_writing::{ByteList, Node, Props, Value};
 use uimg_fit_base::{AlgoSet, Digests, FitFault, algo_by};
 use uimg_names::Naming;
 
-// Returns whether a child of an image is a hash node.
 fn is_hash(name: &[u8]) -> bool
     ensures { result ≡ is_hash name.now }
 {
     name.starts_with(b"hash")
 }
 
-// Returns the algorithm of a hash node, if its name is known.
+// Returns `None` if the name is not known.
 #[tactic(auto, using(crate::proofs::FilledHashLaws::no_name))]
 fn algo_of<A: Allocator>(naming: Naming, props: &Props<A>) -> Option<Algo>
     ensures { result ≡ hash_algo naming in_memory props.now }
@@ -37,7 +36,7 @@ fn algo_of<A: Allocator>(naming: Naming, props: &Props<A>) -> Option<Algo>
     }
 }
 
-/// Returns the algorithms of the hash nodes among nodes, if all are known.
+/// Returns `None` unless all names are known.
 #[tactic(auto, unfolding(crate::specs::PayloadSums::all_marked))]
 pub(crate) fn algos_of<A: Allocator>(naming: Naming, nodes: &[Node<A>]) -> Option<AlgoSet>
     ensures { result
@@ -55,7 +54,6 @@ pub(crate) fn algos_of<A: Allocator>(naming: Naming, nodes: &[Node<A>]) -> Optio
     Some(set)
 }
 
-// Returns a digest as a value.
 fn digest_value<A: Allocator>(alloc: A, digests: &Digests, algo: Algo) -> Result<Value<A>, FitFault>
     ensures digest { (message : List ℕ) → AreDigests digests.now message →
         has (set_of digests.now) algo ≡ true → IfOk result (λ v. content v ≡ bytes (digest_by algo message)) }
@@ -66,7 +64,6 @@ fn digest_value<A: Allocator>(alloc: A, digests: &Digests, algo: Algo) -> Result
     Ok(Value::Bytes(copied(alloc, &digest[..algo.len()])?))
 }
 
-// Sets the digest of a hash node.
 fn fill_hash<A: Allocator + Copy>(
     alloc: A,
     node: &mut Node<A>,
@@ -84,7 +81,6 @@ fn fill_hash<A: Allocator + Copy>(
     Ok(())
 }
 
-// Sets the digest of a child of an image, if it is a hash node.
 fn fill_child<A: Allocator + Copy>(
     alloc: A,
     node: &mut Node<A>,
@@ -99,7 +95,6 @@ fn fill_child<A: Allocator + Copy>(
     Ok(())
 }
 
-/// Sets the digests of the hash nodes among the children of an image.
 pub(crate) fn fill_children<A: Allocator + Copy>(
     alloc: A,
     nodes: &mut [Node<A>],

@@ -22,7 +22,6 @@ use uimg_blob_writing::{Node, Nodes, Props, Value};
 use uimg_fit_base::FitFault;
 use uimg_names::Naming;
 
-// Sets the digests of a payload in the hash nodes among the children of an image.
 fn fill_hashes<F: Files, A: Allocator + Copy>(
     alloc: A,
     nodes: &mut [Node<A>],
@@ -57,7 +56,6 @@ fn fill_hashes<F: Files, A: Allocator + Copy>(
     }
 }
 
-// Fills an image.
 fn fill_image<F: Files, A: Allocator + Copy>(
     alloc: A,
     image: &mut Node<A>,
@@ -87,7 +85,7 @@ fn fill_image<F: Files, A: Allocator + Copy>(
     answer
 }
 
-/// Fills images in order, up to the first that is refused.
+/// Stops at the first that is refused.
 pub(crate) fn fill_images<F: Files, A: Allocator + Copy>(
     alloc: A,
     images: &mut [Node<A>],

@@ -14,7 +14,7 @@ use uimg_base::{Bundle, Files, Source, WINDOW, feed_through};
 use uimg_blob_writing::Value;
 use uimg_fit_base::{AlgoSet, Digests, FitFault};
 
-// Feeds a source of this size; another size counts as a failed read.
+// Another size counts as a failed read.
 fn feed_source<S: Source>(bundle: &mut Bundle, source: &mut S, size: u64) -> Result<(), FitFault>
     ensures fault { IsOkUnless result ReadFailed }
     ensures asked { (S.device source.new).asked ≤ (S.device source.old).asked + size }
@@ -35,7 +35,7 @@ fn feed_source<S: Source>(bundle: &mut Bundle, source: &mut S, size: u64) -> Res
     }
 }
 
-// Feeds the file of a name and a size: opens it once and reads it once.
+// Opens the file once and reads it once.
 fn feed_file<F: Files>(
     bundle: &mut Bundle,
     name: &[u8],
@@ -52,7 +52,6 @@ fn feed_file<F: Files>(
     feed_source(bundle, &mut source, size)
 }
 
-// Feeds a payload.
 fn feed_payload<F: Files, A: Allocator>(
     bundle: &mut Bundle,
     payload: &Value<A>,
@@ -71,7 +70,6 @@ fn feed_payload<F: Files, A: Allocator>(
     }
 }
 
-/// Returns the digests of a payload by the algorithms of a set; a file is opened and read once.
 pub(crate) fn payload_digests<F: Files, A: Allocator>(
     set: AlgoSet,
     payload: &Value<A>,

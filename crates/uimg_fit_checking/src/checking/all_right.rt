@@ -19,7 +19,7 @@ use uimg_base::{Algo, Room, Span};
 use uimg_blob_reading::Blob;
 use uimg_fit_reading::nodes::{first_hash, name_of, next_hash, next_of};
 
-// Adds the number of hash nodes from one on to a count; there are no more of them than entries.
+// There are no more hash nodes than entries.
 fn count_hashes<A: Allocator>(
     blob: &Blob,
     room: &Room<A>,
@@ -44,7 +44,6 @@ fn count_hashes<A: Allocator>(
     count
 }
 
-// Counts the hash nodes of the images from one on.
 fn count_all<A: Allocator>(blob: &Blob, room: &Room<A>, first: Option<usize>) -> usize
     requires { IsEntryOrNone blob.now room.now first }
     ensures { InTreeFrom blob.now room.now in_images first (λ found. result ≡ hash_count found) }
@@ -75,7 +74,7 @@ fn first_unhashed<A: Allocator>(blob: &Blob, room: &Room<A>, first: Option<usize
     None
 }
 
-// Does the same, if no strength is needed.
+// Returns `None` if a strength is needed.
 fn unhashed<A: Allocator>(
     blob: &Blob,
     room: &Room<A>,

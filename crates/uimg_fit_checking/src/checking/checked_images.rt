@@ -16,7 +16,7 @@ use uimg_fit_base::Fault;
 use uimg_fit_reading::nodes::next_of;
 use uimg_fit_reading::payload_place;
 
-// Checks an image, of whose payload at most `left` bytes may be read.
+// At most `left` bytes of the payload may be read.
 fn check_image<S: Source, A: Allocator>(
     source: &mut S,
     blob: &Blob,
@@ -36,7 +36,7 @@ fn check_image<S: Source, A: Allocator>(
     Ok(check_payload(source, blob, room, payload, need, left)?)
 }
 
-// Returns the first finding from an image on; as many bytes may be read as the source has.
+// As many bytes may be read as the source has.
 pub(crate) fn first_finding<S: Source, A: Allocator>(
     source: &mut S,
     blob: &Blob,

@@ -43,7 +43,7 @@ fn read_size(set: AlgoSet, span: Span) -> u64
     if set.is_empty() { 0 } else { span.length }
 }
 
-// Checks an image whose payload was found, of which at most `left` bytes may be read.
+// At most `left` bytes of the payload may be read.
 pub(crate) fn check_payload<S: Source, A: Allocator>(
     source: &mut S,
     blob: &Blob,

@@ -14,7 +14,6 @@ use uimg_blob_reading::{Blob, Key};
 use uimg_fit_reading::nodes::{child_of, first_hash, name_of, next_hash, next_of, value_of};
 use uimg_fit_reading::payload_facts;
 
-// Returns the facts of a hash node.
 fn hash_facts<A: Allocator>(blob: &Blob, room: &Room<A>, hash: usize) -> HashFacts
     requires { hash < length room.now.entries }
     ensures inside { InAnyFile blob.now room.now (λ size. HashInside size result) }
@@ -28,7 +27,6 @@ fn hash_facts<A: Allocator>(blob: &Blob, room: &Room<A>, hash: usize) -> HashFac
     }
 }
 
-// Collects the facts of the hash nodes from one on.
 fn gather_hashes<A: Allocator>(
     alloc: Global,
     blob: &Blob,
@@ -48,7 +46,6 @@ fn gather_hashes<A: Allocator>(
     Ok(facts)
 }
 
-// Returns the facts of an image.
 fn image_facts<A: Allocator>(
     alloc: Global,
     blob: &Blob,
@@ -75,7 +72,6 @@ fn image_facts<A: Allocator>(
     })
 }
 
-// Collects the facts of the images from one on.
 pub(super) fn gather_images<A: Allocator>(
     alloc: Global,
     blob: &Blob,
@@ -95,7 +91,6 @@ pub(super) fn gather_images<A: Allocator>(
     Ok(facts)
 }
 
-// Collects the names of the child nodes of a configuration, from one on.
 fn gather_names<A: Allocator>(
     alloc: Global,
     blob: &Blob,
@@ -115,7 +110,6 @@ fn gather_names<A: Allocator>(
     Ok(names)
 }
 
-// Returns the facts of a configuration.
 fn configuration_facts<A: Allocator>(
     alloc: Global,
     blob: &Blob,
@@ -144,7 +138,6 @@ fn configuration_facts<A: Allocator>(
     })
 }
 
-// Collects the facts of the configurations from one on.
 pub(super) fn gather_configurations<A: Allocator>(
     alloc: Global,
     blob: &Blob,

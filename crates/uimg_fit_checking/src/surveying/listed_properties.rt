@@ -17,7 +17,6 @@ use uimg_blob_reading::{Blob, PropertiesFault, PropertyPlace, properties_of};
 use uimg_fit_base::Fault;
 use uimg_fit_reading::nodes::{child_of, configurations_of, next_of};
 
-// Lists the properties of a configuration.
 fn list_properties<S: Source, A: Allocator>(
     alloc: Global,
     source: &mut S,
@@ -39,7 +38,6 @@ fn list_properties<S: Source, A: Allocator>(
     }
 }
 
-// Lists the properties of the configurations from one on.
 fn gather_properties<S: Source, A: Allocator>(
     alloc: Global,
     source: &mut S,
@@ -69,7 +67,6 @@ fn gather_properties<S: Source, A: Allocator>(
     Ok(lists)
 }
 
-// Lists the properties of the configurations, if there are any.
 pub(super) fn configuration_properties<S: Source, A: Allocator>(
     alloc: Global,
     source: &mut S,

@@ -11,7 +11,9 @@ use std::alloc::Global;
 use uimg_base::{Source, Span};
 
 /// Reads the bytes at a span of a survey into memory, by one read of exactly these bytes. Returns
-/// `OutOfMemory` if memory was refused, `Stopped` with `Read` if the read failed; no other fault.
+/// no other fault than these:
+/// - `OutOfMemory`: memory was refused.
+/// - `Stopped` with `Read`: the read failed.
 pub fn read_bytes<S: Source>(
     alloc: Global,
     source: &mut S,

@@ -10,8 +10,7 @@ use std::io::Write;
 use uimg_base::{MoveFault, Out, Room, Source, Span, take_through};
 use uimg_fit_base::{AlgoSet, Digests};
 
-// Writes a payload, and returns its digests by the algorithms of a set. They are the digests of
-// what was written, whatever the source returned.
+// The digests are those of what was written, whatever the source returned.
 pub(super) fn take_payload<S: Source, A: Allocator, W: Write>(
     source: &mut S,
     room: &mut Room<A>,

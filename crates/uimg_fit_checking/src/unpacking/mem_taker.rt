@@ -62,7 +62,6 @@ impl<A: Allocator + Copy> Taker for MemTaker<A> {
 
     ghost takes = { λ t. map take_at t.takes.items };
 
-    /// Does nothing. Never fails.
     fn claim(&mut self, _name: &NodeName, _length: u64) -> Result<(), PutFault>
         ensures ok { IsOk result }
         ensures same { self.new ≡ self.old }
@@ -70,7 +69,6 @@ impl<A: Allocator + Copy> Taker for MemTaker<A> {
         Ok(())
     }
 
-    /// Returns an empty vector. Never fails.
     fn shelf(&mut self, _name: &NodeName) -> Result<Vec<u8, A>, PutFault>
         ensures ok { IsOk result }
         ensures same { self.new ≡ self.old }

@@ -43,7 +43,7 @@ impl NodeName {
     }
 }
 
-// Reads the name at a span, at most 255 bytes of it.
+// Reads at most 255 bytes of the name.
 pub(super) fn read_name<S: Source>(source: &mut S, span: Span) -> Result<NodeName, SourceFault>
     requires { span.place + span.length ≤ length (S.device source.old).bytes }
     ensures uses { Asks 255 (is_err result) (S.device source.old) (S.device source.new) }

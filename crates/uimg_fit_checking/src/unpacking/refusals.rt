@@ -23,7 +23,6 @@ use uimg_blob_reading::Blob;
 use uimg_fit_base::{AlgoSet, Digests};
 use uimg_fit_reading::nodes::first_hash;
 
-// Returns the strongest algorithm of a set.
 #[tactic(auto, unfolding(crate::specs::Unpacking::strongest))]
 fn strongest(set: AlgoSet) -> Option<Algo>
     ensures { result ≡ strongest set }
@@ -51,7 +50,6 @@ pub(super) fn vouched_by(digests: &Digests) -> Option<Vouched>
     }
 }
 
-// Returns the refusal of a payload with a hash node that is not right.
 fn refusal<S: Source>(source: &mut S, wrong: WrongHash) -> Result<Refusal, SourceFault>
     requires { wrong.hash.place + wrong.hash.length ≤ length (S.device source.old).bytes }
     ensures uses { Asks 255 (is_err result) (S.device source.old) (S.device source.new) }

@@ -1,4 +1,4 @@
-//! What is requested: the payloads of all images, or of the images of one name.
+//! Which payloads are requested: those of all images, or of the images of one name.
 
 ghost use Rattle.std.specs.Prelude.{◌≡◌, length, IfOk, IfSome};
 ghost use Rattle.std.specs.Option.{option_map};
@@ -18,7 +18,7 @@ use uimg_fit_base::Fault;
 use uimg_fit_reading::nodes::name_of;
 use uimg_fit_reading::payload_place;
 
-/// Which payloads are requested, and what has to vouch for them.
+/// Which payloads are requested, and what must vouch for them.
 #[derive(Clone, Copy)]
 pub(super) struct Request {
     // The name of the requested images, or `None` for all.
@@ -38,7 +38,7 @@ pub(super) struct Requested {
     pub(super) span: Span,
 }
 
-// Returns whether an image is requested: all are, or those of one name.
+// Without a name all images are requested.
 fn is_asked(only: Option<NodeName>, name: &NodeName) -> bool
     ensures { result ≡ is_asked (option_map as_bytes only) (as_bytes name.now) }
 {
@@ -48,7 +48,6 @@ fn is_asked(only: Option<NodeName>, name: &NodeName) -> bool
     }
 }
 
-// Finds the payload of an image, if it is requested.
 pub(super) fn find_requested<S: Source, A: Allocator>(
     source: &mut S,
     blob: &Blob,

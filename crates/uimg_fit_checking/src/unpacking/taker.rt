@@ -1,4 +1,4 @@
-//! The trait of those who are given unpacked payloads.
+//! The trait of takers, which receive unpacked payloads.
 
 ghost use Rattle.std.specs.Prelude.{◌≡◌, ℕ, [], ◌∷◌, ◌++◌, List, Bool, true, false, Some, IfOk, IsTrue, OnOk};
 ghost use Rattle.std.specs.Prelude.{◌||◌, is_err};

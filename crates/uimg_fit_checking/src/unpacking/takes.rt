@@ -24,7 +24,7 @@ use uimg_fit_reading::compared_algos;
 use uimg_fit_reading::nodes::{first_hash, next_of};
 use uimg_names::Naming;
 
-// Takes a requested payload. Returns whether it is kept.
+// Returns whether the payload is kept.
 fn take_requested<S: Source, A: Allocator, T: Taker>(
     source: &mut S,
     blob: &Blob,
@@ -68,7 +68,7 @@ fn take_requested<S: Source, A: Allocator, T: Taker>(
     Ok(true)
 }
 
-// Takes the payload of an image, if it is requested. Returns false if it is refused.
+// Returns false if the payload is refused.
 fn take_image<S: Source, A: Allocator, T: Taker>(
     source: &mut S,
     blob: &Blob,
@@ -104,7 +104,7 @@ fn take_image<S: Source, A: Allocator, T: Taker>(
     }
 }
 
-// Takes the requested payloads of the images from one on. Returns whether none is refused.
+// Returns whether no payload is refused.
 pub(super) fn take_images<S: Source, A: Allocator, T: Taker>(
     source: &mut S,
     blob: &Blob,

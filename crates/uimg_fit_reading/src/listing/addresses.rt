@@ -11,7 +11,6 @@ use crate::puts::{put, put_line, read};
 use std::io::Write;
 use uimg_base::{MoveFault, Out, Source, Span};
 
-// Counts the leading zeros of digits.
 fn leading_zeros(digits: &[u8]) -> usize
     ensures { result ≡ position_or_len (λ d. not (d == 48)) digits.now }
 {
@@ -32,7 +31,6 @@ fn eight_or_more(digits: &[u8]) -> &[u8]
     &digits[zeros..]
 }
 
-// Writes a line with the address of one cell.
 fn put_one_cell<W: Write>(out: &mut Out<W>, bytes: &[u8; 4]) -> Result<(), MoveFault>
     ensures { PutsOwn result out.old out.new (line (codes "0x" ++ encode_lower bytes.now)) }
 {
@@ -43,7 +41,6 @@ fn put_one_cell<W: Write>(out: &mut Out<W>, bytes: &[u8; 4]) -> Result<(), MoveF
     put_line(out, b"0x", &digits)
 }
 
-// Writes a line with the address of two cells.
 fn put_two_cells<W: Write>(out: &mut Out<W>, bytes: &[u8; 8]) -> Result<(), MoveFault>
     ensures { PutsOwn result out.old out.new
         (line (codes "0x" ++ eight_or_more (encode_lower bytes.now))) }
@@ -80,7 +77,6 @@ fn put_address<S: Source, W: Write>(
     }
 }
 
-// Writes a line of a label and an address.
 #[tactic(auto, using(uimg_base::proofs::WritingLaws::writing))]
 pub(crate) fn put_address_line<S: Source, W: Write>(
     source: &mut S,

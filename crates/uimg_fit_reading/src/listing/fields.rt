@@ -27,7 +27,6 @@ use uimg_base::{MoveFault, Out, Room, Source, Span, size_text};
 use uimg_blob_reading::put_text;
 use uimg_names::Field;
 
-// Writes a line of a label and the text of a value.
 pub(crate) fn put_text_line<S: Source, A: Allocator, W: Write>(
     source: &mut S,
     room: &mut Room<A>,
@@ -44,7 +43,6 @@ pub(crate) fn put_text_line<S: Source, A: Allocator, W: Write>(
     put(out, b"\n")
 }
 
-// Writes the lines of a value.
 #[tactic(auto, unfolding(crate::specs::Shows::value_lines))]
 fn put_value<S: Source, A: Allocator, W: Write>(
     source: &mut S,
@@ -67,7 +65,6 @@ fn put_value<S: Source, A: Allocator, W: Write>(
     }
 }
 
-// Writes the lines of a property, if it is present.
 fn put_property<S: Source, A: Allocator, W: Write>(
     source: &mut S,
     room: &mut Room<A>,
@@ -86,7 +83,6 @@ fn put_property<S: Source, A: Allocator, W: Write>(
     }
 }
 
-// Returns the name that is printed of a missing code.
 fn missing_name(field: Field) -> &'static str
     ensures { result.now ≡ missing_name field }
 {
@@ -96,7 +92,6 @@ fn missing_name(field: Field) -> &'static str
     }
 }
 
-// Returns what is printed of a missing value.
 fn missing(show: Show) -> &'static str
     ensures { result.now ≡ missing show }
 {
@@ -106,7 +101,6 @@ fn missing(show: Show) -> &'static str
     }
 }
 
-// Writes the lines of a property, or that it is unavailable.
 fn put_wanted<S: Source, A: Allocator, W: Write>(
     source: &mut S,
     room: &mut Room<A>,
@@ -125,7 +119,6 @@ fn put_wanted<S: Source, A: Allocator, W: Write>(
     }
 }
 
-// Writes a size, and ends the line.
 fn put_size<W: Write>(out: &mut Out<W>, size: u32) -> Result<(), MoveFault>
     ensures { PutsOwn result out.old out.new (line (size_text size)) }
 {
@@ -135,7 +128,6 @@ fn put_size<W: Write>(out: &mut Out<W>, size: u32) -> Result<(), MoveFault>
     }
 }
 
-// Writes the line of a size, or that it is unavailable.
 fn put_size_line<W: Write>(
     out: &mut Out<W>,
     label: &[u8],
@@ -150,7 +142,6 @@ fn put_size_line<W: Write>(
     put_size(out, size)
 }
 
-// Writes the lines of a row.
 fn put_row<S: Source, A: Allocator, W: Write>(
     fit: &mut OpenFit<'_, S, A>,
     node: usize,
@@ -182,7 +173,6 @@ fn put_row<S: Source, A: Allocator, W: Write>(
     }
 }
 
-// Writes the lines of rows.
 pub(crate) fn put_rows<S: Source, A: Allocator, W: Write>(
     fit: &mut OpenFit<'_, S, A>,
     node: usize,

@@ -14,7 +14,6 @@ use std::io::Write;
 use uimg_base::{MoveFault, Out, Room, Source, Span};
 use uimg_blob_reading::put_text;
 
-// Writes the line of the image's description.
 fn put_description<S: Source, A: Allocator, W: Write>(
     source: &mut S,
     room: &mut Room<A>,
@@ -31,14 +30,12 @@ fn put_description<S: Source, A: Allocator, W: Write>(
     }
 }
 
-// Writes the line of the image's time.
 fn put_created<W: Write>(out: &mut Out<W>, time: Option<u32>) -> Result<(), MoveFault>
     ensures { PutsOwn result out.old out.new (created_line time) }
 {
     put_moment_line(out, b"Created:         ", time)
 }
 
-// Writes the two head lines.
 pub(crate) fn put_head<S: Source, A: Allocator, W: Write>(
     source: &mut S,
     room: &mut Room<A>,
@@ -54,7 +51,6 @@ pub(crate) fn put_head<S: Source, A: Allocator, W: Write>(
     put_created(out, time)
 }
 
-// Writes the line of the default configuration.
 fn put_default_line<S: Source, A: Allocator, W: Write>(
     source: &mut S,
     room: &mut Room<A>,
@@ -70,7 +66,6 @@ fn put_default_line<S: Source, A: Allocator, W: Write>(
     put(out, b"'\n")
 }
 
-// Writes the line of the default configuration, if there is one.
 pub(crate) fn put_default<S: Source, A: Allocator, W: Write>(
     source: &mut S,
     room: &mut Room<A>,

@@ -13,7 +13,6 @@ use uimg_base::{MoveFault, Out, Source, Span};
 // The most bytes that are converted at once.
 const PART: usize = 64;
 
-// Writes bytes in hexadecimal.
 fn put_digits<W: Write>(out: &mut Out<W>, bytes: &[u8]) -> Result<(), MoveFault>
     requires { length bytes.now ≤ 64 }
     ensures { PutsOwn result out.old out.new (encode_lower bytes.now) }
@@ -26,7 +25,6 @@ fn put_digits<W: Write>(out: &mut Out<W>, bytes: &[u8]) -> Result<(), MoveFault>
     put(out, digits)
 }
 
-// Writes the bytes at an offset in hexadecimal.
 fn put_part<S: Source, W: Write>(
     source: &mut S,
     at: u64,
@@ -44,7 +42,6 @@ fn put_part<S: Source, W: Write>(
     put_digits(out, bytes)
 }
 
-// Writes a value in hexadecimal.
 fn put_hexadecimal<S: Source, W: Write>(
     source: &mut S,
     span: Span,
@@ -63,7 +60,6 @@ fn put_hexadecimal<S: Source, W: Write>(
     Ok(())
 }
 
-// Writes a line of a label and a value in hexadecimal.
 pub(crate) fn put_hexadecimal_line<S: Source, W: Write>(
     source: &mut S,
     label: &[u8],

@@ -33,7 +33,6 @@ pub(crate) enum Listed {
     Configuration(Naming),
 }
 
-// Returns the size of a payload, if its place is known.
 fn size_in(place: Result<Span, FitFault>) -> Option<u32>
     requires { IfOk place (λ p. p.length < 2 ^ 32) }
     ensures { result ≡ size_in place }
@@ -44,7 +43,6 @@ fn size_in(place: Result<Span, FitFault>) -> Option<u32>
     }
 }
 
-// Writes the title and the rows of an image, whose time and size are known.
 fn put_image_rows<S: Source, A: Allocator, W: Write>(
     fit: &mut OpenFit<'_, S, A>,
     naming: Naming,
@@ -69,7 +67,6 @@ fn put_image_rows<S: Source, A: Allocator, W: Write>(
     }
 }
 
-// Writes the lines of an image, whose time and size are known.
 fn put_known_image<S: Source, A: Allocator, W: Write>(
     fit: &mut OpenFit<'_, S, A>,
     naming: Naming,
@@ -90,7 +87,6 @@ fn put_known_image<S: Source, A: Allocator, W: Write>(
     put_sums(fit, naming, first, out)
 }
 
-// Writes the lines of an image.
 fn put_image<S: Source, A: Allocator, W: Write>(
     fit: &mut OpenFit<'_, S, A>,
     naming: Naming,
@@ -112,7 +108,7 @@ fn put_image<S: Source, A: Allocator, W: Write>(
     }
 }
 
-// Writes the lines of a configuration, by the names of image.h.
+// The names are those of image.h.
 fn put_any_configuration<S: Source, A: Allocator, W: Write>(
     fit: &mut OpenFit<'_, S, A>,
     at: Numbered,
@@ -128,7 +124,6 @@ fn put_any_configuration<S: Source, A: Allocator, W: Write>(
     put_sums(fit, Naming::All, first, out)
 }
 
-// Writes the lines of a configuration.
 fn put_configuration<S: Source, A: Allocator, W: Write>(
     fit: &mut OpenFit<'_, S, A>,
     naming: Naming,
@@ -148,7 +143,6 @@ fn put_configuration<S: Source, A: Allocator, W: Write>(
     }
 }
 
-// Writes the lines of a node.
 fn put_listed<S: Source, A: Allocator, W: Write>(
     fit: &mut OpenFit<'_, S, A>,
     kind: Listed,
@@ -165,7 +159,6 @@ fn put_listed<S: Source, A: Allocator, W: Write>(
     }
 }
 
-// Writes the lines of the nodes from one on.
 pub(crate) fn put_listed_nodes<S: Source, A: Allocator, W: Write>(
     fit: &mut OpenFit<'_, S, A>,
     kind: Listed,

@@ -22,7 +22,6 @@ pub(crate) enum Line {
     Open,
 }
 
-// Returns what is written before the next byte.
 fn start_of(label: &[u8], line: Line) -> &[u8]
     ensures { result.now ≡ start_of label.now line }
 {
@@ -33,7 +32,6 @@ fn start_of(label: &[u8], line: Line) -> &[u8]
     }
 }
 
-// Returns the bytes after the first `passed` ones.
 fn left(bytes: &[u8], passed: usize) -> &[u8]
     requires { passed ≤ length bytes.now }
     ensures { result.now ≡ drop passed bytes.now }
@@ -72,7 +70,6 @@ fn put_piece<W: Write>(
     Ok(Line::Next)
 }
 
-// Writes texts, each on its line. Returns where the next byte is.
 fn put_texts<W: Write>(
     label: &[u8],
     line: Line,
@@ -92,7 +89,7 @@ fn put_texts<W: Write>(
     Ok(line)
 }
 
-// Writes the texts of at most one window. Returns where the next byte is.
+// Writes at most one window. Returns where the next byte is.
 fn put_window<S: Source, W: Write>(
     source: &mut S,
     window: &mut [u8; WINDOW],
@@ -113,7 +110,6 @@ fn put_window<S: Source, W: Write>(
     put_texts(label, line, window, out)
 }
 
-// Writes the texts of a value. Returns where a byte after them would be.
 fn put_value<S: Source, W: Write>(
     source: &mut S,
     window: &mut [u8; WINDOW],

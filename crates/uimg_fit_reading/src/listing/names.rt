@@ -15,7 +15,6 @@ use uimg_base::{MoveFault, Out, Source, SourceFault, Span};
 use uimg_blob_reading::short_text;
 use uimg_names::{Field, Naming};
 
-// Returns the code that a value's text names.
 fn code_in<S: Source>(
     source: &mut S,
     naming: Naming,
@@ -35,7 +34,6 @@ fn code_in<S: Source>(
     }
 }
 
-// Returns the printed name of the code that a value's text names.
 #[tactic(auto, unfolding(uimg_names::specs::Naming::name_text))]
 fn long_name<S: Source>(
     source: &mut S,
@@ -55,7 +53,6 @@ fn long_name<S: Source>(
     }
 }
 
-/// Returns the code of an image's type in image.h, if its text names one.
 pub(crate) fn kind_in<S: Source>(
     source: &mut S,
     value: Option<Span>,
@@ -75,7 +72,6 @@ pub(crate) fn kind_in<S: Source>(
     }
 }
 
-// Writes a line of a label and the printed name of the code that a value's text names.
 #[tactic(auto, using(uimg_base::proofs::WritingLaws::writing))]
 pub(crate) fn put_name_line<S: Source, W: Write>(
     source: &mut S,

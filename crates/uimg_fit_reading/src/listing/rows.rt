@@ -51,7 +51,6 @@ pub(crate) struct Facts {
     pub(crate) size: Option<u32>,
 }
 
-/// No facts.
 pub(crate) const NO_FACTS: Facts = Facts {
     time: None,
     size: None,
@@ -116,7 +115,6 @@ const LOAD_OF_TREE: Row = Row::Property(Key::Load, *b"  Load Address: ", Address
 
 const ENTRY: Row = Row::Wanted(Key::Entry, *b"  Entry Point:  ", Address);
 
-/// Returns the rows of an image with the code of its type, by the names of image.h.
 pub(crate) fn all_image_rows(kind: Option<u8>) -> [Row; 10]
     ensures { result ≡ all_image_rows kind }
 {

@@ -38,7 +38,6 @@ fn put_after<S: Source, A: Allocator, W: Write>(
     put_text(source, room, span, out)
 }
 
-// Ends the line of a signature that is required or not.
 fn put_required<W: Write>(out: &mut Out<W>, is_required: bool) -> Result<(), MoveFault>
     ensures { PutsOwn result out.old out.new (required_line is_required) }
 {
@@ -49,7 +48,6 @@ fn put_required<W: Write>(out: &mut Out<W>, is_required: bool) -> Result<(), Mov
     }
 }
 
-// Writes the line of the time of a signature.
 fn put_signed<S: Source, W: Write>(
     source: &mut S,
     label: &[u8],
@@ -66,7 +64,6 @@ fn put_signed<S: Source, W: Write>(
     }
 }
 
-/// Writes a part of the lines of a signature node.
 pub(crate) fn put_signing<S: Source, A: Allocator, W: Write>(
     fit: &mut OpenFit<'_, S, A>,
     node: usize,

@@ -18,7 +18,6 @@ use uimg_base::{MoveFault, Out, Source};
 use uimg_blob_reading::Key;
 use uimg_names::Naming;
 
-// Returns the rows of a hash or signature node, which has an algorithm or not.
 fn rows_of(naming: Naming, sum: Option<Sum>, has_algo: bool) -> &'static [Row]
     ensures { result.now ≡ sum_rows naming sum has_algo }
 {
@@ -32,7 +31,6 @@ fn rows_of(naming: Naming, sum: Option<Sum>, has_algo: bool) -> &'static [Row]
     }
 }
 
-// Writes the lines of a child of an image or a configuration.
 fn put_sum<S: Source, A: Allocator, W: Write>(
     fit: &mut OpenFit<'_, S, A>,
     naming: Naming,
@@ -50,7 +48,6 @@ fn put_sum<S: Source, A: Allocator, W: Write>(
     put_rows(fit, node, NO_FACTS, rows, out)
 }
 
-/// Writes the lines of the children of an image or a configuration, from one on.
 pub(crate) fn put_sums<S: Source, A: Allocator, W: Write>(
     fit: &mut OpenFit<'_, S, A>,
     naming: Naming,

@@ -6,7 +6,6 @@ use crate::puts::put_line;
 use std::io::Write;
 use uimg_base::{MoveFault, Out, time_text};
 
-/// Writes the line of a time, if there is one.
 pub(crate) fn put_time_line<W: Write>(
     out: &mut Out<W>,
     label: &[u8],
@@ -20,7 +19,6 @@ pub(crate) fn put_time_line<W: Write>(
     }
 }
 
-/// Writes the line of a time, or that it is unavailable.
 pub(crate) fn put_moment_line<W: Write>(
     out: &mut Out<W>,
     label: &[u8],

@@ -22,7 +22,6 @@ pub(crate) struct Numbered {
     pub(crate) node: usize,
 }
 
-// Writes what comes before a node's name.
 fn put_number<W: Write>(out: &mut Out<W>, before: &[u8], number: usize) -> Result<(), MoveFault>
     ensures { PutsOwn result out.old out.new (before.now ++ (decimal number ++ codes " (")) }
 {
@@ -33,7 +32,6 @@ fn put_number<W: Write>(out: &mut Out<W>, before: &[u8], number: usize) -> Resul
     }
 }
 
-// Writes the title of a node.
 fn put_title<S: Source, A: Allocator, W: Write>(
     source: &mut S,
     room: &mut Room<A>,
@@ -51,7 +49,6 @@ fn put_title<S: Source, A: Allocator, W: Write>(
     put(out, b")\n")
 }
 
-// Writes the title and the rows of a node.
 pub(crate) fn put_node<S: Source, A: Allocator, W: Write>(
     fit: &mut OpenFit<'_, S, A>,
     before: &[u8],

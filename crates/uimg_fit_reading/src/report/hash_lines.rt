@@ -22,7 +22,6 @@ pub(crate) struct HashLine {
     pub(crate) word: Verdict,
 }
 
-// Writes the bytes at a span and a blank.
 fn put_name<S: Source, A: Allocator, W: Write>(
     source: &mut S,
     room: &mut Room<A>,
@@ -54,14 +53,12 @@ fn put_algo<S: Source, A: Allocator, W: Write>(
     }
 }
 
-// Writes a blank and a word, and ends the line.
 fn put_word<W: Write>(word: Verdict, out: &mut Out<W>) -> Result<(), MoveFault>
     ensures { PutsOwn result out.old out.new (line (codes " " ++ word_text word)) }
 {
     put_line(out, b" ", word_text(word).as_bytes())
 }
 
-// Writes the names at the beginning of a hash node's line.
 fn put_names<S: Source, A: Allocator, W: Write>(
     source: &mut S,
     room: &mut Room<A>,
@@ -77,7 +74,6 @@ fn put_names<S: Source, A: Allocator, W: Write>(
     put_name(source, room, line.hash, out)
 }
 
-// Writes the end of a hash node's line.
 fn put_end<S: Source, A: Allocator, W: Write>(
     source: &mut S,
     room: &mut Room<A>,
@@ -92,7 +88,6 @@ fn put_end<S: Source, A: Allocator, W: Write>(
     put_word(line.word, out)
 }
 
-// Writes the line of a hash node.
 pub(crate) fn put_hash_line<S: Source, A: Allocator, W: Write>(
     source: &mut S,
     room: &mut Room<A>,
@@ -107,7 +102,6 @@ pub(crate) fn put_hash_line<S: Source, A: Allocator, W: Write>(
     put_end(source, room, line, out)
 }
 
-// Writes the line of an image without hash nodes.
 pub(crate) fn put_unhashed<S: Source, A: Allocator, W: Write>(
     source: &mut S,
     room: &mut Room<A>,

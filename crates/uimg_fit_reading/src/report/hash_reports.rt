@@ -12,7 +12,7 @@ use std::io::Write;
 use uimg_base::{MoveFault, Out, Source, Span};
 use uimg_fit_base::{Digests, is_right};
 
-// Writes a line for each hash node from one on, by these digests. Returns whether all are right.
+// Returns whether all hash nodes are right.
 fn put_hashes<S: Source, A: Allocator, W: Write>(
     fit: &mut OpenFit<'_, S, A>,
     image: Span,
@@ -35,7 +35,7 @@ fn put_hashes<S: Source, A: Allocator, W: Write>(
     Ok(are_right)
 }
 
-// Reports on the hash nodes from one on, after one pass over the payload: whether all are right.
+// Reads the payload once. Returns whether all hash nodes are right.
 pub(crate) fn report_hashes<S: Source, A: Allocator, W: Write>(
     fit: &mut OpenFit<'_, S, A>,
     image: Span,

@@ -14,7 +14,7 @@ use std::io::Write;
 use uimg_base::{MoveFault, Out, Source, Span, Status};
 use uimg_fit_base::Fault;
 
-// Reports on an image whose payload was found. Returns whether all its hash nodes are right.
+// Returns whether all hash nodes of the image are right.
 fn report_found<S: Source, A: Allocator, W: Write>(
     fit: &mut OpenFit<'_, S, A>,
     image: usize,
@@ -35,7 +35,7 @@ fn report_found<S: Source, A: Allocator, W: Write>(
     report_hashes(fit, name, span, first, out)
 }
 
-// Reports on an image. Returns whether all its hash nodes are right.
+// Returns whether all hash nodes of the image are right.
 fn report_image<S: Source, A: Allocator, W: Write>(
     fit: &mut OpenFit<'_, S, A>,
     image: usize,
@@ -49,7 +49,6 @@ fn report_image<S: Source, A: Allocator, W: Write>(
     Ok(report_found(fit, image, span, out)?)
 }
 
-// Returns the status of a report.
 fn status(are_right: bool) -> Status
     ensures { result ≡ report_status are_right }
 {
@@ -60,7 +59,6 @@ fn status(are_right: bool) -> Status
     }
 }
 
-// Reports on the images from one on.
 pub(crate) fn report_images<S: Source, A: Allocator, W: Write>(
     fit: &mut OpenFit<'_, S, A>,
     first: Option<usize>,

@@ -39,7 +39,6 @@ pub fn judge<S: Source, A: Allocator>(
     judged(source, plan, digests)
 }
 
-// Writes the line of a hash node with a word.
 fn put_judged<S: Source, A: Allocator, W: Write>(
     fit: &mut OpenFit<'_, S, A>,
     image: Span,
@@ -63,7 +62,6 @@ fn put_judged<S: Source, A: Allocator, W: Write>(
     put_hash_line(fit.source, fit.room, line, out)
 }
 
-// Writes the line of a hash node, and returns its word.
 pub(crate) fn put_hash<S: Source, A: Allocator, W: Write>(
     fit: &mut OpenFit<'_, S, A>,
     image: Span,

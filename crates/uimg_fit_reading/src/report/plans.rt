@@ -23,7 +23,6 @@ pub(crate) enum Plan {
     Compared(Algo, Span),
 }
 
-// Returns the plan for a value by a known algorithm.
 #[tactic(auto, unfolding(crate::specs::Plans::plan_for))]
 fn plan_by(algo: Algo, value: Option<Span>) -> Plan
     ensures plan { result ≡ plan_by_value algo value }
@@ -35,7 +34,6 @@ fn plan_by(algo: Algo, value: Option<Span>) -> Plan
     }
 }
 
-// Returns the plan for a value by the name of an algorithm.
 fn plan_named(naming: Naming, name: &[u8], value: Option<Span>) -> Plan
     ensures plan { result ≡ plan_by_algo (algo_by naming name.now) value }
     ensures value { IsOf value result }
@@ -46,7 +44,6 @@ fn plan_named(naming: Naming, name: &[u8], value: Option<Span>) -> Plan
     }
 }
 
-// Returns the plan by the spans of an algorithm's name and of a value.
 fn planned<S: Source>(
     source: &mut S,
     naming: Naming,
@@ -69,7 +66,6 @@ fn planned<S: Source>(
     }
 }
 
-// Returns the plan for a hash node.
 pub(crate) fn plan_at<S: Source, A: Allocator>(
     source: &mut S,
     blob: &Blob,
@@ -106,7 +102,6 @@ fn is_digest<S: Source>(source: &mut S, span: Span, digest: &[u8; 64]) -> Result
     Ok(bytes[..length] == digest[..length])
 }
 
-// Returns the word of a hash node, by its plan and the digests of its payload.
 pub(crate) fn judged<S: Source>(
     source: &mut S,
     plan: Plan,

@@ -17,7 +17,6 @@ use uimg_blob_reading::Blob;
 use uimg_blob_writing::{Node, Nodes};
 use uimg_fit_reading::nodes::{child_of, name_of, next_of};
 
-// Reads a node and its descendants, of at most these levels.
 #[cycle(read_nodes)]
 fn read_node<S: Source, A: Allocator>(
     alloc: Global,
@@ -45,7 +44,6 @@ fn read_node<S: Source, A: Allocator>(
     })
 }
 
-/// Reads nodes from one on, with their descendants, of at most these levels.
 #[cycle(read_nodes)]
 pub(crate) fn read_nodes<S: Source, A: Allocator>(
     alloc: Global,

@@ -27,7 +27,6 @@ const ENTRY: usize = 16;
 // The most bytes of a block that are read.
 const MOST: u32 = 65536;
 
-// Reads a number of 4 bytes.
 fn word_at<S: Source>(source: &mut S, at: u64) -> Result<u32, SourceFault>
     requires { at + 4 ≤ length (S.device source.old).bytes }
     ensures same { SameDevice (S.device source.old) (S.device source.new) }
@@ -39,7 +38,6 @@ fn word_at<S: Source>(source: &mut S, at: u64) -> Result<u32, SourceFault>
     Ok(be32_at(&word, 0))
 }
 
-// Reads the entry at the beginning of bytes.
 fn entry_of(bytes: &[u8]) -> Reservation
     requires { 16 ≤ length bytes.now }
     ensures { result ≡ reservation_at bytes.now }
@@ -57,7 +55,6 @@ fn is_end(entry: Reservation) -> bool
     entry.size == 0
 }
 
-// Returns the bytes after the first entry.
 fn behind(bytes: &[u8]) -> &[u8]
     requires { 16 ≤ length bytes.now }
     ensures { result.now ≡ drop 16 bytes.now }
@@ -65,7 +62,7 @@ fn behind(bytes: &[u8]) -> &[u8]
     &bytes[ENTRY..]
 }
 
-// Reads the entries before the one that ends the list. Returns none without such an end.
+// Returns none without an entry that ends the list.
 fn entries_in(alloc: Global, bytes: &[u8]) -> Result<Option<Vec<Reservation>>, AllocError>
     ensures { IfOk result (λ found. items_in found ≡ entries_in bytes.now) }
 {
@@ -93,9 +90,9 @@ fn block_end(place: u32, structure: u32, totalsize: u32) -> u32
     }
 }
 
-/// Reads the entries of the reservation block of a blob of this size, in the room's window. Returns
-/// `Endless` if the block begins within the header, or no entry of size 0 ends it before
-/// the structure block or the blob's end, and within 65536 bytes.
+/// Reads the entries in the room's window. Returns `Endless` if the block begins within the header,
+/// or no entry of size 0 ends it before the structure block or the blob's end, and within 65536
+/// bytes.
 pub(crate) fn read_reservations<S: Source, A: Allocator>(
     alloc: Global,
     source: &mut S,

@@ -15,7 +15,6 @@ use uimg_base::{Out, Room, Source, Span, copy_range};
 use uimg_blob_reading::{Blob, PropertyPlace, properties_of};
 use uimg_blob_writing::{ByteList, Prop, Props, Value};
 
-/// Reads the bytes of a span, which is inside the source.
 pub(crate) fn read_span<S: Source, A: Allocator>(
     alloc: Global,
     source: &mut S,
@@ -33,7 +32,6 @@ pub(crate) fn read_span<S: Source, A: Allocator>(
     Ok(ByteList::of(bytes.into_inner()))
 }
 
-// Reads a property.
 fn read_property<S: Source, A: Allocator>(
     alloc: Global,
     source: &mut S,
@@ -55,7 +53,6 @@ fn read_property<S: Source, A: Allocator>(
     })
 }
 
-// Reads properties.
 fn read_listed<S: Source, A: Allocator>(
     alloc: Global,
     source: &mut S,
@@ -79,7 +76,6 @@ fn read_listed<S: Source, A: Allocator>(
     Ok(Props::of(props))
 }
 
-/// Reads all properties of a node.
 pub(crate) fn read_properties<S: Source, A: Allocator>(
     alloc: Global,
     source: &mut S,

@@ -59,7 +59,6 @@ impl<A: Allocator + Copy> PartTaker for MemParts<A> {
 
     ghost kept = { λ t. parts_if t.is_kept t.parts.items };
 
-    /// Does nothing. Never fails.
     fn claim(&mut self, _number: u32) -> Result<(), PutFault>
         ensures ok { IsOk result }
         ensures same { self.new ≡ self.old }
@@ -67,7 +66,6 @@ impl<A: Allocator + Copy> PartTaker for MemParts<A> {
         Ok(())
     }
 
-    /// Returns an empty vector. Never fails.
     fn shelf(&mut self, _number: u32) -> Result<Vec<u8, A>, PutFault>
         ensures ok { IsOk result }
         ensures same { self.new ≡ self.old }
@@ -87,7 +85,6 @@ impl<A: Allocator + Copy> PartTaker for MemParts<A> {
         self.parts.push(part).map_err(|_refused| PutFault)
     }
 
-    /// Keeps the held parts. Never fails.
     fn keep(&mut self, _dcrc: u32) -> Result<(), PutFault>
         ensures ok { IsOk result }
         ensures kept { ⟦<MemParts<A> as PartTaker>⟧.kept self.new
@@ -98,7 +95,6 @@ impl<A: Allocator + Copy> PartTaker for MemParts<A> {
         Ok(())
     }
 
-    /// Does nothing. Never fails.
     fn refuse(&mut self) -> Result<(), PutFault>
         ensures ok { IsOk result }
         ensures same { self.new ≡ self.old }

@@ -1,4 +1,4 @@
-//! The trait of those who are given unpacked parts.
+//! The trait of takers, which receive unpacked parts.
 
 ghost use Rattle.std.specs.Prelude.{◌≡◌, ℕ, [], ◌∷◌, ◌++◌, List, Bool, false, Some, IfOk, OnOk, OnErr, IsTrue};
 ghost use Rattle.std.specs.Prelude.{◌||◌, ◌⊎◌, is_err};
@@ -13,8 +13,8 @@ use uimg_base::PutFault;
 /// Receives the unpacked parts of an image one after another, by their numbers. A written part is
 /// held until all of them are kept or refused. Parts that are still held at the end are discarded.
 ///
-/// Contracts see an honest taker as two lists: the parts that it holds, and those that it keeps. Of a
-/// taker that notes what it is told they see all that, in order, whether it is honest or not.
+/// Contracts see an honest taker as two lists: the parts that it holds, and those that it keeps. Of
+/// a taker that notes its calls they see all calls, in order, whether it is honest or not.
 pub trait PartTaker {
     /// What a part is written to.
     type Shelf: Write + Drop;
@@ -37,10 +37,10 @@ pub trait PartTaker {
     /// Whether a call ever failed; false for a taker that does not say.
     ghost failed: { Self → Bool } = { λ _. false };
 
-    /// Whether the list of what it is told has each call.
+    /// Whether the list of its calls has each call.
     ghost notes: { Bool } = { false };
 
-    /// What it was told, in order.
+    /// Its calls, in order.
     ghost told: { Self → List Deed } = { λ _. [] };
 
     /// Announces a part, before any is unpacked. Nothing is unpacked if it refuses.

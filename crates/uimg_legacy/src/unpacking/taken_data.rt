@@ -25,7 +25,6 @@ fn is_there(only: Option<u32>, count: u32) -> bool
     }
 }
 
-// Claims the requested parts.
 fn claim_parts<T: PartTaker>(only: Option<u32>, count: u32, taker: &mut T) -> Result<(), PutFault>
     ensures held { IsTrue T.honest → T.held taker.new ≡ T.held taker.old }
     ensures kept { IsTrue T.honest → T.kept taker.new ≡ T.kept taker.old }
@@ -73,8 +72,8 @@ fn take_whole<S: Source, A: Allocator, T: PartTaker>(
     Ok(sum.value() == header.dcrc)
 }
 
-// Takes the parts of a type with parts. The sum goes on from the table as it was read first; it
-// counts only if the sizes have the same sum when they are read again.
+// Takes the parts of a type with parts. The sum goes on from the table as it was read first. It
+// counts only if the sizes, read again, have the same sum.
 fn take_listed<S: Source, A: Allocator, T: PartTaker>(
     source: &mut S,
     room: &mut Room<A>,
@@ -116,7 +115,7 @@ fn take_listed<S: Source, A: Allocator, T: PartTaker>(
     Ok(same & (crc == header.dcrc))
 }
 
-// Takes the requested parts of the data. Returns whether the data's CRC is that in the header.
+// Returns whether the data's CRC is that in the header.
 pub(super) fn take_data<S: Source, A: Allocator, T: PartTaker>(
     source: &mut S,
     room: &mut Room<A>,

@@ -14,7 +14,7 @@ use uimg_base::{Crc, Out, Room, Source, Summer, be32_at, feed_through, take_thro
 // The parts of the data, and which of them are requested.
 #[derive(Clone, Copy)]
 pub(super) struct Parts {
-    // How many there are.
+    // How many parts the data have.
     pub(super) count: u32,
     // The length of the data, in bytes.
     pub(super) size: u32,
@@ -23,7 +23,6 @@ pub(super) struct Parts {
 }
 
 impl Parts {
-    // Returns whether a part is requested.
     fn is_asked(self, number: u32) -> bool
         ensures { result ≡ is_part_asked self.only number }
     {
@@ -56,7 +55,6 @@ pub(super) struct Walk {
     pub(super) sizes: Crc,
 }
 
-// Takes a part.
 pub(super) fn take_part<S: Source, A: Allocator, T: PartTaker>(
     source: &mut S,
     room: &mut Room<A>,
@@ -102,8 +100,8 @@ fn take_if<S: Source, A: Allocator, T: PartTaker>(
     Ok(())
 }
 
-// Takes the part of a number by its size in the table, read again: `BadDataCrc` if that is 0. Sums
-// the bytes after it up to the next multiple of 4.
+// Reads the size in the table again: `BadDataCrc` if that is 0. Sums the bytes after the part up to
+// the next multiple of 4.
 fn take_next<S: Source, A: Allocator, T: PartTaker>(
     source: &mut S,
     room: &mut Room<A>,
@@ -147,7 +145,6 @@ fn take_next<S: Source, A: Allocator, T: PartTaker>(
     Ok(())
 }
 
-// Takes the requested parts by their sizes in the table.
 pub(super) fn take_parts<S: Source, A: Allocator, T: PartTaker>(
     source: &mut S,
     room: &mut Room<A>,

@@ -47,7 +47,6 @@ fn fuse_source<S: Source>(source: S, calls: u64) -> FuseSource<S> {
     FuseSource::new(source, calls)
 }
 
-// Returns whether a source that was not read yet has three bytes.
 fn has_abc<S: Source>(source: &mut S) -> bool {
     let mut to = [0; 3];
     size(source) == Ok(3)
@@ -115,7 +114,6 @@ fn file_shelf<'a, R: rt::Files + AllocGlobal>(rt: &'a R, path: &'a str) -> FileS
     FileShelf::new(rt, path)
 }
 
-// Returns whether a shelf keeps what is written to it.
 fn keeps_abc<H: Shelf>(mut shelf: H) -> bool {
     if shelf.write(b"abc").is_err() {
         return false;
@@ -149,7 +147,6 @@ fn fuse_files<F: Files>(files: F, from: u64, turn: u64, calls: u64) -> FuseFiles
     FuseFiles::new(files, from, turn, calls)
 }
 
-// Returns whether files have one of three bytes.
 fn open_abc<F: Files>(files: &mut F) -> bool {
     match open(files, b"abc.bin") {
         Ok(mut source) => has_abc(&mut source),
@@ -226,7 +223,6 @@ fn algo_named(name: &[u8]) -> Option<Algo> {
     Algo::named(name)
 }
 
-// Returns the length of the digest by an algorithm's name.
 fn length_by(name: &str) -> usize {
     match algo_named(name.as_bytes()) {
         Some(algo) => algo.len(),
@@ -355,7 +351,6 @@ fn texts(rt: HostRuntime) {
     assert!(rt; time(0).as_slice() == b"Thu Jan  1 00:00:00 1970".as_slice());
 }
 
-// Returns the codes of short names.
 fn codes(names: [&[u8]; 4]) -> [Option<u8>; 4] {
     [
         os_code(names[0]),
@@ -365,7 +360,6 @@ fn codes(names: [&[u8]; 4]) -> [Option<u8>; 4] {
     ]
 }
 
-// Returns the printed names of codes.
 fn printed(codes: [u8; 4]) -> [&'static str; 4] {
     [
         os_text(codes[0]),
@@ -383,7 +377,6 @@ fn names(rt: HostRuntime) {
     assert!(rt; printed == ["Linux", "AArch64", "Kernel Image", "uncompressed"]);
 }
 
-// Returns the number of a status.
 fn number(status: Status) -> u8 {
     match status {
         Status::Done => 0,

@@ -225,7 +225,6 @@ fn lists(rt: HostRuntime) -> Result<(), Fail> {
     Ok(())
 }
 
-/// Returns the number of a fault.
 pub(super) fn number(fault: BlobFault) -> u8 {
     match fault {
         BlobFault::TooShort => 1,
@@ -250,7 +249,6 @@ fn number_of(fault: IndexFault) -> Option<(u8, u64)> {
     }
 }
 
-// Returns the letter of a fault of writing.
 fn letter(fault: TreeFault) -> char {
     match fault {
         TreeFault::Put => 'p',

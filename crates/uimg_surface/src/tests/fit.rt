@@ -53,7 +53,6 @@ fn built<F: Files, W: Write, A: Allocator + Copy>(
     build(alloc, tree, files, placement, out)
 }
 
-// Returns the image of the source, with its payload at a placement.
 fn image(alloc: Global, placement: Placement) -> Vec<u8> {
     let mut files = MemFiles::new(&FILES);
     let Ok(tree) = compile(alloc, SOURCE, &mut files) else {
@@ -69,7 +68,6 @@ fn image(alloc: Global, placement: Placement) -> Vec<u8> {
     }
 }
 
-// Returns whether the calls that read an image find its payload.
 fn reads_payload(alloc: Global, image: &[u8]) -> bool {
     let mut source = MemSource::new(image);
     let mut room = Room::new(alloc);
@@ -95,7 +93,6 @@ fn images(rt: HostRuntime) {
     assert_eq!(rt; image(rt.alloc(), Placement::At(1024)).len(), 1028);
 }
 
-/// Returns the number of a fault of images.
 pub(super) fn number(fault: FitFault) -> u8 {
     match fault {
         FitFault::NoImages => 1,

@@ -23,7 +23,6 @@ fn sources(rt: HostRuntime) {
     assert_eq!(rt; tree.root.children.items().len(), 1);
 }
 
-// Returns the number of a kind of fault.
 fn number(kind: FaultKind) -> u8 {
     match kind {
         FaultKind::BadToken => 1,
@@ -36,7 +35,6 @@ fn number(kind: FaultKind) -> u8 {
     }
 }
 
-// Returns the number and the line of a fault.
 fn number_at(fault: ItsFault) -> (u8, u64) {
     let ItsFault { kind, line } = fault;
     (number(kind), line)

@@ -53,7 +53,6 @@ fn built<S: Source, W: Write>(
     build(options, parts, out)
 }
 
-/// Returns the options of an image with a kernel.
 pub(super) fn kernel() -> Options {
     let (time, load, ep): (u32, u32, u32) = (1_700_000_000, 0x80000, 0x80000);
     let (os, arch, kind, comp): (u8, u8, u8, u8) = (5, 22, 2, 0);
@@ -129,7 +128,6 @@ fn commands(rt: HostRuntime) {
     assert!(rt; out.into_inner().as_slice() == b"abc".as_slice());
 }
 
-/// Returns the number of a fault.
 pub(super) fn number(fault: LegacyFault) -> u8 {
     match fault {
         LegacyFault::TooShort => 1,

@@ -48,17 +48,15 @@ fn disk_files<'a, R: rt::Files + AllocGlobal>(rt: &'a R, folder: &'a str) -> Dis
     DiskFiles::new(rt, folder)
 }
 
-// Returns the command that makes a legacy image of one file.
 fn of_parts(options: Options, files: Vec<Vec<u8>>) -> MakeCommand {
     MakeCommand::Parts { options, files }
 }
 
-// Returns the command that makes a FIT image of a source.
 fn of_source(source: Vec<u8>, placement: Placement) -> MakeCommand {
     MakeCommand::Tree { source, placement }
 }
 
-// Returns one of the two commands, by its letter.
+// `letter` chooses one of the two commands.
 fn making(alloc: Global, letter: char) -> Result<MakeCommand, AllocError> {
     if letter == 'f' {
         return Ok(of_source(Vec::from_slice(alloc, b"k.its")?, Placement::At(1024)));
@@ -74,7 +72,6 @@ const LIST: Command = Command {
     form: Form::Guess,
 };
 
-// Returns what a command writes about a source.
 fn text_of<S: Source>(alloc: Global, command: &Command, source: &mut S) -> Vec<u8> {
     let mut out = Out::new(Vec::new(alloc));
     match ran(command, source, &mut Room::new(alloc), &mut out) {
@@ -164,7 +161,6 @@ fn line(fault: ItsFault) -> u64 {
     fault.line
 }
 
-// Returns the fault of listing bytes.
 fn refused(alloc: Global, bytes: &[u8]) -> Option<(char, u64)> {
     let mut source = MemSource::new(bytes);
     let mut out = Out::new(Vec::new(alloc));

@@ -31,7 +31,7 @@ const ROWS: [(&str, &str, &str); 21] = [
     ("none", "disk_name", ""),
 ];
 
-// Returns the three bytes of a source, `-` if it has another length.
+// `-` if the source does not have three bytes.
 fn text_of<'a, S: Source>(source: &mut S, bytes: &'a mut [u8; 3]) -> &'a [u8] {
     if source.size() == Ok(3) && source.fill_at(0, bytes).is_ok() {
         bytes
@@ -40,7 +40,6 @@ fn text_of<'a, S: Source>(source: &mut S, bytes: &'a mut [u8; 3]) -> &'a [u8] {
     }
 }
 
-// Returns whether the file of a name is opened in a folder, and has this text.
 fn opens_as<R: rt::Files + AllocGlobal>(rt: &R, folder: &str, name: &str, text: &str) -> bool {
     match DiskFiles::new(rt, folder).open(name.as_bytes()) {
         Ok(mut source) => text_of(&mut source, &mut [0; 3]) == text.as_bytes(),

@@ -1,4 +1,4 @@
-//! Making images while memory is refused.
+//! Builds while memory is refused.
 use super::listings::DEMO_LISTING;
 use super::makings::{Fuses, Outcome, making};
 use super::runs::{shown, told};
@@ -22,7 +22,7 @@ const NO_FUSE: Fuses = Fuses {
 const MANY: &str =
     "a:a:a:a:a:a:a:a:a:a:a:a:a:a:a:a:a:a:a:a:a:a:a:a:a:a:a:a:a:a:a:a:a:a:a:a:a:a:a:a";
 
-// Making several parts grows once, for the opened files, before the first open. A heap of 1024
+// A build of several parts grows once, for the opened files, before the first open. A heap of 1024
 // bytes has room for three of them, but not for 40. The columns: the image, from which open on they
 // are refused, and the resulting file.
 const PARTS: [(&str, u64, &str); 3] = [
@@ -57,7 +57,7 @@ fn step_of(fault: Fault) -> u8 {
     }
 }
 
-// Returns the same if nothing is listed or left, and 3 if the image is made.
+// 3 if the image is made. `step_of` counts only if nothing is listed or left.
 fn step_left(made: &Outcome) -> u8 {
     match made.end {
         Ok(Status::Done) if made.file == "all" => 3,
@@ -66,8 +66,8 @@ fn step_left(made: &Outcome) -> u8 {
     }
 }
 
-// Returns how making a FIT image ends on a heap of `size` bytes: 0 to 2 for the step whose memory
-// is refused, 3 if the image is made, and 9 for anything else.
+// Returns how a build of a FIT image ends on a heap of `size` bytes: 0 to 2 for the step whose
+// memory is refused, 3 if the image is made, and 9 for anything else.
 fn made_on<R: Files + AllocGlobal>(rt: &R, size: usize) -> u8 {
     let Ok(heap) = LocalHeap::new(rt.alloc(), size) else {
         return 9;

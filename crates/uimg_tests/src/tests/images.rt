@@ -14,7 +14,7 @@ const ZEROS_CRC: [u8; 4] = [0x97, 0x2f, 0x53, 0x02];
 // The CRC-32 of 8192 zeros.
 const WINDOW_CRC: [u8; 4] = [0xd8, 0xf4, 0x99, 0x94];
 
-// Returns a legacy image, or no bytes.
+// No bytes for an unknown name.
 fn legacy_named(name: &str) -> &'static [u8] {
     match name {
         "abc-kernel" => &ABC_KERNEL,
@@ -33,7 +33,6 @@ fn zeros(alloc: Global, length: usize, crc: [u8; 4], hashes: u32) -> Option<Vec<
     }
 }
 
-// Returns a FIT image of the tables, by its name.
 fn fit_named(alloc: Global, name: &str) -> Option<Vec<u8>> {
     match name {
         "four-hash-fit" => four_hash_fit(alloc).ok(),

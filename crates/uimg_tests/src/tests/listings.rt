@@ -28,7 +28,6 @@ Created:         Thu Jan  1 00:00:00 1970
   Kernel:       kernel
 ";
 
-/// Returns the listing of an image by its name.
 pub(super) fn listing_named(name: &str) -> &'static str {
     match name {
         "abc-kernel" => ABC_LISTING,

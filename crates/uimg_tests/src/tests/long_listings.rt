@@ -52,7 +52,6 @@ const LENGTH: usize = 224_112;
 
 const LINE: &str = "uimg dumpimage -l long.img";
 
-// Returns whether the listing is printed as a row says.
 fn prints<R: Files + AllocGlobal>(
     rt: &R,
     listing: &[u8],

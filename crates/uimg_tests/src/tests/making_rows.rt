@@ -1,4 +1,4 @@
-//! Making images while opens, reads or the shelf fail.
+//! Builds while opens, reads or the shelf fail.
 use super::listings::listing_named;
 use super::makings::{Fuses, Outcome, making};
 use super::runs::{shown, told};
@@ -184,7 +184,7 @@ const ROWS: [(&str, u64, u64, u64, u64, bool, &str, &str); 24] = [
     ),
 ];
 
-// Returns whether making an image has this end, this file, and its listing if it is done.
+// Returns whether a build has this end, this file, and its listing if it is done.
 fn is_left(alloc: Global, made: &Outcome, name: &str, end: &str, file: &str) -> bool {
     let listing = if end == "done" {
         listing_named(name)
@@ -196,7 +196,6 @@ fn is_left(alloc: Global, made: &Outcome, name: &str, end: &str, file: &str) -> 
         && made.listed.as_slice() == listing.as_bytes()
 }
 
-// Returns whether making the image of a row leaves what it says.
 fn leaves<R: Files + AllocGlobal>(
     rt: &R,
     row: (&str, u64, u64, u64, u64, bool, &str, &str),
@@ -224,7 +223,7 @@ fn makings_that_fail(rt: HostRuntime) {
     }
 }
 
-// Returns whether a failed making returns its fault, and leaves no listing and a prefix.
+// Returns whether a failed build returns its fault, and leaves no listing and a prefix.
 fn is_stopped(made: &Outcome, fault: Fault) -> bool {
     made.end == Err(fault) && made.listed.is_empty() && made.file != "other bytes"
 }
@@ -236,8 +235,8 @@ fn is_whole(made: &Outcome) -> bool {
         && made.listed.as_slice() == listing.as_bytes()
 }
 
-// Returns how often making the image fails as expected, while more calls of a file, or more bytes
-// of the shelf, succeed; 0 if it does otherwise.
+// Returns how often the build fails as expected, while more calls of a file, or more bytes of the
+// shelf, succeed; 0 if it does otherwise.
 fn failures<R: Files + AllocGlobal>(rt: &R, turn: u64, fault: Fault) -> u64 {
     for most in 0..100u64 {
         let fuses = Fuses {

@@ -1,4 +1,4 @@
-//! What making an image leaves if opens, reads, the shelf or memory fail.
+//! What a build leaves if opens, reads, the shelf or memory fail.
 ghost use Rattle.std.specs.Prelude.{◌≡◌, ◌≢◌, false, length, IfOk};
 ghost use Rattle.uimg_base.specs.Device.{IsFresh};
 ghost use Rattle.uimg_legacy.specs.Parts.{has_parts};
@@ -55,7 +55,6 @@ const SOURCE: &[u8] = b"/dts-v1/;
 };
 ";
 
-// Returns what a shelf keeps, or a fault.
 fn kept<H: Shelf>(shelf: H, keeps: bool) -> Result<H::Kept, SourceFault>
     ensures { IfOk result (λ kept. IsFresh (H.Kept.device kept)) }
 {
@@ -107,7 +106,7 @@ pub(super) struct Fuses {
     pub(super) keeps: bool,
 }
 
-/// What making an image left: its end, its listing, and how much of the image the file has.
+/// What a build left: its end, its listing, and how much of the image the file has.
 #[derive(Drop)]
 pub(super) struct Outcome {
     pub(super) end: Result<Status, Fault>,
@@ -115,7 +114,6 @@ pub(super) struct Outcome {
     pub(super) file: &'static str,
 }
 
-// Returns a list of one name.
 fn one_name(alloc: Global, name: &str) -> Result<Vec<Vec<u8>>, AllocError>
     ensures { IfOk result (λ names. length names.items ≡ 1) }
 {
@@ -124,7 +122,6 @@ fn one_name(alloc: Global, name: &str) -> Result<Vec<Vec<u8>>, AllocError>
     Ok(names)
 }
 
-// Returns the names between colons.
 fn part_names(alloc: Global, data: &str) -> Result<Vec<Vec<u8>>, AllocError>
     ensures { IfOk result (λ names. length names.items ≢ 0) }
 {
@@ -188,7 +185,6 @@ pub(super) fn command_named(alloc: Global, name: &str) -> Result<MakeCommand, Al
     Ok(MakeCommand::Parts { options, files })
 }
 
-/// Returns the time of an image, by its name.
 pub(super) fn time_of(name: &str) -> u32 {
     if name == "abc-kernel" {
         1_700_000_000
@@ -213,7 +209,7 @@ fn part_left<R: rt::Files + AllocGlobal>(rt: &R, path: &str, name: &str) -> &'st
     }
 }
 
-// Makes the image of a command, with fuses around the files and the shelf.
+// Fuses are around the files and the shelf.
 fn built<R: AllocGlobal, A: Allocator + Copy, B: Allocator, F: Files + Drop, H: Shelf>(
     rt: &R,
     memory: (A, B),
@@ -240,8 +236,8 @@ fn built<R: AllocGlobal, A: Allocator + Copy, B: Allocator, F: Files + Drop, H: 
     (end, out.into_inner())
 }
 
-/// Makes the image of a name as the file at a path, and removes the file. `memory` is for making
-/// the image, and for the room of its listing.
+/// Makes the image of a name as the file at a path, and removes the file. `memory` is for the
+/// build, and for the room of its listing.
 pub(super) fn making<R: rt::Files + AllocGlobal, A: Allocator + Copy, B: Allocator>(
     rt: &R,
     memory: (A, B),

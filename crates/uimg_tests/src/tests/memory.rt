@@ -45,7 +45,6 @@ fn images_in_memory(rt: HostRuntime) {
     }
 }
 
-// Returns whether a source has these bytes.
 fn has_bytes<S: Source>(source: &mut S, bytes: &[u8]) -> bool {
     let mut held = [0; 760];
     let length = bytes.len();

@@ -17,7 +17,6 @@ const IMAGES: [&str; 4] = [
     "external-fit",
 ];
 
-// Returns whether two runs left the same.
 fn is_same(left: &Left, whole: &Left) -> bool {
     left.end == whole.end && left.text == whole.text
 }
@@ -86,7 +85,6 @@ fn right_cuts(alloc: Global, action: &str, image: &[u8]) -> usize {
     image.len()
 }
 
-// Every cut.
 #[test]
 fn every_cut_is_refused(rt: HostRuntime) {
     let image = image_named(rt.alloc(), "four-hash-fit");

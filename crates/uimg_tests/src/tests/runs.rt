@@ -47,7 +47,6 @@ pub(super) fn ran(alloc: Global, action: &str, image: &[u8], calls: u64, bytes: 
     }
 }
 
-/// Returns the text of an end.
 pub(super) fn told(alloc: Global, end: &Result<Status, Fault>) -> Vec<u8> {
     let told = match end {
         Ok(Status::Done) => format!(in alloc; "done"),
@@ -60,7 +59,6 @@ pub(super) fn told(alloc: Global, end: &Result<Status, Fault>) -> Vec<u8> {
     }
 }
 
-/// Returns bytes as a text, for an assertion.
 pub(super) fn shown(text: &[u8]) -> &str {
     str::from_utf8(text).unwrap_or("no text")
 }

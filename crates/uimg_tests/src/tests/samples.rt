@@ -16,7 +16,7 @@ pub(super) const SHARED_PAYLOAD: &str = "( (images \
 /// Properties without values that share one name of 255 bytes.
 pub(super) const SHARED_NAMES: &str = "( 1000*0= )";
 
-// Returns the bytes of a hexadecimal text, at most 16, and their number.
+// The text is hexadecimal, of at most 16 bytes.
 fn bytes_of(text: &str) -> ([u8; 16], usize) {
     let length = usize::min(text.len() / 2, 16);
     let number = u128::from_str_radix(text, 16).unwrap_or(0);
@@ -24,7 +24,7 @@ fn bytes_of(text: &str) -> ([u8; 16], usize) {
     (number.unbounded_shl(shift).to_be_bytes(), length)
 }
 
-// Adds what a word means. Returns whether it could.
+// Returns whether the word could be added.
 fn adds(blob: &mut Sample<Global>, word: &str) -> bool {
     if word == ")" {
         return blob.end_node().is_ok();
@@ -40,7 +40,6 @@ fn adds(blob: &mut Sample<Global>, word: &str) -> bool {
     }
 }
 
-// Adds what the words mean. Returns whether it could.
 fn adds_all(blob: &mut Sample<Global>, words: &str) -> bool {
     for word in words.split(' ') {
         let (count, word) = word.split_once('*').unwrap_or(("1", word));

@@ -53,7 +53,7 @@ pub(super) fn writer_of<R: AllocGlobal>(rt: &R, room: usize, most: usize, flushe
     }
 }
 
-/// Runs the program on the words of a line, and returns the exit status.
+/// The arguments are those of a line. Returns the exit status.
 pub(super) fn ran<R: Files + AllocGlobal>(
     rt: &R,
     line: &str,

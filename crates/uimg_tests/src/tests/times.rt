@@ -25,7 +25,6 @@ fn status_of<R: Files + AllocGlobal>(rt: &R, epoch: &str, now: u32) -> u8 {
     program(rt, &words, epoch, now, &mut out, &mut err)
 }
 
-// Returns whether the image has this time.
 fn has_time<R: Files + AllocGlobal>(rt: &R, time: u32) -> bool {
     match fs::read(rt, "times.img") {
         Ok(image) => image.get(8..12) == Some(time.to_be_bytes().as_slice()),

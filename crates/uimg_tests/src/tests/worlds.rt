@@ -11,10 +11,9 @@ use uimg_unpacking::{Kind, MemoryWorld, World};
 
 const FILES: [(&[u8], &[u8]); 3] = [(b"a", b"abc"), (b"a", b"def"), (b"b/c", b"ghi")];
 
-// A path, and the three bytes of the file there: an empty text if there is none.
+// A path, and the three bytes of the file there: an empty text without a file.
 const ROWS: [(&str, &str); 4] = [("a", "abc"), ("b/c", "ghi"), ("b", ""), ("", "")];
 
-// Returns whether the file at a path is opened, and has this text.
 fn opens_as(world: &mut MemoryWorld<'_>, path: &str, text: &str) -> bool {
     let mut bytes = [0; 3];
     match world.open(path) {
@@ -27,7 +26,6 @@ fn opens_as(world: &mut MemoryWorld<'_>, path: &str, text: &str) -> bool {
     }
 }
 
-// Returns whether the file at a path is read, and has this text.
 fn reads_as(world: &mut MemoryWorld<'_>, path: &str, text: &str) -> bool {
     let mut bytes = [0; 4];
     match world.read(path) {
@@ -49,8 +47,8 @@ fn files_in_memory(rt: HostRuntime) -> Result<(), Fail> {
     Ok(())
 }
 
-// Calls on new files, in order, and what each answers: `ok`, `exists` or `fails`. The files above are
-// there, too.
+// Calls on new files, in order, and their answers: `ok`, `exists` or `fails`. The files above
+// exist, too.
 const CALLS: [(&str, &str, &str, &str); 20] = [
     ("create", "new", "", "ok"),
     ("create", "new", "", "exists"),
@@ -74,7 +72,7 @@ const CALLS: [(&str, &str, &str, &str); 20] = [
     ("remove", "a", "", "fails"),
 ];
 
-// Makes a call, which closes a file with the bytes `abc` if it created one. Returns what it answers.
+// Makes a call, which closes a file with the bytes `abc` if it created one. Returns the answer.
 fn answer(world: &mut MemoryWorld<'_>, call: &str, path: &str, other: &str) -> &'static str {
     let done = match call {
         "create" => world.create_new(path).and_then(|mut file| {
@@ -128,7 +126,7 @@ Load Address: 00080000
 Entry Point:  00080000
 ";
 
-// A command line over these files, the exit status, what is printed, and what is told.
+// A command line over these files, the exit status, standard output, and standard error.
 const COMMANDS: [(&str, u8, &str, &str); 9] = [
     ("uimg verify abc", 0, "header crc32 ok\ndata crc32 ok\n", ""),
     ("uimg verify data", 1, "", "uimg: L1 too short\n"),

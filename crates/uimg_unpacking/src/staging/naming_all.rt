@@ -1,4 +1,4 @@
-//! Files get their names together, or none does.
+//! Gives all files their names, or none.
 
 ghost use Rattle.std.specs.Prelude.{◌≡◌, None, length, is_ok, is_some, not, string_bytes, true};
 ghost use Rattle.std.specs.Option.{option_map};
@@ -12,7 +12,6 @@ use crate::trouble::{ShownPath, Trouble};
 use crate::world::World;
 
 impl<'a, 'c, W: World> Staging<'a, 'c, W> {
-    // Begins to give files their names.
     fn begin_naming(&mut self)
         ensures files { self.new.files ≡ self.old.files }
         ensures writing { self.new.is_writing ≡ self.old.is_writing }
@@ -24,8 +23,8 @@ impl<'a, 'c, W: World> Staging<'a, 'c, W> {
         self.is_naming = true;
     }
 
-    /// Gives all files their names. If one cannot get its name, or the names cannot be written to
-    /// the disk, none does, and what they were to replace is there again.
+    /// If one cannot get its name, or the names cannot be written to the disk, none gets one, and
+    /// what they were to replace is restored.
     pub(crate) fn name_all(&mut self) -> Result<(), Trouble>
         ensures told { NamesComplete self.old.folder self.old.files.items self.old.is_writing
             (is_ok result) (W.trace self.old.world) (W.trace self.new.world) }
@@ -43,7 +42,7 @@ impl<'a, 'c, W: World> Staging<'a, 'c, W> {
         self.name_complete()
     }
 
-    // As `name_all`, for files that are complete.
+    // The files are complete.
     fn name_complete(&mut self) -> Result<(), Trouble>
         requires { self.old.is_naming ≡ true }
         ensures told { NamesAll self.old.folder self.old.files.items (is_ok result)
@@ -103,8 +102,8 @@ impl<'a, 'c, W: World> Staging<'a, 'c, W> {
         }
     }
 
-    // Gives files their names, up to one that cannot get it. Returns how many have it, and why the
-    // next one has not: none if all have it.
+    // Stops at a file that cannot get its name. Returns how many have it, and why the next one has
+    // not: none if all have it.
     fn name_each(&mut self) -> (usize, Option<Trouble>)
         requires { self.old.is_naming ≡ true }
         ensures all { result.1 ≡ None → result.0 ≡ length self.new.files.items }
@@ -125,8 +124,8 @@ impl<'a, 'c, W: World> Staging<'a, 'c, W> {
     }
 
     // Takes the names of the files before a number away, and puts back what they, and the file of
-    // this number, were to replace. Returns the trouble to tell: this one, or that old files are not
-    // in their place.
+    // this number, were to replace. Returns the trouble to report: this one, or that old files are
+    // not in their place.
     fn taken_back(&mut self, number: usize, trouble: Trouble) -> Trouble
         requires { self.old.is_naming ≡ true }
         ensures told { TakesBack self.old.files.items number

@@ -33,7 +33,7 @@ pub(super) struct DigitFile<'a> {
 }
 
 impl<'a> DigitFile<'a> {
-    /// Creates the file of a description. What is not given has no limit.
+    /// What is not given has no limit.
     pub(super) fn new(description: &str, turns: &'a Cell<u64>) -> DigitFile<'a> {
         let mut file = DigitFile {
             at: 0,
@@ -64,7 +64,6 @@ impl<'a> DigitFile<'a> {
         }
     }
 
-    // Returns the error of a read of `count` bytes, if it has one.
     fn error(&mut self, count: usize) -> Option<ErrorKind> {
         if self.interrupts > 0 {
             self.interrupts -= 1;

@@ -212,7 +212,6 @@ const READS: [(&str, &str, usize, &str, u64, u64); 37] = [
     ),
 ];
 
-// Returns whether a range is inside a source.
 fn is_inside<S: Source>(source: &mut S, at: u64, len: usize) -> bool {
     match source.size() {
         Ok(size) => at <= size && len as u64 <= size - at,
@@ -220,14 +219,12 @@ fn is_inside<S: Source>(source: &mut S, at: u64, len: usize) -> bool {
     }
 }
 
-// Writes the digits from an offset on.
 fn put_digits(at: u64, to: &mut [u8]) {
     for (number, byte) in to.iter_mut().enumerate() {
         *byte = b'0' + (at.wrapping_add(number as u64) % 10) as u8;
     }
 }
 
-// Checks that the bytes are the digits from an offset on.
 fn are_digits(at: u64, bytes: &[u8]) -> bool {
     let mut same = true;
     for (number, byte) in bytes.iter().enumerate() {

@@ -144,7 +144,6 @@ fn shelf_step<R: Files + AllocGlobal, H: Shelf>(
     }
 }
 
-// Returns the bytes that a text spells.
 fn buffer_of<'a>(text: &str, buffer: &'a mut [u8; 20000]) -> &'a [u8] {
     let count = spell(text, buffer);
     buffer.get(..count).unwrap_or(b"")
@@ -182,7 +181,7 @@ fn plays_kept<R: Files + AllocGlobal + Abort, H: Shelf>(
     }
 }
 
-// Plays a row. Returns whether the shelf was kept.
+// Returns whether the shelf was kept.
 fn plays_shelf<R: Files + AllocGlobal + Abort, H: Shelf>(
     rt: &R,
     name: &str,

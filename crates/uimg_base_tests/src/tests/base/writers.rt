@@ -4,8 +4,8 @@ use super::super::counted::counted;
 use std::alloc::Global;
 use uimg_base::{FuseWriter, Out};
 
-// A text in five pieces: the ends of the first four, and of the text. The first is written alone,
-// the others in one call. Then how many bytes the writer accepts.
+// A text in five pieces: the ends of the first four, and of the text. The first is written by one
+// call, the others by another. Then how many bytes the writer accepts.
 const PUTS: [(&str, usize, usize, usize, usize, usize); 15] = [
     ("short pieces, none is taken", 3, 5, 5, 6, 0),
     ("short pieces, 1 is taken", 3, 5, 5, 6, 1),

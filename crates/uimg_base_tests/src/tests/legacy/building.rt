@@ -70,7 +70,7 @@ pub(super) fn options_of(kind: &str) -> Options {
     }
 }
 
-/// Builds, if the number of parts is one that the type allows; otherwise returns `None`.
+/// `None` if the type does not allow the number of parts.
 pub(super) fn try_build<S: Source, W: Write>(
     options: &Options,
     parts: &mut [S],
@@ -82,7 +82,7 @@ pub(super) fn try_build<S: Source, W: Write>(
     Some(build(options, parts, out))
 }
 
-/// Checks how building ends: `done`, or the line of a fault.
+/// Building ends with `done`, or with the line of a fault.
 pub(super) fn ends_as(alloc: Global, end: Option<Result<(), Fault>>, wanted: &str) -> bool {
     match end {
         Some(Ok(())) => wanted == "done",

@@ -95,7 +95,6 @@ fn cases(rt: HostRuntime) {
     }
 }
 
-// Checks the result of a command over failing devices.
 fn leaves(
     alloc: Global,
     command: &str,

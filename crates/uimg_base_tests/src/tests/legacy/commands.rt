@@ -56,7 +56,6 @@ pub(super) fn ran(alloc: Global, command: &str, image: &[u8], calls: u64, taken:
     }
 }
 
-/// Checks the line of a fault.
 pub(super) fn says(alloc: Global, fault: Fault, line: &str) -> bool {
     match format!(in alloc; "{fault}") {
         Ok(text) => text.as_str() == line,

@@ -1,4 +1,4 @@
-//! Takers of which a call fails, and shelves of which a write fails.
+//! Takers with a failing call, and shelves with a failing write.
 
 ghost use Rattle.std.specs.Prelude.{[]};
 

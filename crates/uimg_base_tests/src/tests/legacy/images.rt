@@ -30,7 +30,6 @@ pub(super) fn make(description: &str, to: &mut [u8; PLACE]) -> usize {
     length
 }
 
-// Applies an edit and returns the new length of the image.
 fn edited(edit: &str, length: usize, to: &mut [u8; PLACE]) -> usize {
     let (place, value) = edit.split_once('=').unwrap_or((edit, ""));
     if place == "to" {

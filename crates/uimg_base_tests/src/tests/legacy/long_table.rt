@@ -52,7 +52,6 @@ fn long_table() -> [u8; 40065] {
     image
 }
 
-// Checks the number of lines written, and how they end.
 fn lists(alloc: Global, image: &[u8], lines: usize, end: &[u8]) -> bool {
     let left = ran(alloc, "list", image, u64::MAX, u64::MAX);
     left.end == Ok(Status::Done)

@@ -1,4 +1,4 @@
-//! Parts that are taken out of images, also when memory is refused, or the device fails or returns
+//! Parts that are unpacked from images, also when memory is refused, or the device fails or returns
 //! other bytes the second time.
 
 ghost use Rattle.std.{specs.Prelude.false, proofs.Common.rules};

@@ -77,7 +77,6 @@ const ROWS: [(&str, u32, &str, usize, &str, usize, u32); 12] = [
     ("memory", 0, "1024", 1028, "position-fit", 0, 0),
 ];
 
-// Checks that an image with these bytes is made.
 fn makes(alloc: Global, text: &str, time: u32, placement: &str, wanted: &[u8]) -> bool {
     let (answer, fit) = made(alloc, text, time, placement);
     answer == Ok(()) && fit.as_slice() == wanted
@@ -180,7 +179,6 @@ const SIZE_ROWS: [(usize, u32); 6] = [
     (8193, 8196),
 ];
 
-// Checks that an image ends with a payload twice.
 fn has_both(fit: &[u8], padded: u32, payload: &[u8]) -> bool {
     let rest = fit.get(200..).unwrap_or(&[]);
     let cell = fit.get(140..).unwrap_or(&[]);

@@ -68,7 +68,6 @@ fn file_rows(rt: HostRuntime) -> Result<(), Fail> {
     Ok(())
 }
 
-// Checks that a writer that accepts `taken` bytes of an image leaves that prefix.
 fn leaves_prefix(alloc: Global, tree: &Tree<Global>, whole: &[u8], taken: usize) -> bool {
     let mut files = MemFiles::new(&ABC);
     let mut out = Out::new(FuseWriter::new(Vec::new(alloc), taken as u64));

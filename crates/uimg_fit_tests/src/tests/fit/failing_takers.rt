@@ -1,4 +1,4 @@
-//! Takers of which a call fails, and shelves of which a write fails.
+//! Takers with a failing call, and shelves with a failing write.
 
 ghost use Rattle.std.specs.Prelude.{[]};
 
@@ -137,7 +137,7 @@ fn takers_that_fail(rt: HostRuntime) -> Result<(), Fail> {
     Ok(())
 }
 
-// A payload of which a write failed is neither given nor refused, and no other follows.
+// A payload with a failed write is neither given nor refused, and no other follows.
 #[test]
 fn shelves_that_fail(rt: HostRuntime) -> Result<(), Fail> {
     let alloc = rt.alloc();
@@ -152,7 +152,7 @@ fn shelves_that_fail(rt: HostRuntime) -> Result<(), Fail> {
     Ok(())
 }
 
-// In memory each payload is there: the empty one, the right one, and that the last is refused.
+// In memory the taker has the empty payload, the right one, and the refusal of the last.
 #[test]
 fn payloads_in_memory(rt: HostRuntime) -> Result<(), Fail> {
     let alloc = rt.alloc();

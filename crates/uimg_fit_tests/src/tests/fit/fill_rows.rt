@@ -40,7 +40,6 @@ fn put_image(text: &mut String, image: &str) -> Result<(), AllocError> {
     text.push_str("}; ")
 }
 
-// Adds a hash node with an algorithm, if one is given.
 fn put_hash(text: &mut String, algo: &str) -> Result<(), AllocError> {
     match algo {
         "" => Ok(()),
@@ -53,7 +52,6 @@ fn put_hash(text: &mut String, algo: &str) -> Result<(), AllocError> {
     }
 }
 
-// Returns the source of two images.
 fn source(alloc: Global, first: &str, second: &str) -> Result<String, AllocError> {
     let mut text = String::from_str(alloc, "/dts-v1/; / { images { ")?;
     put_image(&mut text, first)?;
@@ -62,7 +60,6 @@ fn source(alloc: Global, first: &str, second: &str) -> Result<String, AllocError
     Ok(text)
 }
 
-// Returns the result for a source in words.
 fn answer<F: Files>(
     alloc: Global,
     text: &str,

@@ -56,7 +56,6 @@ fn bare(alloc: Global) -> Result<Vec<u8>, AllocError> {
     finish(sample, alloc)
 }
 
-// Adds the hash nodes of an image whose report has all words.
 fn put_words(sample: &mut Sample<Global>) -> Result<(), AllocError> {
     sample.begin(b"hash-1")?;
     sample.end_node()?;
@@ -135,7 +134,6 @@ pub(super) fn image(
     Ok(fit)
 }
 
-/// Returns an image with `count` right hash nodes.
 pub(super) fn hashed(alloc: Global, count: u32) -> Result<Vec<u8>, AllocError> {
     crc_fit(alloc, Payload::Inside(b"abc"), ABC_CRC, count)
 }

@@ -14,7 +14,6 @@ pub(super) fn placement(word: &str) -> Placement {
     }
 }
 
-/// Returns a result in words, with the number of bytes written.
 pub(super) fn told(
     alloc: Global,
     answer: Result<(), Fault>,

@@ -7,7 +7,6 @@ use uimg_base::{MemSource, Out, Room, Status, crc_of};
 use uimg_fit::{Fault, extract, list, list_by, verify};
 use uimg_names::Naming;
 
-// Returns an end in words.
 fn told(alloc: Global, end: Result<Status, Fault>) -> Result<String, AllocError> {
     match end {
         Ok(Status::Done) => format!(in alloc; "done"),
@@ -188,7 +187,7 @@ const ROWS: [(&str, usize, u32, &str, &str, &str); 30] = [
     ("four-hash-fit", 4, 761, "list", "B4 block outside at 4", ""),
 ];
 
-// Checks a text; `HASHES` at the end of the expected one stands for the text of that name.
+// `HASHES` at the end of the expected text means the text of that name.
 fn is_text(text: &str, wanted: &str) -> bool {
     match wanted.strip_suffix("HASHES") {
         Some(head) => text.strip_prefix(head) == Some(HASHES),

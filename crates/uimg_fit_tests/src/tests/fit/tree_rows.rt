@@ -8,7 +8,6 @@ use uimg_blob_reading::BlobFault;
 use uimg_blob_writing::{ByteList, Node, Nodes, Prop, Props, Tree, Value};
 use uimg_fit::{Fault, FitFault};
 
-// Returns a node with a property, if any, and some children.
 fn node(
     alloc: Global,
     name: &[u8],
@@ -26,7 +25,7 @@ fn node(
     })
 }
 
-// Returns a property of no bytes, or none if the name is empty.
+// Returns none if the name is empty.
 fn empty(alloc: Global, name: &[u8]) -> Result<Option<Prop<Global>>, AllocError> {
     if name.is_empty() {
         return Ok(None);
@@ -106,7 +105,7 @@ fn answer(alloc: Global, tree: &Tree<Global>, placement: &str) -> Result<String,
     told(alloc, answer, fit.len())
 }
 
-// Returns the same for a tree of two files of these sizes.
+// The tree has two files of these sizes.
 fn answer_of_sizes(
     alloc: Global,
     first: u64,
@@ -137,7 +136,7 @@ const NAME_ROWS: [(usize, &str, &str, &str); 7] = [
     (255, "p", "1024", "done, 1032"),
 ];
 
-// Returns the same for a first image with a name of this length, and a property of this name.
+// The first image has a name of this length, and a property of this name.
 fn answer_of_names(
     alloc: Global,
     length: usize,

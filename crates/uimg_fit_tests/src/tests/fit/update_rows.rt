@@ -23,7 +23,6 @@ fn image(alloc: Global, body: &str, zeros: usize) -> Result<Vec<u8>, AllocError>
     Ok(image)
 }
 
-// Returns the result of an update in words.
 fn answer(alloc: Global, image: &[u8]) -> Result<String, AllocError> {
     match update(
         alloc,
@@ -175,7 +174,6 @@ const RESERVED: [Reservation; 2] = [
     },
 ];
 
-// Returns the image of a tree with these reservations.
 fn reserved_image(alloc: Global) -> Option<Vec<u8>> {
     let text = b"/dts-v1/; / { images { a { data = [00]; }; }; };";
     let tree = compile(alloc, text, &mut MemFiles::new(&[])).ok()?;

@@ -1,7 +1,6 @@
 //! Bytes that rows have as text.
 use std::alloc::{AllocError, Global};
 
-// Returns the value of a hexadecimal digit.
 fn digit(byte: u8) -> Option<u8> {
     match byte {
         b'0'..=b'9' => Some(byte - b'0'),

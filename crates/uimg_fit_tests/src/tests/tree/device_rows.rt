@@ -93,7 +93,6 @@ fn node_places(rt: HostRuntime) -> Result<(), Fail> {
     Ok(())
 }
 
-// Returns why a blob is refused, and where.
 fn fault_of(alloc: Global, bytes: &[u8]) -> Option<(BlobFault, u64)> {
     let mut room = Room::new(alloc);
     match index(&mut MemSource::new(bytes), &mut room) {

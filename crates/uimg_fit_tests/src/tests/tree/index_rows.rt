@@ -7,7 +7,6 @@ use std::test::Fail;
 use uimg_base::{MemSource, Room, Source};
 use uimg_blob_reading::{Blob, IndexFault, index};
 
-// Returns the result for a blob in words.
 fn told(
     alloc: Global,
     room: &Room<Global>,
@@ -28,7 +27,6 @@ fn told(
     }
 }
 
-// Plays the rows.
 pub(super) fn plays_rows<R: AllocGlobal + Abort>(
     rt: &R,
     rows: &[(&str, &str, &str, u128)],

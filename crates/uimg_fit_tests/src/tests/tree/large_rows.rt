@@ -18,7 +18,6 @@ fn nested(alloc: Global, levels: u32) -> Result<Vec<u8>, AllocError> {
     sample.finish(alloc, b"")
 }
 
-// Returns a root with `count` children.
 fn row(alloc: Global, count: u32) -> Result<Vec<u8>, AllocError> {
     let mut sample = Sample::new(alloc);
     sample.begin(b"")?;

@@ -93,19 +93,16 @@ fn put_keys(sample: &mut Sample<Global>) -> Result<(), AllocError> {
     Ok(())
 }
 
-// Begins a node.
 fn begin(alloc: Global, sample: &mut Sample<Global>, name: &str) -> Result<(), AllocError> {
     let name = plain(alloc, name)?;
     sample.begin(&name)
 }
 
-// Adds a node without children.
 fn put_node(alloc: Global, sample: &mut Sample<Global>, name: &str) -> Result<(), AllocError> {
     begin(alloc, sample, name)?;
     sample.end_node()
 }
 
-// Adds a property, if there is memory for its value.
 fn put_prop(
     sample: &mut Sample<Global>,
     offset: &str,
@@ -147,7 +144,7 @@ fn counted(word: &str) -> (u32, &str) {
     }
 }
 
-// Executes words separated by commas.
+// Commas separate the words.
 fn put_words(alloc: Global, sample: &mut Sample<Global>, words: &str) -> Result<(), AllocError> {
     for word in words.split(',') {
         let (count, word) = counted(word);
@@ -169,7 +166,6 @@ fn scripted(alloc: Global, script: &str) -> Result<Vec<u8>, AllocError> {
     }
 }
 
-// Sets bytes of a blob at an offset.
 fn put_bytes(blob: &mut [u8], at: usize, bytes: &[u8]) {
     if let Some(rest) = blob.get_mut(at..)
         && rest.len() >= bytes.len()

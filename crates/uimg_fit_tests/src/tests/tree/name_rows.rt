@@ -13,12 +13,10 @@ use uimg_blob_writing::{
     ByteList, Node, Nodes, Prop, Props, Tree, Value, WORD_ALIGNMENT, measure, measure_by,
 };
 
-// Measures a tree. Returns its size, or the fault.
 fn measured(alloc: Global, tree: &Tree<Global>) -> Result<String, AllocError> {
     measured_by(alloc, tree, WORD_ALIGNMENT)
 }
 
-// Measures a tree with an alignment.
 fn measured_by(alloc: Global, tree: &Tree<Global>, align: u32) -> Result<String, AllocError> {
     match measure_by(alloc, tree, align) {
         Ok(layout) => {
@@ -29,14 +27,12 @@ fn measured_by(alloc: Global, tree: &Tree<Global>, align: u32) -> Result<String,
     }
 }
 
-// Returns a node without children and with one property.
 fn leaf(alloc: Global, name: &str, property: &str) -> Result<Node<Global>, AllocError> {
     let name = plain(alloc, name)?;
     let property = plain(alloc, property)?;
     node(alloc, &name, prop(alloc, &property, b"")?, Vec::new(alloc))
 }
 
-// Returns a tree of a root and two children.
 fn parent(
     alloc: Global,
     root: &str,
@@ -69,7 +65,6 @@ const NAME_ROWS: [(&str, &str, &str, &str, &str, &str); 11] = [
     ("", "p", "first", "p", "second;", "B7 bad node name"),
 ];
 
-// Measures the tree with these names.
 fn measured_names(
     alloc: Global,
     root: &str,

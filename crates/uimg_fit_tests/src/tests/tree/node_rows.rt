@@ -37,7 +37,6 @@ const KEYS: [(&str, Key); 24] = [
     ("script", Key::Script),
 ];
 
-// Returns the key of a property's name.
 fn key_of(name: &str) -> Option<Key> {
     for (known, key) in &KEYS {
         if *known == name {
@@ -47,7 +46,6 @@ fn key_of(name: &str) -> Option<Key> {
     None
 }
 
-// Returns an offset and a length in words.
 fn placed(alloc: Global, span: Option<Span>) -> Result<String, AllocError> {
     match span {
         Some(Span { place, length }) => format!(in alloc; "{place}+{length}"),
@@ -261,7 +259,7 @@ const KEPT: [(&str, usize, &str); 8] = [
     ("+,+images,+a,+b,ALL,-,-,-,-", 3, ""),
 ];
 
-// The name of a node in an image, and what is said of the node.
+// The name of a node in an image, and the result for the node.
 const IN_IMAGE: [(&str, &str); 7] = [
     ("hash", "- - hash"),
     ("hash-1", "- - hash"),
@@ -272,7 +270,6 @@ const IN_IMAGE: [(&str, &str); 7] = [
     ("Hash", "- - -"),
 ];
 
-// Returns the result of a query on the blob with these bytes.
 fn found_in(alloc: Global, bytes: &[u8], node: usize, what: &str) -> Result<String, AllocError> {
     let mut room = Room::new(alloc);
     match index(&mut MemSource::new(bytes), &mut room) {
@@ -281,7 +278,6 @@ fn found_in(alloc: Global, bytes: &[u8], node: usize, what: &str) -> Result<Stri
     }
 }
 
-// Asserts what a query on the blob that a text spells finds.
 fn is_found<R: AllocGlobal + Abort>(
     rt: &R,
     name: &str,

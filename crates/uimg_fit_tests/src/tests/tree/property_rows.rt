@@ -8,14 +8,12 @@ use std::test::Fail;
 use uimg_base::{FuseSource, MemSource, Room, Source, Span};
 use uimg_blob_reading::{Blob, PropertiesFault, PropertyPlace, index, properties_of};
 
-// Returns the text at a span of some bytes.
 fn text_at(bytes: &[u8], span: Span) -> &str {
     let from = bytes.get(span.place as usize..).unwrap_or(b"?");
     let text = from.get(..span.length as usize).unwrap_or(b"?");
     str::from_utf8(text).unwrap_or("?")
 }
 
-// Returns the names of properties, and the spans of their values.
 fn listed(alloc: Global, bytes: &[u8], places: &[PropertyPlace]) -> Result<String, AllocError> {
     let mut list = String::new(alloc);
     for PropertyPlace { name, value } in places {
@@ -44,7 +42,7 @@ fn told(
     }
 }
 
-// Returns the same for a node of a blob that is indexed first.
+// The node is of a blob that is indexed first.
 fn told_of(alloc: Global, indexed: &[u8], bytes: &[u8], node: usize) -> Result<String, AllocError> {
     let mut room = Room::new(alloc);
     match index(&mut MemSource::new(indexed), &mut room) {
@@ -173,7 +171,6 @@ fn answer(alloc: Global, bytes: &[u8], blob: Blob, room: &mut Room<Global>, call
     }
 }
 
-// Returns how many calls must pass to get the root's properties.
 fn calls_needed(alloc: Global, bytes: &[u8], most: u64) -> Option<u64> {
     let mut room = Room::new(alloc);
     let blob = index(&mut MemSource::new(bytes), &mut room).ok()?;

@@ -5,7 +5,6 @@ use std::alloc::{AllocError, Global};
 use uimg_base::{Files, MemFiles};
 use uimg_its::compile;
 
-/// Returns the result for a source in words.
 pub(super) fn answer<F: Files>(
     alloc: Global,
     text: &[u8],
@@ -17,7 +16,7 @@ pub(super) fn answer<F: Files>(
     }
 }
 
-// Returns the same over the files of the tests.
+// The source names the files of the tests.
 fn answered(alloc: Global, text: &[u8]) -> Result<String, AllocError> {
     answer(alloc, text, &mut MemFiles::new(&NAMED))
 }
@@ -273,7 +272,6 @@ pub(super) fn long_text(
     Ok(text)
 }
 
-// Returns the result for such a text.
 fn answered_long(
     alloc: Global,
     head: &str,

@@ -33,7 +33,6 @@ const PADDED_ROWS: [(&str, &str, &str); 5] = [
     ),
 ];
 
-// Returns the blob of a root with a property.
 fn blob_of_property(
     alloc: Global,
     name: &[u8],
@@ -118,7 +117,6 @@ fn length_rows(rt: HostRuntime) {
     }
 }
 
-// Returns the number of nodes of a blob of `levels` levels.
 fn nodes_of_levels(alloc: Global, levels: u64) -> Result<u64, AllocError> {
     let tree = chain(alloc, levels)?;
     let blob = blob_of(alloc, &tree, &[]).unwrap_or(Vec::new(alloc));

@@ -47,7 +47,6 @@ fn is_value(tree: &Tree<Global>, bytes: &[u8]) -> bool {
     }
 }
 
-// Checks the bytes of a value.
 fn gives(alloc: Global, value: &str, bytes: &[u8]) -> Result<bool, AllocError> {
     let text = format!(in alloc; "/dts-v1/; / {{ v = {value}; }};")?;
     match tree_of(alloc, text.as_str()) {
@@ -146,7 +145,6 @@ const PART_ROWS: [(&str, &str, usize, &str); 20] = [
     ("file-values", "", 6, "data=\"\""),
 ];
 
-// Returns that part of a source's tree.
 fn part_of_source(
     alloc: Global,
     text: &str,
@@ -203,7 +201,6 @@ const FILE_ROWS: [(&str, u64, u64, u64, &str); 19] = [
     ("four-hash-fit", 1, 0, 0, "I6 read failed at line 8"),
 ];
 
-// Returns the source of a row.
 fn filed(name: &str) -> &str {
     match name {
         "stays" => STAYS,
@@ -213,7 +210,6 @@ fn filed(name: &str) -> &str {
     }
 }
 
-// Compiles over files with a fuse. Returns the result in words.
 fn fused<F: Files + Drop>(
     alloc: Global,
     text: &str,

@@ -63,7 +63,6 @@ pub(super) fn blob_of(
     blob_by(alloc, tree, WORD_ALIGNMENT, named)
 }
 
-/// Returns the same for an alignment.
 pub(super) fn blob_by(
     alloc: Global,
     tree: &Tree<Global>,
@@ -74,7 +73,6 @@ pub(super) fn blob_by(
     written(alloc, tree, &layout, named)
 }
 
-/// Returns the same with reservations.
 pub(super) fn blob_with(
     alloc: Global,
     tree: &Tree<Global>,

@@ -10,7 +10,6 @@ use uimg_base::{
 };
 use uimg_blob_reading::{put_text, short_text};
 
-// Returns what is written of a text, if it is written.
 fn written(alloc: Global, bytes: &[u8], at: Span) -> Option<Vec<u8>>
     requires { at.place + at.length ≤ length bytes.now }
 {
@@ -50,7 +49,6 @@ const MIXED_ROWS: [(u64, u64, &str); 5] = [
     (0, 4, "d00dfeed"),
 ];
 
-// Checks that a text is written, and is short.
 fn is_text(alloc: Global, bytes: &[u8], place: u64, length: u64, wanted: &[u8]) -> bool {
     if place > 100 || length > 100 || (bytes.len() as u64) < place + length {
         return false;
@@ -103,7 +101,6 @@ fn letters(alloc: Global, count: usize, end: usize) -> Result<Vec<u8>, AllocErro
     Ok(bytes)
 }
 
-// Returns the lengths of the written text and of the short one.
 fn lengths_of(alloc: Global, bytes: &[u8], at: Span) -> Option<(usize, usize)>
     requires { at.place + at.length ≤ length bytes.now }
 {
@@ -134,7 +131,7 @@ const ALL: Span = Span {
     length: 112,
 };
 
-// Writes a text of 112 bytes, of which `takes` are accepted. Returns the result and the count.
+// Writes a text of 112 bytes. `takes` of them are accepted. Returns the result and the count.
 fn put_to(alloc: Global, bytes: &[u8; 112], takes: u64) -> (Result<(), MoveFault>, usize) {
     let mut room = Room::new(alloc);
     let mut out = Out::new(FuseWriter::new(Vec::new(alloc), takes));

@@ -26,7 +26,6 @@ const ROWS: [(&str, usize, usize, &str); 4] = [
     ("four-hash-fit", 608, 9, "plain"),
 ];
 
-/// Returns the number of nodes in a blob.
 pub(super) fn nodes_in(alloc: Global, blob: &[u8]) -> usize {
     let mut room = Room::new(alloc);
     match index(&mut MemSource::new(blob), &mut room) {
@@ -45,13 +44,11 @@ fn is_blob(alloc: Global, blob: Option<Vec<u8>>, length: usize, nodes: usize, en
     }
 }
 
-// Returns the blob of a source's tree, if it has one.
 fn blob_of_source(alloc: Global, text: &str) -> Option<Vec<u8>> {
     let tree = tree_of(alloc, text)?;
     blob_of(alloc, &tree, &NAMED)
 }
 
-// Copies a tree.
 fn copied(alloc: Global, tree: &Tree<Global>) -> Option<Tree<Global>> {
     match copy_node(alloc, &tree.root) {
         Ok(root) => Some(Tree { root }),
@@ -59,7 +56,6 @@ fn copied(alloc: Global, tree: &Tree<Global>) -> Option<Tree<Global>> {
     }
 }
 
-// Returns the blob of a copy of it.
 fn blob_of_copy(alloc: Global, text: &str) -> Option<Vec<u8>> {
     match tree_of(alloc, text) {
         Some(tree) => blob_of(alloc, &copied(alloc, &tree)?, &NAMED),

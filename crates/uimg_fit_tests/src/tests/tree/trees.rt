@@ -2,7 +2,6 @@
 use std::alloc::{AllocError, Global};
 use uimg_blob_writing::{ByteList, Node, Nodes, Prop, Props, Tree, Value};
 
-/// Returns a property whose value is bytes.
 pub(super) fn prop(alloc: Global, name: &[u8], value: &[u8]) -> Result<Prop<Global>, AllocError> {
     let name = ByteList::of(Vec::from_slice(alloc, name)?);
     let value = Value::Bytes(ByteList::of(Vec::from_slice(alloc, value)?));
@@ -15,7 +14,6 @@ pub(super) fn in_file(alloc: Global, size: u64) -> Result<Value<Global>, AllocEr
     Ok(Value::File { name, size })
 }
 
-/// Returns a node with one property.
 pub(super) fn node(
     alloc: Global,
     name: &[u8],
@@ -31,7 +29,6 @@ pub(super) fn node(
     })
 }
 
-/// Returns a root with one property.
 pub(super) fn root_of(alloc: Global, own: Prop<Global>) -> Result<Tree<Global>, AllocError> {
     let root = node(alloc, b"", own, Vec::new(alloc))?;
     Ok(Tree { root })

@@ -12,7 +12,6 @@ use uimg_blob_writing::{
 };
 use uimg_its::compile;
 
-// Returns a result in words, and how many bytes were written.
 fn told(
     alloc: Global,
     answer: Result<(), TreeFault>,
@@ -24,7 +23,7 @@ fn told(
     }
 }
 
-// Writes a tree over files whose opens are refused from a number on, the first opened of which lets
+// Writes a tree over files whose opens are refused from a number on. The first opened file lets
 // `calls` calls through. Returns the result and the size, or nothing without layout or prefix.
 fn fused<F: Files + Drop>(
     alloc: Global,
@@ -48,8 +47,8 @@ fn fused<F: Files + Drop>(
 }
 
 // The stored size of the value, the size of the file when the tree is written, its name then, the
-// first refused open, how many calls the file lets through, and the result. Of the file first its
-// size is requested, then its bytes; 112 bytes come before them.
+// first refused open, how many calls the file lets through, and the result. First the file's size
+// is requested, then its bytes; 112 bytes come before them.
 const FILE_ROWS: [(usize, usize, &str, u64, u64, &str); 13] = [
     (3, 3, "abc.bin", 1, 0, "read failed, 112"),
     (3, 3, "abc.bin", 1, 1, "read failed, 112"),
@@ -73,7 +72,6 @@ fn bytes(count: usize) -> &'static [u8] {
     BYTES.get(..count).unwrap_or(&[])
 }
 
-// Returns the result of a row.
 fn kept_as(
     alloc: Global,
     kept: &[(&[u8], &[u8])],
@@ -99,7 +97,6 @@ fn file_rows(rt: HostRuntime) {
     }
 }
 
-// Returns whether a writer that takes this many bytes of a tree's blob leaves that prefix.
 fn leaves_prefix(alloc: Global, tree: &Tree<Global>, whole: &[u8], taken: usize) -> bool {
     let Ok(layout) = measure(alloc, tree) else {
         return false;
@@ -138,7 +135,6 @@ fn each_write_failing(rt: HostRuntime) {
     assert_eq!(rt; prefixes(rt.alloc(), "family"), 193);
 }
 
-// Writes a value over failing files. Returns the result and what is written.
 fn put<F: Files + Drop>(
     alloc: Global,
     value: &Value<Global>,
@@ -180,7 +176,6 @@ fn are_written(alloc: Global, value: &Value<Global>, content: &[u8], wanted: &[u
     }
 }
 
-// Returns a value in memory.
 fn in_memory(alloc: Global, content: &[u8]) -> Result<Value<Global>, AllocError> {
     let bytes = Vec::from_slice(alloc, content)?;
     Ok(Value::Bytes(ByteList::of(bytes)))
@@ -230,7 +225,6 @@ const VALUE_ROWS: [(&str, u64, u64, &str); 14] = [
     ("12345", 2, 7, "write failed, 7"),
 ];
 
-// Returns the result for such a value over some files.
 fn put_in_words(
     alloc: Global,
     named: &[(&[u8], &[u8])],
