@@ -1,4 +1,12 @@
-"""Full builds of boards of U-Boot, with uimg in the place of the build's own mkimage and dumpimage.
+"""Builds with uimg in the place of mkimage and dumpimage: `Callers` and `Boards`.
+
+Callers: each row of the table in docs/GUIDE.md, "In place of mkimage", is tried as it says, by the
+caller's own rules: U-Boot's Makefile, Linux's scripts/Makefile.lib, genimage, the functions of
+Debian's flash-kernel, and a makefile with a variable. A caller passes if its image is the one that
+it makes with U-Boot's mkimage. Where the setting has no effect, the caller finds a mkimage that
+fails.
+
+Boards: full builds of boards of U-Boot.
 
 A board is compiled once with U-Boot's tools. tools/mkimage and tools/dumpimage of its build folder are
 callers, newer than their sources, so make leaves them; they log each call with its time. For each way
@@ -6,10 +14,12 @@ to call the tools, all files that were written since the first call are removed,
 archives and headers, and make has to make them anew. Then each file of the build folder, removed or
 not, has to be as after the first build. The remake with U-Boot's tools is the control."""
 
+import glob
 import hashlib
 import os
 import re
 import shutil
+import tarfile
 import time
 
 from trees import compared
@@ -169,6 +179,209 @@ class Boards:
         text += f"{len(found['notes'])} of binman's notes, {len(found['other'])} other"
         text += "".join(f" {it}" for it in found["other"][:20])
         self.suites.notes.append(f"{text}; {times[0]:.0f} s, {times[1]:.0f} s")
+
+
+# Linux's own rule of a uImage, with what scripts/Makefile.build sets for it.
+LINUX = """srctree := {source}
+objtree := {here}
+obj := {here}
+src := {here}
+SRCARCH := arm
+BASH := bash
+KERNELRELEASE := 6.1.0
+UIMAGE_LOADADDR := 0x80008000
+include {source}/scripts/Kbuild.include
+include {source}/scripts/Makefile.lib
+$(obj)/uImage: $(obj)/zImage FORCE
+	$(call if_changed,uimage)
+FORCE:
+.DEFAULT_GOAL := $(obj)/uImage
+"""
+LINUX_FILES = ("scripts/Kbuild.include", "scripts/Makefile.lib", "scripts/mkuboot.sh")
+VARIABLE = "MKIMAGE ?= mkimage\nuImage: zImage\n\t$(MKIMAGE) -A arm -C none -n kernel -d $< $@\n"
+FLASH = """mkarch=arm
+mkimage_kernel 0x8000 0x8000 'kernel 6.1' zImage uImage && mkimage_multi 0 multi zImage zImage uMulti && cat uMulti >> uImage
+"""
+FIT = """/dts-v1/;
+/ { description = "d"; #address-cells = <1>;
+    images { kernel { description = "k"; type = "kernel"; arch = "arm"; os = "linux"; compression = "none";
+        load = <0>; entry = <0>; data = /incbin/("ZIMAGE"); hash { algo = "sha256"; }; }; };
+    configurations { default = "c"; c { description = "c"; kernel = "kernel"; }; }; };
+"""
+
+
+class Callers:
+    """Programs and makefiles that call mkimage, in a folder of the suites."""
+
+    def __init__(self, suites):
+        self.suites, self.folder = suites, f"{suites.folder}/callers"
+        self.uboot, self.built = suites.source("u-boot"), f"{self.folder}/u-boot"
+        for name in ("none", "original", "out"):
+            os.makedirs(f"{self.folder}/{name}", exist_ok=True)
+        script(f"{self.folder}/none/mkimage", "#!/bin/sh\nexit 9\n")
+        with open(f"{self.folder}/zImage", "wb") as file:
+            file.write(b"".join(hashlib.sha256(str(it).encode()).digest() for it in range(10000)))
+        self.tools()
+
+    def tools(self):
+        """Compiles U-Boot's tools once."""
+        if os.path.exists(f"{self.folder}/original/mkimage"):
+            return
+        for target in ("qemu_arm64_defconfig", "tools"):
+            words = ["make", "-C", self.uboot, f"O={self.built}", f"CROSS_COMPILE={ARM64}", "-j2", target]
+            if not self.suites.call(words, f"callers-{target}"):
+                self.suites.fail(f"make {target} of U-Boot")
+        shutil.copy2(f"{self.built}/tools/mkimage", f"{self.folder}/original/mkimage")
+
+    def run(self, way):
+        """Runs each caller with the setting of a way. Returns each caller's end."""
+        ends = {}
+        for name, caller in (
+            ("U-Boot", self.by_uboot),
+            ("Linux", self.by_linux),
+            ("Linux, MKIMAGE= a wrapper", self.by_linux_script),
+            ("Linux, MKIMAGE= a program", self.by_linux_program),
+            ("genimage", self.by_genimage),
+            ("flash-kernel", self.by_flash_kernel),
+            ("a variable", self.by_variable),
+        ):
+            image = f"{self.folder}/uImage"
+            if os.path.exists(image):
+                os.remove(image)
+            done = caller(way, f"callers-{re.sub('[^A-Za-z]+', '-', name)}-{os.path.basename(self.suites.ways[way])}")
+            kept = f"{self.folder}/out/{name}"
+            if done and way == "U-Boot's tools":
+                shutil.copyfile(image, kept)
+            is_same = done and os.path.exists(kept) and compared(kept, image) in ("same", "tree")
+            ends[name] = "PASSED" if is_same else "FAILED"
+        return ends
+
+    def call(self, way, words, log, path=None, **more):
+        """Runs a command in the folder, where mkimage of the PATH fails, unless a folder with another
+        one is given. Returns whether it succeeded."""
+        own = self.suites.more(way, f"{path or self.folder}:{self.folder}/none")
+        how = {**own, "SOURCE_DATE_EPOCH": "1700000000", "UIMG_ORIGINAL_MKIMAGE": f"{self.folder}/original/mkimage"}
+        return self.suites.call(words, log, self.folder, **{**how, **more})
+
+    def place(self, way):
+        """The folder with mkimage of a way."""
+        return f"{self.folder}/original" if way == "U-Boot's tools" else self.suites.ways[way]
+
+    def by_uboot(self, way, log):
+        """A copy at tools/mkimage, which make leaves, and the rule of u-boot.img."""
+        for it in glob.glob(f"{self.wrappers()}/*") if way == "the wrappers" else [f"{self.place(way)}/mkimage"]:
+            shutil.copy(it, f"{self.built}/tools/")
+        tool = f"{self.built}/tools/mkimage"
+        before = digest(tool)
+        # As U-Boot's Makefile calls itself for a build folder; it would not hand on -o.
+        make = ["make", "-C", self.built, f"--include-dir={self.uboot}", "-f", f"{self.uboot}/Makefile"]
+        make += [f"KBUILD_SRC={self.uboot}", f"CROSS_COMPILE={ARM64}"]
+        shutil.copy(f"{self.folder}/zImage", f"{self.built}/u-boot.bin")
+        for path in glob.glob(f"{self.built}/u-boot.img") + glob.glob(f"{self.built}/.u-boot.img.cmd"):
+            os.remove(path)
+        done = self.call(way, [*make, "tools"], f"{log}-tools") and digest(tool) == before
+        done = done and self.call(way, [*make, "-o", "u-boot.bin", "u-boot.img"], log) and digest(tool) == before
+        if done:
+            shutil.copy(f"{self.built}/u-boot.img", f"{self.folder}/uImage")
+        return done
+
+    def wrappers(self):
+        """The folder of the wrappers."""
+        return os.path.dirname(os.path.realpath(f"{self.suites.ways['the wrappers']}/mkimage"))
+
+    def by_linux(self, way, log, *words, path=None):
+        """The rule of a uImage, with mkimage of the PATH."""
+        source = linux(self.suites)
+        with open(f"{self.folder}/rules", "w", encoding="utf-8") as file:
+            file.write(LINUX.format(source=source, here=self.folder))
+        if os.path.exists(f"{self.folder}/.uImage.cmd"):
+            os.remove(f"{self.folder}/.uImage.cmd")
+        return self.call(way, ["make", "-f", "rules", *words], log, path or self.place(way))
+
+    def by_linux_script(self, way, log):
+        """The same, with a wrapper as the value of MKIMAGE, which bash runs."""
+        if way != "the wrappers":
+            return self.by_linux(way, log)
+        return self.by_linux(way, log, f"MKIMAGE={self.wrappers()}/mkimage", path=self.folder)
+
+    def by_linux_program(self, way, log):
+        """The same with a program: bash has to refuse it. Then the PATH is used."""
+        is_run = self.by_linux(way, log, f"MKIMAGE={self.suites.program}", path=self.folder)
+        return not is_run and "cannot execute binary file" in self.suites.text(log) and self.by_linux(way, log)
+
+    def by_genimage(self, way, log):
+        """A section fit {}, with GENIMAGE_MKIMAGE for uimg."""
+        for name in ("input", "root", "tmp", "output"):
+            shutil.rmtree(f"{self.folder}/{name}", ignore_errors=True)
+        for name in ("input", "root"):
+            os.makedirs(f"{self.folder}/{name}")
+        script(f"{self.folder}/input/fit.its", FIT.replace("ZIMAGE", f"{self.folder}/zImage"))
+        script(f"{self.folder}/config", 'image uImage { fit { its = "fit.its" } }\n')
+        words = ["genimage", f"--config={self.folder}/config"]
+        words += [f"--{it}path={self.folder}/{it}" for it in ("input", "root", "tmp", "output")]
+        if way == "uimg by their names":
+            done = self.call(way, words, log, GENIMAGE_MKIMAGE="uimg-mkimage")
+        else:
+            done = self.call(way, words, log, self.place(way))
+        if done:
+            shutil.copy(f"{self.folder}/output/uImage", f"{self.folder}/uImage")
+        return done
+
+    def by_flash_kernel(self, way, log):
+        """The functions of flash-kernel that call mkimage, with mkimage of the PATH."""
+        place = flash_kernel(self.suites)
+        with open(f"{place}/usr/share/flash-kernel/functions", encoding="utf-8") as file:
+            functions = re.findall(r"(?ms)^mkimage_\w+\(\) \{$.*?^\}$", file.read())
+        script(f"{self.folder}/flash", "\n".join([*functions, FLASH]))
+        return self.call(way, ["sh", "./flash"], log, self.place(way))
+
+    def by_variable(self, way, log):
+        """A makefile that calls $(MKIMAGE)."""
+        script(f"{self.folder}/variable", VARIABLE)
+        tool = "uimg-mkimage" if way == "uimg by their names" else f"{self.place(way)}/mkimage"
+        return self.call(way, ["make", "-f", "variable"], log, MKIMAGE=tool)
+
+
+def script(path, text):
+    with open(path, "w", encoding="utf-8") as file:
+        file.write(text)
+    os.chmod(path, 0o755)
+
+
+def linux(suites):
+    """The folder with the files of Linux's source that its rule of a uImage needs."""
+    place = f"{suites.folder}/linux-scripts"
+    if os.path.exists(f"{place}/complete"):
+        return place
+    packed = f"{suites.package('linux-source-6.1')}/usr/src/linux-source-6.1.tar.xz"
+    left = set(LINUX_FILES)
+    os.makedirs(f"{place}/scripts", exist_ok=True)
+    with tarfile.open(packed, "r|xz") as archive:
+        for file in archive:
+            name = file.name.partition("/")[2]
+            if name in left:
+                with open(f"{place}/{name}", "wb") as out:
+                    shutil.copyfileobj(archive.extractfile(file), out)
+                left.remove(name)
+            if not left:
+                break
+    os.close(os.open(f"{place}/complete", os.O_CREAT))
+    return place
+
+
+def flash_kernel(suites):
+    """The folder of the unpacked package flash-kernel, which Debian has for ARM only."""
+    place, lists = f"{suites.folder}/packages/flash-kernel", f"{suites.folder}/apt/lists-arm64"
+    if os.path.isdir(place):
+        return place
+    os.makedirs(f"{lists}/partial", exist_ok=True)
+    apt = [*suites.apt(), "-o", "APT::Architecture=arm64", "-o", "APT::Architectures=arm64"]
+    apt += ["-o", f"Dir::State::Lists={lists}", "-o", "Dir::State::status=/dev/null"]
+    fetched = suites.call([*apt, "update"], "update-arm64") and suites.call([*apt, "download", "flash-kernel"], "fetch-flash-kernel")
+    found = glob.glob(f"{suites.folder}/flash-kernel_*.deb")
+    if not (fetched and found and suites.call(["dpkg-deb", "-x", found[0], place], "unpack-flash-kernel")):
+        suites.fail("apt-get download flash-kernel")
+    return place
 
 
 def lines(path):

@@ -12,6 +12,7 @@ the wrappers of wrappers/:
   LAVA         the images that LAVA's dispatcher makes for its boards (lava.py)
   Linux        FITs of Linux for MIPS, by its own rules (mips.py)
   documents    the command lines in U-Boot's documents (documents.py)
+  callers      each row of GUIDE's table "In place of mkimage" (boards.py)
   boards       full builds of boards of U-Boot, by cross compilers (boards.py)
 
 It prints the counts, and which tests end otherwise than with U-Boot's tools. What cannot be fetched
@@ -26,7 +27,7 @@ import subprocess
 import sys
 import time
 
-from boards import Boards
+from boards import Boards, Callers
 from documents import Documents
 from lava import Lava
 from mips import Mips
@@ -72,6 +73,10 @@ class Suites:
             how = {"stdin": subprocess.DEVNULL, "stdout": file, "stderr": subprocess.STDOUT}
             words = ["nice", *words]
             return subprocess.run(words, cwd=cwd or self.folder, env=environment, **how).returncode == 0
+
+    def fail(self, what):
+        """Leaves out a suite that lacks something."""
+        raise Missing(what)
 
     def text(self, log):
         with open(f"{self.folder}/log/{log}", encoding="utf-8", errors="replace") as file:
@@ -251,6 +256,7 @@ SUITES = {
     "LAVA": lambda suites: Lava(suites.build()).run,
     "Linux": lambda suites: Mips(suites.build()).run,
     "documents": lambda suites: Documents(suites.build(), SOURCE).run,
+    "callers": lambda suites: Callers(suites).run,
     "boards": lambda suites: Boards(suites).run,
 }
 

@@ -8,7 +8,7 @@ program=${1:-bin}/uimg library=${1:-.}/lib architecture=${2:-$(dpkg --print-arch
 room=$(mktemp -d) || exit 1
 trap 'rm -rf "$room"' EXIT
 mkdir -p out "$to" "$room/uimg/bin" && cp "$program" "$room/uimg/bin" && cp -r "$library" "$room/uimg/lib" &&
-    cp -r debian include library docs examples completions wrappers scripts README.md SECURITY.md CHANGELOG.md "$room/uimg" || exit 1
+    cp -r debian include library docs bench examples completions wrappers scripts ./*.md "$room/uimg" || exit 1
 log=$PWD/out/deb.log cross=
 test "$architecture" = "$(dpkg --print-architecture)" || cross="-d -a $architecture"
 (cd "$room/uimg" && dpkg-buildpackage -b -us -uc $cross) > "$log" 2>&1 || {

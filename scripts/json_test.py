@@ -1,6 +1,7 @@
 #!/usr/bin/env python3
-"""json_test.py PROGRAM: holds the output of `PROGRAM check --json`, `PROGRAM info` and
-`PROGRAM unpack --json` to the schemas of docs/JSON.md.
+"""json_test.py PROGRAM: validates the output of `PROGRAM check --json`, `PROGRAM info` and
+`PROGRAM unpack --json` by the schemas docs/*.schema.json, and looks for each of their members in
+docs/JSON.md.
 
 It checks all files of examples/ and cases/files/, FIT images of a fixed seed, whole and damaged,
 and some with hostile names. Each line has to be JSON without a control character and without a
@@ -29,6 +30,8 @@ SYSTEM_PYTHON = "/usr/bin/python3"
 sys.path.insert(0, os.path.join(TOP, "bench"))
 import fits  # noqa: E402
 
+# The commands that print JSON, each with a schema in docs/.
+COMMANDS = ("check", "info", "unpack")
 # How many FIT images are made.
 BUILT = 200
 ALGOS = ["crc16-ccitt", "crc32", "md5", "sha1", "sha256", "sha384", "sha512"]
@@ -40,10 +43,30 @@ HASHES = [b"hash\"\n", b"hash\xff\xc3", b"hash\\u", b"hash\xc2\xa0", b"hash\x08\
 PATHS = [b'a"b', b"new\nline", b"back\\slash", b"\xff\xfe", b"\xe2\x80\xa8sep", b"\x01\x1b[31m", b"caf\xc3\xa9", b"\xed\xa0\x80", b"tab\t", b"%s{}$(x)"]  # fmt: skip
 
 
-def schemas_of(path):
-    """The schemas in a document."""
-    with open(path) as file:
-        return [json.loads(text) for text in re.findall(r"^```json\n(.*?)^```$", file.read(), re.M | re.S)]
+def schema_of(command):
+    """The schema of what a command prints."""
+    with open(os.path.join(TOP, "docs", f"{command}.schema.json"), encoding="utf-8") as file:
+        return json.load(file)
+
+
+def members(schema):
+    """Yields the names of all members that a schema allows."""
+    if isinstance(schema, dict):
+        yield from schema.get("properties", {})
+        for key, value in schema.items():
+            for below in value.values() if key in ("properties", "$defs") else [value]:
+                yield from members(below)
+    elif isinstance(schema, list):
+        for value in schema:
+            yield from members(value)
+
+
+def left_out(schemas):
+    """The members of these schemas that docs/JSON.md does not name."""
+    with open(os.path.join(TOP, "docs", "JSON.md"), encoding="utf-8") as file:
+        named = set(re.findall(r"`([\w-]+)`", file.read()))
+    found = {it.removesuffix("_base64").removesuffix("_length") for schema in schemas for it in members(schema)}
+    return sorted(found - named)
 
 
 def digest(algo, data):
@@ -491,11 +514,14 @@ def main():
             os.execv(SYSTEM_PYTHON, [SYSTEM_PYTHON, *sys.argv])
         print("json_test: skipped, since no Python here has jsonschema (apt install python3-jsonschema)")
         return 0
-    schemas = schemas_of(os.path.join(TOP, "docs", "JSON.md"))
+    schemas = [schema_of(command) for command in COMMANDS]
     for schema in schemas:
         jsonschema.Draft202012Validator.check_schema(schema)
     validator, of_facts, of_payloads = (jsonschema.Draft202012Validator(schema) for schema in schemas)
     failures, told = 0, []
+    for member in left_out(schemas):
+        print(f"docs/JSON.md does not name the member {member}")
+        failures += 1
     with tempfile.TemporaryDirectory() as folder:
         paths = listed() + made(folder)
         for options in ([], ["--need", "crc32"], ["--need", "sha256"], ["--strict"]):

@@ -1,7 +1,7 @@
 #!/usr/bin/env python3
 """release.py [--programs | --compile]: makes the files of a release in release/, for x86-64 and
-64-bit ARM: the program, linked statically, with its other names, manual pages and completions
-(uimg-VERSION-MACHINE.tar.gz); the library for C (libuimg-VERSION-MACHINE.tar.gz); Debian packages
+64-bit ARM: the program, linked statically, with its other names, wrappers, manual pages,
+completions, documents and examples (uimg-VERSION-MACHINE.tar.gz); the library for C (libuimg-VERSION-MACHINE.tar.gz); Debian packages
 of both; PROVED.txt, with the commit, the kit and the prover's statement on each crate; SHA256SUMS.
 
 What is proved already is skipped. With --programs it stops once the programs and libraries are in
@@ -140,7 +140,7 @@ def archive(path, top, files, time):
     with gzip.GzipFile(path, "wb", mtime=time) as packed, tarfile.open(fileobj=packed, mode="w", format=tarfile.USTAR_FORMAT) as tar:
         for name, source in sorted(files.items()):
             entry = tarfile.TarInfo(f"{top}/{name}")
-            entry.mtime, entry.mode = time, 0o755 if name.startswith("bin/") or ".so" in name else 0o644
+            entry.mtime, entry.mode = time, 0o755 if is_run(name, source) else 0o644
             if isinstance(source, Link):
                 entry.type, entry.linkname = tarfile.SYMTYPE, source
                 tar.addfile(entry)
@@ -152,8 +152,22 @@ def archive(path, top, files, time):
             tar.addfile(entry, io.BytesIO(source))
 
 
+def is_run(name, source):
+    """Whether a file of an archive is a program, a shared library or a script."""
+    return name.startswith("bin/") or ".so" in name or (type(source) is str and os.access(source, os.X_OK))
+
+
 def papers(what):
     return {f"share/doc/{what}/{it}": it for it in PAPERS}
+
+
+def documents():
+    """Yields the paths of the documents and examples that the Debian package has."""
+    for path in ("debian/uimg.docs", "debian/uimg.examples"):
+        with open(path, encoding="utf-8") as file:
+            for pattern in file.read().split():
+                for it in glob.glob(pattern):
+                    yield from glob.glob(f"{it}/*") if os.path.isdir(it) else [it]
 
 
 def program_files(machine):
@@ -161,6 +175,8 @@ def program_files(machine):
     files = {"bin/uimg": f"{machine.folder}/uimg", "bin/uimg-mkimage": Link("uimg"), "bin/uimg-dumpimage": Link("uimg")}
     files |= {f"share/man/man1/{it}": f"docs/{it}" for it in MANUALS}
     files |= {f"share/{to}": f"completions/{it}" for it, to in COMPLETIONS.items()}
+    files |= {f"lib/uimg/{it}": it for it in glob.glob("wrappers/*")}
+    files |= {f"share/doc/uimg/{it}": it for it in documents()}
     return files | papers("uimg") | {"share/doc/uimg/NOTICE": NOTICE.encode()}
 
 

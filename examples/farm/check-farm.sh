@@ -1,16 +1,23 @@
 #!/bin/sh
 # check-farm.sh LIST FOLDER [OPTION..]: checks the images whose paths are the lines of LIST, with
-# GNU parallel on all processors, and collects the output of `uimg check --json` in
-# FOLDER/results.jsonl, in the order of LIST.
+# GNU parallel on all processors. It collects the output of `uimg check --json` in
+# FOLDER/results.jsonl, in the order of LIST, and prints a summary.
 #
-# A run with a LIST and FOLDER of before goes on: it checks batches that are not finished, that have
-# an image whose size or time of change is another one than at its check, and in which an image
-# failed. OPTIONs go to parallel: --jobs 2, or --sshlogin one,two if each host has the images,
-# FOLDER and the program under the same paths as this one.
+# The same command again continues a run. It checks a batch again if the batch is not complete, or if
+# one of its images failed or has changed since its check, by size and change time. It refuses a
+# FOLDER of another LIST, program, NEED or STRICT (status 2).
 #
-# Environment: UIMG, the program (uimg); NEED, an algorithm for --need; STRICT=1 for --strict; ALL=1
-# to check all again; BATCH, how many images one process checks (500). The status is the greatest of
-# all images, or 3 if batches are not finished.
+# OPTIONs go to parallel: --jobs 2, --bar, or --sshlogin one,two,: if ssh reaches each host without a
+# prompt, and the images, FOLDER and the program have the same paths there.
+#
+# Environment:
+#   UIMG      the program [uimg]
+#   NEED      an algorithm for --need
+#   STRICT=1  uses --strict
+#   ALL=1     checks all images again
+#   BATCH     images that one process checks [500]; more pays for small images and several hosts
+#
+# The exit status is the greatest of all images, or 3 if batches are not complete.
 set -u
 test $# -ge 2 || { sed -n '2,/^set/s/^# \{0,1\}//p' "$0" >&2; exit 2; }
 list=$1 folder=$2 farm=$(dirname "$0")
@@ -30,8 +37,8 @@ on() {
     test "${1:-0}" != 0
 }
 
-# A sum of the sizes and times of change of a batch's images. A time changes with each write and
-# renaming, and cannot be set.
+# Prints a digest of the sizes and change times of a batch's images. A write and a renaming change
+# the change time, which cannot be set.
 state() {
     LC_ALL=C grep . "$folder/batches/$1" | tr '\n' '\0' | LC_ALL=C xargs -0 stat -L --format='%s %.Z' -- 2>&1 | sha256sum
 }
@@ -49,8 +56,8 @@ mkdir -p "$folder/lines" "$folder/failed" "$folder/parts" "$folder/states" || ex
 folder=$(cd "$folder" && pwd) || exit 2
 
 # A job checks a batch. Its output has a name of its own until it is complete, since a job of an
-# earlier run may still be at the same batch; its first line is the state that the images had
-# before. A status of 1 is a result: only 3, of an image that failed or of the job itself, is a
+# earlier run may still be at the same batch. Its first line is the state of the images before the
+# check. A status of 1 is a result. Only 3, of an image that failed or of the job itself, is a
 # failure, after which the next run repeats the batch.
 cat > "$folder/job.new" << END
 # $(sha256sum < "$(realpath "$uimg")")
@@ -75,7 +82,7 @@ else
     mv -f "$folder/job.new" "$folder/job" && mv "$folder/batches.new" "$folder/batches" || exit 2
 fi
 
-# A batch gets a job unless it has a result of the state in which its images are now.
+# A batch gets a job unless it has a result of the present state of its images.
 for batch in $(ls "$folder/batches"); do
     state "$batch" > "$folder/states/$batch" || exit 2
     if on "${ALL:-0}" || ! head -n 1 "$folder/lines/$batch" 2> /dev/null | cmp -s - "$folder/states/$batch"; then
@@ -91,7 +98,7 @@ for batch in $(ls "$folder/batches"); do
         ! LC_ALL=C grep -q . "$folder/batches/$batch" || echo "$batch" >&3
 done > "$folder/results.new" 3> "$folder/undone"
 if test -s "$folder/undone"; then
-    echo "check-farm: $(wc -l < "$folder/undone") batches are not done; start it again to go on" >&2
+    echo "check-farm: $(wc -l < "$folder/undone") batches are not done; start it again to continue" >&2
     exit 3
 fi
 mv -f "$folder/results.new" "$folder/results.jsonl" && rm -rf "$folder/parts" "$folder/undone" || exit 3

@@ -1,11 +1,10 @@
 #!/usr/bin/env python3
-"""summary.py FOLDER: summarizes what a farm found, from FOLDER/results.jsonl, and what its last run
-did, from FOLDER/jobs and FOLDER/joblog.
+"""summary.py FOLDER: summarizes the results of a farm, FOLDER/results.jsonl, and its last run, by
+FOLDER/jobs and FOLDER/joblog.
 
-It prints how many images were checked by this run, and how many results are of an earlier one; how
-many images have each verdict, a line for each whose verdict is not ok, and how many images were
-checked a second, over the time in which jobs ran: by all together, and by one. The status is the
-greatest of all images."""
+It prints how many images this run checked and how many results are of an earlier run, the number of
+images with each verdict, a line for each image whose verdict is not ok, and the images a second while
+jobs ran, of all jobs and of one. The exit status is the greatest of all images."""
 import collections
 import json
 import os
@@ -13,13 +12,13 @@ import sys
 
 
 def results(folder):
-    """The results of each image. Lines end with newlines alone."""
+    """Returns the results of all images. Only newlines end lines."""
     with open(os.path.join(folder, "results.jsonl"), encoding="utf-8", newline="\n") as file:
         return [json.loads(line) for line in file]
 
 
 def checked(folder):
-    """How many images this run checked: those of the batches that got a job."""
+    """Returns how many images this run checked: those of the batches that got a job."""
     count = 0
     with open(os.path.join(folder, "jobs"), encoding="utf-8") as names:
         for name in names:
@@ -29,14 +28,14 @@ def checked(folder):
 
 
 def jobs(folder):
-    """The beginning of each job and its duration, in seconds."""
+    """Returns the start and the duration of each job, in seconds."""
     with open(os.path.join(folder, "joblog"), encoding="utf-8", newline="\n") as file:
         rows = [line.split("\t") for line in file][1:]
     return [(float(row[2]), float(row[3])) for row in rows]
 
 
 def busy(spans):
-    """For how long at least one job ran, without the time between two runs."""
+    """Returns the seconds in which at least one job ran."""
     total, until = 0.0, 0.0
     for begun, took in sorted(spans):
         total += max(0.0, begun + took - max(begun, until))
@@ -45,7 +44,7 @@ def busy(spans):
 
 
 def about(told):
-    """What a verdict is about, on one line."""
+    """Returns what a verdict is about, on one line."""
     names = [json.dumps(told[key]) for key in ("image", "hash") if key in told]
     return " ".join(names) or told.get("message") or told.get("algo", "")
 
