@@ -133,7 +133,6 @@ fn unpack_in<W: World, S: Source, O: Write + Drop>(
     (world, ended)
 }
 
-// Returns after how many payloads it ended, and with which trouble.
 fn how_ended<W: Write + Drop>(
     alloc: Global,
     asked: &Unpacking<'_>,
