@@ -34,8 +34,8 @@ impl Piece {
         }
     }
 
-    // Reads the bytes only if this read follows the one before. `left` is the number of bytes from
-    // the offset to the file's end.
+    // Returns whether the piece has the bytes. A new piece is read if this read follows the one
+    // before. `left` is the number of bytes from the offset to the file's end.
     pub(crate) fn hold<F: SeekRead>(
         &mut self,
         file: &mut F,

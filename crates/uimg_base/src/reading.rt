@@ -77,7 +77,8 @@ impl Reading {
         Ok(())
     }
 
-    // Counts `len` requested bytes. The piece is read ahead if this read follows the one before.
+    // Counts `len` requested bytes. Returns whether the piece has them. It is read ahead if this
+    // read follows the one before.
     pub(crate) fn hold<F: SeekRead>(&mut self, file: &mut F, at: u64, len: usize) -> bool
         requires stands { StandsAt self.old.position (F.stream file.old) }
         requires ahead { AreAhead self.old.windows (F.stream file.old) }

@@ -28,7 +28,7 @@ impl Window {
         }
     }
 
-    // Copies only if the window has all of the bytes.
+    // Copies the bytes if the window has all of them. Returns whether it has.
     fn give(&self, at: u64, to: &mut [u8]) -> bool
         ensures { IsTrue result → (s : Option Stream) → IsAhead self.now s →
             HoldsFrom at s to.new }

@@ -111,7 +111,7 @@ pub(crate) fn leave<A: Allocator>(room: &mut Room<A>, number: usize)
 }
 
 // Stores the span of a property's value in the innermost node's entry, unless it has no key, the
-// node's role keeps no value of that key, or the node already has a property with that name.
+// role keeps no value of that key, or the name is already taken.
 pub(crate) fn keep<A: Allocator>(
     room: &mut Room<A>,
     number: usize,

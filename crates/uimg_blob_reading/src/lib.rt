@@ -1,9 +1,13 @@
 //! Flattened devicetree blobs: the header, the tokens of the structure block, the index of nodes.
 //!
-//! The index is made in one pass. Lemmas prove that this pass follows the grammar
-//! (`proofs/WalkLaws.antt`), what it costs (`CostLaws`), that a node's properties are those after
-//! its name (`OwnLaws`), and that the first node of the role `images` or `configurations` is the
-//! root's first child of that name (`NumberedLaws`). `Examples` has worked blobs.
+//! The index is made in one pass. These lemmas are in `proofs/`:
+//! - `WalkLaws`: the pass follows the grammar.
+//! - `CostLaws`: what it costs.
+//! - `OwnLaws`: a node's properties are those after its name.
+//! - `NumberedLaws`: the first node of the role `images` or `configurations` is the root's first
+//!   child of that name.
+//!
+//! `Examples` has worked blobs.
 #![tactic(auto)]
 
 mod entries;

@@ -71,7 +71,6 @@ impl<'a, A: Allocator> Layout<'a, A> {
         RESERVATION_OFFSET + (self.reservations.len() as u32 + 1) * ENTRY
     }
 
-    // Returns the end of the strings block.
     pub(crate) fn end(&self) -> u64
         ensures { result ≡ plan_end self.now }
     {

@@ -1,5 +1,6 @@
-//! Trees of nodes and properties, and the flattened devicetree blobs made of them. The contract of
-//! each function that writes gives the pieces that it writes (`WritesPieces` of
+//! Trees of nodes and properties, and the flattened devicetree blobs made of them.
+//!
+//! The contract of each function that writes gives the pieces that it writes (`WritesPieces` of
 //! `specs/Pieces.antt`).
 #![tactic(auto)]
 

@@ -226,7 +226,6 @@ fn name_and_value(text: &str) -> (&str, Option<&str>)
     }
 }
 
-// Returns the bytes of the first letter.
 fn first_letter(letters: &str) -> &[u8]
     ensures { result.now ≡ first_letter letters.now }
 {
@@ -271,7 +270,6 @@ fn row_with(rows: &[OptionRow], letter: char) -> Option<OptionRow>
     None
 }
 
-/// Returns what follows an ASCII letter that a text begins with.
 #[tactic(auto, using(crate::proofs::Strips::behind_is))]
 pub(crate) fn behind(text: &str, letter: char) -> Option<&str>
     requires ascii { letter < 128 }

@@ -9,7 +9,6 @@ use crate::tokens::Piece;
 use std::alloc::Allocator;
 
 impl<'t, A: Allocator + Copy> Table<'t, A> {
-    // Returns the place of a label of this name and owner, from a place on.
     fn label_from(&self, first: usize, name: Piece, owner: Owner) -> Option<usize> {
         for i in first..self.labels.len() {
             match self.labels.get(i) {

@@ -1,6 +1,7 @@
-//! The nodes, properties and labels of a source, in tables. Each names others by their places in the
-//! tables, and a place that is none is `NONE`. `left` is how many bytes of the text remain at the word
-//! that gave an entry.
+//! The nodes, properties and labels of a source, in tables.
+//!
+//! Each names others by their places in the tables, and a place that is none is `NONE`. `left` is
+//! how many bytes of the text remain at the word that gave an entry.
 
 ghost use Rattle.std.specs.Prelude.{◌≡◌, ◌++◌, OnOk, bytes_eq, slice_get};
 ghost use Rattle.uimg_dts.specs.Tables.{part, is_live, changed_at};

@@ -40,7 +40,6 @@ fn add<A: Allocator>(path: &mut Vec<u8, A>, bytes: &[u8], left: usize) -> Result
     }
 }
 
-// Returns the name of a file from its folder and what the source calls it.
 fn path_of<A: Allocator + Copy>(
     table: &Table<'_, A>,
     folder: Piece,

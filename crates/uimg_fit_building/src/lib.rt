@@ -1,10 +1,11 @@
 //! Makes FIT images: fills trees, and builds them as files.
 //!
-//! Lemmas prove that the image of a filled tree reads back, with each placement
-//! (`proofs/BuiltLaw.antt`); that filling and placing before the files are read is filling and
-//! placing after (`FillUnreadLaws`, `UnreadLaws`); that a tree's files have their sizes if those of
-//! its blob and those after it have (`KeptLaws`); and which faults the order of filling admits
-//! (`FillOrderLaws`).
+//! These lemmas are in `proofs/`:
+//! - `BuiltLaw`: the image of a filled tree reads back, with each placement.
+//! - `FillUnreadLaws`, `UnreadLaws`: filling and placing before the files are read is filling and
+//!   placing after.
+//! - `KeptLaws`: a tree's files have their sizes if those of its blob and those after it have.
+//! - `FillOrderLaws`: which faults the order of filling admits.
 #![tactic(auto)]
 
 mod building;

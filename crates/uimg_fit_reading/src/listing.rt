@@ -100,9 +100,9 @@ fn list_body<S: Source, A: Allocator, W: Write>(
 ///
 /// Two head lines come first, then the lines of each image with those of its hash nodes, the
 /// default configuration, and the lines of each configuration. No hash is checked and no payload is
-/// read; a payload without a span has the size `unavailable`. Over an honest source at most 60
-/// bytes, 1024 for each node and property, and 4 for each NOP and each byte of a text were
-/// requested, and a prefix of the listing was written after `Read` or `Put`.
+/// read; a payload without a span has the size `unavailable`. Over an honest source a prefix of the
+/// listing was written after `Read` or `Put`. Over such a source at most 60 bytes, 1024 for each
+/// node and property, and 4 for each NOP and each byte of a text were requested.
 ///
 /// - The faults of the blob: before the first line.
 /// - `NoImages`: after the head lines.

@@ -21,10 +21,10 @@ use std::io::Write;
 use uimg_base::{Out, Room, Source, Status};
 use uimg_fit_base::Fault;
 
-/// Writes the report on the hashes of the images: for each hash node of each image a line `<image>
-/// <hash> <algo> <word>`, with one of the words `malformed`, `unsupported`, `ok` and `bad`, and
-/// `<image> - none unhashed` for an image without hash nodes. Returns `Done` if each line ends with
-/// `ok` or `unhashed`, else `NotRight`.
+/// Writes the report on the hashes of the images. Each hash node of each image has a line `<image>
+/// <hash> <algo> <word>`, with one of the words `malformed`, `unsupported`, `ok` and `bad`. An
+/// image without hash nodes has the line `<image> - none unhashed`. Returns `Done` if each line
+/// ends with `ok` or `unhashed`, else `NotRight`.
 ///
 /// Each payload is requested at most once, however many hash nodes it has, and not at all if none
 /// of them is compared. Over an honest source a prefix of the report was written after `Read` or

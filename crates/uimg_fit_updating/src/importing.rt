@@ -40,7 +40,6 @@ fn cell(props: &Props<Global>, key: &[u8]) -> Option<u32>
     }
 }
 
-// Returns where the payload of an image is after a blob of a size.
 fn payload_after(props: &Props<Global>, totalsize: u32) -> Option<Span>
     ensures { result ≡ payload_after totalsize props.now }
 {

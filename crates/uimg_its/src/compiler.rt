@@ -150,7 +150,7 @@ pub fn compile<F: Files, A: Allocator + Copy>(
     }
 }
 
-/// A list of words spells at most one tree: the contract is this law.
+/// States that a list of words spells at most one tree: the contract is this law.
 pub fn one_tree()
     ensures { (ws : List Word) (files : FileBytes) (t u : Nodes) →
         Spells ws files t → Spells ws files u → t ≡ u }

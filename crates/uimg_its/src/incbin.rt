@@ -86,7 +86,6 @@ fn string(text: &[u8]) -> Result<(&[u8], &[u8]), Stop>
     Ok((string, rest))
 }
 
-// Returns the fault of a word after a file's name that does not close the parentheses.
 fn not_closed(token: Token<'_>) -> Stop
     ensures { IsInText result.kind }
 {
@@ -99,7 +98,6 @@ fn not_closed(token: Token<'_>) -> Stop
     }
 }
 
-// Returns the text after the parenthesis that closes a file's name.
 fn close(text: &[u8]) -> Result<&[u8], Stop>
     ensures { PassesMark ParenClose result text.now }
 {

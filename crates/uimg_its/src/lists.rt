@@ -35,7 +35,6 @@ fn element_word(list: Listed, token: Token<'_>) -> Result<Option<&[u8]>, Stop>
     }
 }
 
-// Returns the fault of a word that is not a number or not bytes.
 fn bad_number(left: usize) -> Stop
     ensures { IsInText result.kind }
 {

@@ -35,7 +35,6 @@ fn end_of_parts<S: Source>(parts: &mut [S], start: u128) -> Result<u128, SourceF
     Ok(end)
 }
 
-// Returns whether a part is empty, for a type with parts.
 fn has_empty_part<S: Source>(parts: &mut [S], kind: u8) -> Result<bool, SourceFault>
     ensures { Learns (λ ps b. b ≡ (has_parts kind && has_empty ps)) result S.device parts }
 {
@@ -59,7 +58,6 @@ fn data_size<S: Source>(parts: &mut [S], kind: u8) -> Result<u128, SourceFault>
     }
 }
 
-// Returns the length of the data built from the parts, or why the parts are refused.
 #[tactic(auto, unfolding(crate::specs::Building::data_to_build))]
 pub(crate) fn measure<S: Source>(parts: &mut [S], kind: u8) -> Result<u32, Fault>
     ensures uses { AsksNone (is_read result) (map S.device parts.old) (map S.device parts.new) }

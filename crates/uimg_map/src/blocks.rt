@@ -20,7 +20,7 @@ fn block(place: u32, size: u32, number: usize) -> Thing
 }
 
 /// Returns the header of a blob, its memory reservation block, its structure block and its strings
-/// block, numbered from 0 to 3, by the numbers of the header, in a file of `size` bytes. A
+/// block, numbered from 0 to 3. The numbers of the header give them, in a file of `size` bytes. A
 /// reservation block without an end in the file is taken to end with an entry after the file's end.
 pub fn blocks_of(header: &FdtHeader, reservations_end: Option<u64>, size: u64) -> [Thing; 4]
     ensures { result ≡ blocks_by header.now reservations_end size }

@@ -178,7 +178,6 @@ fn payload_label(image: &ImageFacts, span: Span) -> Label
     }
 }
 
-// Returns whether this span is the value of `data`.
 #[tactic(auto, unfolding(crate::specs::FitContents::is_value))]
 fn is_value(payload: &PayloadFacts, span: Span) -> bool
     ensures { result ≡ is_value payload.now.embedded span }

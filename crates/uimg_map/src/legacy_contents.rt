@@ -71,7 +71,6 @@ fn add_header(size: u32, contents: &mut Contents) -> Result<(), MapFault>
     Ok(())
 }
 
-// Returns where `size` bytes of data end.
 fn end_of(size: u32) -> u64
     ensures { result ≡ 64 + size }
 {

@@ -1,9 +1,9 @@
 //! Commands for the comparison with other tools.
 
-// Calls of the libraries for the comparison with other tools, each as a command: `uimg_peers
-// compile SOURCE` writes the blob of an image-tree source, `uimg_peers compile-all SOURCE` that of a
-// source in the whole language of dtc, and `uimg_peers index BLOB` prints the number of a blob's
-// nodes.
+// Calls of the libraries for the comparison with other tools, each as a command:
+// - `uimg_peers compile SOURCE` writes the blob of an image-tree source;
+// - `uimg_peers compile-all SOURCE` writes that of a source in the whole language of dtc;
+// - `uimg_peers index BLOB` prints the number of a blob's nodes.
 #![tactic(auto)]
 
 mod blobs;

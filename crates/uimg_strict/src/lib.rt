@@ -1,6 +1,7 @@
-//! Strict checks of images whose checksums or hashes are right. They refuse a FIT image that U-Boot
-//! reads in another way than the check, or not at all, and a legacy image whose header means
-//! nothing.
+//! Strict checks of images whose checksums or hashes are right.
+//!
+//! They refuse a FIT image that U-Boot reads in another way than the check, or not at all, and a
+//! legacy image whose header means nothing.
 #![tactic(auto)]
 
 mod headers;

@@ -144,7 +144,6 @@ pub(crate) fn asked_by<'a>(alloc: Global, line: CommandLine<'a>) -> Result<Asked
     read_words(alloc, line.words, line.epoch, line.time)
 }
 
-/// Returns the status.
 pub(crate) fn tell_words_fault<V: Write>(
     fault: &WordsFault,
     complaints: &mut Complaints<'_, V>,

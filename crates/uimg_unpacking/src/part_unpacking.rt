@@ -45,8 +45,11 @@ pub enum PartsEnded {
 /// parts, for another type its data as one part.
 ///
 /// The files are `image-0`, `image-1` and so on, by the parts' numbers. One of them can be
-/// requested. Nothing is written if something exists at one of these paths, unless files are
-/// replaced, if one leads to the image, or if there are more files or bytes than the limits allow.
+/// requested. Nothing is written in these cases:
+/// - something exists at one of these paths, unless files are replaced;
+/// - one of them leads to the image;
+/// - there are more files or bytes than the limits allow.
+///
 /// Files get their names once all are written; unless all get them, the folder is unchanged.
 ///
 /// Where parts are kept, the source is honest and contracts know what new files hold, the file of

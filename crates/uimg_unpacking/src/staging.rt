@@ -385,7 +385,6 @@ impl<'a, 'c, W: World> Staging<'a, 'c, W> {
         }
     }
 
-    /// Returns the trouble that a file cannot be written, if one is not complete.
     pub(crate) fn unwritten(&self) -> Option<Trouble>
         ensures { TellsUnwritten self.now.is_writing (last_of self.now.files.items) result }
     {

@@ -69,17 +69,18 @@ pub enum Ended {
 ///
 /// A file has the name of its image if that is a file name (`is_file_name`) and no earlier file has
 /// the same name in lower case. Otherwise it is `image-` with its number among the taken payloads,
-/// counted from 0, or with the first free number after it. Nothing is written if something exists
-/// at one of these paths, unless files are replaced, if one leads to the image, or if there are more
-/// files or bytes than the limits allow.
+/// counted from 0, or with the first free number after it. Nothing is written in these cases:
+/// - something exists at one of these paths, unless files are replaced;
+/// - one of them leads to the image;
+/// - there are more files or bytes than the limits allow.
 ///
 /// Files get their names once all are written and right. If a payload is refused, only the lines of
 /// refused ones are printed. Unless all files get their names, the folder is unchanged, except that
 /// `keeps_good` keeps the good ones, and removes what refused ones were to replace.
 ///
-/// Over an honest source it ends as the definition says of the image's bytes (`end_of_file`), unless
-/// a read fails, memory runs out or it returns a trouble. Where files are kept, and contracts know
-/// what new files hold, these are exactly the bytes of the kept payloads, in order.
+/// Over an honest source it ends as the definition says of the image's bytes (`end_of_file`),
+/// unless a read fails, memory runs out or it returns a trouble. Where files are kept, and
+/// contracts know what new files hold, these are exactly the bytes of the kept payloads, in order.
 #[tactic(auto, using(crate::proofs::PartChanges::within, crate::proofs::PartChanges::follows))]
 pub fn unpack<W: World, S: Source, O: Write + Drop>(
     world: &mut W,
@@ -132,7 +133,6 @@ fn unpack_in<W: World, S: Source, O: Write + Drop>(
     (world, ended)
 }
 
-// Returns after how many payloads it ended, and with which trouble.
 fn how_ended<W: Write + Drop>(
     alloc: Global,
     asked: &Unpacking<'_>,

@@ -64,7 +64,6 @@ fn lost_in<'a>(names: &BTreeSet<Vec<u8>>, value: &'a [u8]) -> Option<&'a [u8]>
     None
 }
 
-// Returns whether a value ends with a NUL.
 #[tactic(auto, unfolding(crate::specs::ReferenceNames::is_ended))]
 fn is_ended(value: &[u8]) -> bool
     ensures { result ≡ is_ended value.now }

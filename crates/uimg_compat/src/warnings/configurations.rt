@@ -168,7 +168,6 @@ fn tell_of_reference<W: Write>(
     tell_missing(path, name, value, names, teller);
 }
 
-// Returns whether a property of a configuration names images.
 fn is_reference(property: &[u8]) -> bool
     ensures { result ≡ is_reference property.now }
 {

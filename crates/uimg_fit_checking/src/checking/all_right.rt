@@ -57,7 +57,6 @@ fn count_all<A: Allocator>(blob: &Blob, room: &Room<A>, first: Option<usize>) ->
     count
 }
 
-// Returns the span of the name of the first image from one on that has no hash node.
 fn first_unhashed<A: Allocator>(blob: &Blob, room: &Room<A>, first: Option<usize>) -> Option<Span>
     requires { IsEntryOrNone blob.now room.now first }
     ensures inside { InAnyFile blob.now room.now (λ size. Ends size result) }
@@ -92,7 +91,6 @@ fn unhashed<A: Allocator>(
     }
 }
 
-// Returns the finding about the images from one on, whose hash nodes are all right.
 pub(crate) fn all_right<A: Allocator>(
     blob: &Blob,
     room: &Room<A>,

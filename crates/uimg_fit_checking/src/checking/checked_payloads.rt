@@ -36,7 +36,6 @@ pub(crate) struct Payload {
     pub(crate) span: Span,
 }
 
-// Returns how many bytes of a payload are read to compare it by the algorithms of a set.
 fn read_size(set: AlgoSet, span: Span) -> u64
     ensures { result ≡ (if is_empty set then 0 else span.length) }
 {

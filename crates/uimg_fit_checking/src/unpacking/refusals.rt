@@ -36,7 +36,6 @@ fn strongest(set: AlgoSet) -> Option<Algo>
     strongest
 }
 
-// Returns what vouches for bytes that are compared by these digests.
 pub(super) fn vouched_by(digests: &Digests) -> Option<Vouched>
     ensures { (message : List ℕ) → AreDigests digests.now message →
         result ≡ vouched_by (set_of digests.now) message }

@@ -71,7 +71,6 @@ pub fn payload_digests<S: Source, A: Allocator>(
     Ok(Digests::of(set, sums))
 }
 
-// Returns the digests of a payload that the hash nodes from one on are compared with in a report.
 pub(crate) fn compared_digests<S: Source, A: Allocator>(
     fit: &mut OpenFit<'_, S, A>,
     first: Option<usize>,

@@ -79,7 +79,6 @@ fn entries_in(alloc: Global, bytes: &[u8]) -> Result<Option<Vec<Reservation>>, A
     Ok(None)
 }
 
-// Returns where the reservation block may end at most.
 fn block_end(place: u32, structure: u32, totalsize: u32) -> u32
     ensures { result ≡ block_end place structure totalsize }
 {

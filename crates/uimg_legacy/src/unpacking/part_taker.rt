@@ -70,8 +70,8 @@ pub trait PartTaker {
         ensures kept { IsTrue honest → kept self.new ≡ kept self.old };
 
     /// Keeps the held parts: all, or if it fails, all or none. For an honest taker the caller has
-    /// shown that they are the parts, all or one, of some image with right checksums, whose data
-    /// have this CRC, whatever source they were read from.
+    /// shown that they are the parts, all or one, of some image with right checksums. That image's
+    /// data have this CRC, whatever source they were read from.
     fn keep(&mut self, dcrc: u32) -> Result<(), PutFault>
         requires { IsTrue honest → AreRight dcrc (held self.old) }
         ensures stays { place self.new ≡ place self.old }

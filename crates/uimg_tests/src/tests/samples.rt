@@ -1,6 +1,7 @@
-//! Blobs that are written as words: `(name` begins a node and `)` ends it, `37=616263` is a
-//! property with its name's offset in the strings block and its value, and `1000*` before a word
-//! repeats it.
+//! Blobs that are written as words.
+//!
+//! `(name` begins a node and `)` ends it, `37=616263` is a property with its name's offset in the
+//! strings block and its value, and `1000*` before a word repeats it.
 use std::alloc::Global;
 use uimg_blob_reading::samples::Sample;
 use uimg_fit_tests::samples::finish;
