@@ -66,16 +66,16 @@ Nobody writes to this one, and nobody waits for it; nor is a socket an image:
   dumpimage: status 3
   uimg: cannot read socket
   mkimage: status 3
-  uimg: cannot read socket
+  uimg: cannot read socket: it is not a regular file
   map: status 3
-  uimg: cannot read socket
+  uimg: cannot read socket: it is not a regular file
   unpack: status 3
   $ for image in silent socket; do refused check $image; refused info $image; done | cut -c 1-27
   silent: failed cannot read:
   check: status 3
   {"path":"silent","status":3
   info: status 3
-  socket: failed cannot read
+  socket: failed cannot read:
   check: status 3
   {"path":"socket","status":3
   info: status 3

@@ -307,8 +307,8 @@ Requests that fail:
   'ppc64le'; did you mean 'powerpc'
   'riscv64'; did you mean 'riscv'
   'x64'; did you mean 'x86_64'
-  $ mkimage -A arm46 -d d out
-  mkimage: -A: unknown architecture 'arm46'; did you mean 'arm64'? mkimage -A list prints all names
+  $ mkimage -A arm65 -d d out
+  mkimage: -A: unknown architecture 'arm65'; did you mean 'arm64'? mkimage -A list prints all names
   [2]
   $ mkimage -O uboot -d d out
   mkimage: -O: unknown operating system 'uboot'; did you mean 'u-boot'? mkimage -O list prints all names

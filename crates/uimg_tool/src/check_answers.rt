@@ -81,7 +81,7 @@ pub(crate) fn answer_of_unread<'a, D: World>(
 {
     match world.reason_unread(path) {
         Some(reason) => answer_of_line(&Unread(reason), false, names),
-        None => answer_of_line(&"cannot read", false, names),
+        None => answer_of_line(&"cannot read: it can be opened now", false, names),
     }
 }
 

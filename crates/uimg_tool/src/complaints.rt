@@ -83,7 +83,7 @@ impl<'a, V: Write> Complaints<'a, V> {
         match reason {
             Some(reason) => self.tell(&RequestFault::Unread(path, reason), FAILED),
             None => self.tell(
-                &format_args!("cannot read {path}: it could not be opened, but now it can"),
+                &format_args!("cannot read {path}: it can be opened now"),
                 FAILED,
             ),
         }

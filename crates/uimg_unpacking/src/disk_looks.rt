@@ -37,7 +37,7 @@ pub(crate) fn reason_at<R: Files>(rt: &R, path: &str) -> Option<io::Error> {
         Ok(found) if found.is_file() => fs::open(rt, path).err(),
         Ok(found) if found.is_dir() => Some(io::Error::from_raw_os_error(IS_A_FOLDER)),
         Ok(found) if found.file_type().is_fifo() => Some(io::Error::other("it is a pipe")),
-        Ok(_) => None,
+        Ok(_) => Some(io::Error::other("it is not a regular file")),
         Err(reason) => Some(reason),
     }
 }
