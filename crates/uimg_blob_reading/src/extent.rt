@@ -78,8 +78,8 @@ fn extent_in(bytes: &[u8; 40], size: u64) -> Result<Extent, IndexFault>
 // - `TooShort`: the source has fewer than 40 bytes.
 // - `BadMagic`: they do not begin with `0xd00dfeed`.
 // - `BadVersion`: the version is below 17, or the last compatible version above 17.
-// - `BlockOutside`: the blob is outside the source, a block outside the blob, or the structure
-//   block not at a multiple of 4.
+// - `BlockOutside`: the blob has fewer than 40 bytes or is outside the source, a block is outside
+//   the blob, or the structure block is not at a multiple of 4.
 #[tactic(auto, unfolding(crate::specs::Blob::blocks), using(crate::proofs::NumberLaws::heads))]
 pub(crate) fn read_extent<S: Source>(source: &mut S) -> Result<Extent, IndexFault>
     ensures uses { Asks 40 (is_read result) (S.device source.old) (S.device source.new) }

@@ -18,7 +18,8 @@ pub enum BlobFault {
     BadMagic = 2,
     /// The version is below 17, or the last compatible version above 17.
     BadVersion = 3,
-    /// A block is outside the blob, or the blob outside the file.
+    /// A block is outside the blob or not aligned, or the blob is outside the file or shorter than
+    /// its header.
     BlockOutside = 4,
     /// A word of the structure block is not a token.
     BadToken = 5,

@@ -93,8 +93,8 @@ fn put_blob<F: Files, W: Write, A: Allocator>(
 }
 
 /// Writes the blob of a tree (Devicetree Specification, chapter 5). It has the header, the
-/// reservation block, the nodes and properties in order, the names of the properties, each once,
-/// and zeros up to the end of the blob.
+/// reservation block, the nodes and properties in order, each property's name once, and zeros up to
+/// the end of the blob.
 ///
 /// The layout must be the one that `measure`, `measure_by` or `measure_with` made of this tree. A
 /// file is opened when its value is written, and copied through a window of 8192 bytes; it is never

@@ -79,7 +79,7 @@ pub extern "C" fn uimg_check(alloc: Global, image: &[u8], need: u32, report: &mu
 
 /// Checks an image as `uimg_check` does. If all is right, it also refuses what U-Boot reads in
 /// another way than the check. If the status is 0, U-Boot finds in a FIT image exactly the images
-/// that were checked, each with the payload whose hash nodes are right, and compares no others.
+/// that were checked, and compares no others. Each has the payload whose hash nodes are right.
 #[unsafe(no_mangle)]
 pub extern "C" fn uimg_check_strict(
     alloc: Global,

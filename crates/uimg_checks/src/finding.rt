@@ -85,8 +85,8 @@ fn check_fit<S: Source, A: Allocator>(
 
 /// Checks the checksums and hashes of an image, up to the first finding. The first four bytes
 /// decide its format. A legacy image is refused if its header's checksum is wrong or its table of
-/// parts does not fit its data. If an algorithm is needed, a FIT image must have images, each with
-/// a hash node that is compared by it or a stronger one, in the order of `Algo`.
+/// parts does not fit its data. If an algorithm is needed, a FIT image must have images, and each
+/// image a hash node that is compared by it or a stronger one. The order is that of `Algo`.
 ///
 /// Over an honest source the finding, or the fault that refuses the image, is exactly that of the
 /// definition. Of a FIT image's payloads no more bytes are requested than the file has, even if

@@ -11,8 +11,8 @@ pub enum Refusal {
     /// The grammar has another word here, or the source ends too early.
     #[error("bad syntax")]
     BadSyntax,
-    /// A number has more than 64 bits or a digit too great for its base, a division is by zero, an
-    /// element has no such size or does not fit, or an offset in a file is 2^63 or more.
+    /// A number has more than 64 bits or a digit too great for its base. A division is by zero. An
+    /// element has no such size or does not fit. An offset in a file is 2^63 or more.
     #[error("bad number")]
     BadNumber,
     /// The source is a plugin, whose references are resolved when it is applied.

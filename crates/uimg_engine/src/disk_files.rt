@@ -80,8 +80,8 @@ impl<'a, R: rt::Files + AllocGlobal> Files for DiskFiles<'a, R> {
 
     /// Opens the file of this name.
     ///
-    /// Returns `SourceFault` if the name is not UTF-8, if memory for the path was refused, if the
-    /// file is the one that is left out, or if `FileSource::open` does.
+    /// Returns `SourceFault` if the name is not UTF-8, memory for the path was refused, the file is
+    /// left out, or `FileSource::open` does.
     fn open(&mut self, name: &[u8]) -> Result<FileSource<R::File>, SourceFault> {
         self.opened.note(name);
         let opened = match path_in(self.rt.alloc(), self.folder, name) {

@@ -142,9 +142,10 @@ pub fn fill<F: Files, A: Allocator + Copy>(
     ensures filled { IfKept F.map files (node_of tree.root) (λ there.
         FillsAnswer (λ filled. node_of filled.root) there time (node_of tree.root) result) }
     // In the order of images, over files of any sizes: filling passes an image with hash nodes only
-    // if its file has the size that the tree keeps, and stops at the first image that it cannot
-    // pass. If the files are complete, `NoFile`, and if what they open is steady, `ReadFailed`,
-    // means that the file of that image is missing or has another size, whatever the others are.
+    // if its file has the size that the tree keeps. It stops at the first image that it cannot
+    // pass. If the files are complete, `NoFile` means that the file of that image is missing or has
+    // another size, whatever the others are. If what they open is steady, `ReadFailed` means the
+    // same.
     ensures order { AnswersInOrder Profile F.Opened.steady F.map (images (node_of tree.root))
         result files }
     // Over any files, except for the bytes of its digests: the tree is the source's, filled.

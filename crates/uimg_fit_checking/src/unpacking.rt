@@ -43,16 +43,16 @@ pub enum Unpacked {
 /// name.
 ///
 /// Each payload is written to a shelf of the taker while it is summed, by the algorithms of its
-/// image's hash nodes. It is kept if each hash node is right and, if a strength is needed, one of
-/// them is compared by that algorithm or a stronger one, in the order of `Algo`. Otherwise it is
-/// refused, and the next one follows. Each byte of a payload is requested once. So what an honest
-/// taker keeps has the digest that is given with it, even if the source changes between reads.
+/// image's hash nodes. It is kept if each hash node is right. If a strength is needed, one of them
+/// must be compared by that algorithm or a stronger one, in the order of `Algo`. Otherwise the
+/// payload is refused, and the next one follows. Each byte of a payload is requested once. So what
+/// an honest taker keeps has the digest that is given with it, even if the source changes between
+/// reads.
 ///
-/// Over an honest source at most the file's length is requested beside metadata, and an honest
-/// taker is given exactly what the definition says of each payload. Over an honest source the
-/// result is that of the definition, for any taker, unless memory is refused or a device fails.
-/// Over any source, `Taken(true)` means that an honest taker was given no refused payload in this
-/// call.
+/// Over an honest source at most the file's length is requested beside metadata. Over such a source
+/// an honest taker is given exactly what the definition says of each payload, and the result is
+/// that of the definition, for any taker, unless memory is refused or a device fails. Over any
+/// source, `Taken(true)` means that an honest taker was given no refused payload in this call.
 ///
 /// - The faults of the blob, then `NoImages`, then `NoData` and `DataOutside` of the images in
 ///   their order: all before anything is given. Nothing is given either if payloads overlap.

@@ -28,7 +28,7 @@ use uimg_fit_base::Fault;
 ///
 /// Each payload is requested at most once, however many hash nodes it has, and not at all if none
 /// of them is compared. Over an honest source a prefix of the report was written after `Read` or
-/// `Put`, and beside these payloads no more was requested than for a listing.
+/// `Put`. Beside these payloads no more was requested of it than for a listing.
 ///
 /// - The faults of the blob and `NoImages`: without a line.
 /// - `NoData`, `DataOutside`: of an image, before its lines.

@@ -149,7 +149,7 @@ fn put_found(writer: &mut Writer, found: Option<Vec<Reservation>>) -> Result<(),
     }
 }
 
-/// Writes them only if the block ends within the blob and has at most 4095 entries.
+/// Writes the entries only if the block ends within the blob and has at most 4095 entries.
 pub(crate) fn put_reservations<S: Source>(
     alloc: Global,
     source: &mut S,

@@ -64,12 +64,12 @@ fn put_image<S: Source, W: Write>(
 }
 
 /// Builds a legacy image from its parts: the header's 64 bytes with the fields of the options, and
-/// the data. For the types multi and script the data are the table of sizes and the parts, each but
-/// the last padded with zeros to a multiple of 4. For any other type they are the one part.
+/// the data. For the types multi and script the data are the table of sizes and the parts. Zeros
+/// pad each part but the last to a multiple of 4. For any other type the data are the one part.
 ///
 /// There must be at least one part, and exactly one unless the type is multi or script. Over honest
-/// parts, at `Ok`, the report on the image is its two `ok` lines, its listing is not refused, and
-/// the extraction at each position is the part of that number.
+/// parts, at `Ok`, the report on the image is its two `ok` lines, and its listing is not refused.
+/// The extraction at each position is the part of that number then.
 ///
 /// Parts are read through a window of 8192 bytes. Tests show that each is read twice, for the
 /// checksum and to be written.

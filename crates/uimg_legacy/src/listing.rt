@@ -65,8 +65,9 @@ fn list_tail<S: Source, A: Allocator, W: Write>(
 /// Writes the listing of the image, with the names of the profile: six lines, and for the types
 /// multi and script `Contents:` and a line for each part.
 ///
-/// Over an honest source a prefix of the listing was written after `Read` or `Put`, and at most 76
-/// bytes, the data and 16 for each size in the table were requested. The room is only cleared.
+/// Over an honest source a prefix of the listing was written after `Read` or `Put`. At most 76
+/// bytes, the data and 16 for each size in the table were requested of it. The room is only
+/// cleared.
 ///
 /// - `TooShort`, `BadMagic`, `BadHeaderCrc`, `Truncated`, `BadDataCrc`: before the first line, in
 ///   this order.

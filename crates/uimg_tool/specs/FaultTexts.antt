@@ -1,5 +1,4 @@
--- What is printed on standard error: about a request that was not carried out, and about what was
--- found.
+-- What is printed on standard error: about a request not carried out, and about what was found.
 use Rattle.std.specs.Prelude.{ℕ, ◌==◌, List, ◌++◌, codes, Option, Some, None, Result, Ok, Err, false, if◌then◌else◌}
 use Rattle.uimg_base.specs.Outcome.{End, done, not_right, refused}
 use Rattle.uimg_base.specs.declared.status.Status.{Status}

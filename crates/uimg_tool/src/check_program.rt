@@ -192,7 +192,7 @@ impl<W: Write + Drop> Checks<W> {
         Ok(())
     }
 
-    // The path is empty on an empty line.
+    // An empty line of the file of names has an empty path.
     fn check_unless_empty<'b, D: World>(
         &mut self,
         world: &mut D,

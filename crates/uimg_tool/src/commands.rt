@@ -186,7 +186,7 @@ fn show_text<D: Display, W: Write + Drop, V: Write>(
     (tell_end(&end, complaints), out)
 }
 
-// The output was closed by its reader.
+// The request ended because the reader has closed the output.
 fn is_unread(end: &Result<Status, RequestFault<'_>>) -> bool {
     match end {
         Err(RequestFault::NotPrinted(error)) => is_closed(error),

@@ -114,7 +114,7 @@ impl<'a, V: Write> Complaints<'a, V> {
     }
 }
 
-/// The output was closed by its reader.
+/// The write failed because its reader has closed the output.
 pub(crate) fn is_closed(error: &io::Error) -> bool
     ensures { result ≡ is_closed_pipe (error_kind error.now) }
 {

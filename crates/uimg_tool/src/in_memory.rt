@@ -33,11 +33,11 @@ pub struct Answered {
 /// path and its bytes. Of equal paths, the first counts. `epoch` and `now` are as for
 /// [`program`](crate::program); a fault is one line on `err`.
 ///
-/// Unless the status is 3, the arguments are refused by their definition, or the output is exactly
-/// what the definitions give for the bytes at the paths. This holds for a listing, a verification,
-/// a check, facts, the lines of a map, and the listing of an image that is made. If an image is
-/// unpacked with status 0 and without `--clean`, new files hold exactly the requested payloads or
-/// parts. The file of an extraction and an image that is made are not among the new files.
+/// Unless the status is 3, the arguments are refused by their definition, or the output is what the
+/// definitions give for the bytes at the paths. This holds for a listing, a verification, a check,
+/// facts, the lines of a map, and the listing of an image that is made. If an image is unpacked
+/// with status 0 and without `--clean`, new files hold exactly the requested payloads or parts. The
+/// file of an extraction and an image that is made are not among the new files.
 pub fn answer_in_memory<'f, V: Write>(
     alloc: Global,
     words: &[&str],

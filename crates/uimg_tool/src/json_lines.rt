@@ -52,7 +52,7 @@ pub(crate) fn put_json<W: Write>(text: &[u8], out: &mut W) -> io::Result<()>
     out.write_all(b"\n")
 }
 
-// A byte is DEL, or ends one of U+0080 to U+009F.
+// The byte is DEL, or ends one of U+0080 to U+009F.
 fn is_control(byte: u8, is_after_lead: bool) -> bool
     ensures { result ≡ is_control is_after_lead byte }
 {

@@ -115,8 +115,8 @@ fn carry_out_over<'a, R: Files + AllocGlobal, W: Write + Drop, V: Write>(
 /// `out` buffers for. The line is a parameter for the contract only, which says that the request
 /// was read from its arguments.
 ///
-/// Over an honest world, the output, the new files and the status are those of the definition for
-/// the bytes at the paths of the arguments, as far as `AnswersWords` says.
+/// Over an honest world, output, new files and status are those of the definition, as far as
+/// `AnswersWords` says. The definition reads the bytes at the paths of the arguments.
 pub(crate) fn carry_out_words<'a, D: MakingWorld<'a>, W: Write + Drop, V: Write>(
     world: &mut D,
     _line: CommandLine<'_>,

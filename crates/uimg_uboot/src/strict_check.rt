@@ -23,7 +23,7 @@ pub enum Strict {
 
 /// Checks the payloads of a FIT image, as `check` does, and if all are right, what strictness
 /// refuses. If the finding is `Right` over an honest source, U-Boot finds exactly the images that
-/// were checked, each with the payload whose hash nodes are right, and compares no others. Returns
+/// were checked, and compares no others. Each has the payload whose hash nodes are right. Returns
 /// the faults of `check` and of `find_loose`.
 pub fn check_strictly<S: Source, A: Allocator>(
     alloc: Global,

@@ -210,8 +210,8 @@ impl<'a, 'c, W: World, O: Write + Drop> FolderTaker<'a, 'c, W, O> {
     }
 }
 
-// Removes what refused ones were to replace, if `names`. Returns the trouble that no file has its
-// name, or that old files are left.
+// Gives the files their names and removes what refused ones were to replace, if `names`. Returns
+// the trouble that no file has its name, or that old files are left.
 fn name<W: World>(
     staging: &mut Staging<'_, '_, W>,
     names: bool,

@@ -64,7 +64,7 @@ impl<'a> MemoryWorld<'a> {
         self.new_files
     }
 
-    // Notes the call.
+    // Notes the call, and fails.
     fn refuse<X>(&mut self, call: u64, path: &str, other: &str) -> io::Result<X>
         ensures failed { answer_of result ≡ Answer.Failed }
         ensures noted { self.new.record.deeds

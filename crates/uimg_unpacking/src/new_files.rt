@@ -93,7 +93,7 @@ impl NewFiles {
         Ok(())
     }
 
-    /// Nothing is at the second path.
+    /// Fails if something is at the second path.
     pub(crate) fn hard_link(&mut self, from: &str, to: &str) -> io::Result<()>
         ensures done { OnOk result (MadeBut self.old.made self.new.made to.now (made_at self.old.made from.now)) }
     {
@@ -101,7 +101,7 @@ impl NewFiles {
         self.make(to, Some(&bytes))
     }
 
-    /// Replaces a file at the new path.
+    /// Replaces what is at the new path.
     pub(crate) fn rename(&mut self, from: &str, to: &str) -> io::Result<()>
         ensures done { OnOk result (MovesMade self.old.made self.new.made from.now to.now) }
     {

@@ -166,8 +166,8 @@ impl<'a, 'c, W: World, O: Write + Drop> PartFolder<'a, 'c, W, O> {
         }
     }
 
-    // The file that was begun last is that of a part which comes after all others, before files
-    // have their names.
+    // The file that was begun last is that of this part, the part comes after all others, and no
+    // file has its name.
     fn is_next(&self, number: u32) -> Result<bool, Trouble>
         ensures { IfOk result (λ is. is ≡ (not self.now.is_named && nat_le self.now.next number
             && bytes_eq (last_name self.now.staging.files.items) (image_name number))) }

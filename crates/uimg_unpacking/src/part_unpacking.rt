@@ -40,8 +40,8 @@ pub enum PartsEnded {
     Troubled(Trouble),
 }
 
-/// Writes the parts of a legacy image to a folder, as files that get their names if the checksum of
-/// the data is right, with a line for each on `out`. For the types multi and script these are its
+/// Writes the parts of a legacy image to a folder, with a line for each on `out`. The files get
+/// their names if the checksum of the data is right. For the types multi and script these are its
 /// parts, for another type its data as one part.
 ///
 /// The files are `image-0`, `image-1` and so on, by the parts' numbers. One of them can be

@@ -26,7 +26,7 @@ impl Record {
         }
     }
 
-    /// A call is its number and its answer. It has a second path in `_other`, if it has two.
+    /// `_call` is the call's number and its answer, `_other` its second path, if it has two.
     pub(crate) fn note(&mut self, _call: &[u64], _path: &[u8], _other: &[u8])
         ensures { self.new.deeds ≡ deed_of _call.now _path.now _other.now ∷ self.old.deeds }
     {}

@@ -64,8 +64,8 @@ pub enum Ended {
     Troubled(Trouble),
 }
 
-/// Writes the payloads of a FIT image to a folder, as files that get their names if each hash node
-/// of their images is right, with a line for each on `out`.
+/// Writes the payloads of a FIT image to a folder, with a line for each on `out`. The files get
+/// their names if each hash node of their images is right.
 ///
 /// A file has the name of its image if that is a file name (`is_file_name`) and no earlier file has
 /// the same name in lower case. Otherwise it is `image-` with its number among the taken payloads,

@@ -65,7 +65,7 @@ fn short<S: Source>(
     short_text(source, span, to)
 }
 
-// The keys, each by its property.
+// The keys up to `Loadables`, each by its property.
 const KEYS: [(&str, Key); 19] = [
     ("description", Key::Description),
     ("timestamp", Key::Timestamp),

@@ -68,7 +68,8 @@ d00dfeed 00000260 00000038 00000208 00000028 00000011 00000010 00000000
 
 const DIGITS: [&str; 10] = ["0", "1", "2", "3", "4", "5", "6", "7", "8", "9"];
 
-// All properties to which FIT gives a meaning, and their names: `ALL` and `KEYS` in a script.
+// The properties to which FIT gives a meaning, but for those of signatures only, and their names:
+// `ALL` and `KEYS` in a script.
 const ALL: [u32; 24] = [
     0, 12, 22, 27, 32, 37, 40, 52, 57, 63, 73, 85, 99, 104, 110, 118, 125, 133, 137, 147, 156, 161,
     167, 178,

@@ -9,7 +9,8 @@ use std::test::Fail;
 use uimg_base::{MemSource, Room, Span};
 use uimg_blob_reading::{Blob, Key, index};
 
-// The keys, in the order of the documentation, with the names of their properties.
+// The keys but for those of signatures only, in the order of the documentation, with the names of
+// their properties.
 const KEYS: [(&str, Key); 24] = [
     ("description", Key::Description),
     ("timestamp", Key::Timestamp),
