@@ -27,7 +27,7 @@ bin/uimg: $(shell scripts/sources.sh uimg) bin/processor-$(CPU)
 bin/uimg_peers: $(shell scripts/sources.sh uimg_peers)
 	@scripts/build.sh uimg_peers
 
-## make demo     lists an image (IMAGE=path) in two minutes, proves the program, and lists it again
+## make demo     lists an image (IMAGE=path) in about a minute, proves the program, and lists it again
 demo:
 	@scripts/demo.sh $(IMAGE)
 
