@@ -89,9 +89,9 @@ fn block_end(place: u32, structure: u32, totalsize: u32) -> u32
     }
 }
 
-/// Reads the entries in the room's window. Returns `Endless` if the block begins within the header,
-/// or no entry of size 0 ends it before the structure block or the blob's end, and within 65536
-/// bytes.
+/// Reads the entries through the room's window. Returns `Endless` if the block begins within the
+/// header, or no entry of size 0 ends it before the structure block or the blob's end, and within
+/// 65536 bytes.
 pub(crate) fn read_reservations<S: Source, A: Allocator>(
     alloc: Global,
     source: &mut S,
