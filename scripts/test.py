@@ -1,7 +1,7 @@
 #!/usr/bin/env python3
 """test.py: the tests, which need no proof. The crates of tests are compiled with run-time checks,
 and run, side by side. So is the program, against which the command lines of cases/, README.md,
-docs/GUIDE.md, docs/JSON.md and the manual page are played; those that set limits which its checks
+docs/GUIDE.md, docs/JSON.md and the manual pages are played; those that set limits which its checks
 exceed are named, and left to the proved program. With it agree_test.py holds the commands together.
 
 It prints a line for each crate of tests and for the command lines, with what failed; then that
@@ -22,7 +22,8 @@ import try_build
 COUNTS = r"^(\d+) passed, (\d+) failed$"
 # What is printed of tests that ran to their end.
 ENDED = r"^run=ended status=0 .*proved=no$"
-PLAYED = [*sorted(glob.glob("cases/*.t")), "README.md", "docs/GUIDE.md", "docs/JSON.md", "docs/uimg.1"]
+MANUALS = sorted(glob.glob("docs/*.[137]"))
+PLAYED = [*sorted(glob.glob("cases/*.t")), "README.md", "docs/GUIDE.md", "docs/JSON.md", *MANUALS]
 
 
 def run(words, folder=".", **environment):
