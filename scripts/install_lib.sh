@@ -1,6 +1,6 @@
 #!/bin/sh
-# scripts/install_lib.sh ROOT PREFIX: installs the library of lib/, its headers, its manual page and its
-# pkg-config file below ROOT and PREFIX.
+# scripts/install_lib.sh ROOT PREFIX: installs the library of lib/, its headers, its manual page and
+# its pkg-config file below ROOT and PREFIX.
 to=$1$2
 version=$(sed -n 's/^pub const VERSION.*"\(.*\)".*/\1/p' crates/uimg_requests/src/version.rt)
 install -d "$to/lib/pkgconfig" "$to/include" "$to/share/man/man3" &&
