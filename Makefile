@@ -98,8 +98,9 @@ install: bin/uimg
 	for name in uimg-mkimage uimg-dumpimage $(if $(OLD_NAMES),mkimage dumpimage); do \
 		ln -sf uimg $(DESTDIR)$(PREFIX)/bin/$$name || exit; \
 	done
-	install -d $(DESTDIR)$(PREFIX)/share/man/man1
+	install -d $(DESTDIR)$(PREFIX)/share/man/man1 $(DESTDIR)$(PREFIX)/share/man/man7
 	install -m 644 docs/uimg.1 docs/uimg-mkimage.1 docs/uimg-dumpimage.1 $(DESTDIR)$(PREFIX)/share/man/man1
+	install -m 644 docs/uimg-faults.7 $(DESTDIR)$(PREFIX)/share/man/man7
 	scripts/install_completions.sh $(DESTDIR)$(PREFIX)/share $(if $(OLD_NAMES),mkimage dumpimage)
 	test -z "$(OLD_NAMES)" || scripts/install_wrappers.sh "$(DESTDIR)$(PREFIX)"
 	test ! -f lib/libuimg.a || scripts/install_lib.sh "$(DESTDIR)" "$(PREFIX)"

@@ -88,11 +88,11 @@ The wrappers find the program that is installed with them:
   mkimage version 2023.01
   uimg 0.1.0
 
-The manual page and the package have the program's version:
+The manual pages and the package have the program's version:
 
   $ version=$(uimg --version)
-  $ head -n 1 "$top/docs/uimg.1" | cut -d '"' -f 2 | sed "s/^$version$/the same/"
-  the same
+  $ head -q -n 1 "$top"/docs/*.[1-8] | cut -d '"' -f 2 | sed "s/^$version$/the same/" | uniq -c | sed 's/^ *//'
+  5 the same
   $ head -n 1 "$top/debian/changelog" | sed "s/^uimg (${version#uimg }) .*/the same/"
   the same
 

@@ -259,15 +259,12 @@ def check_checks(images):
 
 def check_faults():
     """Each fault has the line of the manual page."""
-    page = open("docs/uimg.1", encoding="utf-8").read().replace("\\-", "-")
-    page += "".join(f"S{number} {word}\n" for number, word in enumerate(LOOSE, 1))
+    page = open("docs/uimg-faults.7", encoding="utf-8").read().replace("\\-", "-")
     for letter, count in (("L", 10), ("B", 11), ("F", 10), ("S", 16)):
         for number in range(count + 2):
             line = uimg._text(uimg._library.uimg_fault_line, ord(letter) * 256 + number)
             is_one = 1 <= number <= count
-            # (B10 comes only from making, where the program prints it otherwise)
-            is_known = line in page or line == "B10 too large"
-            case(f"line of {letter}{number}", is_known and line.startswith(f"{letter}{number} ") if is_one else not line, line)
+            case(f"line of {letter}{number}", line in page and line.startswith(f"{letter}{number} ") if is_one else not line, line)
     case("no fault", uimg._text(uimg._library.uimg_fault_line, 0) == "")
 
 

@@ -8,7 +8,8 @@ A FILE is one of these:
          its output, standard output and standard error in order, and '[N]' if its status N is not 0.
          '(esc)', '(re)', '(glob)' and '(no-eol)' at the end of a line are cram's. All other lines are
          prose.
-  *.1    a manual page: the blocks between '.nf' and '.fi' in which a line begins with '$ '.
+  *.1 *.3 *.7
+         a manual page: the blocks between '.nf' and '.fi' in which a line begins with '$ '.
   other  a text as README.md: the blocks that are fenced or indented by four blanks, in which a line
          begins with '$ '. The output of a command follows it, up to the next command or the end of the
          block; a line '[..]' replaces any lines.
@@ -18,7 +19,8 @@ Commands that begin with make, git, apt, apt-get, sudo or rt are not played.
 
 Each file is played by one sh in an empty folder of its own, with PATH beginning with the folder of
 PROGRAM, and TESTDIR the folder of the file. For a text, the folder has bin/uimg, which is the program,
-and a copy of examples/; for a manual page, it has the files of examples/ themselves.
+and a copy of examples/; for a manual page, it has the files of examples/ themselves, and PATH has the
+program as uimg-mkimage and uimg-dumpimage too.
 With --tried, PROGRAM is a build with run-time checks, which takes more memory and stack, and opens
 more files. A command that limits these with ulimit, or calls a function that does, is not played, nor
 are those after it up to the next line of prose; a line names them.
@@ -41,6 +43,8 @@ import time
 LIMIT = 300
 
 NOT_PLAYED = {"make", "git", "apt", "apt-get", "sudo", "rt"}
+
+MANUAL_ENDS = (".1", ".3", ".7")
 
 
 class Case:
@@ -241,27 +245,30 @@ def end(shell, at_once):
     shell.wait()
 
 
-def prepare(room, path, program):
-    """Puts the files into the folder in which a text or a manual page is played."""
+def prepare(room, names, path, program):
+    """Puts the files into the folder in which a text or a manual page is played, and the other names
+    of the program into a folder for them."""
     examples = os.path.join(os.path.dirname(os.path.abspath(__file__)), "..", "examples")
-    if path.endswith(".1"):
+    if path.endswith(MANUAL_ENDS):
         shutil.copytree(examples, room, dirs_exist_ok=True)
+        for name in ("uimg-mkimage", "uimg-dumpimage"):
+            os.symlink(program, os.path.join(names, name))
     elif not path.endswith(".t"):
         shutil.copytree(examples, os.path.join(room, "examples"))
         os.mkdir(os.path.join(room, "bin"))
         shutil.copy2(program, os.path.join(room, "bin", "uimg"))
 
 
-def environment(path, program):
+def environment(path, program, names):
     kept = {name: os.environ[name] for name in ("HOME", "USER") if name in os.environ}
     return kept | {
-        "PATH": os.path.dirname(program) + ":" + os.environ.get("PATH", "/usr/bin:/bin"),
+        "PATH": ":".join((os.path.dirname(program), names, os.environ.get("PATH", "/usr/bin:/bin"))),
         "TESTDIR": os.path.dirname(os.path.abspath(path)),
         "LANG": "C.UTF-8",
     }
 
 
-def play_all(path, program, cases, room):
+def play_all(path, program, cases, room, names):
     """Plays the cases in a folder. Returns the differences."""
     mark = "played %d %f" % (os.getpid(), time.time())
     script = os.path.join(room, "..", "script")
@@ -271,7 +278,7 @@ def play_all(path, program, cases, room):
     shell = subprocess.Popen(
         ["sh", script],
         cwd=room,
-        env=environment(path, program),
+        env=environment(path, program, names),
         stdin=subprocess.DEVNULL,
         stdout=subprocess.PIPE,
         stderr=subprocess.STDOUT,
@@ -295,16 +302,17 @@ def play(path, program, is_tried):
     if path.endswith(".t"):
         cases = transcript(lines)
     else:
-        blocks = manual_blocks(lines) if path.endswith(".1") else text_blocks(lines)
+        blocks = manual_blocks(lines) if path.endswith(MANUAL_ENDS) else text_blocks(lines)
         cases = [case for block in blocks for case in block_cases(block)]
     mark_limits(cases if path.endswith(".t") else [])
     left = [case for case in cases if is_tried and case.is_limited]
     cases = [case for case in cases if case not in left]
     with tempfile.TemporaryDirectory(prefix="play-") as folder:
-        room = os.path.join(folder, "room")
+        room, names = os.path.join(folder, "room"), os.path.join(folder, "names")
         os.mkdir(room)
-        prepare(room, path, program)
-        return len(cases), play_all(path, program, cases, room), ["%s:%d" % (path, case.line) for case in left]
+        os.mkdir(names)
+        prepare(room, names, path, program)
+        return len(cases), play_all(path, program, cases, room, names), ["%s:%d" % (path, case.line) for case in left]
 
 
 def main(words):

@@ -30,7 +30,8 @@ import prove
 WORK = "out/release"
 # The files of a release, until all are made.
 PACKED = f"{WORK}/packed"
-MANUALS = ("uimg.1", "uimg-mkimage.1", "uimg-dumpimage.1")
+MANUALS = ("uimg.1", "uimg-mkimage.1", "uimg-dumpimage.1", "uimg-faults.7")
+LIBRARY_MANUALS = ("libuimg.3",)
 NAMES = ("uimg", "uimg-mkimage", "uimg-dumpimage")
 COMPLETIONS = {
     **{f"{it}.bash": f"bash-completion/completions/{it}" for it in NAMES},
@@ -90,7 +91,7 @@ def version():
 def check_version():
     """Refuses a release if a document has another version than the program."""
     found = {"CHANGELOG.md": r"\n## (\S+) - \d{4}-\d\d-\d\d\n", "debian/changelog": r"^uimg \((.*)\) ", "README.md": r"uimg-([\d.]+)-"}
-    found |= {f"docs/{it}": r'^\.TH .* "uimg (.*)" "' for it in MANUALS}
+    found |= {f"docs/{it}": r'^\.TH .* "uimg (.*)" "' for it in (*MANUALS, *LIBRARY_MANUALS)}
     for path, pattern in found.items():
         with open(path, encoding="utf-8") as file:
             its = re.search(pattern, file.read())
@@ -161,6 +162,7 @@ def papers(what):
     return {f"share/doc/{what}/{it}": it for it in PAPERS}
 
 
+<<<<<<< HEAD
 def documents():
     """Yields the paths of the documents and examples that the Debian package has."""
     for path in ("debian/uimg.docs", "debian/uimg.examples"):
@@ -168,12 +170,17 @@ def documents():
             for pattern in file.read().split():
                 for it in glob.glob(pattern):
                     yield from glob.glob(f"{it}/*") if os.path.isdir(it) else [it]
+=======
+def manuals(pages):
+    """Returns manual pages as they are below a prefix, each in the folder of its section."""
+    return {f"share/man/man{it[-1]}/{it}": f"docs/{it}" for it in pages}
+>>>>>>> 4a8e1d6737b529da76d6155c633bcb7467f38c3c
 
 
 def program_files(machine):
     """Returns the files of the program, as they are below a prefix."""
     files = {"bin/uimg": f"{machine.folder}/uimg", "bin/uimg-mkimage": Link("uimg"), "bin/uimg-dumpimage": Link("uimg")}
-    files |= {f"share/man/man1/{it}": f"docs/{it}" for it in MANUALS}
+    files |= manuals(MANUALS)
     files |= {f"share/{to}": f"completions/{it}" for it, to in COMPLETIONS.items()}
     files |= {f"lib/uimg/{it}": it for it in glob.glob("wrappers/*")}
     files |= {f"share/doc/uimg/{it}": it for it in documents()}
@@ -189,6 +196,7 @@ def library_files(machine):
     files = {f"lib/{it}": f"{machine.folder}/lib/{it}" for it in ("libuimg.a", "libuimg_block.a", "libuimg.so.0")}
     files |= {"lib/libuimg.so": Link("libuimg.so.0"), "lib/pkgconfig/libuimg.pc": text.encode()}
     files |= {f"include/{it}": f"include/{it}" for it in ("uimg.h", "uimg_block.h")}
+    files |= manuals(LIBRARY_MANUALS)
     return files | papers("libuimg") | {"share/doc/libuimg/LIBRARY.md": "docs/LIBRARY.md"}
 
 

@@ -23,7 +23,8 @@ import try_build
 COUNTS = r"^(\d+) passed, (\d+) failed$"
 # What is printed of tests that ran to their end.
 ENDED = r"^run=ended status=0 .*proved=no$"
-PLAYED = [*sorted(glob.glob("cases/*.t")), "README.md", "docs/GUIDE.md", "docs/JSON.md", "docs/uimg.1"]
+MANUALS = sorted(glob.glob("docs/*.[137]"))
+PLAYED = [*sorted(glob.glob("cases/*.t")), "README.md", "docs/GUIDE.md", "docs/JSON.md", *MANUALS]
 
 
 def run(words, folder=".", **environment):
