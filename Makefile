@@ -79,7 +79,7 @@ lib-test: lib/libuimg.a bin/uimg
 	@scripts/needs.sh python3 cc
 	@python3 scripts/lib_test.py bin/uimg lib
 
-## make json-test   checks `uimg check --json`, `info` and `unpack --json` by the schemas of docs/JSON.md, with
+## make json-test   validates `uimg check --json`, `info` and `unpack --json` by docs/*.schema.json, with
 ##               python3-jsonschema
 json-test: bin/uimg
 	@scripts/needs.sh python3
@@ -120,13 +120,13 @@ arm64-test:
 	@CPU=$(ASKED) python3 scripts/release.py --programs
 	@python3 scripts/arm64_test.py out/release
 
-## make peers    compares the program with the real mkimage, dumpimage and dtc, if installed, and its
-##               commands with each other on hostile images
+## make peers    compares the program with the real mkimage, dumpimage and dtc, and its commands with each
+##               other on hostile images; prints the table for docs/PEERS.md
 peers: bin/uimg bin/uimg_peers
 	@scripts/needs.sh python3
-	python3 peers/peers.py bin/uimg bin/uimg_peers
-	python3 peers/strict.py bin/uimg
-	python3 peers/hostile.py bin/uimg
+	@python3 peers/peers.py bin/uimg bin/uimg_peers
+	@python3 peers/strict.py bin/uimg
+	@python3 peers/hostile.py bin/uimg
 
 ## make uboot-tests   runs U-Boot's own tests with its tools, with the program by their names, and with
 ##               the wrappers; fetches and compiles U-Boot of Debian's source package, in out/uboot

@@ -6,13 +6,14 @@ Debian's flash-kernel, and a makefile with a variable. A caller passes if its im
 it makes with U-Boot's mkimage. Where the setting has no effect, the caller finds a mkimage that
 fails.
 
-Boards: full builds of boards of U-Boot.
-
-A board is compiled once with U-Boot's tools. tools/mkimage and tools/dumpimage of its build folder are
-callers, newer than their sources, so make leaves them; they log each call with its time. For each way
-to call the tools, all files that were written since the first call are removed, except objects,
-archives and headers, and make has to make them anew. Then each file of the build folder, removed or
-not, has to be as after the first build. The remake with U-Boot's tools is the control."""
+Boards: full builds of boards of U-Boot 2023.01 with Debian's cross compilers, under one
+SOURCE_DATE_EPOCH. A stand-in replaces the trusted firmware; other firmware is missing. A board is
+compiled once with U-Boot's tools. tools/mkimage and tools/dumpimage of its build folder are scripts,
+newer than their sources, so make leaves them; they call the tool of a way and log the call with its
+time. For each way, all files that were written since the first call are removed, except objects,
+archives, headers and make's .cmd files, and make must make them anew. A board passes if make succeeds
+and each file of the build folder is as after the first build: byte for byte, or, if it holds FITs, by
+its bytes outside of them and by their trees. The remake with U-Boot's tools is the control."""
 
 import glob
 import hashlib

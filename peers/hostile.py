@@ -2,15 +2,20 @@
 """hostile.py UIMG [COUNT]: reads hostile images with every command, and holds the answers together.
 
 It makes COUNT images (20000) from a seed: mutations of the examples, of the files of cases/, and of
-images that `uimg mkimage` makes, and images from nothing: FITs with odd nodes, cells, names, hashes
+images that `uimg mkimage` builds, and images from nothing: FITs with odd nodes, cells, names, hashes
 and headers, and legacy images with odd headers and tables. Each goes through check, check --strict,
-verify, info, map and unpack. A finding is a signal, a hang, a status that none has, a file outside
-the folder of unpack, one that a refused unpack leaves or one with other bytes than the payload, a
-control character in a line, an answer that is another one in a second run or as JSON, and two
-commands whose answers contradict each other.
+verify, info, map and unpack. No peer is needed. These are findings:
 
-It prints a table of the counts, and the first findings; the smallest image of each is kept in
-out/hostile."""
+  - a signal, a status other than 0 and 1, or no end within a minute
+  - a control character in a line (names in the lines of verify excepted)
+  - two commands that contradict each other: all must report the same fault, or none; what check
+    finds right, unpack must write, byte for byte what info lists; check --strict must find nothing
+    right that check does not
+  - a file outside the folder of unpack, or one that a refused unpack leaves
+  - a second run, or the JSON, that differs
+
+It prints rows of the table of docs/PEERS.md, and the first findings. The smallest image of each is
+kept in out/hostile."""
 import collections
 import concurrent.futures
 import glob
@@ -27,6 +32,7 @@ import zlib
 
 import fit
 import strict
+from counting import row
 
 TOP = os.path.dirname(os.path.dirname(os.path.abspath(__file__)))
 sys.path.insert(0, os.path.join(TOP, "scripts"))
@@ -330,8 +336,6 @@ def main():
     if os.path.exists("/tmp/uimg-hostile"):
         sys.exit("/tmp/uimg-hostile exists, which some images name")
     unknown, number = [], 0
-    print("| Hostile images | Number | Check says ok | Findings |")
-    print("|---|---|---|---|")
     with tempfile.TemporaryDirectory() as room:
         reader = Reader(uimg, room)
         for kind, images in kinds_of(uimg, count):
@@ -341,8 +345,8 @@ def main():
                 right, found = right + ok, found + some
             number += len(images)
             unknown += found
-            print(f"| {kind} | {len(images)} | {right} | {len(found)} |", flush=True)
-    print("\n--strict: " + ", ".join(f"{word} {times}" for word, times in sorted(reader.words.items())))
+            row(f"hostile images, {kind}", len(images), len(found), f"{right} are ok")
+    print("--strict: " + ", ".join(f"{word} {times}" for word, times in sorted(reader.words.items())), file=sys.stderr)
     if unknown:
         keep(unknown)
     return 1 if unknown else 0

@@ -1,19 +1,31 @@
 #!/usr/bin/env python3
-"""Compares uimg with the real mkimage and dumpimage, if u-boot-tools is installed.
+"""Compares uimg with the real mkimage, dumpimage and dtc: peers.py UIMG UIMG_PEERS
 
-It makes legacy images of every type with the real mkimage, and shows that uimg lists the same
-fields, verifies them, and unpacks them to the original bytes. Then it builds images of every type,
-architecture, operating system and compression with both, and shows that they are the same byte for
-byte, and that the real tools accept them.
+It needs u-boot-tools and device-tree-compiler, and installs nothing. It prints rows of the table of
+docs/PEERS.md, and the first differences:
 
-If dtc is installed too, it makes FIT images with the real mkimage, which needs it, and shows that
-uimg lists the same facts, finds every hash right, unpacks their payloads, and finds the hashes of a
-changed payload wrong. It builds the same FIT images from their sources with both, and shows that
-the trees are the same, that every hash is that of the digest tools, and that the real tools list
-and unpack uimg's images. It compares the compiling of image-tree source with dtc, and runs command
-lines of mkimage and dumpimage with both, under their names.
-
-It prints tables of what was compared, and every difference; it installs nothing.
+  legacy images read   mkimage builds images of each type with seven sets of codes, three names, three
+                       times and three pairs of addresses. The listings are compared line by line,
+                       without mkimage's `Offset` lines for scripts. uimg verifies each image. Each
+                       part that uimg extracts is compared with the input and, except for scripts,
+                       with what dumpimage extracts.
+  legacy images built  each architecture, system and compression of the tables for each type, with
+                       varying names, times, addresses, numbers of parts and data. Both build it with
+                       the same arguments and SOURCE_DATE_EPOCH. The images are compared byte for
+                       byte, the listings line by line; mkimage and dumpimage list uimg's image. For
+                       the system tee the addresses and the header's CRC are not compared, since
+                       mkimage takes them from an OP-TEE header that it expects in the data.
+  FIT images read      60 FITs from a seed (fit.py), each built by mkimage with its payloads inside,
+                       after the tree, and from an offset on. The listings are compared line by line
+                       where both print the same fact, uimg verifies each hash node, each extracted
+                       payload is compared with the input, and with the first or last byte of one
+                       payload changed `uimg verify` must print `bad` for its hash nodes only.
+  FIT images built     60 more, built by both from the same source (fit_builds.py)
+  sources              image-tree sources from seeds, compiled by uimg_peers and dtc: those of the
+                       profile of `uimg mkimage` (its.py), and those in dtc's whole language (dts.py)
+  command lines        of mkimage and dumpimage, by their names (old_names.py, dtc_rows.py)
+  signed FIT images    by the wrapper, and by mkimage only (signed.py)
+  README's example     dumpimage lists and extracts the changed image with status 0
 """
 
 import itertools
@@ -29,7 +41,7 @@ import dts
 import its
 import old_names
 import signed
-from counting import Count, output
+from counting import Count, heading, output, row
 
 SINGLE = ["standalone", "kernel", "ramdisk", "firmware", "filesystem", "kernel_noload"]
 PARTS = ["multi", "script"]
@@ -215,10 +227,8 @@ def print_sources(own):
         print("\npeers: dtc is not installed (Debian: device-tree-compiler); no source was compared")
         return []
     same, refused = compare_sources(own)
-    print("\n| Sources that both compile | Differences | Sources that one refuses | Differences |")
-    print("|---|---|---|---|")
-    row = [same.images, len(same.differences), refused.images, len(refused.differences)]
-    print(f"| {' | '.join(str(value) for value in row)} |", flush=True)
+    row("sources of the profile, compiled by both", same.images, len(same.differences))
+    row("sources that one of both refuses", refused.images, len(refused.differences), "each with its reason in `its.py`")
     return same.differences + refused.differences
 
 
@@ -235,9 +245,7 @@ def print_whole_sources(own):
             found, both = dts.difference(folder, own, "source.dts")
             count.expect(f"whole language, {name}", found, None)
             compiled += both
-    print("\n| Sources in the whole language | Compiled by both | Differences |")
-    print("|---|---|---|")
-    print(f"| {count.images} | {compiled} | {len(count.differences)} |", flush=True)
+    row("sources in dtc's whole language", count.images, len(count.differences), f"{compiled} are compiled by both")
     return count.differences
 
 
@@ -297,13 +305,11 @@ def print_fits(uimg):
     if shutil.which("dtc") is None:
         print("\npeers: dtc is not installed (Debian: device-tree-compiler); no FIT was compared")
         return []
-    print("\n| Payloads of a FIT | Images read, in 60 FITs | Differences | Images built by both | Differences |")
-    print("|---|---|---|---|---|")
     differences = []
     for name, placement in PLACEMENTS:
         read, made = compare_fits(uimg, placement), fit_builds.compare_builds(uimg, placement)
-        row = [read.images, len(read.differences), made.images, len(made.differences)]
-        print(f"| {name} | {' | '.join(str(value) for value in row)} |", flush=True)
+        row(f"payloads of 60 FIT images read, {name}", read.images, len(read.differences))
+        row(f"payloads of 60 FIT images built by both, {name}", made.images, len(made.differences))
         differences += read.differences + made.differences
     return differences
 
@@ -311,9 +317,7 @@ def print_fits(uimg):
 def print_lines(uimg):
     """Prints the table of command lines with the old names."""
     count, known = old_names.compare(uimg)
-    print("\n| Command lines by the old names | Differences | Different for a listed reason |")
-    print("|---|---|---|")
-    print(f"| {count.images} | {len(count.differences)} | {known} |", flush=True)
+    row("command lines by the old names", count.images, len(count.differences), f"{known} differ for a reason in `old_names.py`")
     return count.differences
 
 
@@ -323,8 +327,27 @@ def print_signed(uimg):
         print("\npeers: openssl or dtc is not installed; no signed image was compared")
         return []
     count = signed.compare(uimg)
-    print("\n| FIT images signed by the wrapper | Differences |\n|---|---|")
-    print(f"| {count.images} | {len(count.differences)} |", flush=True)
+    row("FIT images signed by the wrapper", count.images, len(count.differences))
+    return count.differences
+
+
+def print_example(uimg):
+    """Prints the row of README's example: a FIT image with a changed byte of its payload, which the
+    real dumpimage lists and extracts with status 0. Returns the differences."""
+    count = Count()
+    count.images += 1
+    source = os.path.join(os.path.dirname(os.path.abspath(__file__)), "..", "examples", "kernel.its")
+    with tempfile.TemporaryDirectory() as folder:
+        image, payload = (os.path.join(folder, name) for name in ("changed.itb", "payload"))
+        status, _ = output([uimg, "mkimage", "-f", source, image])
+        with open(image, "r+b") as file:
+            file.seek(168)
+            file.write(b"X")
+        found = [status, output([uimg, "verify", image])[0], output(["dumpimage", "-l", image])[0]]
+        found += [output(["dumpimage", "-T", "flat_dt", "-p", "0", "-o", payload, image])[0]]
+        with open(payload, "rb") as file:
+            count.expect("README's example", (found, file.read()), ([0, 1, 0, 0], b"Xbc"))
+    row("README's example", count.images, len(count.differences))
     return count.differences
 
 
@@ -333,19 +356,20 @@ def main():
     if shutil.which("mkimage") is None:
         print("peers: mkimage is not installed (Debian: u-boot-tools); nothing was compared")
         return
-    print("| Type | Images read | Differences | Images built by both | Differences |")
-    print("|---|---|---|---|---|")
+    heading()
     differences = []
-    for kind in SINGLE + PARTS:
-        read, made = compare_reading(uimg, kind), compare_builds(uimg, kind)
-        row = [read.images, len(read.differences), made.images, len(made.differences)]
-        print(f"| {kind} | {' | '.join(str(value) for value in row)} |", flush=True)
-        differences += read.differences + made.differences
+    for what, compare_type in (("read", compare_reading), ("built by both", compare_builds)):
+        counts = [compare_type(uimg, kind) for kind in SINGLE + PARTS]
+        found = [it for count in counts for it in count.differences]
+        number = sum(count.images for count in counts)
+        row(f"legacy images {what}", number, len(found), f"{number // len(counts)} of each of {len(counts)} types")
+        differences += found
     differences += print_fits(uimg)
     differences += print_sources(own)
     differences += print_whole_sources(own)
     differences += print_lines(uimg)
     differences += print_signed(uimg)
+    differences += print_example(uimg)
     for what, here, there in differences[:10]:
         print(f"\n{what}\n  uimg: {str(here)[:400]}\n  peer: {str(there)[:400]}")
     sys.exit(1 if differences else 0)

@@ -1,9 +1,11 @@
-"""FIT images with signatures: by the wrapper, for which uimg makes the image and mkimage signs it, and
-by mkimage alone, with the same keys.
+"""FIT images with signatures: by the wrapper, for which uimg builds the image and `mkimage -F` signs
+it, and by mkimage only, with the same keys.
 
-The trees are compared, sorted by name, with the signature of each image; of the signatures of
-configurations only that there is one, since they cover the order of properties. So are the payloads
-after the tree, and the public keys that are written to a device tree.
+There are five algorithms, images with and without signed configurations, four placements of the
+payloads, keys of a folder, of a file and none, a comment, and public keys that are written to a
+device tree. The trees are compared, sorted by name, with the signature of each image, the payloads
+after the tree, and the public keys. Of the signature of a configuration only the presence is
+compared, since it covers the order of properties, which differs.
 """
 
 import itertools

@@ -3,12 +3,14 @@
 
 It makes FIT images from a seed, most with something that U-Boot reads in another way than it looks:
 names with a unit address, doubled nodes and properties, cells of other lengths, a payload given
-twice, hash nodes that are ignored, a root without its properties. Then it mutates some of them.
-`uboot_fit.c`, over libfdt, lists what U-Boot finds in each. Where `uimg check --strict` says ok,
-U-Boot has to take the image, and to find the payloads that `uimg info` lists, in the same order,
-at the same offsets and of the same sizes, and to compare the same hash nodes.
+twice or half, hash nodes that are ignored, a root without its properties. Then it mutates bytes of
+their headers, structure blocks and strings blocks. `uboot_fit.c` lists what U-Boot finds in each by
+U-Boot's rules, over libfdt. Where `uimg check --strict` prints ok, U-Boot must take the image, find
+the payloads that `uimg info` lists, in the same order, at the same offsets and of the same sizes,
+and compare the same hash nodes.
 
-It prints a table of the counts, and the first differences. It needs a C compiler and libfdt-dev."""
+It prints rows of the table of docs/PEERS.md, and the first differences; the verdicts are counted on
+standard error. It needs a C compiler and libfdt-dev."""
 import base64
 import collections
 import hashlib
@@ -21,6 +23,8 @@ import subprocess
 import sys
 import tempfile
 import zlib
+
+from counting import row
 
 SEED = 20231
 MADE, MUTATED = 1000, 10000
@@ -243,15 +247,13 @@ def main():
         if compiler is None or subprocess.run([compiler, "-std=gnu11", "-O1", "-o", program, source, "-lfdt"], check=False, capture_output=True).returncode:
             print("strict: a C compiler or libfdt-dev is not installed; nothing was compared")
             return 0
-        print("| FIT images | Number | Strict says ok | Differences |")
-        print("|---|---|---|---|")
         words, differences = collections.Counter(), []
         for kind, paths in zip(("made", "mutated"), make(folder, made, mutated)):
             found, differ = compare(uimg, program, paths)
-            print(f"| {kind} | {len(paths)} | {found['ok']} | {len(differ)} |", flush=True)
+            row(f"FIT images for `check --strict`, {kind}", len(paths), len(differ), f"{found['ok']} are ok")
             words += found
             differences += differ
-        print("\n" + ", ".join(f"{word} {count}" for word, count in sorted(words.items())))
+        print(", ".join(f"{word} {count}" for word, count in sorted(words.items())), file=sys.stderr)
         for path, here, there in differences[:5]:
             print(f"\n{path}\n  uimg:   {here}\n  U-Boot: {there}")
     return 1 if differences else 0
