@@ -95,13 +95,3 @@ The manual pages and the package have the program's version:
   5 the same
   $ head -n 1 "$top/debian/changelog" | sed "s/^uimg (${version#uimg }) .*/the same/"
   the same
-
-The manual pages of the old names have that version too, and describe each option of mkimage's help:
-
-  $ for name in mkimage dumpimage; do head -n 1 "$top/docs/uimg-$name.1" | cut -d '"' -f 2 | sed "s/^$version$/the same/"; done
-  the same
-  the same
-  $ ln -s "$(command -v uimg)" mkimage
-  $ ./mkimage -h | grep -o -e '--[a-z-]*' | while read -r option; do
-  >   sed 's/\\//g' "$top/docs/uimg-mkimage.1" | grep -q -e "$option" || echo "$option"
-  > done

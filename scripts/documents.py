@@ -7,7 +7,7 @@
 - Each command's options in its help, its manual page and its completions are the same.
 - Each line of a fault is in uimg-faults(7), with its code, and no document has a code that does not
   exist.
-- Each figure of FIGURES has one value, wherever it stands.
+- Each figure of FIGURES has one value in all documents, and dates are those of the version.
 - No document has a phrase of HABITS.
 - mandoc finds nothing in a manual page, if it is installed.
 
@@ -24,11 +24,13 @@ MANUALS = sorted(glob.glob("docs/*.[1-8]"))
 TEXTS = ["README.md", "SECURITY.md", "CHANGELOG.md", "CONTRIBUTING.md", *sorted(glob.glob("docs/*.md")), "bench/TABLE.md"]
 # Endings of names that are files of this tree.
 FILE = re.compile(r"(?<![\w/.*-])((?:[\w.-]+/)*[\w-]+\.(?:rt|antt|py|sh|t|md|schema\.json|svg|c|h|txt))(?![\w/*])")
-# Files that examples make, and that belong to others.
+# Files that examples make, and those of U-Boot, Linux and C.
 NOT_HERE = re.compile(
-    r"^(?:map|layout|kernel|SHA256SUMS|PROVED|results|fdt_\w+|image-fit|hash|image|fit_image|fit_common|"
-    r"imagetool|rust|program|report|libfdt|stdint|stddef|elf|mkuboot|flash-kernel|getopt)\.(?:svg|txt|c|h|sh|md)$"
+    r"^(?:map|layout|boot|PROVED|fdt_\w+|image-fit|hash|image|fit_image|imagetool|libfdt|stdint|stddef|stdio|mkuboot|"
+    r"test_\w+)\.(?:svg|txt|c|h|sh|py)$"
 )
+# Targets of U-Boot's and Linux's Makefiles that documents name.
+TARGETS = {"tools", "uImage"}
 # Options of other programs that documents name.
 OTHERS = set(
     "--sshlogin --jobs --bar --nice --undefined --stage-times --progress --library-path --only --cpu --target --prefix "
@@ -45,7 +47,6 @@ FIGURES = {
     "bytes of memory for each node": (r"(\d+) (?:bytes )?for each node of a FIT", r"(\d+) bytes a node"),
     "memory of a proof, in GB": (r"(\d) GB of memory for each proof",),
     "levels that sources nest": (r"at most (\d+) levels deep",),
-    "wrong bodies that the gate tries": (r"all proofs, (\d+) wrong bodies",),
 }
 HABITS = re.compile(
     r"\b(?:another one than|has to be|have to be|has to|have to|is told|are told|was told|asked for|of which|"
@@ -96,7 +97,7 @@ def files():
     for path in glob.glob("crates/**/*", recursive=True):
         parts = path.split("/")
         ends |= {"/".join(parts[at:]) for at in range(len(parts))}
-    targets = set(re.findall(r"(?m)^([\w-]+):", read("Makefile"))) | {"install", "clean"}
+    targets = set(re.findall(r"(?m)^([\w-]+):", read("Makefile"))) | TARGETS
     for path in [*TEXTS, *MANUALS]:
         for number, line in enumerate(plain(path).split("\n"), 1):
             for it in FILE.findall(line):
@@ -189,6 +190,21 @@ def figures(program):
         hold(len(found) < 2, f"{name}: {'; '.join(f'{value} in {path}' for value, path in sorted(found.items()))}")
 
 
+def dates():
+    """Manual pages and packages have the date of their version in CHANGELOG.md."""
+    date = re.search(r"(?m)^## \S+ - (\d{4})-(\d\d)-(\d\d)$", read("CHANGELOG.md"))
+    for path in MANUALS:
+        hold("-".join(date.groups()) in read(path).split("\n")[0], f"{path}: its date is not that of CHANGELOG.md")
+    month = "Jan Feb Mar Apr May Jun Jul Aug Sep Oct Nov Dec".split()[int(date[2]) - 1]
+    hold(f" {date[3]} {month} {date[1]} " in read("debian/changelog"), "debian/changelog: its date is not that of CHANGELOG.md")
+
+
+def sentinels():
+    """CONTRIBUTING has the number of wrong bodies that the gate tries."""
+    count = len([it for it in read("scripts/sentinels.txt").split("\n") if it and not it.startswith("#")])
+    hold(f" {count} wrong bodies" in read("CONTRIBUTING.md"), f"CONTRIBUTING.md: the gate tries {count} wrong bodies")
+
+
 def habits():
     for path in [*TEXTS, *MANUALS]:
         for number, line in enumerate(plain(path).split("\n"), 1):
@@ -212,6 +228,8 @@ def main(words):
     options(program)
     faults()
     figures(program)
+    dates()
+    sentinels()
     habits()
     lint()
     print("\n".join([*wrong, f"{passed} passed, {len(wrong)} failed"]))
