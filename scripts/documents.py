@@ -26,7 +26,7 @@ TEXTS = ["README.md", "SECURITY.md", "CHANGELOG.md", "CONTRIBUTING.md", *sorted(
 FILE = re.compile(r"(?<![\w/.*-])((?:[\w.-]+/)*[\w-]+\.(?:rt|antt|py|sh|t|md|schema\.json|svg|c|h|txt))(?![\w/*])")
 # Files that examples make, and those of U-Boot, Linux and C.
 NOT_HERE = re.compile(
-    r"^(?:map|layout|boot|PROVED|fdt_\w+|image-fit|hash|image|fit_image|imagetool|libfdt|stdint|stddef|stdio|mkuboot|"
+    r"^(?:map|layout|kernel|boot|PROVED|fdt_\w+|image-fit|hash|image|fit_image|imagetool|libfdt|stdint|stddef|stdio|mkuboot|"
     r"test_\w+)\.(?:svg|txt|c|h|sh|py)$"
 )
 # Targets of U-Boot's and Linux's Makefiles that documents name.
