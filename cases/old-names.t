@@ -537,3 +537,8 @@ Helps:
   $ mkimage --help | head -n 1 && dumpimage -h | head -n 1
   Make a U-Boot image, or list one (uimg under the name of mkimage)
   List a U-Boot image, or extract a part of it (uimg under the name of dumpimage)
+  $ mkimage -h | grep -A 3 'signature node'
+  With -f auto, -g name and -o algorithm give each image a signature node in place of
+  its checksum, without a value. Nothing is signed: -G -k -K -N are refused for FIT
+  images, and so is -g if a file has that name. Without effect: -v, -r, -c comment
+  and -R name.

@@ -9,7 +9,7 @@
   exist.
 - Each figure of FIGURES has one value in all documents, and dates are those of the version.
 - No document has a phrase of HABITS.
-- mandoc finds nothing in a manual page, if it is installed.
+- mandoc and man find nothing in a manual page, if they are installed.
 
 It prints a line for what is wrong; the last is 'N passed, M failed'."""
 import glob
@@ -213,11 +213,12 @@ def habits():
 
 
 def lint():
-    if not shutil.which("mandoc"):
-        print("manual pages were not checked: apt install mandoc")
+    if not shutil.which("mandoc") or not shutil.which("man"):
+        print("manual pages were not checked: apt install mandoc man-db")
         return
     for path in MANUALS:
         said = printed("mandoc", "-Tlint", "-Wall", path)
+        said += printed("sh", "-c", f"LC_ALL=C.UTF-8 MANROFFSEQ= MANWIDTH=80 man --warnings -E UTF-8 -l -Tutf8 -Z {path} 2>&1 > /dev/null")
         hold(not said, said.rstrip())
 
 
