@@ -54,17 +54,6 @@ HABITS = re.compile(
 )
 CODE = re.compile(r"(?<![\w-])([LBFIS])(\d{1,2})(?![\w.-])")
 
-passed, wrong = 0, []
-
-
-def hold(is_right, text):
-    """Counts a fact, and notes the text if it is wrong."""
-    global passed
-    passed += bool(is_right)
-    if not is_right and text not in wrong:
-        wrong.append(text)
-
-
 def read(path):
     with open(path, encoding="utf-8") as file:
         return file.read()
@@ -91,7 +80,7 @@ def printed(*words):
     return told.stdout.decode(errors="replace")
 
 
-def files():
+def files(_program):
     """Each file and target that a document names exists."""
     ends = {""}
     for path in glob.glob("crates/**/*", recursive=True):
@@ -103,9 +92,9 @@ def files():
             for it in FILE.findall(line):
                 is_there = os.path.exists(it) or os.path.exists(f"docs/{it}") or it in ends or f"{os.path.dirname(path)}/{it}" in ends
                 is_there = is_there or any(os.path.exists(f"{top}/{it}") for top in ("cases", "scripts", "bench", "peers", "examples", "include", "library"))
-                hold(is_there or NOT_HERE.match(it.rpartition("/")[2]), f"{path}:{number}: there is no file {it}")
+                yield (is_there or NOT_HERE.match(it.rpartition("/")[2]), f"{path}:{number}: there is no file {it}")
             for it in re.findall(r"(?:`|^ {4,})make ([a-z][\w-]*)", line):
-                hold(it in targets, f"{path}:{number}: there is no target {it}")
+                yield (it in targets, f"{path}:{number}: there is no target {it}")
 
 
 def options_of(text):
@@ -145,20 +134,20 @@ def options(program):
     for command, own in by_command.items():
         page = "docs/uimg.1" if command.startswith("uimg ") else f"docs/{command}.1"
         there = manual_options(page, command)
-        hold(there is not None, f"{page}: there is no section on {command}")
+        yield (there is not None, f"{page}: there is no section on {command}")
         for it in sorted(own - {"-h", "--help"}):
-            hold(there is None or it in there, f"{page}: {command} has the option {it}")
+            yield (there is None or it in there, f"{page}: {command} has the option {it}")
         completion = read(f"completions/{command.split()[0]}.bash")
         for it in sorted(own):
-            hold(re.search(rf"(?<![\w-]){it}(?![\w-])", completion), f"completions: {command} has the option {it}")
+            yield (re.search(rf"(?<![\w-]){it}(?![\w-])", completion), f"completions: {command} has the option {it}")
     for path in [*TEXTS, "docs/uimg.1"]:
         for number, line in enumerate(plain(path).split("\n"), 1):
             for span in re.findall(r"`([^`]*)`", line) if path in TEXTS else [line]:
                 for it in re.findall(r"(?<![\w\-=])(--[a-z][\w-]+)", span):
-                    hold(it in known, f"{path}:{number}: no help has the option {it}")
+                    yield (it in known, f"{path}:{number}: no help has the option {it}")
 
 
-def faults():
+def faults(_program):
     """Lines of faults are in uimg-faults(7), and codes in documents exist."""
     page, codes = re.sub(r"\s+", " ", plain("docs/uimg-faults.7")), set()
     for path in glob.glob("crates/*/src/**/*.rt", recursive=True):
@@ -166,15 +155,15 @@ def faults():
             continue
         for code, text in re.findall(r'"([LBFI]\d{1,2}) ([a-z][^"{:]*)', read(path)):
             codes.add(code)
-            hold(f"{code} {text}".strip() in page or (code in page and text.strip() in page), f"docs/uimg-faults.7: lacks {code} {text}")
+            yield (f"{code} {text}".strip() in page or (code in page and text.strip() in page), f"docs/uimg-faults.7: lacks {code} {text}")
     words = re.findall(r'=> "([a-z-]+)"', read("crates/uimg_strict/src/loose.rt"))
     codes |= {f"S{at + 1}" for at in range(len(words))}
     for at, it in enumerate(words):
-        hold(it in page and f"S{at + 1}" in page, f"docs/uimg-faults.7: lacks S{at + 1} {it}")
+        yield (it in page and f"S{at + 1}" in page, f"docs/uimg-faults.7: lacks S{at + 1} {it}")
     for path in [*TEXTS, *MANUALS]:
         for number, line in enumerate(plain(path).split("\n"), 1):
             for letter, digits in CODE.findall(line):
-                hold(letter + digits in codes, f"{path}:{number}: there is no fault {letter}{digits}")
+                yield (letter + digits in codes, f"{path}:{number}: there is no fault {letter}{digits}")
 
 
 def figures(program):
@@ -186,54 +175,51 @@ def figures(program):
         for path, text in texts.items():
             for value in (it for pattern in patterns for it in re.findall(pattern, text)):
                 found.setdefault(value.replace(",", ""), path)
-        hold(found, f"no document has the figure: {name}")
-        hold(len(found) < 2, f"{name}: {'; '.join(f'{value} in {path}' for value, path in sorted(found.items()))}")
+        yield (found, f"no document has the figure: {name}")
+        yield (len(found) < 2, f"{name}: {'; '.join(f'{value} in {path}' for value, path in sorted(found.items()))}")
 
 
-def dates():
+def dates(_program):
     """Manual pages and packages have the date of their version in CHANGELOG.md."""
     date = re.search(r"(?m)^## \S+ - (\d{4})-(\d\d)-(\d\d)$", read("CHANGELOG.md"))
     for path in MANUALS:
-        hold("-".join(date.groups()) in read(path).split("\n")[0], f"{path}: its date is not that of CHANGELOG.md")
+        yield ("-".join(date.groups()) in read(path).split("\n")[0], f"{path}: its date is not that of CHANGELOG.md")
     month = "Jan Feb Mar Apr May Jun Jul Aug Sep Oct Nov Dec".split()[int(date[2]) - 1]
-    hold(f" {date[3]} {month} {date[1]} " in read("debian/changelog"), "debian/changelog: its date is not that of CHANGELOG.md")
+    yield (f" {date[3]} {month} {date[1]} " in read("debian/changelog"), "debian/changelog: its date is not that of CHANGELOG.md")
 
 
-def sentinels():
+def sentinels(_program):
     """CONTRIBUTING has the number of wrong bodies that the gate tries."""
     count = len([it for it in read("scripts/sentinels.txt").split("\n") if it and not it.startswith("#")])
-    hold(f" {count} wrong bodies" in read("CONTRIBUTING.md"), f"CONTRIBUTING.md: the gate tries {count} wrong bodies")
+    yield (f" {count} wrong bodies" in read("CONTRIBUTING.md"), f"CONTRIBUTING.md: the gate tries {count} wrong bodies")
 
 
-def habits():
+def habits(_program):
     for path in [*TEXTS, *MANUALS]:
         for number, line in enumerate(plain(path).split("\n"), 1):
             found = HABITS.search(line)
-            hold(not found, f"{path}:{number}: '{found and found[0]}': say it as a colleague would")
+            yield (not found, f"{path}:{number}: '{found and found[0]}': say it as a colleague would")
 
 
-def lint():
+def lint(_program):
     if not shutil.which("mandoc") or not shutil.which("man"):
         print("manual pages were not checked: apt install mandoc man-db")
         return
     for path in MANUALS:
         said = printed("mandoc", "-Tlint", "-Wall", path)
         said += printed("sh", "-c", f"LC_ALL=C.UTF-8 MANROFFSEQ= MANWIDTH=80 man --warnings -E UTF-8 -l -Tutf8 -Z {path} 2>&1 > /dev/null")
-        hold(not said, said.rstrip())
+        yield (not said, said.rstrip())
 
 
 def main(words):
-    program = os.path.abspath(words[0])
+    program, held, wrong = os.path.abspath(words[0]), set(), []
     os.chdir(os.path.dirname(os.path.dirname(os.path.abspath(__file__))))
-    files()
-    options(program)
-    faults()
-    figures(program)
-    dates()
-    sentinels()
-    habits()
-    lint()
-    print("\n".join([*wrong, f"{passed} passed, {len(wrong)} failed"]))
+    for check in (files, options, faults, figures, dates, sentinels, habits, lint):
+        for is_right, text in check(program):
+            # One document that is held against one thing is a case.
+            held.add((check, text.partition(":")[0]))
+            wrong += [] if is_right or text in wrong else [text]
+    print("\n".join([*wrong, f"{max(0, len(held) - len(wrong))} passed, {len(wrong)} failed"]))
     return 1 if wrong else 0
 
 
