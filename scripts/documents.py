@@ -3,6 +3,7 @@
 
 - Each file that a document names exists, as a path from the top, from docs/, or as the end of a path
   in a crate, and so does each target of make.
+- Each name of code in a document is in the code.
 - Each option in a document is one of PROGRAM, of its other names, or of OTHERS.
 - Each command's options in its help, its manual page and its completions are the same.
 - Each line of a fault is in uimg-faults(7), with its code, and no document has a code that does not
@@ -29,6 +30,8 @@ NOT_HERE = re.compile(
     r"^(?:map|layout|kernel|boot|PROVED|fdt_\w+|image-fit|hash|image|fit_image|imagetool|libfdt|stdint|stddef|stdio|mkuboot|"
     r"test_\w+)\.(?:svg|txt|c|h|sh|py)$"
 )
+# Names of U-Boot and Linux that documents cite.
+NAMES = {"protected_hardlinks", "IH_MAGIC", "IH_NMLEN", "ih_size", "test_vboot"}
 # Targets of U-Boot's and Linux's Makefiles that documents name.
 TARGETS = {"tools", "uImage"}
 # Options of other programs that documents name.
@@ -95,6 +98,17 @@ def files(_program):
                 yield (is_there or NOT_HERE.match(it.rpartition("/")[2]), f"{path}:{number}: there is no file {it}")
             for it in re.findall(r"(?:`|^ {4,})make ([a-z][\w-]*)", line):
                 yield (it in targets, f"{path}:{number}: there is no target {it}")
+
+
+def names(_program):
+    """Each name of code in backquotes, as take_some or FitFault, is somewhere in the code."""
+    known, tops = set(NAMES), "crates/**/*.rt crates/**/*.antt scripts/*.* peers/* bench/* library/* include/* cases/*.t docs/*.json Makefile crates.txt"
+    for path in (it for top in tops.split() for it in glob.glob(top, recursive=True) if os.path.isfile(it)):
+        known.update(re.findall(r"[A-Za-z]\w+", read(path)))
+    for path in TEXTS:
+        for number, line in enumerate(read(path).split("\n"), 1):
+            for it in re.findall(r"\b(?=\w*(?:_|[a-z][A-Z]|^[A-Z][a-z]))[A-Za-z]\w+", " ".join(re.findall(r"`([^`]*)`", line))):
+                yield (it in known, f"{path}:{number}: nothing has the name {it}")
 
 
 def options_of(text):
@@ -214,7 +228,7 @@ def lint(_program):
 def main(words):
     program, held, wrong = os.path.abspath(words[0]), set(), []
     os.chdir(os.path.dirname(os.path.dirname(os.path.abspath(__file__))))
-    for check in (files, options, faults, figures, dates, sentinels, habits, lint):
+    for check in (files, names, options, faults, figures, dates, sentinels, habits, lint):
         for is_right, text in check(program):
             # One document that is held against one thing is a case.
             held.add((check, text.partition(":")[0]))

@@ -67,8 +67,9 @@ def command_lines():
         )
         said, passed, failed = [], 0, 0
         for what, words in parts:
-            _, lines = run(words)
+            status, lines = run(words)
             more, bad = counted(lines, COUNTS)
+            bad = bad or int(status != 0)
             passed, failed = passed + more, failed + bad
             said += [*lines[:-1], f"{what}: {more} passed, {bad} failed"]
     return passed, failed, said
