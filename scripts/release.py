@@ -162,7 +162,6 @@ def papers(what):
     return {f"share/doc/{what}/{it}": it for it in PAPERS}
 
 
-<<<<<<< HEAD
 def documents():
     """Yields the paths of the documents and examples that the Debian package has."""
     for path in ("debian/uimg.docs", "debian/uimg.examples"):
@@ -170,11 +169,11 @@ def documents():
             for pattern in file.read().split():
                 for it in glob.glob(pattern):
                     yield from glob.glob(f"{it}/*") if os.path.isdir(it) else [it]
-=======
+
+
 def manuals(pages):
     """Returns manual pages as they are below a prefix, each in the folder of its section."""
     return {f"share/man/man{it[-1]}/{it}": f"docs/{it}" for it in pages}
->>>>>>> 4a8e1d6737b529da76d6155c633bcb7467f38c3c
 
 
 def program_files(machine):
