@@ -1,8 +1,9 @@
 #!/usr/bin/env python3
 """release.py [--programs | --compile]: makes the files of a release in release/, for x86-64 and
 64-bit ARM: the program, linked statically, with its other names, wrappers, manual pages,
-completions, documents and examples (uimg-VERSION-MACHINE.tar.gz); the library for C (libuimg-VERSION-MACHINE.tar.gz); Debian packages
-of both; PROVED.txt, with the commit, the kit and the prover's statement on each crate; SHA256SUMS.
+completions, documents and examples (uimg-VERSION-MACHINE.tar.gz); the library for C
+(libuimg-VERSION-MACHINE.tar.gz); Debian packages of both; PROVED.txt, with the commit, the kit and
+the prover's statement on each crate; SHA256SUMS.
 
 What is proved already is skipped. With --programs it stops once the programs and libraries are in
 out/release. With --compile it makes these over libraries that are there, and takes what the gate
@@ -162,9 +163,9 @@ def papers(what):
     return {f"share/doc/{what}/{it}": it for it in PAPERS}
 
 
-def documents():
-    """Yields the paths of the documents and examples that the Debian package has."""
-    for path in ("debian/uimg.docs", "debian/uimg.examples"):
+def documents(package):
+    """Yields the paths of the documents and examples that a Debian package has."""
+    for path in (f"debian/{package}.docs", f"debian/{package}.examples"):
         with open(path, encoding="utf-8") as file:
             for pattern in file.read().split():
                 for it in glob.glob(pattern):
@@ -182,7 +183,7 @@ def program_files(machine):
     files |= manuals(MANUALS)
     files |= {f"share/{to}": f"completions/{it}" for it, to in COMPLETIONS.items()}
     files |= {f"lib/uimg/{it}": it for it in glob.glob("wrappers/*")}
-    files |= {f"share/doc/uimg/{it}": it for it in documents()}
+    files |= {f"share/doc/uimg/{it}": it for it in documents("uimg")}
     return files | papers("uimg") | {"share/doc/uimg/NOTICE": NOTICE.encode()}
 
 
@@ -196,7 +197,7 @@ def library_files(machine):
     files |= {"lib/libuimg.so": Link("libuimg.so.0"), "lib/pkgconfig/libuimg.pc": text.encode()}
     files |= {f"include/{it}": f"include/{it}" for it in ("uimg.h", "uimg_block.h")}
     files |= manuals(LIBRARY_MANUALS)
-    return files | papers("libuimg") | {"share/doc/libuimg/LIBRARY.md": "docs/LIBRARY.md"}
+    return files | papers("libuimg") | {f"share/doc/libuimg/{it}": it for it in documents("libuimg-dev")}
 
 
 def statements():
