@@ -134,14 +134,14 @@ uboot-tests: bin/uimg
 	@scripts/needs.sh python3
 	python3 peers/uboot_tests.py bin/uimg out/uboot
 
-## make bench    times the program, and those of release/, beside dumpimage, mkimage, cat and cp; draws
-##               bench/chart.svg with python3-matplotlib
+## make bench    times the program of release/, or else bin/uimg, beside mkimage and dumpimage; prints
+##               bench/TABLE.md to out/, and draws its chart
 bench: bin/uimg
 	@scripts/needs.sh python3
 	@mkdir -p out
-	python3 bench/bench.py bin/uimg | tee out/bench.txt
-	@for python in python3 /usr/bin/python3; do $$python bench/chart.py out/bench.txt bench/chart.svg 2> /dev/null && exit; done; \
-	echo "no chart was drawn: apt install python3-matplotlib"
+	@python3 bench/bench.py > out/TABLE.md || { cat out/TABLE.md; exit 1; }
+	@cat out/TABLE.md
+	@python3 bench/chart.py out/TABLE.md out/chart.svg
 
 ## make clean    removes all that was built, and what the prover kept
 clean:

@@ -1,9 +1,6 @@
 """FIT images for the benchmark, written without any tool, and sources of some that tools build."""
 
-import hashlib
-import os
 import struct
-import zlib
 
 NAMES = [
     "description", "timestamp", "data", "type", "arch", "os", "compression", "load", "entry",
@@ -63,36 +60,6 @@ def fit(images, configurations=1):
     return blob(node("", *own, *tree))
 
 
-def four_hashes(data):
-    hashes = [("crc32", struct.pack(">I", zlib.crc32(data)))]
-    return hashes + [(name, hashlib.new(name, data).digest()) for name in ("md5", "sha1", "sha256")]
-
-
-def write_nodes(path):
-    """20005 nodes: 10000 images with a hash node each, two configurations, and the three above
-    them."""
-    hashes = [("crc32", struct.pack(">I", zlib.crc32(b"abc")))]
-    images = [image(f"kernel-{number}", prop("data", b"abc"), hashes) for number in range(10000)]
-    with open(path, "wb") as file:
-        file.write(fit(images, 2))
-
-
-def write_inside(path, data):
-    """One image with its payload in the blob, and four hash nodes."""
-    with open(path, "wb") as file:
-        file.write(fit([image("kernel", prop("data", data), four_hashes(data))]))
-
-
-def write_outside(path, data, count):
-    """One image with a number of copies of the data after the blob, and no hash node."""
-    size = struct.pack(">I", len(data) * count)
-    payload = prop("data-offset", bytes(4)) + prop("data-size", size)
-    with open(path, "wb") as file:
-        file.write(fit([image("kernel", payload, [])]))
-        for _ in range(count):
-            file.write(data)
-
-
 def source(images):
     """Image-tree source of these images, with two configurations."""
     below = "".join(f'conf-{number} {{ kernel = "kernel-0"; }};\n' for number in range(2))
@@ -117,14 +84,3 @@ def included(path):
 def write_source(path, images):
     with open(path, "w") as file:
         file.write(source(images))
-
-
-def write_small_files(folder, count, size):
-    """Files of a size, and source of an image of each, with its sha256."""
-    images = []
-    for number in range(count):
-        path = os.path.join(folder, f"small-{number}.bin")
-        with open(path, "wb") as file:
-            file.write(hashlib.sha256(str(number).encode()).digest() * (size // 32))
-        images.append(source_image(number, included(path), ["sha256"]))
-    return images

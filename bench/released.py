@@ -1,46 +1,33 @@
-"""What `make release` left in release/: its programs, for the benchmark, and the sizes of its files."""
+"""The program that a benchmark measures: one that is given, that of release/, or bin/uimg."""
 
 import glob
 import os
+import platform
 import re
 import subprocess
 import tarfile
 
 
-def archives():
-    """The archives of programs, by the machine, as x86_64-v3."""
-    paths = sorted(glob.glob("release/**/uimg-*.tar.gz", recursive=True))
-    return {re.search(r"uimg-[^-]+-(.*)\.tar\.gz$", it)[1]: it for it in paths}
-
-
-def program(machine, folder):
-    """Unpacks the program for a machine to a folder. Returns its path, or None if there is none or
-    this machine cannot run it."""
-    path = os.path.join(folder, f"uimg-{machine}")
-    if machine not in archives():
-        return None
-    with tarfile.open(archives()[machine]) as tar:
+def chosen(given, folder):
+    """Returns the path of the program, its commit, and words for it. A program of a release is
+    unpacked to a folder."""
+    archives = glob.glob(f"release/uimg-*-{platform.machine()}.tar.gz")
+    if given or not archives:
+        path = os.path.abspath(given[0] if given else "bin/uimg")
+        return path, commit_here(), "a build of these sources"
+    path = os.path.join(folder, "uimg")
+    with tarfile.open(archives[0]) as tar:
         (name,) = [it for it in tar.getnames() if it.endswith("/bin/uimg")]
         with open(path, "wb") as file:
             file.write(tar.extractfile(name).read())
     os.chmod(path, 0o755)
-    return path if is_run(path) else None
+    with open("release/PROVED.txt", encoding="utf-8") as file:
+        commit = re.search(r"commit (\w{8})", file.read())[1]
+    return path, commit, f"the program of {os.path.basename(archives[0])}"
 
 
-def is_run(program):
-    """Whether this machine can run a program."""
-    try:
-        return subprocess.run([program, "--version"], capture_output=True).returncode == 0
-    except OSError:
-        return False
-
-
-def sizes():
-    """Yields the name and the size of each program, archive and package."""
-    for machine, path in archives().items():
-        with tarfile.open(path) as tar:
-            (size,) = [it.size for it in tar if it.name.endswith("/bin/uimg")]
-        yield f"uimg for {machine}", size
-    for path in sorted(glob.glob("release/**/*", recursive=True)):
-        if path.endswith((".tar.gz", ".deb")):
-            yield os.path.basename(path), os.path.getsize(path)
+def commit_here():
+    """Returns the commit of these sources, and whether they were changed since."""
+    commit = subprocess.run(["git", "rev-parse", "--short=8", "HEAD"], capture_output=True, text=True).stdout.strip()
+    is_changed = subprocess.run(["git", "diff", "--quiet", "HEAD", "--", "crates"]).returncode
+    return f"{commit} with changes" if is_changed else commit

@@ -1,6 +1,5 @@
 """Files that are made to cost much for their length, each beside an ordinary one of the same length."""
 
-import os
 import struct
 import zlib
 
@@ -19,16 +18,6 @@ def outside(data, hashes):
     """A FIT with one image, whose payload is after the blob, and these hash nodes."""
     payload = fits.prop("data-offset", bytes(4)) + fits.prop("data-size", struct.pack(">I", len(data)))
     return [fits.fit([fits.image("kernel", payload, hashes)]), data]
-
-
-def ordinary(size):
-    """An ordinary FIT of a size: images with a payload of 100 bytes and a hash node each."""
-    data = bytes(100)
-    hashes = [("crc32", struct.pack(">I", zlib.crc32(data)))]
-    images = [fits.image("kernel-00000", fits.prop("data", data), hashes)]
-    images *= max(1, size // len(images[0]) - 2)
-    rest = size - len(fits.fit(images))
-    return [fits.fit([*images[1:], fits.image("kernel-00000", fits.prop("data", bytes(max(0, 100 + rest))), [])])]
 
 
 def of_size(parts):
@@ -54,30 +43,6 @@ def overlapping(count):
     return hostile, outside(data, [("crc32", struct.pack(">I", zlib.crc32(data)))])
 
 
-def images_of(*nodes):
-    return fits.blob(fits.node("", fits.node("images", *nodes)))
-
-
-def bare_nodes(count):
-    return [images_of(*[fits.node("a")] * count)]
-
-
-def many_properties(count):
-    return [images_of(fits.node("a", *[fits.prop("entry", b"")] * count))]
-
-
-def deep_nodes(count):
-    levels = struct.pack(">I", 1) + b"a\0\0\0"
-    return [images_of(levels * count + struct.pack(">I", 2) * count)]
-
-
-def long_texts(count, size):
-    """A configuration with a list of texts, by their number and their size in bytes."""
-    fields = [fits.text("description", "c"), fits.prop("loadables", (b"n" * size + b"\0") * count)]
-    configurations = fits.node("configurations", fits.node("conf", *fields))
-    return [fits.blob(fits.node("", fits.node("images"), configurations))]
-
-
 def legacy(kind, data):
     """A legacy image of a type, for arm64 Linux."""
     fields = [0x27051956, 0, 1700000000, len(data), 0, 0, zlib.crc32(data)]
@@ -93,18 +58,8 @@ def many_parts(count):
 
 
 def shapes():
-    """For each shape the command that it is for, its file and an ordinary one of the same
-    length, in parts."""
-    yield "verify", "800 hash nodes", *many_hashes(800)
-    yield "list", "800 hash nodes", *many_hashes(800)
-    yield "check", "100 images in one", *overlapping(100)
-    for name, parts in (
-        ("20000 bare nodes", bare_nodes(20000)),
-        ("10000 properties", many_properties(10000)),
-        ("5000 levels", deep_nodes(5000)),
-        ("10 texts of 60 KiB", long_texts(10, 60 * 1024)),
-        ("10000 texts of 60 B", long_texts(10000, 60)),
-    ):
-        yield "list", name, parts, ordinary(of_size(parts))
-    for command in ("list", "verify", "extract"):
-        yield command, "1000000 parts", *many_parts(1000000)
+    """Yields for each shape the command, its name, and in parts its file and an ordinary one of the
+    same length."""
+    yield "verify", "800 hash nodes over one payload", *many_hashes(800)
+    yield "check", "100 images with one payload", *overlapping(100)
+    yield "list", "1,000,000 parts of a multi image", *many_parts(1000000)
