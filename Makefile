@@ -90,9 +90,9 @@ farm-test: bin/uimg
 	@scripts/needs.sh python3
 	@python3 scripts/farm_test.py bin/uimg
 
-## make install  installs the program, its manual pages and completions below PREFIX (/usr/local),
-##               with OLD_NAMES=1 also as mkimage and dumpimage, and the wrappers of these names, which
-##               leave signing to u-boot-tools; and the library, if it was built
+## make install  installs the program, its manual pages, completions and wrappers (which leave signing
+##               to u-boot-tools) below PREFIX (/usr/local), with OLD_NAMES=1 also as mkimage and
+##               dumpimage; and the library, if it was built
 install: bin/uimg
 	install -D -m 755 bin/uimg $(DESTDIR)$(PREFIX)/bin/uimg
 	for name in uimg-mkimage uimg-dumpimage $(if $(OLD_NAMES),mkimage dumpimage); do \
@@ -102,7 +102,7 @@ install: bin/uimg
 	install -m 644 docs/uimg.1 docs/uimg-mkimage.1 docs/uimg-dumpimage.1 $(DESTDIR)$(PREFIX)/share/man/man1
 	install -m 644 docs/uimg-faults.7 $(DESTDIR)$(PREFIX)/share/man/man7
 	scripts/install_completions.sh $(DESTDIR)$(PREFIX)/share $(if $(OLD_NAMES),mkimage dumpimage)
-	test -z "$(OLD_NAMES)" || scripts/install_wrappers.sh "$(DESTDIR)$(PREFIX)"
+	scripts/install_wrappers.sh "$(DESTDIR)$(PREFIX)"
 	test ! -f lib/libuimg.a || scripts/install_lib.sh "$(DESTDIR)" "$(PREFIX)"
 
 ## make deb      packs both, with documents and examples, as Debian packages in out/

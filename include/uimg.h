@@ -30,7 +30,8 @@ extern "C" {
 /* The status of a call, like the exit status of the program. */
 enum uimg_status {
     UIMG_DONE = 0,      /* success; of a verification: every hash that the image has is right */
-    UIMG_NOT_RIGHT = 1, /* a checksum or hash is wrong or too weak or, if fault is not 0, the image is refused */
+    UIMG_NOT_RIGHT = 1, /* a checksum or hash is wrong, missing or too weak, payloads overlap, or there is no image;
+                           if fault is not 0, the image is refused */
     UIMG_NO_MEMORY = 3  /* memory was refused: nothing is known of the image, and no text was written */
 };
 
@@ -107,7 +108,7 @@ uint32_t uimg_check(const uint8_t *image, size_t image_size, uint32_t need, uimg
 
    If this call returns 0, U-Boot 2023.01 finds in a FIT exactly the images that were checked, each with the payload
    whose hashes are right, and compares no other hash; a legacy image has data, and a type, an architecture, a system
-   and a compression that image.h names. What uimg_check accepts and this call does not is refused by a fault with the
+   and a compression that image.h names. What uimg_check accepts and this call does not has a fault, mostly with the
    letter S, whose line has the word of `uimg check --strict`, as "S3 unit-address". Unlike the program it does not
    check that the images that a configuration names exist. Takes memory for the names in one node, which peak does not
    count. */

@@ -164,8 +164,9 @@ pub(crate) fn make_image<'a, 'p, D: MakingWorld<'p>, W: Write, V: Write>(
     status
 }
 
-/// Makes an image beside its name, which it gets when it is complete, even if its listing could not
-/// be printed. A quiet build prints nothing. Returns `out`, too.
+/// Makes an image beside its name, which it gets when it is complete, even if the end of its listing
+/// could not be printed; a listing that fails before loses it. A quiet build prints nothing. Returns
+/// `out`, too.
 pub(crate) fn make_old<'a, 'p, D: MakingWorld<'p>, W: Write + Drop, V: Write>(
     world: &mut D,
     how: How<'p>,
@@ -240,8 +241,8 @@ fn make_by<'a, 'p, D: MakingWorld<'p>, W: Write + Drop>(
     (Made { end, printed }, out)
 }
 
-/// Gives an image its name, even if its listing could not be printed, or removes its file. Reports
-/// the end with its path, and a listing that was not printed.
+/// Gives an image its name, even if the end of its listing could not be printed, or removes its file.
+/// Reports the end with its path, and a listing that was not printed.
 pub(crate) fn tell_made<D: World, V: Write>(
     world: &mut D,
     path: &SafePath,
