@@ -134,14 +134,13 @@ uboot-tests: bin/uimg
 	@scripts/needs.sh python3
 	python3 peers/uboot_tests.py bin/uimg out/uboot
 
-## make bench    times the program of release/, or else bin/uimg, beside mkimage and dumpimage; prints
-##               bench/TABLE.md to out/, and draws its chart
+## make bench    times the program of release/, or else bin/uimg, beside mkimage and dumpimage, and
+##               writes bench/TABLE.md and bench/chart.svg
 bench: bin/uimg
 	@scripts/needs.sh python3
 	@mkdir -p out
 	@python3 bench/bench.py > out/TABLE.md || { cat out/TABLE.md; exit 1; }
-	@cat out/TABLE.md
-	@python3 bench/chart.py out/TABLE.md out/chart.svg
+	@cp out/TABLE.md bench && python3 bench/chart.py bench/TABLE.md bench/chart.svg && cat bench/TABLE.md
 
 ## make clean    removes all that was built, and what the prover kept
 clean:

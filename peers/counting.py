@@ -21,10 +21,14 @@ def said_by(command):
     return done.stdout.partition("\n")[0].rpartition(" ")[2] if done.returncode == 0 else "none"
 
 
+def commit_and_date():
+    """Returns the commit of these sources, and the date."""
+    return f"{said_by(['git', 'rev-parse', '--short=8', 'HEAD'])}, {datetime.date.today()}"
+
+
 def heading():
     """Prints the commit, the date and the peers, and the heading of the table."""
-    commit = said_by(["git", "rev-parse", "--short=8", "HEAD"])
-    print(f"Commit {commit}, {datetime.date.today()}, mkimage {said_by(['mkimage', '-V'])}, dtc {said_by(['dtc', '-v'])}.\n")
+    print(f"Commit {commit_and_date()}, mkimage {said_by(['mkimage', '-V'])}, dtc {said_by(['dtc', '-v'])}.\n")
     print("| Compared | Number | Differences | |\n|---|---|---|---|", flush=True)
 
 

@@ -15,8 +15,8 @@ the wrappers of wrappers/:
   callers      each row of GUIDE's table "In place of mkimage" (boards.py)
   boards       full builds of boards of U-Boot, by cross compilers (boards.py)
 
-It prints the counts, and which tests end otherwise than with U-Boot's tools. What cannot be fetched
-or compiled is named, and its suite left out. It installs nothing: apt has a configuration of its own
+It prints rows of the table of docs/PEERS.md, and each test that ends otherwise than with U-Boot's
+tools. It names what cannot be fetched or compiled, and leaves out its suite. It installs nothing: apt has a configuration of its own
 in FOLDER, with the machine's sources and their source packages."""
 
 import glob
@@ -28,6 +28,7 @@ import sys
 import time
 
 from boards import Boards, Callers
+from counting import commit_and_date
 from documents import Documents
 from lava import Lava
 from mips import Mips
@@ -275,7 +276,7 @@ def main(program, folder="out/uboot", *names):
         sys.exit(f"uboot_tests: {program} is no program")
     suites = Suites(program, folder)
     suites.link()
-    print(f"| Suite | {' | '.join(WAYS)} |\n|---|{'---|' * len(WAYS)}")
+    print(f"| Suite | {' | '.join(WAYS)} | Commit, date |\n|---|{'---|' * len(WAYS)}---|")
     differing, missing = [], []
     for suite in names or SUITES:
         began = time.time()
@@ -287,7 +288,7 @@ def main(program, folder="out/uboot", *names):
             continue
         if "PASSED" not in ends["U-Boot's tools"].values():
             missing.append(f"{suite}: nothing passes with U-Boot's tools")
-        print(f"| {suite} | {' | '.join(row(it) for it in ends.values())} |", flush=True)
+        print(f"| {suite} | {' | '.join(row(it) for it in ends.values())} | {commit_and_date()} |", flush=True)
         differing += differences(suite, ends)
         suites.notes.append(f"{suite}: {time.time() - began:.0f} s")
     print("\n".join(["", *differing, *suites.notes, *missing]).rstrip())
