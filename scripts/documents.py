@@ -8,7 +8,8 @@
 - Each command's options in its help, its manual page and its completions are the same.
 - Each line of a fault is in uimg-faults(7), with its code, and no document has a code that does not
   exist.
-- Each figure of FIGURES has one value in all documents, and dates are those of the version.
+- Each figure of FIGURES has one value in all documents, README's are in bench/TABLE.md, and dates
+  are those of the version.
 - No document has a phrase of HABITS.
 - mandoc and man find nothing in a manual page, if they are installed.
 
@@ -193,6 +194,14 @@ def figures(program):
         yield (len(found) < 2, f"{name}: {'; '.join(f'{value} in {path}' for value, path in sorted(found.items()))}")
 
 
+def measured(_program):
+    """What README says of speed and memory is in bench/TABLE.md."""
+    line = re.search(r"(?m)^- \*\*Small and fast.*$", read("README.md"))
+    known = set(re.findall(r"\d+(?:\.\d+)?", read("bench/TABLE.md")))
+    for it in re.findall(r"\d+(?:\.\d+)?", re.sub(r"\(.*?\)", "", line[0]) if line else ""):
+        yield (it in known, f"README.md: bench/TABLE.md does not have {it}")
+
+
 def dates(_program):
     """Manual pages and packages have the date of their version in CHANGELOG.md."""
     date = re.search(r"(?m)^## \S+ - (\d{4})-(\d\d)-(\d\d)$", read("CHANGELOG.md"))
@@ -228,7 +237,7 @@ def lint(_program):
 def main(words):
     program, held, wrong = os.path.abspath(words[0]), set(), []
     os.chdir(os.path.dirname(os.path.dirname(os.path.abspath(__file__))))
-    for check in (files, names, options, faults, figures, dates, sentinels, habits, lint):
+    for check in (files, names, options, faults, figures, measured, dates, sentinels, habits, lint):
         for is_right, text in check(program):
             # One document that is held against one thing is a case.
             held.add((check, text.partition(":")[0]))
