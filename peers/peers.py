@@ -272,8 +272,7 @@ def compare_payloads(count, uimg, folder, path, case, images):
 
 
 def compare_changed(count, uimg, folder, path, case, given):
-    """The report on a FIT with one changed byte in one payload, which dumpimage lists and unpacks with
-    status 0."""
+    """The report on a FIT with one changed byte in one payload."""
     with open(path, "rb") as file:
         whole = file.read()
     changed = os.path.join(folder, "changed.itb")
@@ -283,8 +282,6 @@ def compare_changed(count, uimg, folder, path, case, given):
             file.write(whole[:at] + bytes([whole[at] ^ 1]) + whole[at + 1 :])
         there = fit.report(given, image)
         count.expect(f"report on {case}, payload {number} changed", output([uimg, "verify", changed]), there)
-        for words in (["-l", changed], ["-T", "flat_dt", "-p", str(number), "-o", f"{changed}.payload", changed]):
-            count.expect(f"dumpimage on {case}, payload {number} changed", output(["dumpimage", *words])[0], 0)
 
 
 def compare_fits(uimg, placement):
