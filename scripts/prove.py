@@ -47,10 +47,21 @@ class Proof:
             shutil.rmtree(it) if os.path.isdir(it) else os.path.exists(it) and os.remove(it)
         with open(self.log, "w", encoding="utf-8") as log:
             self.is_proved = all(self.is_done(words, log) for words in self.steps())
+        if self.is_proved and self.has_changed():
+            self.is_proved = False
+            with open(self.log, "a", encoding="utf-8") as log:
+                log.write(f"error: files of {self.name}, or of a crate below it, changed while it was proved\n")
         if self.is_proved:
             for name, text in (("statement", statement(self.log)), ("proved", self.stamp)):
                 with open(f"{made}/{name}", "w", encoding="ascii") as file:
                     file.write(text)
+
+    def has_changed(self):
+        """Returns whether a file that the proof depends on is another one than at its beginning, or
+        than when the crate below was proved whose library it read."""
+        now = {}
+        self.crates.stamp(self.name, now)
+        return now.pop(self.name) != self.stamp or any(stamp_of(self.crates.by_name[it]) != now[it] for it in now)
 
     def steps(self):
         """Yields the commands that prove it, and compile it if no crate above uses its library."""
@@ -75,6 +86,15 @@ class Proof:
 
     def since(self):
         return kit.in_words(time.monotonic() - self.begun)
+
+
+def stamp_of(crate):
+    """Returns the sum with which a crate was proved, or None if it was not."""
+    path = f"{crate.folder}/out/proved"
+    if not os.path.isfile(path):
+        return None
+    with open(path, encoding="ascii") as file:
+        return file.read()
 
 
 class Screen:
@@ -110,23 +130,20 @@ class Run:
     """The proofs of all requested crates."""
 
     def __init__(self, crates, names, screen):
-        self.crates, self.screen, self.stamps = crates, screen, {}
+        self.crates, self.screen = crates, screen
+        known = {}
         self.wanted = []
         for name in names:
             self.wanted += [it for it in [*crates.below(name), name] if it not in self.wanted]
-        self.proved = [it for it in self.wanted if self.is_kept(it)]
+        self.proved = [it for it in self.wanted if self.is_kept(it, known)]
         self.count, self.running, self.failed = len(self.wanted) - len(self.proved), [], None
         # The longest chain of crates above comes first.
         self.chain = {it: sum(it in crates.below(other) for other in self.wanted) for it in self.wanted}
 
-    def is_kept(self, name):
+    def is_kept(self, name, known):
         """Returns whether a crate is proved, and all that its proof depends on is unchanged."""
-        made = f"{self.crates.by_name[name].folder}/out"
-        path = f"{made}/proved"
-        if not os.path.isfile(path) or not os.path.isfile(f"{made}/statement"):
-            return False
-        with open(path, encoding="ascii") as file:
-            return file.read() == self.crates.stamp(name, self.stamps)
+        crate = self.crates.by_name[name]
+        return os.path.isfile(f"{crate.folder}/out/statement") and stamp_of(crate) == self.crates.stamp(name, known)
 
     def begin_ready(self, at_once):
         """Begins the crates that wait for no other, the longest chain first. Processors left
@@ -139,7 +156,7 @@ class Run:
             name, idle = ready.pop(0), at_once - sum(it.jobs for it in self.running)
             if idle > 0:
                 jobs = max(1, min(JOBS.get(name, 1), idle - len(ready) + 1))
-                self.running.append(Proof(self.crates, name, self.crates.stamp(name, self.stamps), jobs))
+                self.running.append(Proof(self.crates, name, self.crates.stamp(name, {}), jobs))
 
     def end_ended(self):
         for it in [it for it in self.running if it.is_ended()]:

@@ -271,6 +271,8 @@ def release():
     clear()
     prove_below()
     programs(MACHINES)
+    if run(["git", "status", "--porcelain"]) or run(["git", "log", "-1", "--format=%H"]).strip() != commit:
+        fail("the tree changed while the release was made")
     pack(commit, int(time))
 
 
