@@ -8,8 +8,9 @@ find_uimg() {
     resolve "$0"
     case $real in
     */lib/uimg/wrappers/*) uimg=${real%/lib/uimg/wrappers/*}/bin/uimg-$name ;;
-    *) uimg=$(command -v "uimg-$name") || fail "uimg-$name is not installed" ;;
+    *) uimg=$(command -v "uimg-$name") ;;
     esac
+    test -x "$uimg" || fail "uimg-$name is not installed"
 }
 
 # Returns, in `original`, the path of U-Boot's own tool: UIMG_ORIGINAL_MKIMAGE or
