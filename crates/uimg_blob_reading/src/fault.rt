@@ -18,12 +18,12 @@ pub enum BlobFault {
     BadMagic = 2,
     /// The version is below 17, or the last compatible version above 17.
     BadVersion = 3,
-    /// A block is outside the blob or not aligned, or the blob is outside the file or shorter than
-    /// its header.
+    /// The structure or strings block ends outside the blob, or the structure block is not aligned,
+    /// or the blob is outside the file or shorter than its header.
     BlockOutside = 4,
     /// A word of the structure block is not a token.
     BadToken = 5,
-    /// The structure block ends inside a token.
+    /// The structure block ends inside a token, or before `FDT_END`.
     Truncated = 6,
     /// A node's name has more than 255 bytes, or a NUL.
     BadNodeName = 7,

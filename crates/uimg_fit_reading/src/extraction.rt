@@ -41,8 +41,8 @@ pub fn locate<S: Source, A: Allocator>(
 
 /// Writes the payload of the image at a position, counted from 0.
 ///
-/// Over an honest source a prefix of the payload was written after `Read` or `Put`. At every exit
-/// at most as many bytes were requested as for a listing, those that were written and 8192.
+/// Over an honest source a prefix of the payload was written after `Read` or `Put`, and at every
+/// exit at most as many bytes were requested as for a listing, those that were written and 8192.
 ///
 /// Refusals come before the first byte, in this order:
 /// - The faults of the blob.

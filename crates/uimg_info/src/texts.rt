@@ -43,9 +43,11 @@ fn survey_text<S: Source>(
 /// Returns the text of the object of a FIT image's facts, of a file at a path. Over an honest
 /// source it is one line, without its end, and reads as this object; over any source it is UTF-8.
 ///
-/// Reads each value at most once, none of more than 65,536 bytes, and no payload. Requests no more
-/// than `survey_with_properties`, the values, the names of the properties, 24 bytes for each image
-/// and 65,540 for the memory reservation block. The room holds the nodes meanwhile.
+/// Reads each value at most once, but `data-size`, `data-offset` and `data-position` at most twice,
+/// and none of more than 65,536 bytes. Reads no payload, unless the header puts the memory
+/// reservation block there. Requests no more than `survey_with_properties`, the values, the names of
+/// the properties, 24 bytes for each image and 65,540 for the memory reservation block. The room
+/// holds the nodes meanwhile.
 ///
 /// - The faults of `survey_with_properties`.
 /// - `NoData`, `DataOutside`: of the first image whose payload is not in the file.

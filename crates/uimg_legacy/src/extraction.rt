@@ -48,9 +48,9 @@ pub fn locate<S: Source, A: Allocator>(
 /// Writes the part of the image at a position, counted from 0: a part of type multi or script, or
 /// the data of any other type at position 0.
 ///
-/// Over an honest source a prefix of the part was written after `Read` or `Put`. At every exit at
-/// most as many bytes were requested as for a listing, those that were written and 8192. The room
-/// is only cleared.
+/// Over an honest source a prefix of the part was written after `Read` or `Put`, and at every exit
+/// at most as many bytes were requested as for a listing, those that were written and 8192. The
+/// room is only cleared.
 ///
 /// Refusals come before the first byte, in this order: `TooShort`, `BadMagic`, `BadHeaderCrc`,
 /// `Truncated`, `BadDataCrc`, `NoTableEnd`, `NoSuchPart`, and `PartOutside` of the part at that

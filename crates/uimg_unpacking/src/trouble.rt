@@ -1,4 +1,4 @@
-//! Why payloads are not written to a folder.
+//! Why payloads are not written to a folder, or temporary files in it not removed.
 
 ghost use Rattle.std.specs.Prelude.{◌≡◌, Some, false, string_bytes};
 ghost use Rattle.std.specs.IoError.{error_kind};
@@ -26,7 +26,8 @@ impl Display for ShownPath {
     }
 }
 
-/// Why a payload was not written to a folder. Its text is the line to print; `Closed` needs none.
+/// Why payloads were not written to a folder, or temporary files in it not removed. Its text is the
+/// line to print; `Closed` needs none.
 #[derive(Debug, Drop, Error)]
 pub enum Trouble {
     /// Something exists at the path of a file to write.
