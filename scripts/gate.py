@@ -42,6 +42,9 @@ ASIDE = "wrong-bodies"
 # A line that reports the end of a proof.
 STEP = re.compile(r"rt: \w+(: its tests are)? (NOT )?(PROVED|proved)")
 
+# What passes at least, with no tool but the kit and python3. With fewer, a part was cut short.
+LEAST = 4500
+
 # What is not tested for want of a tool, and why.
 untested = []
 
@@ -179,10 +182,14 @@ def main():
         os.chdir(room)
         more, bad = gate()
         os.chdir("/")
+    passed, failed = passed + more, failed + bad
     for line in untested:
         print(line)
-    print(f"{passed + more} passed, {failed + bad} failed")
-    return 1 if failed + bad else 0
+    if passed + failed < LEAST:
+        print(f"the gate ran {passed + failed} tests and proofs, and at least {LEAST} are known")
+        failed += 1
+    print(f"{passed} passed, {failed} failed")
+    return 1 if failed else 0
 
 
 if __name__ == "__main__":
