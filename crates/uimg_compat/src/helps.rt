@@ -41,8 +41,8 @@ Usage: mkimage -l [-T type] image
 
 With -f auto, -g name and -o algorithm give each image a signature node in place of
 its checksum, without a value. Nothing is signed: -G -k -K -N are refused for FIT
-images, and so is -g if a file has that name. Without effect: -v, -r, -c comment
-and -R name.
+images, and with -f so is -g if a file has that name. Without effect: -v, -r,
+-c comment and -R name.
 The image is written to a temporary file, which is renamed when it is complete.
 See uimg-mkimage(1).
 ";

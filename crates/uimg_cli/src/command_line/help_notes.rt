@@ -114,7 +114,7 @@ pub(super) const UNPACK_NOTES: &str = "Algorithms, from the weakest to the stron
   <algo>  crc32 md5 sha1 sha256 sha384 sha512
 
 Each payload is read once, and hashed while it is written to a temporary folder,
-.uimg-new1 in the folder. All files appear at once, when all are on the disk
+.uimg-new1 in the folder. Files get their names only when all are on the disk
 (--no-sync does not wait for that), and only if each hash of their images is
 right and, with --need, one of them is strong enough. If one is refused,
 nothing in the folder changes, and only refused ones have a line; --keep-good
