@@ -20,13 +20,14 @@ pub enum Looseness {
     IgnoredHash,
     /// An image has a `data-position`, `data-offset` or `data-size` that is not of four bytes.
     OddCell,
-    /// An image has one of these beside `data`.
+    /// An image has `data` and a payload by `data-size` with an offset or a position.
     TwoPayloads,
     /// An image has only `data-size`, or an offset or a position without it.
     HalfPlace,
     /// libfdt's `fdt_check_full` refuses the header, the reservation block or the root's name.
     UnsoundBlob,
-    /// A payload after the blob begins before its end, or before that of an earlier payload.
+    /// A payload by an offset or a position begins before the blob's end, or before the end of the
+    /// payload of an earlier image.
     Misplaced,
     /// A legacy image has no data.
     EmptyData,
