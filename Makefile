@@ -27,7 +27,7 @@ bin/uimg: $(shell scripts/sources.sh uimg) bin/processor-$(CPU)
 bin/uimg_peers: $(shell scripts/sources.sh uimg_peers)
 	@scripts/build.sh uimg_peers
 
-## make demo     lists an image (IMAGE=path) in about a minute, proves the program, and lists it again
+## make demo     lists an image (IMAGE=path): without bin/uimg first unproved, in about a minute; then proved
 demo:
 	@scripts/demo.sh $(IMAGE)
 
@@ -45,18 +45,18 @@ test:
 	@scripts/needs.sh rt python3
 	@python3 scripts/test.py
 
-## make gate     what a change has to pass: make test, all proofs, wrong bodies, command lines, the library
+## make gate     what a change must pass: make test, the proofs, sentinels, command lines, the library
 gate:
 	@scripts/needs.sh rt python3
 	@python3 scripts/gate.py
 
-## make wrong-bodies CRATE=uimg_its   tries all wrong bodies, which the prover has to refuse
+## make wrong-bodies CRATE=uimg_its   tries all wrong bodies, which the prover must refuse
 wrong-bodies:
 	@scripts/needs.sh rt python3
 	@python3 scripts/lots.py $(CRATE)
 
 ## make definitions CRATE=uimg_map   prints what each file of a crate's specs/ defines; without it,
-##               counts the definitions behind `run` and `make`, for docs/DEFINITIONS.md
+##               counts the definitions of `run` and `make`, and writes the counts into docs/DEFINITIONS.md
 definitions:
 	@scripts/needs.sh python3
 	@python3 scripts/definitions.py $(CRATE)
@@ -74,7 +74,8 @@ lib: lib/libuimg.a
 lib/libuimg.a: $(shell scripts/sources.sh uimg_c) $(wildcard library/* include/*) bin/processor-$(CPU)
 	@scripts/lib.sh
 
-## make lib-test tests the library from C, C++, Python and Go against the program, and with valgrind
+## make lib-test tests the library from C, C++ and Python against the program, and with Go and
+##               valgrind, if they are installed
 lib-test: lib/libuimg.a bin/uimg
 	@scripts/needs.sh python3 cc
 	@python3 scripts/lib_test.py bin/uimg lib

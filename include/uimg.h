@@ -31,7 +31,7 @@ extern "C" {
 enum uimg_status {
     UIMG_DONE = 0,      /* success; of a verification: every hash that the image has is right */
     UIMG_NOT_RIGHT = 1, /* a checksum or hash is wrong, missing or too weak, payloads overlap, or there is no image;
-                           if fault is not 0, the image is refused */
+                           if fault is not 0, it is the reason */
     UIMG_NO_MEMORY = 3  /* memory was refused: nothing is known of the image, and no text was written */
 };
 
@@ -139,7 +139,8 @@ uint32_t uimg_payload_name(const uint8_t *image, size_t image_size, uint32_t pos
 
 /* Counts the images of a FIT, or the parts of a legacy image: those in the table of the types multi and script, else
    one. Returns count->status; for a legacy image, whose checksums are verified, that is never UIMG_NO_MEMORY. At each
-   position below the count uimg_payload_at finds a payload, or reports a fault of that payload. */
+   position below the count uimg_payload_at finds a payload, or reports a fault of that payload, unless memory is
+   refused. */
 uint32_t uimg_payload_count(const uint8_t *image, size_t image_size, uimg_count *count);
 
 /* Writes the line of a fault, as "L8 no such part", truncated to the buffer, without a NUL. Returns the full length of

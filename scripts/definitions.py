@@ -1,5 +1,5 @@
 #!/usr/bin/env python3
-"""definitions.py [CRATE]: counts the definitions behind `run` and `make`, and writes the counts
+"""definitions.py [CRATE]: counts the definitions of `run` and `make`, and writes the counts
 into docs/DEFINITIONS.md. With a crate it prints what each file of the crate's specs/ defines, and
 writes nothing.
 

@@ -3,7 +3,7 @@
 lost or done twice.
 
 It checks 2000 FIT images in batches of 5, kills parallel and all when some are done, and starts
-it again: the results have to be those of one process, and existing ones must not be written
+it again: the results must be those of one process, and existing ones must not be written
 again. Then images change, a missing image appears, everything is checked again, other settings are
 given, and another list. It needs GNU parallel, and reports if it is missing. The last line is
 'N passed, M failed'."""

@@ -4,8 +4,8 @@
 docs/JSON.md.
 
 It checks all files of examples/ and cases/files/, FIT images of a fixed seed, whole and damaged,
-and some with hostile names. Each line has to be JSON without a control character and without a
-repeated member, has to be valid by the schema, and has to have the path and the line of text of
+and some with hostile names. Each line must be JSON without a control character and without a
+repeated member, be valid by the schema, and have the path and the line of text of
 the same image; for `info`, what a reader of device trees in this file finds in it (of a refused
 image, the line of a check); for `unpack`, what is in the files, and as many lines as without
 --json. It needs jsonschema, and reports if no Python here has it. The last

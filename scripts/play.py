@@ -14,7 +14,7 @@ A FILE is one of these:
          begins with '$ '. The output of a command follows it, up to the next command or the end of the
          block; a line '[..]' replaces any lines.
 
-A block of a text or of a manual page that shows no output is judged by its statuses: each has to be 0.
+A block of a text or of a manual page that shows no output is judged by its statuses: each must be 0.
 Commands that begin with make, git, apt, apt-get, sudo or rt are not played.
 
 Each file is played by one sh in an empty folder of its own, with PATH beginning with the folder of

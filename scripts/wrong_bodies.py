@@ -1,6 +1,6 @@
 #!/usr/bin/env python3
 """wrong_bodies.py [--right] [--kept KEPT] CRATE [FILE..]: tries the wrong bodies of a crate, which
-are these files, or else crates/CRATE/must-fail/*.edit. The prover has to refuse each. It works over
+are these files, or else crates/CRATE/must-fail/*.edit. The prover must refuse each. It works over
 the libraries that `rt ci` or `make` left in crates/*/out/rlib; only those of the crates below are
 needed. What was checked of the crate's statements and lemmas is kept in KEPT, or reused if KEPT
 exists.
@@ -16,7 +16,7 @@ counts for nothing, and each half is tried by itself, down to a single one. A wr
 functions, as in a row of a table, may change what other functions are proved from: it is tried
 alone, over all functions of its file, and if these are proved, over the whole crate.
 
-With --right the wrong bodies are left out, in one check: each of their functions has to be proved
+With --right the wrong bodies are left out, in one check: each of their functions must be proved
 then, which shows that a refusal comes from the wrong body and not from how it is tried.
 
 It prints a line for each wrong body, `refused`, `NOT REFUSED` or `BAD EDIT`, or for each right
