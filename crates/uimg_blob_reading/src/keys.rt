@@ -3,7 +3,7 @@
 ghost use Rattle.std.specs.Prelude.{◌≡◌, map};
 ghost use Rattle.uimg_blob_reading.specs.Keys.{key_of_name, key_row_of, key_named};
 
-/// A property to which FIT gives a meaning. Each variant is named after its property.
+/// A property to which FIT gives a meaning. The comment of each variant begins with its name.
 #[derive(Clone, Copy, Debug, PartialEq, Eq)]
 pub enum Key {
     /// `description`: a text.

@@ -62,6 +62,7 @@ pub enum Finding<N> {
 ///
 /// - The faults of the blob, then `NoImages`.
 /// - `NoData`, `DataOutside`: of an image, before any finding about it.
+/// - `Read`: if and only if a read failed.
 /// - `OutOfMemory`: if and only if the room refused to grow.
 pub fn check<S: Source, A: Allocator>(
     need: Option<Algo>,

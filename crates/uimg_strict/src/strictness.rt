@@ -121,6 +121,7 @@ fn loose_file<S: Source, A: Allocator>(
 /// payloads after the tree. Takes memory for the names in one node.
 ///
 /// - The faults of the blob, then `NoImages`.
+/// - `Stopped` with `Read`: if and only if a read failed.
 /// - `OutOfMemory`: memory for names was refused.
 /// - `Changed`: only if the source does not have the blob that was indexed.
 pub fn find_loose<S: Source, A: Allocator>(

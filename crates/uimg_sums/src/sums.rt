@@ -30,7 +30,7 @@ pub trait Summer: Drop {
         ensures bound { result ≤ 64 };
 }
 
-/// One sum, or several over the same bytes.
+/// Sums over the same bytes: one, several or none.
 ///
 /// Every `Summer` is one, and a `Bundle`. How the bytes are cut into pieces does not matter.
 pub trait Sums: Drop {

@@ -70,7 +70,7 @@ pub enum Ended {
 /// A file has the name of its image if that is a file name (`is_file_name`) and no earlier file has
 /// the same name in lower case. Otherwise it is `image-` with its number among the taken payloads,
 /// counted from 0, or with the first free number after it. Nothing is written in these cases:
-/// - something exists at one of these paths, unless files are replaced;
+/// - something exists at one of these paths, or, if files are replaced, a folder;
 /// - one of them leads to the image;
 /// - there are more files or bytes than the limits allow.
 ///

@@ -14,7 +14,7 @@ pub enum SurveyFault {
     /// Memory for the facts was refused.
     #[error("out of memory")]
     OutOfMemory,
-    /// The blob is not the one that was indexed. Only `survey_with_properties` returns it.
+    /// The blob is not the one that was indexed. `survey` never returns it.
     #[error("changed while it was read")]
     Changed,
 }

@@ -36,8 +36,8 @@ pub enum Refusal {
 /// Receives the unpacked payloads of an image one after another, by the names of their images,
 /// which may come more than once.
 ///
-/// Contracts see an honest taker as the list of what it was given, and one that notes what is claimed
-/// as the list of that, too.
+/// Contracts see an honest taker as the list of what it was given, as far as `seen` shows it. If it
+/// notes claims, they also see the list of these.
 pub trait Taker {
     /// What a payload is written to before anything vouches for it. Only `keep` gives it its name.
     type Shelf: Write + Drop;
