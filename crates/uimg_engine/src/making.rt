@@ -103,7 +103,8 @@ pub(crate) fn keep<H: Shelf>(shelf: H) -> Result<H::Kept, Fault>
 /// Builds the image of the command on the shelf, at a time in seconds since 1970, reopens it, and
 /// writes its listing to `out`, with the names of the profile. Returns what was kept. If the
 /// payloads of a FIT image are after the blob, its end and each payload's are rounded up to a
-/// multiple of 4.
+/// multiple of 4. A legacy image must have at least one part, and just one unless its type is multi
+/// or script.
 ///
 /// Over honest files and an honest, empty shelf:
 ///
