@@ -23,7 +23,7 @@ import fits
 import released
 import shapes
 
-RUNS = int(os.environ.get("BENCH_RUNS", "7"))
+RUNS = int(os.environ.get("BENCH_RUNS", "5"))
 # The bytes of a payload, and the number of images that are checked.
 SIZE = int(os.environ.get("BENCH_MIB", "512")) * 1024 * 1024
 CHECKED = 10000
