@@ -6,10 +6,11 @@ and an interrupted run resumes with the crates that it had not finished.
 A crate is proved from nothing, with one job except for those of JOBS, and its library holds what
 the crates above may cite. The results are in crates/CRATE/out: rlib, the program or the archive,
 the file `statement`, what the prover said, and the file `proved` with the sum of all that the proof
-depends on.
+depends on, and that of what it made.
 
 On a terminal one line shows the progress; elsewhere, or with -q, each crate has its line. The
 log of a crate is out/CRATE.log. The status is 0 if all are proved."""
+import hashlib
 import os
 import re
 import shutil
@@ -52,7 +53,8 @@ class Proof:
             with open(self.log, "a", encoding="utf-8") as log:
                 log.write(f"error: files of {self.name}, or of a crate below it, changed while it was proved\n")
         if self.is_proved:
-            for name, text in (("statement", statement(self.log)), ("proved", self.stamp)):
+            sums = f"{self.stamp}\n{sum_of_made(self.crate)}"
+            for name, text in (("statement", statement(self.log)), ("proved", sums)):
                 with open(f"{made}/{name}", "w", encoding="ascii") as file:
                     file.write(text)
 
@@ -89,12 +91,23 @@ class Proof:
 
 
 def stamp_of(crate):
-    """Returns the sum with which a crate was proved, or None if it was not."""
+    """Returns the sum with which a crate was proved, or None if it was not, or if what was made then
+    is another one now."""
     path = f"{crate.folder}/out/proved"
     if not os.path.isfile(path):
         return None
     with open(path, encoding="ascii") as file:
-        return file.read()
+        stamp, _, made = file.read().partition("\n")
+    return stamp if made == sum_of_made(crate) else None
+
+
+def sum_of_made(crate):
+    """Returns the sum of a crate's library, or of its program or archive."""
+    made = f"{crate.folder}/out"
+    files = [f"{made}/{crate.name}", f"{made}/lib{crate.name}.a"]
+    files += [f"{at}/{it}" for at, _, names in os.walk(crate.rlib) for it in names]
+    parts = [kit.sum_of(it) for it in sorted(files) if os.path.isfile(it)]
+    return hashlib.sha256("\n".join(parts).encode()).hexdigest()
 
 
 class Screen:
