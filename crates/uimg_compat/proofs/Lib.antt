@@ -1,14 +1,7 @@
 -- Lemmas.
-mod EqualLaws
 mod Examples
-mod LackLaws
 mod Letters
-mod LoopLaws
 mod MakingLaws
-mod NearestLaws
 mod Numerals
-mod SetLaws
 mod SplitLaws
 mod Strips
-mod TellingLaws
-mod WarnLaws

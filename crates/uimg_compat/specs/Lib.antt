@@ -9,12 +9,6 @@ pub mod ImageTree
 pub mod Labels
 pub mod Mkimage
 pub mod Names
-pub mod Nearest
 pub mod Requests
 pub mod Steps
-pub mod Telling
-pub mod Warnings
-pub mod WarningsOfConfigurations
-pub mod WarningsOfImages
-pub mod WarningsOfNodes
 pub mod Wrong

@@ -13,6 +13,13 @@ use Rattle.uimg_compat.specs.Wrong.{Wrong, other_images, unknown_name}
 use Rattle.uimg_compat.specs.declared.names.Named.{Named}
 use Rattle.uimg_compat.specs.declared.names.Named.TheVariants as named
 
+-- the name of a field
+abbrev pub title_of : Field → Text
+title_of Architecture = codes "architecture"
+title_of System = codes "operating system"
+title_of Kind = codes "image type"
+title_of Compression = codes "compression"
+
 -- A, O, T, C
 abbrev pub letter_of : Field → ℕ
 letter_of Architecture = 65

@@ -28,7 +28,7 @@ use uimg_names::{Field, Naming};
 
 /// The image source that mkimage 2023.01 makes for a file, device trees and a RAM disk. Displayed,
 /// it is the text of the source.
-#[derive(Clone, Copy, Debug)]
+#[derive(Clone, Copy)]
 pub struct AutoSource<'a> {
     /// The type of the file's image, and its load address.
     pub(crate) options: Options,
@@ -50,7 +50,7 @@ pub struct AutoSource<'a> {
 }
 
 /// The paths of device trees, one after another.
-#[derive(Clone, Copy, Debug)]
+#[derive(Clone, Copy)]
 pub struct TreePaths<'a> {
     words: Words<'a, 'a>,
 }

@@ -63,7 +63,7 @@ pub struct DtcWords<'a> {
 }
 
 /// The warnings that a command line silences by the names of dtc's checks.
-#[derive(Clone, Copy, Debug, PartialEq, Eq)]
+#[derive(Clone, Copy)]
 pub struct Silenced {
     /// Those of `duplicate_node_names`.
     pub equal_nodes: bool,

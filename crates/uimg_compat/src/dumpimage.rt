@@ -30,7 +30,7 @@ const DUMPIMAGE_OPTIONS: [OptionRow; 6] = [
 ];
 
 /// The options of a command line so far. Of a repeated one the last counts.
-#[derive(Clone, Copy, Debug)]
+#[derive(Clone, Copy)]
 struct Settings<'a> {
     kind: Option<u8>,
     kind_name: &'a str,

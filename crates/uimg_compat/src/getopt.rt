@@ -23,7 +23,7 @@ use uimg_printing::Printed;
 pub type OptionRow = (char, &'static str, bool);
 
 /// What comes next on a command line.
-#[derive(Clone, Copy, Debug, PartialEq, Eq)]
+#[derive(Clone, Copy)]
 pub enum Given<'a> {
     /// The option of this letter, without a value.
     Flag(char),
@@ -64,7 +64,7 @@ pub enum Misuse<'a> {
 }
 
 /// The unread arguments of a command line.
-#[derive(Clone, Copy, Debug)]
+#[derive(Clone, Copy)]
 pub struct Words<'w, 'a> {
     words: &'w [&'a str],
     next: usize,

@@ -9,7 +9,7 @@ use std::fmt;
 use std::fmt::{Display, Formatter, Write};
 
 /// Part of image-tree source: the beginning or the end of a node, or a property.
-#[derive(Clone, Copy, Debug)]
+#[derive(Clone, Copy)]
 pub(crate) enum Item<'a> {
     /// The beginning of a node.
     Begins(&'a str),
@@ -63,7 +63,7 @@ impl<'a> Display for Item<'a> {
 }
 
 /// The description of the whole image, by the name of a type.
-#[derive(Clone, Copy, Debug)]
+#[derive(Clone, Copy)]
 struct Title<'a>(&'a str);
 
 impl<'a> Display for Title<'a> {

@@ -33,4 +33,4 @@ pub use mkimage::read_mkimage;
 pub use names::title_of;
 pub use quoted::{Escaped, Quoted};
 pub use request::{AutoRequest, FitRequest, OldRequest, Show, UpdateRequest};
-pub use warnings::{Told, warn};
+pub use warnings::warn;

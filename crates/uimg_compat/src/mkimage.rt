@@ -23,7 +23,7 @@ use uimg_names::Field;
 use uimg_printing::Printed;
 
 /// The options of a command line so far. Of a repeated one the last counts.
-#[derive(Clone, Copy, Debug)]
+#[derive(Clone, Copy)]
 struct Settings<'a> {
     arch: u8,
     os: u8,

@@ -2,7 +2,7 @@
 
 ghost use Rattle.std.specs.Prelude.{◌≡◌, Result, Err};
 ghost use Rattle.uimg_compat.specs.Names.{form_asked, is_made, letter_of, name_asked};
-ghost use Rattle.uimg_compat.specs.Warnings.{title_of};
+ghost use Rattle.uimg_compat.specs.Names.{title_of};
 ghost use Rattle.uimg_compat.specs.Wrong.{IsWrong, Tells, Wrong, unknown_name, wrong_of};
 ghost use Rattle.uimg_compat.specs.declared.names.Named.{Named};
 
@@ -48,7 +48,7 @@ pub fn title_of(field: Field) -> &'static str
 }
 
 /// The meaning of a name.
-#[derive(Clone, Copy, Debug, PartialEq, Eq)]
+#[derive(Clone, Copy)]
 pub(crate) enum Named {
     /// A code of the header.
     Code(u8),

@@ -1,10 +1,5 @@
 //! The known name that a mistaken one means.
 
-ghost use Rattle.std.specs.{Option.option_or, Prelude.{◌≡◌, IfOk, map, option_map}};
-ghost use Rattle.std.specs.Str.{str_eq_ignore_ascii_case};
-ghost use Rattle.uimg_names.specs.Naming.{all_rows};
-ghost use Rattle.uimg_compat.specs.Nearest.{name_meant, nearest_below, other_names, pair_of};
-
 use std::alloc::{AllocError, Global};
 use strsim::levenshtein;
 use uimg_names::Field;
@@ -31,20 +26,14 @@ pub(crate) fn meant(
     alloc: Global,
     field: Field,
     word: &str,
-) -> Result<Option<&'static str>, AllocError>
-    ensures { IfOk result (λ found. option_map (λ name. name.now) found
-        ≡ option_or (name_meant (other_names field) word.now)
-        (nearest_below 3 word.now (map (λ row. row.short) (all_rows field)))) }
-{
+) -> Result<Option<&'static str>, AllocError> {
     match meant_by(field, word) {
         Some(name) => Ok(Some(name)),
         None => nearest(alloc, field, word),
     }
 }
 
-fn others(field: Field) -> &'static [(&'static str, &'static str)]
-    ensures { map pair_of result.now ≡ other_names field }
-{
+fn others(field: Field) -> &'static [(&'static str, &'static str)] {
     match field {
         Field::Architecture => ARCHITECTURES.as_slice(),
         Field::System => SYSTEMS.as_slice(),
@@ -53,28 +42,16 @@ fn others(field: Field) -> &'static [(&'static str, &'static str)]
     }
 }
 
-fn meant_by(field: Field, word: &str) -> Option<&'static str>
-    ensures { option_map (λ name. name.now) result ≡ name_meant (other_names field) word.now }
-{
-    let rows = others(field);
-    for (other, name) in rows {
-        if is_same(other, word) {
+fn meant_by(field: Field, word: &str) -> Option<&'static str> {
+    for (other, name) in others(field) {
+        if other.eq_ignore_ascii_case(word) {
             return Some(*name);
         }
     }
     None
 }
 
-fn is_same(other: &str, word: &str) -> bool
-    ensures { result ≡ str_eq_ignore_ascii_case other.now word.now }
-{
-    other.eq_ignore_ascii_case(word)
-}
-
-fn nearest(alloc: Global, field: Field, word: &str) -> Result<Option<&'static str>, AllocError>
-    ensures { IfOk result (λ found. option_map (λ name. name.now) found
-        ≡ nearest_below 3 word.now (map (λ row. row.short) (all_rows field))) }
-{
+fn nearest(alloc: Global, field: Field, word: &str) -> Result<Option<&'static str>, AllocError> {
     let mut fewest = 3;
     let mut found = None;
     for (name, _, _) in field.rows() {

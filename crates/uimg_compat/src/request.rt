@@ -60,7 +60,7 @@ pub struct FitRequest<'a> {
 }
 
 /// The build of a FIT image from the source that mkimage makes itself.
-#[derive(Clone, Copy, Debug)]
+#[derive(Clone, Copy)]
 pub struct AutoRequest<'a> {
     /// The source.
     pub source: AutoSource<'a>,
@@ -82,7 +82,7 @@ pub struct AutoRequest<'a> {
 }
 
 /// The update of a FIT image: its hashes are set, and its timestamp.
-#[derive(Clone, Copy, Debug)]
+#[derive(Clone, Copy)]
 pub struct UpdateRequest<'a> {
     /// The path of the image.
     pub image: &'a str,
@@ -101,7 +101,7 @@ pub struct UpdateRequest<'a> {
 }
 
 /// A requested text.
-#[derive(Clone, Copy, Debug, PartialEq, Eq)]
+#[derive(Clone, Copy)]
 pub enum Show {
     /// This help text.
     Help(&'static str),

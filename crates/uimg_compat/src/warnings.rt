@@ -2,15 +2,10 @@
 //! made nevertheless. `warn` is the one call.
 
 mod configurations;
-mod equal_names;
 mod images;
-mod known_names;
-mod lacks;
-mod node_paths;
-mod nodes;
+mod names;
 mod root;
 mod teller;
 mod warning;
 
 pub use root::warn;
-pub use teller::Told;

@@ -1,16 +1,29 @@
 //! The texts of warnings.
 
-ghost use Rattle.std.specs.Prelude.{Some};
-ghost use Rattle.uimg_compat.specs.Warnings.{trouble_of, trouble_text};
-
 use crate::names::title_of;
 use crate::quoted::{Escaped, Quoted};
 use std::fmt;
 use std::fmt::{Display, Formatter, Write};
 use uimg_names::Field;
 
+/// The path of a node: the names of the nodes from the root to it; empty for the root.
+#[derive(Clone, Copy)]
+pub(crate) struct NodePath<'a>(pub(crate) &'a [&'a [u8]]);
+
+impl<'a> Display for NodePath<'a> {
+    fn fmt<W: Write>(&self, f: &mut Formatter<W>) -> fmt::Result {
+        if self.0.is_empty() {
+            return f.write_str("/");
+        }
+        for name in self.0 {
+            write!(f, "/{}", Escaped(name))?;
+        }
+        Ok(())
+    }
+}
+
 /// A warning about a node.
-#[derive(Clone, Copy, Debug)]
+#[derive(Clone, Copy)]
 pub(crate) enum Warning<'a> {
     /// It lacks the property of this name.
     Lacks(&'static str),
@@ -32,9 +45,6 @@ pub(crate) enum Warning<'a> {
 }
 
 impl<'a> Display for Warning<'a> {
-    ghost output = { λ it. Some (trouble_text (trouble_of it)) };
-
-    #[tactic(auto, unfolding(crate::specs::Warnings::trouble_text))]
     fn fmt<W: Write>(&self, f: &mut Formatter<W>) -> fmt::Result {
         match self {
             Warning::Lacks(property) => write!(f, "it has no {property}"),
