@@ -19,11 +19,12 @@ use Rattle.uimg_fit_base.specs.Report.{named_word, is_right}
 use Rattle.uimg_fit_base.specs.declared.fault.Fault.{Fault}
 use Rattle.uimg_fit_base.specs.declared.fault.FitFault.{FitFault}
 use Rattle.uimg_fit_checking.specs.Checks.{NamedFinding, wrong_in, is_weak, or_weak, found_of, image_finding, or_later, first_told, or_right, some_told, check_of}
-use Rattle.uimg_fit_checking.specs.declared.checking.Finding.TheVariants.{Right, Wrong, Weak, Overlapping, NoImage}
+use Rattle.uimg_fit_checking.specs.declared.checking.Finding.{Finding}
+use Rattle.uimg_fit_checking.specs.declared.checking.Finding.TheVariants.{Right, Unhashed, Wrong, Weak, Overlapping, NoImage}
 use Rattle.uimg_fit_reading.specs.Work.{hashed_size}
 use Rattle.uimg_strict.specs.Looseness.{LooseSaid, loose_blob, loose_file, loose_in, looseness_of, is_nameless}
 use Rattle.uimg_strict.specs.Soundness.{is_sound}
-use Rattle.uimg_uboot.specs.Readings.{says_right, RightPayload, ReadAsChecked}
+use Rattle.uimg_uboot.specs.Readings.{RightPayload, ReadAsChecked}
 use Rattle.uimg_uboot.proofs.UBootLaws.{reads_same}
 
 no_err : {X E : Type 0} (e : E) (x : X) → Err e ≡ Ok x → ⊥
@@ -35,6 +36,15 @@ ok_ok x y is = some_some x y (ap result_ok is)
 by_if : {X P : Type 0} (b : Bool) (x y : X) → ((if b then x else y) ≡ x → b ≡ true → P) → ((if b then x else y) ≡ y → b ≡ false → P) → P
 by_if true x y yes_so not_so = yes_so refl refl
 by_if false x y yes_so not_so = not_so refl refl
+
+-- whether a finding is that all is right
+abbrev says_right : {N : Type 0} → Finding N → Bool
+says_right (Right payloads nodes) = true
+says_right (Unhashed image) = false
+says_right (Wrong image hash word) = false
+says_right (Weak image) = false
+says_right (Overlapping image) = false
+says_right NoImage = false
 
 -- it is never what is found in an image
 wrong_never : (name message : List ℕ) (hs : List (NodeOf Spot)) (told : NamedFinding) → wrong_in name message hs ≡ Some told → says_right told ≡ false

@@ -1,5 +1,5 @@
 -- That U-Boot reads a FIT image as a check does.
-use Rattle.std.specs.Prelude.{◌≡◌, ⊤, ℕ, List, Option, Some, None, Ok, Bool, true, false}
+use Rattle.std.specs.Prelude.{◌≡◌, ℕ, List, Some, Ok, true}
 use Rattle.std.specs.List.{AllByRecursion}
 use Rattle.uimg_names.specs.declared.naming.Naming.TheVariants as naming
 use Rattle.uimg_base.specs.declared.spans.Span.{Span}
@@ -10,17 +10,6 @@ use Rattle.uimg_blob_reading.specs.Plain.{NodesOf}
 use Rattle.uimg_blob_reading.specs.Spots.{Spot, spots}
 use Rattle.uimg_fit_base.specs.Places.{place, bytes_at}
 use Rattle.uimg_fit_base.specs.Report.{named_word, is_right}
-use Rattle.uimg_sums.specs.declared.algo.Algo.{Algo}
-use Rattle.uimg_fit_checking.specs.Checks.{named_finding, check_of}
-use Rattle.uimg_fit_checking.specs.declared.checking.Finding.{Finding}
-use Rattle.uimg_fit_checking.specs.declared.checking.Finding.TheVariants.{Right, Unhashed, Wrong}
-use Rattle.uimg_fit_checking.specs.declared.checking.Finding.TheVariants.{Weak, Overlapping}
-use Rattle.uimg_fit_checking.specs.declared.checking.Finding.TheVariants.{NoImage}
-use Rattle.uimg_strict.specs.Looseness.{looseness_of}
-use Rattle.uimg_strict.specs.declared.loose.Loose.{Loose as LooseFound}
-use Rattle.uimg_strict.specs.Telling.{read_loose}
-use Rattle.uimg_uboot.specs.declared.strict_check.Strict.{Strict}
-use Rattle.uimg_uboot.specs.declared.strict_check.Strict.TheVariants.{Found, Loose}
 use Rattle.uimg_uboot.specs.UBoot.{has_format, images_found, image_found, payload_found}
 use Rattle.uimg_uboot.specs.UBoot.{hashes_compared}
 
@@ -53,31 +42,3 @@ pub record ReadAsChecked (file : List ℕ) : Type 0 where
   pub images_are : images (spots nodes) ≡ Some found
   pub right : AllByRecursion (RightPayload file) found
   pub same : ReadsSame file (spots nodes) found
-
--- whether a finding is that all is right
-abbrev pub says_right : {N : Type 0} → Finding N → Bool
-says_right (Right images nodes) = true
-says_right (Unhashed image) = false
-says_right (Wrong image hash word) = false
-says_right (Weak image) = false
-says_right (Overlapping image) = false
-says_right NoImage = false
-
--- All is right in a file, and this is refused.
-pub record IsLoose (need : Option Algo) (file : List ℕ) (loose : LooseFound) : Type 0 where
-  pub payloads : ℕ
-  pub nodes : ℕ
-  pub right : check_of need file ≡ Ok (Right payloads nodes)
-  pub refused : looseness_of file ≡ Ok (Some (read_loose loose))
-
--- The result is the finding of the check, and what is refused where that is that all is right.
-abbrev pub TellsStrict : Option Algo → List ℕ → Strict → Type 0
-TellsStrict need file (Found found) =
-    (check_of need file ≡ Ok (named_finding file found))
-    × (says_right found ≡ true → looseness_of file ≡ Ok None)
-TellsStrict need file (Loose loose) = IsLoose need file loose
-
--- If all is right, U-Boot reads the file as it was checked.
-abbrev pub ReadIfRight : List ℕ → Strict → Type 0
-ReadIfRight file (Found found) = says_right found ≡ true → ReadAsChecked file
-ReadIfRight file (Loose loose) = ⊤

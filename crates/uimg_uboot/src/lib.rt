@@ -1,7 +1,3 @@
-//! How U-Boot reads a FIT image (`specs/UBoot.antt`), and a strict check: what it finds right,
-//! U-Boot reads in the same way.
+//! How U-Boot reads a FIT image (`specs/UBoot.antt`), and the law on strict checks: what is found to be
+//! right and is not refused, U-Boot reads as it was checked (`proofs/RightLaws.antt`).
 #![tactic(auto)]
-
-mod strict_check;
-
-pub use strict_check::{Strict, check_strictly};
