@@ -461,6 +461,18 @@ The outfile gets its name when it is complete, also through a link, and an exist
   mkimage: cannot write out: File too large (os error 27)
   beforeout
   outside
+  $ printf '/dts-v1/; / { images { a { data = /incbin/("%s"); }; }; };' "$(command -v uimg)" > large.its
+  $ (ulimit -f 1; trap '' XFSZ; mkimage -q -f large.its out 2>&1; echo "[$?]"); cat out; ls out*
+  mkimage: cannot write out: File too large (os error 27)
+  [3]
+  beforeout
+  outside
+  $ mkimage -q -f large.its large.itb && cp large.itb was.itb
+  $ (ulimit -f 1; trap '' XFSZ; mkimage -q -F large.itb 2>&1; echo "[$?]"); cmp large.itb was.itb; ls large*
+  mkimage: cannot write large.itb: File too large (os error 27)
+  [3]
+  large.itb
+  large.its
   $ cp d out.uimg-new1 && ln -s nothing out.uimg-new2 && mkimage -q -A arm -a 1000 -n name -d out.uimg-new1 out
   $ cmp out wanted && cmp out.uimg-new1 d && ls out*
   out

@@ -20,6 +20,7 @@ pub mod SearchedLaws
 pub mod SourceTextLaws
 pub mod StatusLaws
 pub mod StrictLaws
+pub mod TreeLaws
 pub mod UnpackLaws
 pub mod UnpackTells
 pub mod VerdictLaws

@@ -32,7 +32,7 @@ pub is_flushed : (end : Result Status RequestFault) (printed : Result ⊤ Error)
 is_flushed end (Ok flushed) status is done = refl
 is_flushed end (Err error) status is done = let failed : status ≡ 3 = is in absurd (omega (arith, failed, done))
 
-kept : (known : Option (List ℕ)) → Keeps known known
+pub kept : (known : Option (List ℕ)) → Keeps known known
 kept None = tt
 kept (Some bytes) = refl
 

@@ -1,5 +1,5 @@
 -- What a command of `uimg` prints on standard error, over the files of a world.
-use Rattle.std.specs.Prelude.{◌≡◌, ◌⊎◌, ℕ, List, Option, Some, None, Err, Result}
+use Rattle.std.specs.Prelude.{◌≡◌, ◌⊎◌, ℕ, List, IsTrue, Option, Some, None, Result, Ok, Err}
 use Rattle.std.specs.Borrow.{Bor}
 use Rattle.uimg_base.specs.{Device.Device, Named.FileMap, Sink.Sink}
 use Rattle.uimg_cli.specs.FaultTexts as words
@@ -94,9 +94,15 @@ abbrev pub ComplainsWords : {V : Type 0} → (V → Option (List ℕ)) → Words
 ComplainsWords contents (NoCommand text) old new = AddsText contents (words.text_of (NoCommand text)) old new
 ComplainsWords contents fault old new = ComplainsBetween contents (Some (Some (words.text_of fault))) old new
 
--- What is wrong with the words of a command line, by their definition, is told.
-pub record RefusesWords {V : Type 0} (contents : V → Option (List ℕ)) (line : CommandLine)
-    (old new : Complaints V) : Type 0 where
-  pub fault : WordsFault
-  pub reads : ReadsWords (epoch_of line) line.time (words_of line) (Err fault)
-  pub told : ComplainsWords contents fault old new
+-- What the definition of command lines reads from the words: a request, over an honest world, or what
+-- is wrong with them.
+abbrev pub ComplainsRead : {K V : Type 0} → (V → Option (List ℕ)) → (K → Device) → Result Asked WordsFault → FileMap → ℕ → (old new : Complaints V) → Type 0
+ComplainsRead contents device (Ok asked) files status old new =
+    IsTrue files.honest → (status ≡ 3) ⊎ ComplainsAsked contents device asked files status old new
+ComplainsRead contents device (Err fault) files status old new = ComplainsWords contents fault old new
+
+pub record ComplainsLine {K V : Type 0} (contents : V → Option (List ℕ)) (device : K → Device) (line : CommandLine)
+    (files : FileMap) (status : ℕ) (old new : Complaints V) : Type 0 where
+  pub asked : Result Asked WordsFault
+  pub reads : ReadsWords (epoch_of line) line.time (words_of line) asked
+  pub told : ComplainsRead contents device asked files status old new

@@ -1,17 +1,23 @@
 -- What an extraction to a file answers, over the files of a world. F is the type of a world's files.
-use Rattle.std.specs.Prelude.{◌≡◌, ⊤, ◌⊎◌, ℕ, List, [], ◌∷◌, Option, Some, None, Bool, true, false, Result, Err}
+use Rattle.std.specs.Prelude.{◌≡◌, ⊤, IsTrue, ◌⊎◌, ℕ, List, [], ◌∷◌, Option, Some, None, Bool, true, false, Result, Err}
 use Rattle.std.specs.Borrow.{Bor}
 use Rattle.std.specs.Io.KnownBytes.{Keeps}
 use Rattle.uimg_base.specs.{Named.FileMap, Outcome.Tells, Sink.Sink}
 use Rattle.uimg_base.specs.declared.status.Status.{Status}
 use Rattle.uimg_requests.specs.declared.requests.RunRequest.{RunRequest}
 use Rattle.uimg_tool.specs.Running.{meant_end, outcome_on, outcome_status}
+use Rattle.uimg_tool.specs.Writings.{LeadsInPlace}
 use Rattle.uimg_tool.specs.declared.request_fault.RequestFault.{RequestFault}
 use Rattle.uimg_tool.specs.declared.request_fault.RequestFault.TheVariants as request
 use Rattle.uimg_unpacking.specs.Allowing.{is_image}
 use Rattle.uimg_unpacking.specs.Deeds as deed
 use Rattle.uimg_unpacking.specs.Deeds.{Answer, Deed, Identifies, Opens}
 use Rattle.uimg_unpacking.specs.declared.file_id.FileId.{FileId}
+
+-- The file of an extraction is empty if it is given; else an honest world creates or empties one.
+abbrev pub IsNewFile : {F : Type 0} → Bool → (F → Option (List ℕ)) → Option F → Type 0
+IsNewFile honest contents None = IsTrue honest
+IsNewFile honest contents (Some file) = contents file ≡ Some []
 
 -- A new file came to have the text of the outcome, or a prefix of it if a device failed or memory was
 -- refused.
@@ -86,3 +92,9 @@ abbrev pub AnswersExtraction : {F : Type 0} → (F → Option (List ℕ)) → Ru
 AnswersExtraction contents asked path files status old new before after =
     (status ≡ 3) ⊎ ((status ≡ 2) × IsSame asked.image.now path (Opens asked.image.now true ∷ before) after)
     ⊎ Extracted contents asked files status old new
+
+-- The same by the name of dumpimage. Of what is written in place, to a device or a pipe, nothing is said.
+abbrev pub AnswersOldExtraction : {F : Type 0} → (F → Option (List ℕ)) → RunRequest → List ℕ → FileMap → ℕ → (old new : Option (List ℕ)) → (before : List Deed) → Type 0
+AnswersOldExtraction contents asked path files status old new before =
+    (status ≡ 3) ⊎ (status ≡ 2) ⊎ Extracted contents asked files status old new
+    ⊎ ((opened : Bool) × (seen : List Deed) × LeadsInPlace path (Opens asked.image.now opened ∷ before) seen)

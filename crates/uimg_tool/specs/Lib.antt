@@ -36,6 +36,7 @@ pub mod SourceTexts
 pub mod Statuses
 pub mod StrictEnds
 pub mod TreeSizes
+pub mod TreesMade
 pub mod UnpackComplaints
 pub mod UnpackEnds
 pub mod Unpackings

@@ -53,6 +53,10 @@ pub data IsInPlace (path : List ℕ) (before after : List Deed) : Type 0 where
   lost : after ≡ Looks path kind.Link ∷ Resolves path None ∷ Finds path target.File ∷ before → IsInPlace path before after
   nowhere : (found : Kind) → is_something found ≡ true → after ≡ Looks path found ∷ Finds path target.Nothing ∷ before → IsInPlace path before after
 
+-- the same, or a pipe
+abbrev pub LeadsInPlace : List ℕ → (before after : List Deed) → Type 0
+LeadsInPlace path before after = (after ≡ Finds path target.Pipe ∷ before) ⊎ IsInPlace path before after
+
 -- A path leads to the file at another, through symbolic links, or nothing exists there.
 pub data IsAt (path whole : List ℕ) (before after : List Deed) : Type 0 where
   resolved : after ≡ Resolves path (Some whole) ∷ Finds path target.File ∷ before → IsAt path whole before after

@@ -27,7 +27,7 @@ use uimg_unpacking::{MakingWorld, World};
 /// Returns the status and what `out` buffers for.
 pub(crate) fn carry_out_asked<'a, D: MakingWorld<'a>, W: Write + Drop, V: Write>(
     world: &mut D,
-    asked: &'a Asked<'a>,
+    asked: &Asked<'a>,
     out: BufWriter<W, Global>,
     complaints: &mut Complaints<'_, V>,
 ) -> (u8, W)
@@ -50,7 +50,7 @@ pub(crate) fn carry_out_asked<'a, D: MakingWorld<'a>, W: Write + Drop, V: Write>
 
 fn carry_out_buffered<'a, D: MakingWorld<'a>, W: Write + Drop, V: Write>(
     world: &mut D,
-    asked: &'a Asked<'a>,
+    asked: &Asked<'a>,
     mut out: BufWriter<W, Global>,
     complaints: &mut Complaints<'_, V>,
 ) -> (u8, BufWriter<W, Global>)
@@ -87,7 +87,7 @@ fn carry_out_buffered<'a, D: MakingWorld<'a>, W: Write + Drop, V: Write>(
 // The request is a command on one image, a build, or a text to print. Returns `out`, too.
 fn carry_out_one<'a, D: MakingWorld<'a>, W: Write + Drop, V: Write>(
     world: &mut D,
-    request: &'a Request<'a>,
+    request: &Request<'a>,
     out: BufWriter<W, Global>,
     complaints: &mut Complaints<'_, V>,
 ) -> (u8, BufWriter<W, Global>)
@@ -127,7 +127,7 @@ fn run_image<D: World, W: Write + Drop, V: Write>(
         (D.map world.old) result.0 complaints.old complaints.new }
 {
     let mut out = Out::new(out);
-    let end = run_command(world, request, None, &mut out);
+    let end = run_command(world, request, &mut out);
     let mut out = out.into_inner();
     let made = Made {
         end,
@@ -138,7 +138,7 @@ fn run_image<D: World, W: Write + Drop, V: Write>(
 
 fn make_one<'a, D: MakingWorld<'a>, W: Write + Drop, V: Write>(
     world: &mut D,
-    request: &'a MakeRequest<'a>,
+    request: &MakeRequest<'a>,
     out: BufWriter<W, Global>,
     complaints: &mut Complaints<'_, V>,
 ) -> (u8, BufWriter<W, Global>)

@@ -24,9 +24,9 @@ use uimg_requests::{MakeCommand, MakeRequest};
 use uimg_unpacking::{MakingWorld, Reader};
 
 /// Makes the image on a shelf of its path, of the files in the folder of the request.
-pub(crate) fn make_in<'a, D: MakingWorld<'a>, W: Write>(
+pub(crate) fn make_in<'a, 'p, D: MakingWorld<'p>, W: Write>(
     world: &mut D,
-    request: &'a MakeRequest<'a>,
+    request: &'a MakeRequest<'p>,
     out: &mut Out<W>,
 ) -> Result<Status, RequestFault<'a>>
     ensures ends { MakeEnds request.now result }
@@ -46,7 +46,7 @@ pub(crate) fn make_in<'a, D: MakingWorld<'a>, W: Write>(
 // A reader opens the files in the folder of the request. The file that is written is left out.
 fn make_among<'a, R: Reader, H: Shelf, W: Write, L: LeftOut>(
     alloc: Global,
-    request: &'a MakeRequest<'a>,
+    request: &'a MakeRequest<'_>,
     reader: R,
     shelf: H,
     out: &mut Out<W>,
@@ -67,7 +67,7 @@ fn make_among<'a, R: Reader, H: Shelf, W: Write, L: LeftOut>(
 /// Writes to a file that was begun, or else to one at the path of the image.
 pub(crate) fn make_command<'a, 'p, D: MakingWorld<'p>, W: Write>(
     world: &mut D,
-    request: &'a MakeRequest<'a>,
+    request: &'a MakeRequest<'_>,
     reader: D::Reader,
     begun: Option<Begun<'_, D::File>>,
     how: How<'p>,
@@ -102,7 +102,7 @@ pub(crate) fn make_command<'a, 'p, D: MakingWorld<'p>, W: Write>(
 // Files that are not in the folder of the request are looked for in the others.
 fn make_image<'a, R: Reader, H: Shelf, W: Write>(
     alloc: Global,
-    request: &'a MakeRequest<'a>,
+    request: &'a MakeRequest<'_>,
     reader: R,
     others: &[&str],
     shelf: H,
@@ -127,7 +127,7 @@ fn make_image<'a, R: Reader, H: Shelf, W: Write>(
 // The image's header replaces the beginning of its file.
 fn make_xip<'a, R: Reader, H: Shelf, W: Write>(
     alloc: Global,
-    request: &'a MakeRequest<'a>,
+    request: &'a MakeRequest<'_>,
     reader: R,
     shelf: H,
     out: &mut Out<W>,
@@ -173,7 +173,7 @@ fn make_over<F: Files, H: Shelf, W: Write>(
 
 // The path is that of the command line.
 fn end_of<'a, K: Drop>(
-    request: &'a MakeRequest<'a>,
+    request: &'a MakeRequest<'_>,
     made: Result<K, Fault>,
     has_met_outfile: bool,
 ) -> Result<Status, RequestFault<'a>>
@@ -188,7 +188,7 @@ fn end_of<'a, K: Drop>(
 
 // A failed write is reported with the image's path and the system's reason, if there is one.
 fn end_written<'a>(
-    request: &'a MakeRequest<'a>,
+    request: &'a MakeRequest<'_>,
     made: Result<Status, RequestFault<'a>>,
     code: Option<i32>,
 ) -> Result<Status, RequestFault<'a>>

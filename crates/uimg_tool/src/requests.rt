@@ -4,7 +4,7 @@ ghost use Rattle.std.specs.Prelude.{◌≡◌, ◌∷◌, ◌⊎◌, [], OnOk, I
 ghost use Rattle.std.specs.Io.KnownBytes.{Appends};
 ghost use Rattle.uimg_base.specs.{Honest.IfHonest, Named.SameFiles, Outcome.Tells};
 ghost use Rattle.uimg_tool.specs.RequestEnds.{IsUnwritten, MakeEnds, OverEnds, RunEnds, ShowEnds};
-ghost use Rattle.uimg_tool.specs.Extracting.{AsksToRun, Overwrites, ExtractsAt, ExtractsTo, IfSame, IsApart, IsSame};
+ghost use Rattle.uimg_tool.specs.Extracting.{AsksToRun, Overwrites, ExtractsAt, ExtractsTo, IfSame, IsApart, IsNewFile, IsSame};
 ghost use Rattle.uimg_tool.specs.Running.{ComparesFiles, IntoEnds, OnlyOverwrites, TellsAt, is_opened, meant_end, outcome_on};
 ghost use Rattle.uimg_unpacking.specs.Deeds.{Deed};
 
@@ -55,20 +55,19 @@ pub(crate) fn show<'a, D: Display, W: Write>(
     }
 }
 
-/// An extraction goes to the file that is given, or else to the one at the request's path.
+/// An extraction goes to the file at the request's path.
 pub(crate) fn run_command<'a, D: World, W: Write>(
     world: &mut D,
     request: &RunRequest<'a>,
-    file: Option<D::File>,
     out: &mut Out<W>,
 ) -> Result<Status, RequestFault<'a>>
     ensures ends { RunEnds request.now result }
     ensures told { IsTrue (D.map world.old).honest → request.now.outfile ≡ None →
         TellsAt request.now (D.map world.old) result out.old out.new }
     ensures extracted { IsTrue (D.map world.old).honest → is_some request.now.outfile ≡ true →
-        file ≡ None → ExtractsAt D.File.contents request.now (D.map world.old) result }
+        ExtractsAt D.File.contents request.now (D.map world.old) result }
     ensures silent { is_some request.now.outfile ≡ true → out.new ≡ out.old }
-    ensures asks { file ≡ None → AsksToRun request.now request.now.outfile (D.trace world.old)
+    ensures asks { AsksToRun request.now request.now.outfile (D.trace world.old)
         (D.trace world.new) }
     ensures compared { IfSome request.now.outfile (λ path. IfSame result (IsSame
         request.now.image.now path.now
@@ -81,13 +80,13 @@ pub(crate) fn run_command<'a, D: World, W: Write>(
         return Err(RequestFault::CannotRead(request.image));
     };
     match request.outfile {
-        Some(path) => extract_to(world, request, path, file, &mut source),
+        Some(path) => extract_to(world, request, path, None, &mut source),
         None => run_over(world.alloc(), request, &mut source, out),
     }
 }
 
-// The file is the one that is given, or else the one at a path, which is created or emptied.
-fn extract_to<'a, D: World, S: Source>(
+/// The file is the one that is given, or else the one at a path, which is created or emptied.
+pub(crate) fn extract_to<'a, D: World, S: Source>(
     world: &mut D,
     request: &RunRequest<'a>,
     path: &'a str,
@@ -95,7 +94,7 @@ fn extract_to<'a, D: World, S: Source>(
     source: &mut S,
 ) -> Result<Status, RequestFault<'a>>
     ensures ends { IntoEnds path.entry result }
-    ensures extracted { IsTrue (D.map world.old).honest → file ≡ None →
+    ensures extracted { IsNewFile (D.map world.old).honest D.File.contents file →
         IfHonest S.device source (λ bytes. ExtractsTo D.File.contents request.now bytes result) }
     ensures asks { file ≡ None → IsSame request.now.image.now path.now (D.trace world.old)
         (D.trace world.new) ⊎ IsApart request.now.image.now path.now (D.trace world.old)
@@ -144,7 +143,7 @@ fn outfile_at<'a, D: World>(
     file: Option<D::File>,
 ) -> Result<D::File, RequestFault<'a>>
     ensures ends { IfErr result (IsUnwritten path.entry) }
-    ensures empty { IsTrue (D.map world.old).honest → file ≡ None →
+    ensures empty { IsNewFile (D.map world.old).honest D.File.contents file →
         IfOk result (λ it. D.File.contents it ≡ Some []) }
     ensures written { OnlyOverwrites (Some path.entry) (D.trace world.old) (D.trace world.new) }
     ensures created { file ≡ None → Overwrites path.now (D.trace world.old) (D.trace world.new) }

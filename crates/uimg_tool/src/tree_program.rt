@@ -1,7 +1,8 @@
 //! Writes the image of a tree, as mkimage does.
 
-ghost use Rattle.std.specs.Prelude.{◌≡◌, Err, is_err, true, string_bytes};
-ghost use Rattle.uimg_tool.specs.{Complaints.Ends, OldMakings.{LendsAt, MakesFor}, RequestEnds.TreeEnds};
+ghost use Rattle.std.specs.Prelude.{◌≡◌, Err, IsTrue, OnOk, Some, [], is_err, true, string_bytes};
+ghost use Rattle.uimg_blob_writing.specs.{LentFiles.IfInFull, Trees.node_of};
+ghost use Rattle.uimg_tool.specs.{Complaints.Ends, OldMakings.{LendsAt, MakesFor}, RequestEnds.TreeEnds, TreesMade.KeepsTree};
 
 use crate::blob_room::set_blob_size;
 use crate::complaints::Complaints;
@@ -50,6 +51,8 @@ where
     ensures ends { Ends result complaints.old.count complaints.new.count }
     ensures quiet { request.entry.is_quiet ≡ true → out.new ≡ out.old }
     ensures made { MakesFor request.entry.image.now result (D.trace world.old) (D.trace world.new) }
+    ensures kept { IsTrue D.knows → result ≡ 0 → IfInFull F.map files (node_of tree.now.root)
+        (KeepsTree D.NewShelf.Kept.device request.entry) }
 {
     match writing_of(world, world.alloc(), request.image) {
         Ok(Writing::Beside(file, path)) => {
@@ -84,6 +87,9 @@ where
     ensures quiet { request.entry.is_quiet ≡ true → out.new ≡ out.old }
     ensures lent { LendsAt (string_bytes begun.entry.path.now.new) (is_err result.end)
         (D.trace world.old) (D.trace world.new) }
+    ensures kept { IsTrue D.knows → D.File.contents begun.entry.file ≡ Some [] →
+        IfInFull F.map files (node_of tree.now.root) (λ t. OnOk result.end
+        (KeepsTree D.NewShelf.Kept.device request.entry t)) }
 {
     if request.is_quiet {
         make_beside(world, request, tree, files, begun, &mut io::sink())
@@ -106,6 +112,9 @@ where
     ensures ends { TreeEnds request.entry.image result.end }
     ensures lent { LendsAt (string_bytes begun.entry.path.now.new) (is_err result.end)
         (D.trace world.old) (D.trace world.new) }
+    ensures kept { IsTrue D.knows → D.File.contents begun.entry.file ≡ Some [] →
+        IfInFull F.map files (node_of tree.now.root) (λ t. OnOk result.end
+        (KeepsTree D.NewShelf.Kept.device request.entry t)) }
 {
     let Begun { file, path } = begun;
     let Ok(mut gathered) = BufWriter::new(world.alloc(), out) else {
@@ -153,7 +162,10 @@ fn make_on<'a, F: Files, H: Shelf, W: Write>(
     shelf: H,
     out: &mut W,
 ) -> Result<Status, RequestFault<'a>>
-    ensures { TreeEnds request.entry.image result }
+    ensures ends { TreeEnds request.entry.image result }
+    ensures kept { IsTrue H.honest → H.contents shelf ≡ Some [] →
+        IfInFull F.map files (node_of tree.now.root) (λ t. OnOk result
+        (KeepsTree H.Kept.device request.entry t)) }
 {
     let code = Cell::new(None);
     let manner = TreeManner {

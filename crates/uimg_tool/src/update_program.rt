@@ -1,7 +1,7 @@
 //! Updates a FIT image.
 
-ghost use Rattle.std.specs.Prelude.{◌≡◌, None, Some, if◌then◌else◌, true};
-ghost use Rattle.uimg_tool.specs.{Complaints.Ends, OldMakings.UpdatesFor, SourceStatuses.update_status, TreeSizes.roomy_size_of};
+ghost use Rattle.std.specs.Prelude.{◌≡◌, IsTrue, true};
+ghost use Rattle.uimg_tool.specs.{Complaints.Ends, OldMakings.UpdatesFor, SourceStatuses.update_status, TreeSizes.roomy_size_of, TreesMade.{KeepsUpdated, update_time}};
 ghost use Rattle.uimg_unpacking.specs.Deeds.{changes};
 
 use crate::complaints::Complaints;
@@ -29,6 +29,8 @@ where
     ensures ends { Ends result complaints.old.count complaints.new.count }
     ensures quiet { request.now.is_quiet ≡ true → out.new ≡ out.old }
     ensures made { UpdatesFor request.now.image.now result (D.trace world.old) (D.trace world.new) }
+    ensures kept { IsTrue (D.map world.old).honest → result ≡ 0 →
+        KeepsUpdated D.NewShelf.Kept.device request.now (D.map world.old) }
 {
     let alloc = world.alloc();
     let Ok(mut source) = world.open(request.image) else {
@@ -45,7 +47,7 @@ where
 }
 
 fn time_of(request: &UpdateRequest<'_>) -> Option<u32>
-    ensures { result ≡ (if request.now.sets_time then Some request.now.manner.time else None) }
+    ensures { result ≡ update_time request.now }
 {
     if request.sets_time {
         Some(request.manner.time)

@@ -24,7 +24,7 @@ returns-clause-told g c = λ honest. by_outfile c.args.request.now.outfile _ c.a
     (subst (λ (known : Option (List ℕ)). Keeps known (writer_contents g.W.Write.contents c.flush.new.self)) c.into_inner-out.ensures c.flush.ensures.bytes))
     (λ path is. ExtractLaws.answers _ c.args.request.now path.now _ c.run_command-end.result c.flush.result c.tell_end.result _ _ _ _
     c.run_command-end.ensures.ends (of_some _ path _ is c.run_command-end.ensures.compared)
-    (c.run_command-end.ensures.extracted honest (ap is_some is) refl) (c.tell_end.ensures.status ∙ ap end_status c.told.ensures)
+    (c.run_command-end.ensures.extracted honest (ap is_some is)) (c.tell_end.ensures.status ∙ ap end_status c.told.ensures)
     (subst (λ (known : Option (List ℕ)). Keeps known (writer_contents g.W.Write.contents c.flush.new.self))
     (c.into_inner-out.ensures ∙ ap (λ (s : Sink). s.contents) (c.run_command-end.ensures.silent (ap is_some is) ∙ c.new-out.ensures)) c.flush.ensures.bytes))
 
@@ -36,7 +36,7 @@ returns-clause-line g c = λ honest.
     let end = c.run_command-end.result in
     let meant : Means asked files end = by_file asked.outfile
     (λ none. by_tells asked files end c.new-out.result c.run_command-end.new.out (c.run_command-end.ensures.told honest none))
-    (λ some. by_extracts g.D.File.Write.contents asked files end (c.run_command-end.ensures.extracted honest some refl)) in
+    (λ some. by_extracts g.D.File.Write.contents asked files end (c.run_command-end.ensures.extracted honest some)) in
     run_told g.V.Write.contents asked files c.tell_end.result c.args.complaints.now c.tell_end.new.complaints end c.flush.result c.run_command-end.ensures.ends meant
     (c.tell_end.ensures.status ∙ ap end_status c.told.ensures)
     (subst (λ (it : Result Status RequestFault). ComplainsBetween g.V.Write.contents (told_of_end it) c.args.complaints.now c.tell_end.new.complaints) c.told.ensures c.tell_end.ensures.line)
