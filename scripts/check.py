@@ -18,7 +18,7 @@ import test
 
 def tests_of(crates, name):
     """Returns the crate with the tests of a crate: itself, or of those that use it the one with
-    the fewest crates below. uimg_surface does not count: its tests are of names and signatures."""
+    the fewest crates below."""
     if test.has_tests(f"crates/{name}"):
         return name
     found = [it for it in crates.by_name if it.endswith("_tests") and name in crates.below(it)]

@@ -14,5 +14,6 @@ mod run_rows;
 mod runs;
 mod samples;
 mod streams;
+mod surface;
 mod times;
 mod worlds;

@@ -2,51 +2,15 @@
 
 use super::samples::FILES;
 use super::{blob, fit, legacy};
-use std::alloc::{AllocError, Allocator, Global};
-use std::io::Write;
+use std::alloc::{AllocError, Global};
+use std::fs;
 use std::test::Fail;
-use std::{fs, rt};
-use uimg_base::{Files, MemFiles, MemShelf, MemSource, Out, Room, Shelf, Source, Status};
+use uimg_base::{Files, MemFiles, MemShelf, MemSource, Out, Room, Source};
 use uimg_fit::Placement;
 use uimg_its::ItsFault;
 use uimg_legacy::Options;
-use uimg_tool::{Action, Command, DiskFiles, Fault, Form, MakeCommand, make, program, run};
-
-fn ran<S: Source, A: Allocator, W: Write>(
-    command: &Command,
-    source: &mut S,
-    room: &mut Room<A>,
-    out: &mut Out<W>,
-) -> Result<Status, Fault> {
-    run(command, source, room, out)
-}
-
-fn made<F: Files, H: Shelf, W: Write, A: Allocator + Copy, B: Allocator>(
-    alloc: A,
-    command: &MakeCommand,
-    time: u32,
-    files: &mut F,
-    shelf: H,
-    room: &mut Room<B>,
-    out: &mut Out<W>,
-) -> Result<H::Kept, Fault> {
-    make(alloc, command, time, files, shelf, room, out)
-}
-
-fn carried_out<R: rt::Files + AllocGlobal, W: Write, V: Write>(
-    rt: &R,
-    words: &[&str],
-    epoch: Option<&str>,
-    now: u32,
-    out: &mut W,
-    err: &mut V,
-) -> u8 {
-    program(rt, words, epoch, now, out, err)
-}
-
-fn disk_files<'a, R: rt::Files + AllocGlobal>(rt: &'a R, folder: &'a str) -> DiskFiles<'a, R> {
-    DiskFiles::new(rt, folder)
-}
+use uimg_surface::tool::{disk_files, make, run};
+use uimg_tool::{Action, Command, Fault, Form, MakeCommand, program};
 
 fn of_parts(options: Options, files: Vec<Vec<u8>>) -> MakeCommand {
     MakeCommand::Parts { options, files }
@@ -74,7 +38,7 @@ const LIST: Command = Command {
 
 fn text_of<S: Source>(alloc: Global, command: &Command, source: &mut S) -> Vec<u8> {
     let mut out = Out::new(Vec::new(alloc));
-    match ran(command, source, &mut Room::new(alloc), &mut out) {
+    match run(command, source, &mut Room::new(alloc), &mut out) {
         Ok(_) => out.into_inner(),
         Err(_) => Vec::new(alloc),
     }
@@ -90,7 +54,7 @@ fn makes<F: Files>(
     let command = making(alloc, letter)?;
     let mut room = Room::new(alloc);
     let mut out = Out::new(Vec::new(alloc));
-    let made = made(
+    let made = make(
         alloc,
         &command,
         0,
@@ -136,7 +100,7 @@ fn command_lines(rt: HostRuntime) {
     let mut out = Vec::new(rt.alloc());
     let mut err = Vec::new(rt.alloc());
     let words = ["uimg", "--version"];
-    let status = carried_out(&rt, &words, Some("0"), 0, &mut out, &mut err);
+    let status = program(&rt, &words, Some("0"), 0, &mut out, &mut err);
     assert_eq!(rt; status, 0);
     assert!(rt; out.starts_with(b"uimg "));
     assert!(rt; err.is_empty());
@@ -164,7 +128,7 @@ fn line(fault: ItsFault) -> u64 {
 fn refused(alloc: Global, bytes: &[u8]) -> Option<(char, u64)> {
     let mut source = MemSource::new(bytes);
     let mut out = Out::new(Vec::new(alloc));
-    match ran(&LIST, &mut source, &mut Room::new(alloc), &mut out) {
+    match run(&LIST, &mut source, &mut Room::new(alloc), &mut out) {
         Ok(_) => None,
         Err(fault) => Some(told(fault)),
     }

@@ -1,22 +1,13 @@
 //! The calls of `uimg_its`.
 
 use super::samples::{FILES, SOURCE};
-use std::alloc::Allocator;
 use uimg_base::MemFiles;
-use uimg_blob::Tree;
-use uimg_its::{FaultKind, Files, ItsFault, compile};
-
-fn compiled<F: Files, A: Allocator + Copy>(
-    alloc: A,
-    text: &[u8],
-    files: &mut F,
-) -> Result<Tree<A>, ItsFault> {
-    compile(alloc, text, files)
-}
+use uimg_its::{FaultKind, ItsFault};
+use uimg_surface::its::compile;
 
 #[test]
 fn sources(rt: HostRuntime) {
-    let compiled = compiled(rt.alloc(), SOURCE, &mut MemFiles::new(&FILES));
+    let compiled = compile(rt.alloc(), SOURCE, &mut MemFiles::new(&FILES));
     let Ok(tree) = compiled else {
         panic!(rt; "no tree");
     };
@@ -42,7 +33,7 @@ fn number_at(fault: ItsFault) -> (u8, u64) {
 
 #[test]
 fn faults(rt: HostRuntime) {
-    let found = match compiled(rt.alloc(), SOURCE, &mut MemFiles::new(&[])) {
+    let found = match compile(rt.alloc(), SOURCE, &mut MemFiles::new(&[])) {
         Ok(_) => None,
         Err(fault) => Some(number_at(fault)),
     };

@@ -1,69 +1,18 @@
 //! The calls of `uimg_blob`.
 
 use super::samples::FILES;
-use std::alloc::{AllocError, Allocator, Global};
-use std::io::Write;
+use std::alloc::{AllocError, Global};
 use std::test::Fail;
-use uimg_base::{Files, MemFiles, MemSource, MoveFault, Out, Room, Source, SourceFault, Span};
+use uimg_base::{MemFiles, MemSource, Out, Room, Span};
 use uimg_blob::samples::Sample;
-use uimg_blob::{
-    Blob, BlobFault, ByteList, IndexFault, Key, Layout, Node, Nodes, Prop, Props, Tree, TreeFault,
-    Value, index, measure, put_text, short_text, write_tree,
+use uimg_blob::{BlobFault, ByteList, IndexFault, Key, Node, Prop, Tree, TreeFault, Value};
+use uimg_surface::blob::{
+    bytes_from, bytes_in, bytes_of, configurations, first_child, images, index, layout_size,
+    measure, name, next_sibling, nodes_from, nodes_in, nodes_of, props_from, props_in, props_of,
+    put_text, short_text, totalsize, value, write_tree,
 };
 
 // Blobs.
-
-fn indexed<S: Source, A: Allocator>(
-    source: &mut S,
-    room: &mut Room<A>,
-) -> Result<Blob, IndexFault> {
-    index(source, room)
-}
-
-fn totalsize(blob: &Blob) -> u32 {
-    blob.totalsize()
-}
-
-fn images(blob: &Blob) -> Option<usize> {
-    blob.images()
-}
-
-fn configurations(blob: &Blob) -> Option<usize> {
-    blob.configurations()
-}
-
-fn first_child<A: Allocator>(blob: &Blob, room: &Room<A>, node: usize) -> Option<usize> {
-    blob.first_child(room, node)
-}
-
-fn next_sibling<A: Allocator>(blob: &Blob, room: &Room<A>, node: usize) -> Option<usize> {
-    blob.next_sibling(room, node)
-}
-
-fn name_of<A: Allocator>(blob: &Blob, room: &Room<A>, node: usize) -> Span {
-    blob.name(room, node)
-}
-
-fn value_of<A: Allocator>(blob: &Blob, room: &Room<A>, node: usize, key: Key) -> Option<Span> {
-    blob.value(room, node, key)
-}
-
-fn text_put<S: Source, A: Allocator, W: Write>(
-    source: &mut S,
-    room: &mut Room<A>,
-    span: Span,
-    out: &mut Out<W>,
-) -> Result<(), MoveFault> {
-    put_text(source, room, span, out)
-}
-
-fn short<S: Source>(
-    source: &mut S,
-    span: Span,
-    to: &mut [u8; 32],
-) -> Result<Option<usize>, SourceFault> {
-    short_text(source, span, to)
-}
 
 // The keys up to `Loadables`, each by its property.
 const KEYS: [(&str, Key); 19] = [
@@ -110,7 +59,7 @@ fn blobs(rt: HostRuntime) -> Result<(), Fail> {
     let bytes = blob_of(rt.alloc())?;
     let mut source = MemSource::new(&bytes);
     let mut room = Room::new(rt.alloc());
-    let Ok(blob) = indexed(&mut source, &mut room) else {
+    let Ok(blob) = index(&mut source, &mut room) else {
         panic!(rt; "no blob");
     };
     assert_eq!(rt; totalsize(&blob) as usize, bytes.len());
@@ -119,9 +68,9 @@ fn blobs(rt: HostRuntime) -> Result<(), Fail> {
     assert_eq!(rt; configurations(&blob), Some(3));
     assert_eq!(rt; first_child(&blob, &room, 1), Some(2));
     assert_eq!(rt; next_sibling(&blob, &room, 1), Some(3));
-    assert_eq!(rt; name_of(&blob, &room, 2).length, 6);
+    assert_eq!(rt; name(&blob, &room, 2).length, 6);
     for (property, key) in &KEYS {
-        let found = value_of(&blob, &room, 2, *key).is_some();
+        let found = value(&blob, &room, 2, *key).is_some();
         assert!(rt; found == (*property == "data"), "{property}");
     }
     Ok(())
@@ -135,35 +84,18 @@ fn texts_of_values(rt: HostRuntime) {
         length: 5,
     };
     let mut out = Out::new(Vec::new(rt.alloc()));
-    let put = text_put(&mut source, &mut Room::new(rt.alloc()), span, &mut out);
+    let put = put_text(&mut source, &mut Room::new(rt.alloc()), span, &mut out);
     assert_eq!(rt; put, Ok(()));
     assert!(rt; out.into_inner().as_slice() == b"abc".as_slice());
     let mut to = [0; 32];
-    assert_eq!(rt; short(&mut source, span, &mut to), Ok(Some(3)));
+    assert_eq!(rt; short_text(&mut source, span, &mut to), Ok(Some(3)));
     assert!(rt; &to[..3] == b"abc".as_slice());
 }
 
 // Trees.
 
-fn measured<'a, A: Allocator>(alloc: A, tree: &'a Tree<A>) -> Result<Layout<'a, A>, BlobFault> {
-    measure(alloc, tree)
-}
-
-fn layout_size<A: Allocator>(layout: &Layout<'_, A>) -> u32 {
-    layout.totalsize()
-}
-
-fn written<F: Files, W: Write, A: Allocator>(
-    tree: &Tree<A>,
-    layout: &Layout<'_, A>,
-    files: &mut F,
-    out: &mut Out<W>,
-) -> Result<(), TreeFault> {
-    write_tree(tree, layout, files, out)
-}
-
 fn list_of(alloc: Global, bytes: &[u8]) -> Result<ByteList<Global>, AllocError> {
-    Ok(ByteList::of(Vec::from_slice(alloc, bytes)?))
+    Ok(bytes_of(Vec::from_slice(alloc, bytes)?))
 }
 
 // Returns a root with a property of three bytes, and one that is a file of three bytes.
@@ -183,8 +115,8 @@ fn tree_of(alloc: Global) -> Result<Tree<Global>, AllocError> {
     })?;
     let root = Node {
         name: list_of(alloc, b"")?,
-        props: Props::of(props),
-        children: Nodes::of(Vec::new(alloc)),
+        props: props_of(props),
+        children: nodes_of(Vec::new(alloc)),
     };
     Ok(Tree { root })
 }
@@ -192,11 +124,11 @@ fn tree_of(alloc: Global) -> Result<Tree<Global>, AllocError> {
 #[test]
 fn trees(rt: HostRuntime) -> Result<(), Fail> {
     let tree = tree_of(rt.alloc())?;
-    let Ok(layout) = measured(rt.alloc(), &tree) else {
+    let Ok(layout) = measure(rt.alloc(), &tree) else {
         panic!(rt; "no layout");
     };
     let mut out = Out::new(Vec::new(rt.alloc()));
-    let end = written(&tree, &layout, &mut MemFiles::new(&FILES), &mut out);
+    let end = write_tree(&tree, &layout, &mut MemFiles::new(&FILES), &mut out);
     assert_eq!(rt; end, Ok(()));
     assert_eq!(rt; out.into_inner().len(), layout_size(&layout) as usize);
     Ok(())
@@ -206,21 +138,21 @@ fn trees(rt: HostRuntime) -> Result<(), Fail> {
 fn lists(rt: HostRuntime) -> Result<(), Fail> {
     let Tree { root } = tree_of(rt.alloc())?;
     let Node {
-        name,
+        name: list,
         props,
         children,
     } = root;
-    let bytes: &[u8] = name.items();
+    let bytes: &[u8] = bytes_in(&list);
     assert!(rt; bytes.is_empty());
-    let bytes: Vec<u8, Global> = name.into_vec();
+    let bytes: Vec<u8, Global> = bytes_from(list);
     assert!(rt; bytes.is_empty());
-    let items: &[Prop<Global>] = props.items();
+    let items: &[Prop<Global>] = props_in(&props);
     assert_eq!(rt; items.len(), 2);
-    let items: Vec<Prop<Global>, Global> = props.into_vec();
+    let items: Vec<Prop<Global>, Global> = props_from(props);
     assert_eq!(rt; items.len(), 2);
-    let nodes: &[Node<Global>] = children.items();
+    let nodes: &[Node<Global>] = nodes_in(&children);
     assert!(rt; nodes.is_empty());
-    let nodes: Vec<Node<Global>, Global> = children.into_vec();
+    let nodes: Vec<Node<Global>, Global> = nodes_from(children);
     assert!(rt; nodes.is_empty());
     Ok(())
 }
@@ -259,17 +191,17 @@ fn letter(fault: TreeFault) -> char {
 
 #[test]
 fn faults(rt: HostRuntime) -> Result<(), Fail> {
-    let found = match indexed(&mut MemSource::new(b"abc"), &mut Room::new(rt.alloc())) {
+    let found = match index(&mut MemSource::new(b"abc"), &mut Room::new(rt.alloc())) {
         Ok(_) => None,
         Err(fault) => number_of(fault),
     };
     assert_eq!(rt; found, Some((1, 0)));
     let tree = tree_of(rt.alloc())?;
-    let Ok(layout) = measured(rt.alloc(), &tree) else {
+    let Ok(layout) = measure(rt.alloc(), &tree) else {
         panic!(rt; "no layout");
     };
     let mut out = Out::new(Vec::new(rt.alloc()));
-    let stopped = match written(&tree, &layout, &mut MemFiles::new(&[]), &mut out) {
+    let stopped = match write_tree(&tree, &layout, &mut MemFiles::new(&[]), &mut out) {
         Ok(()) => 'o',
         Err(fault) => letter(fault),
     };

@@ -1,62 +1,14 @@
 //! The calls of `uimg_legacy`.
 
-use std::alloc::{Allocator, Global};
-use std::io::Write;
-use uimg_base::{MemSource, Out, Room, Source, Status};
-use uimg_legacy::{
-    Fault, Header, LegacyFault, Options, build, extract, header_bytes, list, name_field,
-    read_header, verify,
-};
-
-fn header_of<S: Source>(source: &mut S) -> Result<Header, Fault> {
-    read_header(source)
-}
-
-fn bytes_of(header: &Header) -> [u8; 64] {
-    header_bytes(header)
-}
-
-fn field_of(name: &[u8]) -> [u8; 32] {
-    name_field(name)
-}
-
-fn listed<S: Source, A: Allocator, W: Write>(
-    source: &mut S,
-    room: &mut Room<A>,
-    out: &mut Out<W>,
-) -> Result<Status, Fault> {
-    list(source, room, out)
-}
-
-fn verified<S: Source, A: Allocator, W: Write>(
-    source: &mut S,
-    room: &mut Room<A>,
-    out: &mut Out<W>,
-) -> Result<Status, Fault> {
-    verify(source, room, out)
-}
-
-fn extracted<S: Source, A: Allocator, W: Write>(
-    position: u32,
-    source: &mut S,
-    room: &mut Room<A>,
-    out: &mut Out<W>,
-) -> Result<Status, Fault> {
-    extract(position, source, room, out)
-}
-
-fn built<S: Source, W: Write>(
-    options: &Options,
-    parts: &mut [S],
-    out: &mut Out<W>,
-) -> Result<(), Fault> {
-    build(options, parts, out)
-}
+use std::alloc::Global;
+use uimg_base::{MemSource, Out, Room, Status};
+use uimg_legacy::{Fault, Header, LegacyFault, Options};
+use uimg_surface::legacy::{build, extract, header_bytes, list, name_field, read_header, verify};
 
 pub(super) fn kernel() -> Options {
     let (time, load, ep): (u32, u32, u32) = (1_700_000_000, 0x80000, 0x80000);
     let (os, arch, kind, comp): (u8, u8, u8, u8) = (5, 22, 2, 0);
-    let name: [u8; 32] = field_of(b"a kernel");
+    let name: [u8; 32] = name_field(b"a kernel");
     Options {
         time,
         load,
@@ -73,7 +25,7 @@ pub(super) fn kernel() -> Options {
 fn image(alloc: Global) -> Vec<u8> {
     let mut out = Out::new(Vec::new(alloc));
     let mut parts = [MemSource::new(b"abc")];
-    match built(&kernel(), &mut parts, &mut out) {
+    match build(&kernel(), &mut parts, &mut out) {
         Ok(()) => out.into_inner(),
         Err(_) => Vec::new(alloc),
     }
@@ -83,10 +35,10 @@ fn image(alloc: Global) -> Vec<u8> {
 fn headers(rt: HostRuntime) {
     let image = image(rt.alloc());
     assert_eq!(rt; image.len(), 67);
-    let Ok(header) = header_of(&mut MemSource::new(&image)) else {
+    let Ok(header) = read_header(&mut MemSource::new(&image)) else {
         panic!(rt; "no header");
     };
-    assert!(rt; bytes_of(&header).as_slice() == &image[..64]);
+    assert!(rt; header_bytes(&header).as_slice() == &image[..64]);
     let Header {
         time,
         size,
@@ -103,7 +55,7 @@ fn headers(rt: HostRuntime) {
     assert!(rt; words == [1_700_000_000, 3, 0x80000, 0x80000, 0x3524_41c2]);
     let codes: [u8; 4] = [os, arch, kind, comp];
     assert!(rt; codes == [5, 22, 2, 0]);
-    assert!(rt; name == field_of(b"a kernel"));
+    assert!(rt; name == name_field(b"a kernel"));
 }
 
 #[test]
@@ -112,17 +64,14 @@ fn commands(rt: HostRuntime) {
     let mut source = MemSource::new(&image);
     let mut room = Room::new(rt.alloc());
     let mut out = Out::new(Vec::new(rt.alloc()));
-    assert_eq!(rt; listed(&mut source, &mut room, &mut out), Ok(Status::Done));
+    assert_eq!(rt; list(&mut source, &mut room, &mut out), Ok(Status::Done));
     assert!(rt; out.into_inner().starts_with(b"Image Name:   a kernel\n"));
     let mut out = Out::new(Vec::new(rt.alloc()));
-    assert_eq!(rt;
-        verified(&mut source, &mut room, &mut out),
-        Ok(Status::Done)
-    );
+    assert_eq!(rt; verify(&mut source, &mut room, &mut out), Ok(Status::Done));
     assert!(rt; out.into_inner().starts_with(b"header crc32 ok\n"));
     let mut out = Out::new(Vec::new(rt.alloc()));
     assert_eq!(rt;
-        extracted(0, &mut source, &mut room, &mut out),
+        extract(0, &mut source, &mut room, &mut out),
         Ok(Status::Done)
     );
     assert!(rt; out.into_inner().as_slice() == b"abc".as_slice());
@@ -154,7 +103,7 @@ fn number_of(fault: Fault) -> Option<u8> {
 
 #[test]
 fn faults(rt: HostRuntime) {
-    let found = match header_of(&mut MemSource::new(b"abc")) {
+    let found = match read_header(&mut MemSource::new(b"abc")) {
         Ok(_) => None,
         Err(fault) => number_of(fault),
     };
