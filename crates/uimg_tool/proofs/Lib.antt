@@ -17,7 +17,6 @@ pub mod OldWordLaws
 pub mod PathLaws
 pub mod RunLaws
 pub mod SearchedLaws
-pub mod SourceTextLaws
 pub mod StatusLaws
 pub mod StrictLaws
 pub mod TreeLaws

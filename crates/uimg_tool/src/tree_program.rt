@@ -1,6 +1,6 @@
 //! Writes the image of a tree, as mkimage does.
 
-ghost use Rattle.std.specs.Prelude.{◌≡◌, Err, IsTrue, OnOk, Some, [], is_err, true, string_bytes};
+ghost use Rattle.std.specs.Prelude.{◌≡◌, Err, IsTrue, OnOk, Some, [], is_err, string_bytes};
 ghost use Rattle.uimg_blob_writing.specs.{LentFiles.IfInFull, Trees.node_of};
 ghost use Rattle.uimg_tool.specs.{Complaints.Ends, OldMakings.{LendsAt, MakesFor}, RequestEnds.TreeEnds, TreesMade.KeepsTree};
 
@@ -49,7 +49,6 @@ pub(crate) fn write_image<'p, D: MakingWorld<'p>, F: Files, W: Write, V: Write>(
 where
     D::File: Seek,
     ensures ends { Ends result complaints.old.count complaints.new.count }
-    ensures quiet { request.entry.is_quiet ≡ true → out.new ≡ out.old }
     ensures made { MakesFor request.entry.image.now result (D.trace world.old) (D.trace world.new) }
     ensures kept { IsTrue D.knows → result ≡ 0 → IfInFull F.map files (node_of tree.now.root)
         (KeepsTree D.NewShelf.Kept.device request.entry) }
@@ -84,7 +83,6 @@ fn make_listed<'a, 'p, D: MakingWorld<'p>, F: Files, W: Write>(
 where
     D::File: Seek,
     ensures ends { TreeEnds request.entry.image result.end }
-    ensures quiet { request.entry.is_quiet ≡ true → out.new ≡ out.old }
     ensures lent { LendsAt (string_bytes begun.entry.path.now.new) (is_err result.end)
         (D.trace world.old) (D.trace world.new) }
     ensures kept { IsTrue D.knows → D.File.contents begun.entry.file ≡ Some [] →

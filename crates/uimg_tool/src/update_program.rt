@@ -1,6 +1,6 @@
 //! Updates a FIT image.
 
-ghost use Rattle.std.specs.Prelude.{◌≡◌, IsTrue, true};
+ghost use Rattle.std.specs.Prelude.{◌≡◌, IsTrue};
 ghost use Rattle.uimg_tool.specs.{Complaints.Ends, OldMakings.UpdatesFor, SourceStatuses.update_status, TreeSizes.roomy_size_of, TreesMade.{KeepsUpdated, update_time}};
 ghost use Rattle.uimg_unpacking.specs.Deeds.{changes};
 
@@ -27,7 +27,6 @@ pub(crate) fn update_image<'p, D: MakingWorld<'p>, W: Write, V: Write>(
 where
     D::File: Seek,
     ensures ends { Ends result complaints.old.count complaints.new.count }
-    ensures quiet { request.now.is_quiet ≡ true → out.new ≡ out.old }
     ensures made { UpdatesFor request.now.image.now result (D.trace world.old) (D.trace world.new) }
     ensures kept { IsTrue (D.map world.old).honest → result ≡ 0 →
         KeepsUpdated D.NewShelf.Kept.device request.now (D.map world.old) }
