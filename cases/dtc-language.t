@@ -107,6 +107,11 @@ A fault has the line of the source, and leaves what is there:
   $ printf '/dts-v1/;\n/include/ "self.its"\n' > self.its && mkimage -f self.its whole.itb
   mkimage: self.its: too many includes at line 2
   [1]
+  $ { echo '/dts-v1/;'; for i in $(seq 200); do echo '/include/ "empty.dtsi"'; done; cat whole.its; } > many.its && : > empty.dtsi
+  $ mkimage -f many.its whole.itb
+  mkimage: many.its: too many includes at line 201
+  [1]
+  $ sed -i 2,3d many.its && mkimage -q -f many.its whole.itb; rm many.its empty.dtsi
   $ printf '/dts-v1/;\n/include/ "nothing.dtsi"\n/ { };\n' > lost.its && mkimage -f lost.its whole.itb
   mkimage: lost.its: cannot read nothing.dtsi, which line 2 names
   [3]

@@ -1,12 +1,2 @@
 pub mod Answers
-pub mod Appending
-pub mod Deleting
 pub mod FileValues
-pub mod Finding
-pub mod Merging
-pub mod Numbers
-pub mod Operators
-pub mod Planting
-pub mod Resolving
-pub mod Tables
-pub mod Views

@@ -1,8 +1,5 @@
 //! Arrays of numbers and of bytes.
 
-ghost use Rattle.std.specs.Prelude.{◌≡◌, ◌++◌, OnOk, IsTrue};
-ghost use Rattle.uimg_dts.specs.Operators.{fits, element};
-
 use crate::expressions::number;
 use crate::fault::Refusal;
 use crate::reading::{behind, expect, left_at, unexpected, word_at};
@@ -13,7 +10,7 @@ use std::alloc::Allocator;
 use uimg_base::Files;
 
 /// The size of an element.
-#[derive(Clone, Copy, Debug, PartialEq, Eq)]
+#[derive(Clone, Copy, PartialEq)]
 enum Width {
     Bits8,
     Bits16,
@@ -22,9 +19,7 @@ enum Width {
 }
 
 // The number may be unsigned or negative.
-fn fits(width: Width, value: u64) -> bool
-    ensures { result ≡ fits width value }
-{
+fn fits(width: Width, value: u64) -> bool {
     let most = match width {
         Width::Bits8 => 0xff,
         Width::Bits16 => 0xffff,
@@ -39,11 +34,7 @@ fn push_number<A: Allocator + Copy>(
     width: Width,
     value: u64,
     left: usize,
-) -> Result<(), Stop>
-    ensures pushed { OnOk result (
-        table.new.values.items ≡ table.old.values.items ++ element width value) }
-    ensures fits { OnOk result (IsTrue (fits width value)) }
-{
+) -> Result<(), Stop> {
     if !fits(width, value) {
         return Err(at(Refusal::BadNumber, left));
     }

@@ -12,7 +12,7 @@ use std::alloc::Allocator;
 use uimg_base::Files;
 
 /// What an item of a body is.
-#[derive(Clone, Copy, Debug, PartialEq, Eq)]
+#[derive(Clone, Copy, PartialEq)]
 enum Item {
     Property,
     Child,

@@ -1,18 +1,12 @@
 //! The classes of bytes, and the lengths of what a text begins with.
 
-ghost use Rattle.std.specs.Prelude.{◌≡◌, drop, slice_index, take};
-
 /// Returns the text after its first n bytes, or nothing if it has fewer.
-pub(crate) fn after(text: &[u8], n: usize) -> &[u8]
-    ensures { result.now ≡ drop n text.now }
-{
+pub(crate) fn after(text: &[u8], n: usize) -> &[u8] {
     text.get(n..).unwrap_or(&[])
 }
 
 /// Returns the first n bytes of a text, or all if it has fewer.
-pub(crate) fn before(text: &[u8], n: usize) -> &[u8]
-    ensures { result.now ≡ take n text.now }
-{
+pub(crate) fn before(text: &[u8], n: usize) -> &[u8] {
     text.get(..n).unwrap_or(text)
 }
 
@@ -72,9 +66,7 @@ pub(crate) fn spaces_length(text: &[u8]) -> usize {
 }
 
 /// Returns the byte at a place, or zero if there is none.
-pub(crate) fn byte_at(text: &[u8], place: usize) -> u8
-    ensures { result ≡ slice_index text.now place }
-{
+pub(crate) fn byte_at(text: &[u8], place: usize) -> u8 {
     match text.get(place) {
         Some(b) => *b,
         None => 0,

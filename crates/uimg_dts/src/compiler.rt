@@ -137,13 +137,7 @@ fn line_of(text: &[u8], left: usize) -> u64 {
 /// nodes.
 ///
 /// The contract says nothing else of the text: which tree is returned, and which sources are
-/// refused, is tested against dtc. These parts have contracts of their own:
-///
-/// - the operators of expressions, the elements of arrays, and the parts of files;
-/// - the node of a label or a path, and what a reference writes;
-/// - what a deletion marks, and what a node that is given again makes of the first one;
-/// - the names in the tree that the tables hold, which has nothing that is deleted;
-/// - at most 199 files are included.
+/// refused, is tested against dtc.
 ///
 /// The time grows with the text and the files that are read, and with the square of the number of
 /// nodes, properties or labels. Memory is the words, the tables and the tree.

@@ -1,9 +1,5 @@
 //! Look-ups of nodes and properties, and walks over the tree.
 
-ghost use Rattle.std.specs.{Prelude.{◌≡◌, not}, List.prefix_len};
-ghost use Rattle.uimg_dts.specs.Finding.{first_live_of, first_child_of, next_child_of, child_of, live_child_of, at_path_of, is_slash};
-ghost use Rattle.uimg_dts.specs.Views.{word_in, property_in, live_property_in, labelled_in, referred_in};
-
 use crate::bytes::{after, before, byte_at};
 use crate::table::{Owner, Table};
 use crate::tokens::Piece;
@@ -15,23 +11,17 @@ pub(crate) const ROOT: usize = 0;
 /// More than a tree has levels.
 const LEVELS: u8 = 65;
 
-fn slashes_length(path: &[u8]) -> usize
-    ensures { result ≡ prefix_len is_slash path.now }
-{
+fn slashes_length(path: &[u8]) -> usize {
     path.iter().take_while(|b| **b == b'/').count()
 }
 
-fn part_length(path: &[u8]) -> usize
-    ensures { result ≡ prefix_len (λ b. not (is_slash b)) path.now }
-{
+fn part_length(path: &[u8]) -> usize {
     path.iter().take_while(|b| **b != b'/').count()
 }
 
 impl<'t, A: Allocator + Copy> Table<'t, A> {
     // Returns the first node that is not deleted, of this one and those next to it.
-    fn first_live(&self, place: usize) -> Option<usize>
-        ensures { result ≡ first_live_of self.now.nodes.items place }
-    {
+    fn first_live(&self, place: usize) -> Option<usize> {
         let mut found = place;
         for _ in 0..self.nodes.len() {
             let node = self.node(found)?;
@@ -44,16 +34,12 @@ impl<'t, A: Allocator + Copy> Table<'t, A> {
     }
 
     /// Returns the first child that is not deleted.
-    pub(crate) fn first_child(&self, place: usize) -> Option<usize>
-        ensures { result ≡ first_child_of self.now.nodes.items place }
-    {
+    pub(crate) fn first_child(&self, place: usize) -> Option<usize> {
         self.first_live(self.node(place)?.first_child)
     }
 
     /// Returns the next node with the same parent that is not deleted.
-    pub(crate) fn next_child(&self, place: usize) -> Option<usize>
-        ensures { result ≡ next_child_of self.now.nodes.items place }
-    {
+    pub(crate) fn next_child(&self, place: usize) -> Option<usize> {
         self.first_live(self.node(place)?.next)
     }
 
@@ -76,9 +62,7 @@ impl<'t, A: Allocator + Copy> Table<'t, A> {
     }
 
     /// The child may be deleted.
-    pub(crate) fn child_named(&self, parent: usize, name: Piece) -> Option<usize>
-        ensures { result ≡ child_of self.now.bytes.now self.now.nodes.items parent (word_in self.now name) }
-    {
+    pub(crate) fn child_named(&self, parent: usize, name: Piece) -> Option<usize> {
         let mut found = self.node(parent)?.first_child;
         for _ in 0..self.nodes.len() {
             let node = self.node(found)?;
@@ -91,9 +75,7 @@ impl<'t, A: Allocator + Copy> Table<'t, A> {
     }
 
     /// The property may be deleted.
-    pub(crate) fn property_named(&self, owner: usize, name: &[u8]) -> Option<usize>
-        ensures { result ≡ property_in self.now owner name.now }
-    {
+    pub(crate) fn property_named(&self, owner: usize, name: &[u8]) -> Option<usize> {
         let mut found = self.node(owner)?.first_property;
         for _ in 0..self.properties.len() {
             let property = self.property(found)?;
@@ -105,9 +87,7 @@ impl<'t, A: Allocator + Copy> Table<'t, A> {
         None
     }
 
-    pub(crate) fn live_property(&self, owner: usize, name: &[u8]) -> Option<usize>
-        ensures { result ≡ live_property_in self.now owner name.now }
-    {
+    pub(crate) fn live_property(&self, owner: usize, name: &[u8]) -> Option<usize> {
         let mut found = self.node(owner)?.first_property;
         for _ in 0..self.properties.len() {
             let property = self.property(found)?;
@@ -119,9 +99,7 @@ impl<'t, A: Allocator + Copy> Table<'t, A> {
         None
     }
 
-    fn live_child(&self, parent: usize, name: &[u8]) -> Option<usize>
-        ensures { result ≡ live_child_of self.now.bytes.now self.now.nodes.items name.now parent }
-    {
+    fn live_child(&self, parent: usize, name: &[u8]) -> Option<usize> {
         let mut found = self.node(parent)?.first_child;
         for _ in 0..self.nodes.len() {
             let node = self.node(found)?;
@@ -134,9 +112,7 @@ impl<'t, A: Allocator + Copy> Table<'t, A> {
     }
 
     // A path begins with a slash.
-    fn at_path(&self, path: &[u8]) -> Option<usize>
-        ensures { result ≡ at_path_of self.now.bytes.now self.now.nodes.items path.now }
-    {
+    fn at_path(&self, path: &[u8]) -> Option<usize> {
         let mut found = ROOT;
         let mut rest = path;
         for _ in 0..path.len() {
@@ -155,9 +131,7 @@ impl<'t, A: Allocator + Copy> Table<'t, A> {
         }
     }
 
-    fn labelled(&self, name: &[u8]) -> Option<usize>
-        ensures { result ≡ labelled_in self.now name.now }
-    {
+    fn labelled(&self, name: &[u8]) -> Option<usize> {
         for label in self.labels.as_slice() {
             if let Owner::Node(place) = label.owner {
                 if self.text(label.name) == name && self.is_live_label(*label) {
@@ -169,9 +143,7 @@ impl<'t, A: Allocator + Copy> Table<'t, A> {
     }
 
     /// Returns the node of a reference: a label, or a path, which begins with a slash.
-    pub(crate) fn referred(&self, reference: Piece) -> Option<usize>
-        ensures { result ≡ referred_in self.now (word_in self.now reference) }
-    {
+    pub(crate) fn referred(&self, reference: Piece) -> Option<usize> {
         let text = self.text(reference);
         if text == b"/".as_slice() {
             Some(ROOT)

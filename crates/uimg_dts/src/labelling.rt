@@ -1,8 +1,5 @@
 //! Labels of nodes and properties.
 
-ghost use Rattle.std.specs.Prelude.{◌≡◌};
-ghost use Rattle.uimg_dts.specs.{Finding.{is_live_label}, Deleting.{without_labels}};
-
 use crate::stop::{Stop, out_of_memory};
 use crate::table::{LabelEntry, Owner, Table};
 use crate::tokens::Piece;
@@ -29,13 +26,7 @@ impl<'t, A: Allocator + Copy> Table<'t, A> {
         name: Piece,
         owner: Owner,
         left: usize,
-    ) -> Result<(), Stop>
-        ensures nodes { self.new.nodes ≡ self.old.nodes }
-        ensures properties { self.new.properties ≡ self.old.properties }
-        ensures values { self.new.values ≡ self.old.values }
-        ensures marks { self.new.marks ≡ self.old.marks }
-        ensures bytes { self.new.bytes ≡ self.old.bytes }
-    {
+    ) -> Result<(), Stop> {
         if let Some(found) = self.label_from(first, name, owner) {
             if let Some(label) = self.labels.get_mut(found) {
                 label.is_deleted = false;
@@ -55,13 +46,7 @@ impl<'t, A: Allocator + Copy> Table<'t, A> {
     }
 
     /// Adds the labels of one thing, deleted or not, to another.
-    pub(crate) fn move_labels(&mut self, from: Owner, to: Owner) -> Result<(), Stop>
-        ensures nodes { self.new.nodes ≡ self.old.nodes }
-        ensures properties { self.new.properties ≡ self.old.properties }
-        ensures values { self.new.values ≡ self.old.values }
-        ensures marks { self.new.marks ≡ self.old.marks }
-        ensures bytes { self.new.bytes ≡ self.old.bytes }
-    {
+    pub(crate) fn move_labels(&mut self, from: Owner, to: Owner) -> Result<(), Stop> {
         for i in 0..self.labels.len() {
             let Some(label) = self.labels.get(i).copied() else {
                 return Ok(());
@@ -74,14 +59,7 @@ impl<'t, A: Allocator + Copy> Table<'t, A> {
         Ok(())
     }
 
-    pub(crate) fn delete_labels(&mut self, owner: Owner)
-        ensures labels { self.new.labels.items ≡ without_labels owner self.old.labels.items }
-        ensures nodes { self.new.nodes ≡ self.old.nodes }
-        ensures properties { self.new.properties ≡ self.old.properties }
-        ensures values { self.new.values ≡ self.old.values }
-        ensures marks { self.new.marks ≡ self.old.marks }
-        ensures bytes { self.new.bytes ≡ self.old.bytes }
-    {
+    pub(crate) fn delete_labels(&mut self, owner: Owner) {
         for label in self.labels.as_mut_slice() {
             if label.owner == owner {
                 label.is_deleted = true;
@@ -90,9 +68,7 @@ impl<'t, A: Allocator + Copy> Table<'t, A> {
     }
 
     /// Returns whether a label is not deleted, nor what it names.
-    pub(crate) fn is_live_label(&self, label: LabelEntry) -> bool
-        ensures { result ≡ is_live_label self.now.nodes.items self.now.properties.items label }
-    {
+    pub(crate) fn is_live_label(&self, label: LabelEntry) -> bool {
         if label.is_deleted {
             return false;
         }

@@ -1,6 +1,5 @@
 //! The words of a text and of the files that it includes, in order.
 
-ghost use Rattle.std.specs.Prelude.{◌<◌, ◌≤◌, IfOk, OnOk};
 ghost use Rattle.uimg_dts.specs.Answers.{OpensFiles};
 
 use crate::bytes::{after, before, blanks_length, byte_at};
@@ -26,7 +25,7 @@ const INCLUDE: &[u8] = b"/include/";
 
 // Where a text is from: the folder of its file, up to a slash; the place of the word `/include/` in
 // the first text that leads to it; and how many levels of files it may include.
-#[derive(Clone, Copy, Debug)]
+#[derive(Clone, Copy)]
 struct Origin {
     folder: Piece,
     left: Option<usize>,
@@ -55,10 +54,6 @@ fn include<F: Files, A: Allocator + Copy>(
     left: usize,
 ) -> Result<usize, FileStop>
     ensures opens { OpensFiles F.Opened.steady F.map result files }
-    // An included file is counted, and at most 199 are.
-    ensures counted { OnOk result (sheet.old.includes < sheet.new.includes) }
-    ensures rises { sheet.old.includes ≤ sheet.new.includes }
-    ensures most { sheet.old.includes ≤ 199 → sheet.new.includes ≤ 199 }
 {
     let quote = INCLUDE
         .len()
@@ -101,8 +96,6 @@ fn lex_text<F: Files, A: Allocator + Copy>(
     text: &[u8],
 ) -> Result<(), FileStop>
     ensures opens { OpensFiles F.Opened.steady F.map result files }
-    ensures rises { sheet.old.includes ≤ sheet.new.includes }
-    ensures most { sheet.old.includes ≤ 199 → sheet.new.includes ≤ 199 }
 {
     let mut place = 0usize;
     for _ in 0..text.len() {
@@ -128,8 +121,6 @@ pub(crate) fn lex<F: Files, A: Allocator + Copy>(
     text: &[u8],
 ) -> Result<Sheet<A>, FileStop>
     ensures opens { OpensFiles F.Opened.steady F.map result files }
-    // At most 199 files are included.
-    ensures most { IfOk result (λ s. s.includes ≤ 199) }
 {
     let mut sheet = Sheet::new(alloc);
     sheet.keep(PREFIX, text.len())?;

@@ -3,8 +3,8 @@
 //!
 //! A text goes through `lexing.rt` to words (`gaps.rt`, `words.rt`), and through `statements.rt`
 //! and `bodies.rt` to tables (`table.rt`). `finding.rt` looks up nodes and properties there, and
-//! `merging.rt` deletes them and merges what is given again, both as `specs/` defines. `names.rt`
-//! and `phandles.rt` check the tables and resolve references; `planting.rt` makes the tree.
+//! `merging.rt` deletes them and merges what is given again. `names.rt` and `phandles.rt` check the
+//! tables and resolve references; `planting.rt` makes the tree.
 #![tactic(auto)]
 
 mod arrays;

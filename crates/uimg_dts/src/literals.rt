@@ -36,7 +36,7 @@ fn number(base: u32, digits: &[u8]) -> Option<u64>
 }
 
 /// A number at the start of a text: its length, and its value unless it is no number.
-#[derive(Clone, Copy, Debug)]
+#[derive(Clone, Copy)]
 pub(crate) struct Literal {
     pub(crate) length: usize,
     pub(crate) value: Option<u64>,

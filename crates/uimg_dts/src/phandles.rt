@@ -1,10 +1,5 @@
 //! The numbers by which nodes are named, and references.
 
-ghost use Rattle.std.specs.{Prelude.{◌≡◌, ◌≤◌, ◌+◌, ◌-◌, ◌^◌, IfOk, IfSome, OnOk, length, map, min, slice_get}, Int.{w32, to_be_bytes}};
-ghost use Rattle.uimg_dts.specs.Tables.{changed_at, written_at};
-ghost use Rattle.uimg_dts.specs.Views.{word_in, referred_in};
-ghost use Rattle.uimg_dts.specs.Resolving.{numbered, referenced, referring, phandle, HasNumber, IsNumberAt, IsResolved};
-
 use crate::fault::Refusal;
 use crate::stop::{Stop, at, out_of_memory};
 use crate::table::{MarkEntry, MarkKind, PropertyEntry, Table};
@@ -16,16 +11,6 @@ pub(crate) const PHANDLE: Piece = Piece { start: 0, end: 7 };
 
 /// What they begin with.
 pub(crate) const PREFIX: &[u8] = b"phandle";
-
-// Writes four bytes over others, if there are so many from a place on.
-fn overwrite(values: &mut [u8], place: usize, bytes: [u8; 4])
-    ensures { values.new ≡ written_at values.old place bytes }
-{
-    let end = place.saturating_add(4);
-    if end <= values.len() && place < end {
-        values[place..end].copy_from_slice(&bytes);
-    }
-}
 
 impl<'t, A: Allocator + Copy> Table<'t, A> {
     fn first_mark(&self, property: PropertyEntry, kind: MarkKind) -> Option<MarkEntry> {
@@ -74,14 +59,7 @@ impl<'t, A: Allocator + Copy> Table<'t, A> {
         false
     }
 
-    fn set_number(&mut self, place: usize, number: u32)
-        ensures nodes { self.new.nodes.items ≡ changed_at (numbered number) self.old.nodes.items place }
-        ensures properties { self.new.properties ≡ self.old.properties }
-        ensures labels { self.new.labels ≡ self.old.labels }
-        ensures values { self.new.values ≡ self.old.values }
-        ensures marks { self.new.marks ≡ self.old.marks }
-        ensures bytes { self.new.bytes ≡ self.old.bytes }
-    {
+    fn set_number(&mut self, place: usize, number: u32) {
         if let Some(node) = self.nodes.get_mut(place) {
             node.phandle = number;
         }
@@ -130,13 +108,7 @@ impl<'t, A: Allocator + Copy> Table<'t, A> {
     }
 
     // Adds a property with a node's number, unless the node has one.
-    fn add_number(&mut self, place: usize, number: u32) -> Result<(), Stop>
-        ensures numbers { map phandle self.new.nodes.items ≡ map phandle self.old.nodes.items }
-        ensures longer { length self.old.values.items ≤ length self.new.values.items }
-        ensures labels { self.new.labels ≡ self.old.labels }
-        ensures marks { self.new.marks ≡ self.old.marks }
-        ensures bytes { self.new.bytes ≡ self.old.bytes }
-    {
+    fn add_number(&mut self, place: usize, number: u32) -> Result<(), Stop> {
         if self.live_property(place, b"phandle").is_some() {
             return Ok(());
         }
@@ -159,13 +131,7 @@ impl<'t, A: Allocator + Copy> Table<'t, A> {
 
     // Returns the number of a node; one that has none gets the first that is free, from one on, and
     // a property with it.
-    fn number_of(&mut self, order: &[usize], place: usize, next: &mut u32) -> Result<u32, Stop>
-        ensures number { IfOk result (λ n. HasNumber self.new.nodes.items place n) }
-        ensures longer { length self.old.values.items ≤ length self.new.values.items }
-        ensures labels { self.new.labels ≡ self.old.labels }
-        ensures marks { self.new.marks ≡ self.old.marks }
-        ensures bytes { self.new.bytes ≡ self.old.bytes }
-    {
+    fn number_of(&mut self, order: &[usize], place: usize, next: &mut u32) -> Result<u32, Stop> {
         match self.node(place) {
             Some(node) if node.phandle != 0 => return Ok(node.phandle),
             _ => {}
@@ -176,51 +142,27 @@ impl<'t, A: Allocator + Copy> Table<'t, A> {
         Ok(*next)
     }
 
-    // Writes a number over four bytes of a value.
-    fn put_number(&mut self, place: usize, number: u32)
-        ensures written { self.new.values.items ≡ written_at self.old.values.items place (to_be_bytes w32 number) }
-        ensures nodes { self.new.nodes ≡ self.old.nodes }
-        ensures properties { self.new.properties ≡ self.old.properties }
-        ensures labels { self.new.labels ≡ self.old.labels }
-        ensures marks { self.new.marks ≡ self.old.marks }
-        ensures bytes { self.new.bytes ≡ self.old.bytes }
-    {
-        overwrite(self.values.as_mut_slice(), place, number.to_be_bytes());
+    // Writes a number over four bytes of the values, if there are so many from a place on.
+    fn put_number(&mut self, place: usize, number: u32) {
+        let values = self.values.as_mut_slice();
+        let end = place.saturating_add(4);
+        if end <= values.len() && place < end {
+            values[place..end].copy_from_slice(&number.to_be_bytes());
+        }
     }
 
     // Returns the node that the mark refers to.
-    fn refer_to(&mut self, mark: usize, name: Piece, left: usize) -> Result<usize, Stop>
-        ensures means { IfOk result (λ n. referred_in self.old (word_in self.old name) ≡ Some n) }
-        ensures marks { IfOk result (λ n. self.new.marks.items
-            ≡ changed_at (referring n) self.old.marks.items mark) }
-        ensures properties { self.new.properties ≡ self.old.properties }
-        ensures labels { self.new.labels ≡ self.old.labels }
-        ensures values { self.new.values ≡ self.old.values }
-        ensures bytes { self.new.bytes ≡ self.old.bytes }
-    {
-        let Some(found) = self.referred(name) else {
-            return Err(at(Refusal::NoNode, left));
+    fn refer_to(&mut self, place: usize, mark: MarkEntry) -> Result<usize, Stop> {
+        let Some(found) = self.referred(mark.name) else {
+            return Err(at(Refusal::NoNode, mark.left));
         };
-        self.refer(mark, found);
+        if let Some(node) = self.nodes.get_mut(found) {
+            node.is_referenced = true;
+        }
+        if let Some(own) = self.marks.get_mut(place) {
+            own.node = found;
+        }
         Ok(found)
-    }
-
-    fn put_number_of(
-        &mut self,
-        order: &[usize],
-        node: usize,
-        place: usize,
-        next: &mut u32,
-    ) -> Result<(), Stop>
-        ensures number { OnOk result (IsNumberAt self.new.nodes.items node place
-            self.old.values.items self.new.values.items) }
-        ensures labels { self.new.labels ≡ self.old.labels }
-        ensures marks { self.new.marks ≡ self.old.marks }
-        ensures bytes { self.new.bytes ≡ self.old.bytes }
-    {
-        let number = self.number_of(order, node, next)?;
-        self.put_number(place, number);
-        Ok(())
     }
 
     fn resolve_mark(
@@ -229,55 +171,19 @@ impl<'t, A: Allocator + Copy> Table<'t, A> {
         start: usize,
         place: usize,
         next: &mut u32,
-    ) -> Result<(), Stop>
-        ensures resolved { OnOk result (IfSome (slice_get self.old.marks.items place) (λ m. IsResolved m.kind
-            (referred_in self.old (word_in self.old m.name))
-            self.new.nodes.items place self.old.marks.items self.new.marks.items
-            (min (start + m.offset) (2 ^ 64 - 1)) self.old.values.items self.new.values.items)) }
-        ensures bytes { self.new.bytes ≡ self.old.bytes }
-    {
+    ) -> Result<(), Stop> {
         let Some(mark) = self.marks.get(place).copied() else {
             return Ok(());
         };
-        match mark.kind {
-            MarkKind::Label => Ok(()),
-            MarkKind::Path => {
-                self.refer_to(place, mark.name, mark.left)?;
-                Ok(())
-            }
-            MarkKind::Phandle => {
-                let found = self.refer_to(place, mark.name, mark.left)?;
-                self.put_number_of(order, found, start.saturating_add(mark.offset), next)?;
-                Ok(())
-            }
+        if mark.kind == MarkKind::Label {
+            return Ok(());
         }
-    }
-
-    fn mark_referenced(&mut self, place: usize)
-        ensures nodes { self.new.nodes.items ≡ changed_at referenced self.old.nodes.items place }
-        ensures properties { self.new.properties ≡ self.old.properties }
-        ensures labels { self.new.labels ≡ self.old.labels }
-        ensures values { self.new.values ≡ self.old.values }
-        ensures marks { self.new.marks ≡ self.old.marks }
-        ensures bytes { self.new.bytes ≡ self.old.bytes }
-    {
-        if let Some(node) = self.nodes.get_mut(place) {
-            node.is_referenced = true;
+        let node = self.refer_to(place, mark)?;
+        if mark.kind == MarkKind::Phandle {
+            let number = self.number_of(order, node, next)?;
+            self.put_number(start.saturating_add(mark.offset), number);
         }
-    }
-
-    fn refer(&mut self, mark: usize, place: usize)
-        ensures nodes { self.new.nodes.items ≡ changed_at referenced self.old.nodes.items place }
-        ensures marks { self.new.marks.items ≡ changed_at (referring place) self.old.marks.items mark }
-        ensures properties { self.new.properties ≡ self.old.properties }
-        ensures labels { self.new.labels ≡ self.old.labels }
-        ensures values { self.new.values ≡ self.old.values }
-        ensures bytes { self.new.bytes ≡ self.old.bytes }
-    {
-        self.mark_referenced(place);
-        if let Some(found) = self.marks.get_mut(mark) {
-            found.node = place;
-        }
+        Ok(())
     }
 
     fn resolve_node(&mut self, order: &[usize], place: usize, next: &mut u32) -> Result<(), Stop> {

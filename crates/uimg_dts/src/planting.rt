@@ -1,14 +1,10 @@
 //! The tree that the tables hold.
 
-ghost use Rattle.std.specs.Prelude.{◌≡◌, ℕ, List, [], ◌∷◌, ◌++◌, IfOk, OnOk, length, map, true};
-ghost use Rattle.std.specs.List.{cons_option, filter};
+ghost use Rattle.std.specs.Prelude.{◌≡◌, IfOk, OnOk, map};
 ghost use Rattle.uimg_base.specs.Named.{FileMap};
 ghost use Rattle.uimg_blob_writing.specs.Properties.{property, content};
 ghost use Rattle.uimg_dts.specs.Answers.{OpensFiles};
 ghost use Rattle.uimg_dts.specs.FileValues.{IsSoundIn, AreSound, IsSoundTree, IsSoundNode, AreSoundNodes, IsSoundIfFound};
-ghost use Rattle.uimg_dts.specs.Planting.{Ground, live_name, names, names_at, AreGrown, IsGrown, IsGrownIfLive, AreGrownNodes};
-ghost use Rattle.uimg_dts.specs.{Tables.{chain, is_live}, Views.ground_of};
-ghost use Rattle.uimg_dts.specs.declared.table.{NodeEntry.NodeEntry, PropertyEntry.PropertyEntry};
 
 use crate::bytes::after;
 use crate::fault::Refusal;
@@ -112,10 +108,8 @@ fn push_property<A: Allocator>(
     name: ByteList<A>,
     value: Value<A>,
 ) -> Result<(), Stop>
-    ensures sound { OnOk result ((files : FileMap) → AreSound files (map property props.old.items) →
+    ensures { OnOk result ((files : FileMap) → AreSound files (map property props.old.items) →
         IsSoundIn files name (content value) → AreSound files (map property props.new.items)) }
-    ensures named { OnOk result (names (map property props.new.items) ≡
-        names (map property props.old.items) ++ name ∷ []) }
 {
     let Ok(()) = props.push(Prop { name, value }) else {
         return Err(out_of_memory(0));
@@ -133,8 +127,6 @@ fn add_property<F: Files, A: Allocator + Copy>(
     ensures opens { OpensFiles F.Opened.steady F.map result files }
     ensures sound { OnOk result (AreSound (F.map files.old) (map property props.old.items) →
         AreSound (F.map files.old) (map property props.new.items)) }
-    ensures named { OnOk result (names (map property props.new.items) ≡
-        names (map property props.old.items) ++ cons_option (live_name table.now.bytes.now entry) []) }
 {
     if entry.is_deleted {
         return Ok(());
@@ -153,8 +145,6 @@ fn properties<F: Files, A: Allocator + Copy>(
 ) -> Result<Props<A>, FileStop>
     ensures opens { OpensFiles F.Opened.steady F.map result files }
     ensures sound { IfOk result (λ x. AreSound (F.map files.old) x) }
-    ensures named { let all = table.now.properties.items in IfOk result (λ x. names x ≡
-        names_at table.now.bytes.now all (chain (λ (p : PropertyEntry). p.next) all (length all) first)) }
 {
     let mut props = Vec::new(table.alloc);
     let mut place = first;
@@ -169,11 +159,8 @@ fn properties<F: Files, A: Allocator + Copy>(
 }
 
 fn push_node<A: Allocator>(nodes: &mut Vec<Node<A>, A>, node: Node<A>) -> Result<(), Stop>
-    ensures sound { OnOk result ((files : FileMap) → AreSoundNodes files nodes.old.items →
+    ensures { OnOk result ((files : FileMap) → AreSoundNodes files nodes.old.items →
         IsSoundNode files node → AreSoundNodes files nodes.new.items) }
-    ensures grown { OnOk result ((g : Ground) (places : List ℕ) (place : ℕ) →
-        AreGrownNodes g places nodes.old.items →
-        IsGrown g place node → AreGrownNodes g (places ++ place ∷ []) nodes.new.items) }
 {
     let Ok(()) = nodes.push(node) else {
         return Err(out_of_memory(0));
@@ -182,11 +169,8 @@ fn push_node<A: Allocator>(nodes: &mut Vec<Node<A>, A>, node: Node<A>) -> Result
 }
 
 fn push_found<A: Allocator>(nodes: &mut Vec<Node<A>, A>, found: Option<Node<A>>) -> Result<(), Stop>
-    ensures sound { OnOk result ((files : FileMap) → AreSoundNodes files nodes.old.items →
+    ensures { OnOk result ((files : FileMap) → AreSoundNodes files nodes.old.items →
         IsSoundIfFound files found → AreSoundNodes files nodes.new.items) }
-    ensures grown { OnOk result ((g : Ground) (places : List ℕ) (place : ℕ) →
-        AreGrownNodes g places nodes.old.items → IsGrownIfLive g place found →
-        AreGrownNodes g (places ++ filter (is_live g.nodes) (place ∷ [])) nodes.new.items) }
 {
     let Some(node) = found else {
         return Ok(());
@@ -205,7 +189,6 @@ fn live_node<F: Files, A: Allocator + Copy>(
 ) -> Result<Option<Node<A>>, FileStop>
     ensures opens { OpensFiles F.Opened.steady F.map result files }
     ensures sound { IfOk result (λ x. IsSoundIfFound (F.map files.old) x) }
-    ensures grown { IfOk result (λ x. IsGrownIfLive (ground_of table.now) place x) }
 {
     if !table.is_live(place) {
         return Ok(None);
@@ -223,8 +206,6 @@ fn children<F: Files, A: Allocator + Copy>(
 ) -> Result<Nodes<A>, FileStop>
     ensures opens { OpensFiles F.Opened.steady F.map result files }
     ensures sound { IfOk result (λ x. IsSoundTree (F.map files.old) x) }
-    ensures grown { let all = table.now.nodes.items in IfOk result (λ x. AreGrown (ground_of table.now)
-        (filter (is_live all) (chain (λ (n : NodeEntry). n.next) all (length all) first)) x) }
 {
     let mut nodes = Vec::new(table.alloc);
     let mut place = first;
@@ -249,7 +230,6 @@ fn plant<F: Files, A: Allocator + Copy>(
 ) -> Result<Node<A>, FileStop>
     ensures opens { OpensFiles F.Opened.steady F.map result files }
     ensures sound { IfOk result (λ x. IsSoundNode (F.map files.old) x) }
-    ensures grown { IfOk result (λ x. IsGrown (ground_of table.now) place x) }
 {
     if levels == 0 {
         return refused(at(Refusal::Depth, 0));
@@ -273,9 +253,6 @@ pub(crate) fn planted<F: Files, A: Allocator + Copy>(
 ) -> Result<Node<A>, FileStop>
     ensures opens { OpensFiles F.Opened.steady F.map result files }
     ensures sound { IfOk result (λ x. IsSoundNode (F.map files.old) x) }
-    // The root is not deleted, nor is any node or property of the tree, and all others are in it.
-    ensures live { IfOk result (λ _. is_live table.now.nodes.items 0 ≡ true) }
-    ensures grown { IfOk result (λ x. IsGrown (ground_of table.now) 0 x) }
 {
     if !table.is_live(ROOT) {
         return refused(at(Refusal::NoRoot, 0));

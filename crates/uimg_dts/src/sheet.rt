@@ -1,7 +1,5 @@
 //! The words of a source as they are collected.
 
-ghost use Rattle.std.specs.Prelude.{◌≡◌};
-
 use crate::bytes::after;
 use crate::fault::Refusal;
 use crate::quoted::next_byte;
@@ -14,7 +12,7 @@ use std::alloc::Allocator;
 pub(crate) const IN_FOLDER: &[u8] = b"./";
 
 /// Which words may begin: dtc's start conditions.
-#[derive(Clone, Copy, Debug, PartialEq, Eq)]
+#[derive(Clone, Copy, PartialEq)]
 pub(crate) enum Mode {
     /// Before `/dts-v1/`.
     Start,
@@ -48,9 +46,7 @@ pub(crate) struct Sheet<A: Allocator> {
 }
 
 impl<A: Allocator + Copy> Sheet<A> {
-    pub(crate) fn new(alloc: A) -> Sheet<A>
-        ensures { result.includes ≡ 0 }
-    {
+    pub(crate) fn new(alloc: A) -> Sheet<A> {
         Sheet {
             bytes: Vec::new(alloc),
             tokens: Vec::new(alloc),
@@ -59,9 +55,7 @@ impl<A: Allocator + Copy> Sheet<A> {
         }
     }
 
-    pub(crate) fn add(&mut self, word: Word, left: usize) -> Result<(), Stop>
-        ensures includes { self.new.includes ≡ self.old.includes }
-    {
+    pub(crate) fn add(&mut self, word: Word, left: usize) -> Result<(), Stop> {
         self.mode = mode_after(self.mode, word);
         match self.tokens.push(Token { word, left }) {
             Ok(()) => Ok(()),
@@ -69,9 +63,7 @@ impl<A: Allocator + Copy> Sheet<A> {
         }
     }
 
-    pub(crate) fn keep(&mut self, bytes: &[u8], left: usize) -> Result<Piece, Stop>
-        ensures includes { self.new.includes ≡ self.old.includes }
-    {
+    pub(crate) fn keep(&mut self, bytes: &[u8], left: usize) -> Result<Piece, Stop> {
         let start = self.bytes.len();
         match self.bytes.extend_from_slice(bytes) {
             Ok(()) => Ok(Piece {
@@ -82,9 +74,7 @@ impl<A: Allocator + Copy> Sheet<A> {
         }
     }
 
-    fn keep_byte(&mut self, b: u8, left: usize) -> Result<(), Stop>
-        ensures includes { self.new.includes ≡ self.old.includes }
-    {
+    fn keep_byte(&mut self, b: u8, left: usize) -> Result<(), Stop> {
         match self.bytes.push(b) {
             Ok(()) => Ok(()),
             Err(_) => Err(out_of_memory(left)),
@@ -98,9 +88,7 @@ impl<A: Allocator + Copy> Sheet<A> {
         text: &[u8],
         length: usize,
         left: usize,
-    ) -> Result<Piece, Stop>
-        ensures includes { self.new.includes ≡ self.old.includes }
-    {
+    ) -> Result<Piece, Stop> {
         let start = self.bytes.len();
         let mut place = 0;
         for _ in 0..length {
@@ -124,9 +112,7 @@ impl<A: Allocator + Copy> Sheet<A> {
         folder: Piece,
         name: &[u8],
         left: usize,
-    ) -> Result<Piece, Stop>
-        ensures includes { self.new.includes ≡ self.old.includes }
-    {
+    ) -> Result<Piece, Stop> {
         let start = self.bytes.len();
         if name.first() != Some(&b'/') {
             for i in folder.start..folder.end {

@@ -6,14 +6,14 @@ ghost use Rattle.uimg_dts.specs.declared.fault.DtsKind.TheVariants.{Source};
 use crate::fault::{DtsKind, Refusal};
 
 /// Why compiling stopped, and how many bytes of the text remain at the word where it did.
-#[derive(Clone, Copy, Debug)]
+#[derive(Clone, Copy)]
 pub(crate) struct Stop {
     pub(crate) kind: Refusal,
     pub(crate) left: usize,
 }
 
 /// The same for calls that open files.
-#[derive(Clone, Copy, Debug)]
+#[derive(Clone, Copy)]
 pub(crate) struct FileStop {
     pub(crate) kind: DtsKind,
     pub(crate) left: usize,

@@ -3,10 +3,6 @@
 //! Each names others by their places in the tables, and a place that is none is `NONE`. `left` is
 //! how many bytes of the text remain at the word that gave an entry.
 
-ghost use Rattle.std.specs.Prelude.{◌≡◌, ◌++◌, OnOk, bytes_eq, slice_get};
-ghost use Rattle.uimg_dts.specs.Tables.{part, is_live, changed_at};
-ghost use Rattle.uimg_dts.specs.Appending.{appended_child, last_child_of, with_last_child, followed_node, appended_property, last_property_of, with_last_property, followed_property};
-
 use crate::stop::{Stop, out_of_memory};
 use crate::tokens::{NOTHING, Piece};
 use std::alloc::Allocator;
@@ -15,7 +11,7 @@ use std::alloc::Allocator;
 pub(crate) const NONE: usize = usize::MAX;
 
 /// A node. Its children and its properties are lists from a first to a last, each with the next.
-#[derive(Clone, Copy, Debug)]
+#[derive(Clone, Copy)]
 pub(crate) struct NodeEntry {
     pub(crate) name: Piece,
     pub(crate) left: usize,
@@ -38,7 +34,7 @@ pub(crate) struct NodeEntry {
 }
 
 /// A property. A value that is a file is the file's name.
-#[derive(Clone, Copy, Debug)]
+#[derive(Clone, Copy)]
 pub(crate) struct PropertyEntry {
     pub(crate) name: Piece,
     pub(crate) left: usize,
@@ -52,14 +48,14 @@ pub(crate) struct PropertyEntry {
 }
 
 /// What a label names.
-#[derive(Clone, Copy, Debug, PartialEq, Eq)]
+#[derive(Clone, Copy, PartialEq)]
 pub(crate) enum Owner {
     Node(usize),
     Property(usize),
 }
 
 /// A label.
-#[derive(Clone, Copy, Debug)]
+#[derive(Clone, Copy)]
 pub(crate) struct LabelEntry {
     pub(crate) name: Piece,
     pub(crate) left: usize,
@@ -68,7 +64,7 @@ pub(crate) struct LabelEntry {
 }
 
 /// What a mark in a value is.
-#[derive(Clone, Copy, Debug, PartialEq, Eq)]
+#[derive(Clone, Copy, PartialEq)]
 pub(crate) enum MarkKind {
     Label,
     /// Four bytes that become a node's number.
@@ -78,7 +74,7 @@ pub(crate) enum MarkKind {
 }
 
 /// A mark in a value, with its offset there.
-#[derive(Clone, Copy, Debug)]
+#[derive(Clone, Copy)]
 pub(crate) struct MarkEntry {
     pub(crate) kind: MarkKind,
     pub(crate) offset: usize,
@@ -113,40 +109,28 @@ impl<'t, A: Allocator + Copy> Table<'t, A> {
         }
     }
 
-    pub(crate) fn text(&self, piece: Piece) -> &'t [u8]
-        ensures { result.now ≡ part self.now.bytes.now piece }
-    {
+    pub(crate) fn text(&self, piece: Piece) -> &'t [u8] {
         self.bytes.get(piece.start..piece.end).unwrap_or(&[])
     }
 
-    pub(crate) fn same(&self, a: Piece, b: Piece) -> bool
-        ensures { result ≡ bytes_eq (part self.now.bytes.now a) (part self.now.bytes.now b) }
-    {
+    pub(crate) fn same(&self, a: Piece, b: Piece) -> bool {
         self.text(a) == self.text(b)
     }
 
-    pub(crate) fn value(&self, piece: Piece) -> &[u8]
-        ensures { result.now ≡ part self.now.values.items piece }
-    {
+    pub(crate) fn value(&self, piece: Piece) -> &[u8] {
         self.values.get(piece.start..piece.end).unwrap_or(&[])
     }
 
-    pub(crate) fn node(&self, place: usize) -> Option<NodeEntry>
-        ensures { result ≡ slice_get self.now.nodes.items place }
-    {
+    pub(crate) fn node(&self, place: usize) -> Option<NodeEntry> {
         self.nodes.get(place).copied()
     }
 
-    pub(crate) fn property(&self, place: usize) -> Option<PropertyEntry>
-        ensures { result ≡ slice_get self.now.properties.items place }
-    {
+    pub(crate) fn property(&self, place: usize) -> Option<PropertyEntry> {
         self.properties.get(place).copied()
     }
 
     /// Returns whether a node exists and is not deleted.
-    pub(crate) fn is_live(&self, place: usize) -> bool
-        ensures { result ≡ is_live self.now.nodes.items place }
-    {
+    pub(crate) fn is_live(&self, place: usize) -> bool {
         match self.nodes.get(place) {
             Some(node) => !node.is_deleted,
             None => false,
@@ -154,9 +138,7 @@ impl<'t, A: Allocator + Copy> Table<'t, A> {
     }
 
     /// Adds bytes to the last value.
-    pub(crate) fn append(&mut self, bytes: &[u8], left: usize) -> Result<(), Stop>
-        ensures { OnOk result (self.new.values.items ≡ self.old.values.items ++ bytes.now) }
-    {
+    pub(crate) fn append(&mut self, bytes: &[u8], left: usize) -> Result<(), Stop> {
         match self.values.extend_from_slice(bytes) {
             Ok(()) => Ok(()),
             Err(_) => Err(out_of_memory(left)),
@@ -211,13 +193,7 @@ impl<'t, A: Allocator + Copy> Table<'t, A> {
     }
 
     /// Adds a property without a value to none. Returns its place.
-    pub(crate) fn add_property(&mut self, name: Piece, left: usize) -> Result<usize, Stop>
-        ensures nodes { self.new.nodes ≡ self.old.nodes }
-        ensures labels { self.new.labels ≡ self.old.labels }
-        ensures values { self.new.values ≡ self.old.values }
-        ensures marks { self.new.marks ≡ self.old.marks }
-        ensures bytes { self.new.bytes ≡ self.old.bytes }
-    {
+    pub(crate) fn add_property(&mut self, name: Piece, left: usize) -> Result<usize, Stop> {
         let place = self.properties.len();
         let property = PropertyEntry {
             name,
@@ -235,105 +211,39 @@ impl<'t, A: Allocator + Copy> Table<'t, A> {
         }
     }
 
-    pub(crate) fn append_child(&mut self, parent: usize, child: usize)
-        ensures nodes { self.new.nodes.items ≡ appended_child self.old.nodes.items parent child }
-        ensures properties { self.new.properties ≡ self.old.properties }
-        ensures labels { self.new.labels ≡ self.old.labels }
-        ensures values { self.new.values ≡ self.old.values }
-        ensures marks { self.new.marks ≡ self.old.marks }
-        ensures bytes { self.new.bytes ≡ self.old.bytes }
-    {
-        let last = self.take_last_child(parent, child);
-        self.follow_node(last, child);
+    pub(crate) fn append_child(&mut self, parent: usize, child: usize) {
+        let mut last = NONE;
+        if let Some(node) = self.nodes.get_mut(parent) {
+            last = node.last_child;
+            node.last_child = child;
+            if last == NONE {
+                node.first_child = child;
+            }
+        }
+        if let Some(node) = self.nodes.get_mut(last) {
+            node.next = child;
+        }
         if let Some(node) = self.nodes.get_mut(child) {
             node.parent = parent;
             node.next = NONE;
         }
     }
 
-    // Returns the one that was the last.
-    fn take_last_child(&mut self, parent: usize, child: usize) -> usize
-        ensures last { result ≡ last_child_of self.old.nodes.items parent }
-        ensures nodes { self.new.nodes.items ≡ changed_at (with_last_child child) self.old.nodes.items parent }
-        ensures properties { self.new.properties ≡ self.old.properties }
-        ensures labels { self.new.labels ≡ self.old.labels }
-        ensures values { self.new.values ≡ self.old.values }
-        ensures marks { self.new.marks ≡ self.old.marks }
-        ensures bytes { self.new.bytes ≡ self.old.bytes }
-    {
-        let Some(node) = self.nodes.get_mut(parent) else {
-            return NONE;
-        };
-        let last = node.last_child;
-        node.last_child = child;
-        if last == NONE {
-            node.first_child = child;
+    pub(crate) fn append_property(&mut self, owner: usize, place: usize) {
+        let mut last = NONE;
+        if let Some(node) = self.nodes.get_mut(owner) {
+            last = node.last_property;
+            node.last_property = place;
+            if last == NONE {
+                node.first_property = place;
+            }
         }
-        last
-    }
-
-    fn follow_node(&mut self, place: usize, next: usize)
-        ensures nodes { self.new.nodes.items ≡ changed_at (followed_node next) self.old.nodes.items place }
-        ensures properties { self.new.properties ≡ self.old.properties }
-        ensures labels { self.new.labels ≡ self.old.labels }
-        ensures values { self.new.values ≡ self.old.values }
-        ensures marks { self.new.marks ≡ self.old.marks }
-        ensures bytes { self.new.bytes ≡ self.old.bytes }
-    {
-        if let Some(node) = self.nodes.get_mut(place) {
-            node.next = next;
+        if let Some(property) = self.properties.get_mut(last) {
+            property.next = place;
         }
-    }
-
-    pub(crate) fn append_property(&mut self, owner: usize, place: usize)
-        ensures nodes { self.new.nodes.items ≡ changed_at (with_last_property place) self.old.nodes.items owner }
-        ensures properties { self.new.properties.items
-            ≡ appended_property self.old.nodes.items self.old.properties.items owner place }
-        ensures labels { self.new.labels ≡ self.old.labels }
-        ensures values { self.new.values ≡ self.old.values }
-        ensures marks { self.new.marks ≡ self.old.marks }
-        ensures bytes { self.new.bytes ≡ self.old.bytes }
-    {
-        let last = self.take_last_property(owner, place);
-        self.follow_property(last, place);
         if let Some(property) = self.properties.get_mut(place) {
             property.node = owner;
             property.next = NONE;
-        }
-    }
-
-    // Returns the one that was the last.
-    fn take_last_property(&mut self, owner: usize, place: usize) -> usize
-        ensures last { result ≡ last_property_of self.old.nodes.items owner }
-        ensures nodes { self.new.nodes.items ≡ changed_at (with_last_property place) self.old.nodes.items owner }
-        ensures properties { self.new.properties ≡ self.old.properties }
-        ensures labels { self.new.labels ≡ self.old.labels }
-        ensures values { self.new.values ≡ self.old.values }
-        ensures marks { self.new.marks ≡ self.old.marks }
-        ensures bytes { self.new.bytes ≡ self.old.bytes }
-    {
-        let Some(node) = self.nodes.get_mut(owner) else {
-            return NONE;
-        };
-        let before = node.last_property;
-        node.last_property = place;
-        if before == NONE {
-            node.first_property = place;
-        }
-        before
-    }
-
-    fn follow_property(&mut self, place: usize, next: usize)
-        ensures properties { self.new.properties.items
-            ≡ changed_at (followed_property next) self.old.properties.items place }
-        ensures nodes { self.new.nodes ≡ self.old.nodes }
-        ensures labels { self.new.labels ≡ self.old.labels }
-        ensures values { self.new.values ≡ self.old.values }
-        ensures marks { self.new.marks ≡ self.old.marks }
-        ensures bytes { self.new.bytes ≡ self.old.bytes }
-    {
-        if let Some(property) = self.properties.get_mut(place) {
-            property.next = next;
         }
     }
 }

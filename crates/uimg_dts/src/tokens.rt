@@ -1,7 +1,7 @@
 //! The words of a source.
 
 /// A part of the bytes of all words, or of all values.
-#[derive(Clone, Copy, Debug, PartialEq, Eq)]
+#[derive(Clone, Copy)]
 pub(crate) struct Piece {
     pub(crate) start: usize,
     pub(crate) end: usize,
@@ -11,7 +11,7 @@ pub(crate) struct Piece {
 pub(crate) const NOTHING: Piece = Piece { start: 0, end: 0 };
 
 /// An operator of two bytes.
-#[derive(Clone, Copy, Debug, PartialEq, Eq)]
+#[derive(Clone, Copy)]
 pub(crate) enum Double {
     ShiftLeft,
     ShiftRight,
@@ -24,7 +24,7 @@ pub(crate) enum Double {
 }
 
 /// A word of a source.
-#[derive(Clone, Copy, Debug)]
+#[derive(Clone, Copy)]
 pub(crate) enum Word {
     Version,
     Plugin,
@@ -52,7 +52,7 @@ pub(crate) enum Word {
 
 /// A word, and how many bytes of the text remain where it begins. In an included file it is where
 /// the word `/include/` begins.
-#[derive(Clone, Copy, Debug)]
+#[derive(Clone, Copy)]
 pub(crate) struct Token {
     pub(crate) word: Word,
     pub(crate) left: usize,

@@ -1,7 +1,5 @@
 //! The word at the start of a text.
 
-ghost use Rattle.std.specs.Prelude.{◌≡◌};
-
 use crate::bytes::{after, before, byte_at, is_name_byte, label_length, name_length, path_length};
 use crate::fault::Refusal;
 use crate::literals::{hex_pair, read_literal};
@@ -63,9 +61,7 @@ fn add_string<A: Allocator + Copy>(
     sheet: &mut Sheet<A>,
     text: &[u8],
     left: usize,
-) -> Result<usize, Stop>
-    ensures includes { sheet.new.includes ≡ sheet.old.includes }
-{
+) -> Result<usize, Stop> {
     let Some(length) = string_length(after(text, 1)) else {
         return Err(at(Refusal::BadToken, left));
     };
@@ -78,9 +74,7 @@ fn add_character<A: Allocator + Copy>(
     sheet: &mut Sheet<A>,
     text: &[u8],
     left: usize,
-) -> Result<usize, Stop>
-    ensures includes { sheet.new.includes ≡ sheet.old.includes }
-{
+) -> Result<usize, Stop> {
     let Some(length) = character_length(after(text, 1)) else {
         return Err(at(Refusal::BadToken, left));
     };
@@ -98,9 +92,7 @@ fn add_ampersand<A: Allocator + Copy>(
     sheet: &mut Sheet<A>,
     text: &[u8],
     left: usize,
-) -> Result<usize, Stop>
-    ensures includes { sheet.new.includes ≡ sheet.old.includes }
-{
+) -> Result<usize, Stop> {
     let label = label_length(after(text, 1));
     let path = path_length(after(text, 2));
     if text.starts_with(b"&{/") && byte_at(text, path.saturating_add(2)) == b'}' {
@@ -121,9 +113,7 @@ fn add_mark<A: Allocator + Copy>(
     sheet: &mut Sheet<A>,
     text: &[u8],
     left: usize,
-) -> Result<usize, Stop>
-    ensures includes { sheet.new.includes ≡ sheet.old.includes }
-{
+) -> Result<usize, Stop> {
     if let Some(double) = double_of(text) {
         sheet.add(Word::Double(double), left)?;
         return Ok(2);
@@ -136,9 +126,7 @@ fn add_number<A: Allocator + Copy>(
     sheet: &mut Sheet<A>,
     text: &[u8],
     left: usize,
-) -> Result<usize, Stop>
-    ensures includes { sheet.new.includes ≡ sheet.old.includes }
-{
+) -> Result<usize, Stop> {
     let found = read_literal(text);
     match found.value {
         Some(value) => {
@@ -153,9 +141,7 @@ fn add_by_mode<A: Allocator + Copy>(
     sheet: &mut Sheet<A>,
     text: &[u8],
     left: usize,
-) -> Result<usize, Stop>
-    ensures includes { sheet.new.includes ≡ sheet.old.includes }
-{
+) -> Result<usize, Stop> {
     let name = escaped_name_length(text);
     let first = byte_at(text, 0);
     match sheet.mode {
@@ -184,9 +170,7 @@ pub(crate) fn add_word<A: Allocator + Copy>(
     folder: Piece,
     text: &[u8],
     left: usize,
-) -> Result<usize, Stop>
-    ensures includes { sheet.new.includes ≡ sheet.old.includes }
-{
+) -> Result<usize, Stop> {
     let label = label_length(text);
     match byte_at(text, 0) {
         b'/' => {

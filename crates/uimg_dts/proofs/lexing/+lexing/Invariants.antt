@@ -1,4 +1,4 @@
-use Rattle.std.proofs.Common.{◌*◌, ◌+◌, ◌≤◌, false}
+use Rattle.std.proofs.Common.{◌*◌, ◌+◌, false}
 use Rattle.uimg_blob_writing.specs.UsingFiles.{UsesFiles}
 use Rattle.uimg_dts.proofs.lexing.+lexing.Given as goal
 
@@ -8,10 +8,6 @@ decreases-include g l = l.origin.levels * 2
 abbrev pub decreases-lex_text : goal.decreases-lex_text
 decreases-lex_text g l = l.origin.levels * 2 + 1
 
--- no open was refused so far, and the included files are counted
+-- no open was refused so far
 abbrev pub invariant-lex_text-loop : goal.invariant-lex_text-loop
-invariant-lex_text-loop g l = record {
-  files : UsesFiles false (g.F.Files.map l.fn.files) (g.F.Files.map l.files);
-  rises : l.fn.sheet.includes ≤ l.sheet.includes;
-  most : l.fn.sheet.includes ≤ 199 → l.sheet.includes ≤ 199;
-}
+invariant-lex_text-loop g l = UsesFiles false (g.F.Files.map l.fn.files) (g.F.Files.map l.files)
