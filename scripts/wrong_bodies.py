@@ -9,20 +9,26 @@ A function is proved from its own body and the contracts of those that it calls.
 functions with wrong bodies are proved, several in one check, each with one wrong body; for each
 other function of the crate its contract is assumed, by a hole in place of its proof
 (`--allow-holes`), and its body is `loop {}`, since the prover reads all that a function to be
-proved leads to. A wrong body is refused if its own function is: if an answer of its own does not
-hold, or no search finds a goal of its own. One that fails only since it calls a refused function is
-tried again in a later round. If a check refuses a function without a wrong body, or a lemma, it
-counts for nothing, and each half is tried by itself, down to a single one. A wrong body outside of
-functions, as in a row of a table, may change what other functions are proved from: it is tried
-alone, over all functions of its file, and if these are proved, over the whole crate.
+proved leads to.
+
+A wrong body is refused if a clause of its own function is: if what the function ensures is not
+proved where it returns, by a search or by its written answer. A sentinel is refused if all the
+clauses are that scripts/sentinels.txt names with it. One that is refused for anything else is not
+refused: a loop's invariant, a measure, a condition of a call, a lemma that no longer fits, an
+answer that only names what is not there. A wrong body outside of functions may name a lemma there,
+one that states what a table is.
+
+If a check refuses a function without a wrong body, or a lemma, it counts for nothing, and each half
+is tried by itself, down to a single one. A wrong body outside of functions, as in a row of a table,
+may change what other functions are proved from: it is tried alone, over all functions of its file,
+and if these are proved, over the whole crate.
 
 With --right the wrong bodies are left out, in one check: each of their functions must be proved
 then, which shows that a refusal comes from the wrong body and not from how it is tried.
 
-It prints a line for each wrong body, `refused`, `NOT REFUSED` or `BAD EDIT`, or for each right
-one, and last 'N passed, M failed'."""
+It prints a line for each wrong body, `refused` with the clauses, `NOT REFUSED` or `BAD EDIT`, or for
+each right one, and last 'N passed, M failed'."""
 import argparse
-import contextlib
 import glob
 import os
 import re
@@ -51,12 +57,21 @@ UNFOUND = re.compile(r"no proof: expected .* in (?:\./)?proofs/\S+\.antt.*")
 UNSTATED = re.compile(r"no proof: antt did not admit its contract.*")
 # An error in a proof: in the answers of a function, or in lemmas that several may cite.
 ERROR = re.compile(r"(?:\./)?proofs/(\S+?)(?:/(?:Answers|Invariants|Proof))?\.antt:\d+:\d+: error")
+# What an error is in: the answer to a goal, or a lemma.
+ERROR_IN = re.compile(r".*?: error: `([^`]+)`: ")
 # An error for a name alone: a proof names what the wrong body removed, so it says nothing of the
 # contract.
-BY_NAME = "BAD EDIT: its answers only name what is not there"
-# The message for a goal that no search proves.
-OPEN = "`search` did not prove"
 NAMED = re.compile(r".*: error: .*(has no `|has no field|is not in scope|was not admitted|were not admitted)")
+# The goals that no search proves, and the answer that is refused.
+OPEN = re.compile(r"`search` did not prove ((?:`[^`]+`(?:, )?)+)")
+REFUSED_ANSWER = re.compile(r"`[^`]+\.Answers\.([^`.]+)`")
+# A goal that a function meets where it returns, with the label of its clause if it has one.
+CLAUSE = re.compile(r"(?:.*-)?returns(?:-(?:.*-)?clause-(\w+))?(?:-.*)?")
+# The name of a clause without a label.
+UNLABELLED = "its clause"
+SENTINELS = "scripts/sentinels.txt"
+# A sentinel: its crate and name, its function, and the clauses that must refuse it.
+SENTINEL = re.compile(r"(\w+/[\w-]+): (\S+) \((\w[\w ,]*)\)")
 # The prover's messages for a text that it cannot read.
 UNREAD = re.compile(r"(?:\./)?(?:src|specs)/\S+:\d+:\d+: error")
 ENDED = re.compile(r"only=\d+ (holes|proved)=\d+|holes=\d+|logic=(not-)?proved\b.*")
@@ -104,6 +119,7 @@ class Trials:
     def __init__(self, name, room, kept):
         self.name, self.folder, self.room = name, os.path.abspath(f"crates/{name}"), room
         self.words, self.known = kit.Crates().command(name, "check", 1), functions.functions_of(f"crates/{name}")
+        self.sentinels = sentinels()
         if kept and os.path.isdir(kept):
             self.kept = f"{room}/kept"
             shutil.copytree(kept, self.kept)
@@ -111,10 +127,9 @@ class Trials:
             self.kept = os.path.abspath(kept or f"{room}/kept")
             os.mkdir(self.kept)
 
-    def copy(self, texts, proved, bare):
+    def copy(self, texts, proved):
         """Makes a copy of the crate with these texts in place of its own, with holes for all
-        functions except those to be proved, if these are given, and without answers for those to
-        be bare. Returns its folder."""
+        functions except those to be proved, if these are given. Returns its folder."""
         crate = tempfile.mkdtemp(dir=self.room)
         for part in kit.PARTS:
             if os.path.isdir(f"{self.folder}/{part}"):
@@ -124,9 +139,6 @@ class Trials:
                 file.write(text)
         for path in self.known if proved else ():
             self.assume_others(crate, path, proved)
-        for it in bare:
-            with contextlib.suppress(FileNotFoundError):
-                os.remove(f"{crate}/proofs/{it.replace('::', '/')}/Answers.antt")
         return crate
 
     def assume_others(self, crate, path, proved):
@@ -147,11 +159,10 @@ class Trials:
         with open(f"{folder}/Proof.antt", "w", encoding="utf-8") as file:
             file.write(HOLE.format(crate=self.name, module=function.path.replace("::", "."), name=function.name))
 
-    def check(self, texts, proved, bare=()):
+    def check(self, texts, proved):
         """Checks a copy of the crate. Only the given functions are to be proved, or all if none
-        is given, some without their answers. Returns the lines that the check prints, or None if
-        it reaches no verdict."""
-        crate = self.copy(texts, proved, bare)
+        is given. Returns the lines that the check prints, or None if it reaches no verdict."""
+        crate = self.copy(texts, proved)
         words = [*self.words, "--incremental", self.kept, "--allow-holes"]
         for it in sorted(proved):
             words += ["--only", it]
@@ -170,14 +181,13 @@ class Trials:
         is_read = not any(UNREAD.match(it) for it in lines) and not any(UNSTATED.match(it) for it in said)
         return lines if ran.returncode in (0, 1) and ENDED.fullmatch(lines[-1]) and is_read else None
 
-    def refusals(self, edits, proved, bare=()):
-        """Checks the crate with these wrong bodies. Returns what it says of each function that
-        is refused for its own sake, by its path, with the refused lemmas, or None without a
-        verdict."""
+    def refusals(self, edits, proved):
+        """Checks the crate with these wrong bodies. Returns what is refused for its own sake, by
+        its path, or None without a verdict."""
         texts = {}
         for edit in edits:
             texts[edit.file] = edit.apply(texts.get(edit.file) or self.text_of(edit))
-        lines = self.check(texts, proved, bare)
+        lines = self.check(texts, proved)
         return None if lines is None else refused_in(lines, self.name)
 
     def text_of(self, edit):
@@ -186,22 +196,60 @@ class Trials:
             return file.read()
 
 
+class Refusal:
+    """Why a function, or a lemma, is refused for its own sake: a line of the check, and the goals or
+    lemmas that do not hold."""
+
+    def __init__(self, why, goals):
+        self.why, self.goals = why, goals
+
+    def clauses(self):
+        """Returns the clauses among its goals."""
+        found = [CLAUSE.fullmatch(it) for it in self.goals]
+        return {it[1] or UNLABELLED for it in found if it}
+
+
 def refused_in(lines, name):
-    """Returns what the lines of a check say of each function that is refused for its own sake,
-    not only since it calls a refused one, by its path; a refused lemma is listed by itself."""
-    errors = {found[1].replace("/", "::"): it for it in lines for found in [ERROR.match(it)] if found}
-    own_errors = [it for it in lines if ERROR.match(it)]
+    """Returns what is refused in a check for its own sake, not only since it calls a refused
+    function, by its path; a refused lemma is listed by its module."""
+    errors = {}
+    for line in lines:
+        found = ERROR.match(line)
+        if found:
+            errors.setdefault(found[1].replace("/", "::"), []).append(line)
     refused, told = {}, set()
     for path, why in (found.groups() for it in lines for found in [SAID.fullmatch(it)] if found):
         path = path.removeprefix(f"{name}::")
         own = f"Rattle.{name}.proofs.{path.replace('::', '.')}."
         if UNFOUND.match(why) or why.startswith("not proved") and (path in errors or f"`{own}" in why):
-            its = [it for it in own_errors if ERROR.match(it)[1].replace("/", "::") == path]
-            by_name = its and all(NAMED.match(it) for it in its)
-            refused[function_of(path, name)] = f"{BY_NAME if by_name else f'fn {name}::{path}'}: {its[0] if its else why}"
+            its = errors.get(path, [])
+            refused[function_of(path, name)] = Refusal(its[0] if its else f"fn {name}::{path}: {why}", goals_of(its, why))
         told.add(path)
-    refused.update({path: it for path, it in errors.items() if path not in told})
+    refused.update({path: Refusal(its[0], goals_of(its, "")) for path, its in errors.items() if path not in told})
     return refused
+
+
+def goals_of(errors, why):
+    """Returns the goals that do not hold by the errors in a function's answers and the line about
+    it, without those whose answer only names what is not there."""
+    named = {ERROR_IN.match(it)[1] for it in errors if NAMED.match(it) and ERROR_IN.match(it)}
+    found = {ERROR_IN.match(it)[1] for it in errors if ERROR_IN.match(it)}
+    found.update(REFUSED_ANSWER.findall(why))
+    for it in OPEN.findall(why):
+        found.update(re.findall("`([^`]+)`", it))
+    return found - named
+
+
+def sentinels():
+    """Returns for each sentinel, by its crate and name, its function and the clauses that must
+    refuse it."""
+    with open(SENTINELS, encoding="utf-8") as file:
+        lines = [it.rstrip("\n") for it in file if it.strip() and not it.startswith("#")]
+    found = [SENTINEL.fullmatch(it) for it in lines]
+    bad = [line for it, line in zip(found, lines) if not it]
+    if bad:
+        sys.exit(f"{SENTINELS}: {bad[0]}")
+    return {it[1]: (it[2], set(it[3].split(", "))) for it in found}
 
 
 def proved_in(lines, name):
@@ -238,18 +286,22 @@ def try_alone(trials, edit):
         refused = trials.refusals([edit], set())
     if refused is None:
         return False, "NOT REFUSED: the check did not reach the prover"
-    own = [why for place, why in refused.items() if edit.is_wide or place in edit.places]
+    return verdict(trials, edit, refused)
+
+
+def verdict(trials, edit, refused):
+    """Returns whether a wrong body is refused by a clause, and why, from what a check refuses."""
+    own = {place: it for place, it in refused.items() if edit.is_wide or place in edit.places}
     if not own:
         return False, "NOT REFUSED: it is still proved, or only what it stands beside is refused"
-    return try_bare(trials, edit, own[0]) if own[0].startswith(BY_NAME) else (True, own[0])
-
-
-def try_bare(trials, edit, before):
-    """Returns whether a wrong body is refused without the answers of its functions, since a
-    search leaves a goal open, and why; else what was said with the answers."""
-    refused = trials.refusals([edit], edit.places, edit.places) or {}
-    own = [why for place, why in refused.items() if place in edit.places and OPEN in why]
-    return (True, own[0]) if own else (False, before)
+    function, wanted = trials.sentinels.get(f"{trials.name}/{edit.name.removesuffix('.edit')}", (None, set()))
+    found = set().union(*(it.clauses() for place, it in own.items() if function in (None, place)))
+    lemmas = {f"lemma {goal}" for it in own.values() for goal in it.goals} if edit.is_wide else set()
+    first = next(iter(own.values()))
+    if wanted <= found | lemmas if wanted else found:
+        return True, f"by {', '.join(sorted(wanted or found))}: {first.why}"
+    names = ", ".join(sorted({goal for it in own.values() for goal in it.goals})) or "names that are not there"
+    return False, f"NOT REFUSED by {', '.join(sorted(wanted)) or 'a clause'}, but for {names}: {first.why}"
 
 
 def try_group(trials, group):
@@ -258,14 +310,13 @@ def try_group(trials, group):
     if len(group) == 1:
         yield group[0], try_alone(trials, group[0])
         return
-    refused = trials.refusals(group, {place for edit in group for place in edit.places}) or {}
-    told = {place for edit in group for place in edit.places}
-    sound = set(refused) <= told
+    places = {place for edit in group for place in edit.places}
+    refused = trials.refusals(group, places) or {}
+    sound = set(refused) <= places
     left = [edit for edit in group if not sound or not edit.places & set(refused)]
     for edit in group:
         if edit not in left:
-            why = next(refused[place] for place in sorted(edit.places) if place in refused)
-            yield edit, try_bare(trials, edit, why) if why.startswith(BY_NAME) else (True, why)
+            yield edit, verdict(trials, edit, refused)
     half = (len(left) + 1) // 2 if len(left) == len(group) else len(left)
     for part in (left[:half], left[half:]):
         if part:
@@ -303,7 +354,7 @@ def wrong(trials, edits):
     found = dict(try_all(trials, edits))
     for edit in edits:
         is_refused, why = found[edit]
-        yield is_refused, f"must-fail {trials.name}/{edit.name}: {'refused, as it must be: ' if is_refused else ''}{why[:200]}"
+        yield is_refused, f"must-fail {trials.name}/{edit.name}: {'refused, as it must be, ' if is_refused else ''}{why[:240]}"
 
 
 def right(trials, edits):
@@ -316,7 +367,7 @@ def right(trials, edits):
         yield place in proved, f"right {trials.name}::{place}: {'proved' if place in proved else 'NOT PROVED'}"
     for lemma, why in sorted(refused_in(lines or [], trials.name).items()):
         if lemma not in places:
-            yield False, f"right {trials.name}::{lemma}: NOT PROVED: {why[:200]}"
+            yield False, f"right {trials.name}::{lemma}: NOT PROVED: {why.why[:200]}"
 
 
 def words():

@@ -82,14 +82,15 @@ pub fn run<S: Source, A: Allocator, W: Write>(
 /// - Tree: they are `built` of the filled tree that the source spells.
 /// - They read back, and exactly their listing was written.
 ///
-/// Returns the first fault in the order of the steps. Over honest files and an honest, empty shelf
-/// nothing was listed at all but `Read`, `Put` and `OutOfMemory` of `Blob`:
+/// Returns the first fault in the order of the steps. Over honest files and an honest, empty shelf,
+/// only the last two may come after a prefix of the listing; at the others nothing was listed.
 ///
 /// - `NoFile(i)`: file i, counted from 0, could not be opened; the source of a tree is file 0.
 /// - `OutOfMemory`: memory for files or text was refused.
-/// - `Its`, `Fit`, `Blob`, `Legacy`: as `compile`, `fill` and `build`.
+/// - `Its`, `Fit`, `Legacy`, names in `Blob`: as `compile`, `fill` and `build`.
 /// - `Keep`: what was written could not be reopened.
-/// - `Read`, `Put`: a read, or a write, failed. A prefix of the listing was written.
+/// - `OutOfMemory` of `Blob`: memory for the table of nodes was refused.
+/// - `Read`, `Put`: a read, or a write, failed.
 ///
 /// Over any files, exactly those of the command were opened, in order, or the first ones at a fault.
 /// A refusal of theirs was counted if and only if `NoFile`, or I5 of a source, is returned.
