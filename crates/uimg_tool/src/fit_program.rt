@@ -342,6 +342,7 @@ where
 }
 
 fn how_of<'a>(request: &'a FitRequest<'a>) -> How<'a>
+    ensures quiet { result.is_quiet ≡ request.now.is_quiet }
     ensures folders { result.folders.now ≡ request.now.dtc.folders.items }
     ensures outfile { result.outfile ≡ request.now.outfile }
 {
