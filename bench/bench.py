@@ -127,12 +127,16 @@ def check_row(uimg, folder):
 
 def shape_rows(uimg, folder):
     """Yields the rows of costly files."""
-    arguments = {"list": ["dumpimage", "-l"], "verify": ["verify"], "check": ["check"]}
+    called = os.path.join(folder, "mkimage")
+    os.symlink(os.path.abspath(uimg), called)
+    commands = {"list": [uimg, "dumpimage", "-l"], "verify": [uimg, "verify"], "check": [uimg, "check"]}
+    commands["make"] = [called, "-q", "-f"]
     for command, shape, *files in shapes.shapes():
         paths = [os.path.join(folder, name) for name in ("costly", "ordinary")]
         for path, parts in zip(paths, files):
             shapes.write(path, parts)
-        costly, ordinary = ([uimg, *arguments[command], path] for path in paths)
+        made = [os.path.join(folder, "made")] if command == "make" else []
+        costly, ordinary = ([*commands[command], path, *made] for path in paths)
         yield Row(f"{command} {shape}", costly, "an ordinary file", ordinary)
 
 

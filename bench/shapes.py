@@ -57,9 +57,30 @@ def many_parts(count):
     return legacy(4, data), legacy(2, data)
 
 
+def source(more):
+    """A source in the whole language of dtc: a FIT image, and more nodes in its root."""
+    image = 'description = "k"; data = [61]; type = "kernel"; arch = "arm"; os = "linux"; compression = "none";'
+    return (
+        f'/dts-v1/; / {{ description = "shape"; #address-cells = <(1)>; images {{ k {{ {image} load = <0>;'
+        f' entry = <0>; }}; }}; configurations {{ default = "c"; c {{ description = "c"; kernel = "k"; }}; }}; {more} }};'
+    ).encode()
+
+
+def beside(costly):
+    """A source, and one of the same length, most of which is a comment."""
+    ordinary = source("")
+    return [costly], [ordinary, b"/*", b" " * (len(costly) - len(ordinary) - 4), b"*/"]
+
+
+def operators(count):
+    """A chain of so many operators."""
+    return beside(source("s { a = <(" + "1+" * count + "1)>; };"))
+
+
 def shapes():
     """Yields for each shape the command, its name, and in parts its file and an ordinary one of the
     same length."""
     yield "verify", "800 hash nodes over one payload", *many_hashes(800)
     yield "check", "100 images with one payload", *overlapping(100)
     yield "list", "1,000,000 parts of a multi image", *many_parts(1000000)
+    yield "make", "500,000 operators in a row", *operators(500000)

@@ -39,11 +39,16 @@ pub(crate) fn path_length(text: &[u8]) -> usize {
     text.iter().take_while(|b| is_path_byte(**b)).count()
 }
 
-/// A digit begins no label.
+/// Counts the bytes of a label that is not told from a number: a digit begins none.
+pub(crate) fn run_length(text: &[u8]) -> usize {
+    text.iter().take_while(|b| is_label_byte(**b)).count()
+}
+
 pub(crate) fn label_length(text: &[u8]) -> usize {
-    match text.first() {
-        Some(b'0'..=b'9') | None => 0,
-        _ => text.iter().take_while(|b| is_label_byte(**b)).count(),
+    if byte_at(text, 0).is_ascii_digit() {
+        0
+    } else {
+        run_length(text)
     }
 }
 

@@ -3,6 +3,34 @@
 use crate::bytes::{after, before, blanks_length, byte_at, digits_length, is_blank, spaces_length};
 use crate::quoted::{next_byte, string_length};
 
+/// Where the last comment and the last line of a text end: how many bytes remain there, or
+/// `usize::MAX` if none ends.
+#[derive(Clone, Copy)]
+pub(crate) struct Ends {
+    comment: usize,
+    line: usize,
+}
+
+impl Ends {
+    pub(crate) fn of(text: &[u8]) -> Ends {
+        let mut ends = Ends {
+            comment: usize::MAX,
+            line: usize::MAX,
+        };
+        let mut last = 0;
+        for (i, b) in text.iter().enumerate() {
+            let remain = text.len().saturating_sub(i);
+            match *b {
+                b'/' if last == b'*' => ends.comment = remain,
+                b'\n' => ends.line = remain,
+                _ => {}
+            }
+            last = *b;
+        }
+        ends
+    }
+}
+
 // Returns `None` if the comment does not end.
 fn comment_length(text: &[u8]) -> Option<usize> {
     let mut last = 0;
@@ -79,13 +107,13 @@ fn marker_length(text: &[u8]) -> Option<usize> {
 
 /// Returns the length of what is between words at the start of a text. Returns `None` if a word
 /// begins it, or nothing does.
-pub(crate) fn gap_length(text: &[u8], begins_line: bool) -> Option<usize> {
+pub(crate) fn gap_length(text: &[u8], begins_line: bool, ends: Ends) -> Option<usize> {
     if is_blank(byte_at(text, 0)) {
         return Some(blanks_length(text));
     }
     match before(text, 2) {
-        b"/*" => comment_length(text),
-        b"//" => line_length(text),
+        b"/*" if ends.comment < text.len() => comment_length(text),
+        b"//" if ends.line < text.len() => line_length(text),
         [b'#', ..] if begins_line => marker_length(text),
         _ => None,
     }

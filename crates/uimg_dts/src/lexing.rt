@@ -2,9 +2,9 @@
 
 ghost use Rattle.uimg_dts.specs.Answers.{OpensFiles};
 
-use crate::bytes::{after, before, blanks_length, byte_at};
+use crate::bytes::{after, before, blanks_length, byte_at, run_length};
 use crate::fault::Refusal;
-use crate::gaps::gap_length;
+use crate::gaps::{Ends, gap_length};
 use crate::opening::{WHOLE, read_file};
 use crate::phandles::PREFIX;
 use crate::quoted::string_length;
@@ -97,7 +97,10 @@ fn lex_text<F: Files, A: Allocator + Copy>(
 ) -> Result<(), FileStop>
     ensures opens { OpensFiles F.Opened.steady F.map result files }
 {
+    let ends = Ends::of(text);
     let mut place = 0usize;
+    // where the bytes of labels end that are around the place
+    let mut run = 0usize;
     for _ in 0..text.len() {
         let rest = after(text, place);
         if rest.is_empty() {
@@ -105,10 +108,13 @@ fn lex_text<F: Files, A: Allocator + Copy>(
         }
         let left = origin.left.unwrap_or(rest.len());
         let begins_line = place == 0 || byte_at(text, place.saturating_sub(1)) == b'\n';
-        let length = match gap_length(rest, begins_line) {
+        if place >= run {
+            run = place.saturating_add(run_length(rest));
+        }
+        let length = match gap_length(rest, begins_line, ends) {
             Some(length) => length,
             None if rest.starts_with(INCLUDE) => include(alloc, files, sheet, origin, rest, left)?,
-            None => add_word(sheet, origin.folder, rest, left)?,
+            None => add_word(sheet, origin.folder, rest, run.saturating_sub(place), left)?,
         };
         place = place.saturating_add(length);
     }

@@ -45,8 +45,11 @@ pub(crate) struct Literal {
 /// Reads a number at the start of a text, which begins with a digit: 0x and hexadecimal digits, 0
 /// and octal digits, or decimal digits, and a suffix.
 pub(crate) fn read_literal(text: &[u8]) -> Literal {
-    let hex = hex_length(after(text, 2));
-    let is_hex = byte_at(text, 0) == b'0' && matches!(byte_at(text, 1), b'x' | b'X') && hex > 0;
+    let hex = match before(text, 2) {
+        b"0x" | b"0X" => hex_length(after(text, 2)),
+        _ => 0,
+    };
+    let is_hex = hex > 0;
     let digits = if is_hex {
         hex.saturating_add(2)
     } else {

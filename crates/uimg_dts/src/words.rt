@@ -137,20 +137,29 @@ fn add_number<A: Allocator + Copy>(
     }
 }
 
-fn add_by_mode<A: Allocator + Copy>(
+fn add_name<A: Allocator + Copy>(
     sheet: &mut Sheet<A>,
     text: &[u8],
     left: usize,
 ) -> Result<usize, Stop> {
     let name = escaped_name_length(text);
+    if name == 0 {
+        return add_mark(sheet, text, left);
+    }
+    let skipped = usize::from(byte_at(text, 0) == b'\\');
+    let piece = sheet.keep(after(before(text, name), skipped), left)?;
+    sheet.add(Word::Name(piece), left)?;
+    Ok(name)
+}
+
+fn add_by_mode<A: Allocator + Copy>(
+    sheet: &mut Sheet<A>,
+    text: &[u8],
+    left: usize,
+) -> Result<usize, Stop> {
     let first = byte_at(text, 0);
     match sheet.mode {
-        Mode::Names if name > 0 => {
-            let skipped = usize::from(first == b'\\');
-            let piece = sheet.keep(after(before(text, name), skipped), left)?;
-            sheet.add(Word::Name(piece), left)?;
-            Ok(name)
-        }
+        Mode::Names => add_name(sheet, text, left),
         Mode::Values if first.is_ascii_digit() => add_number(sheet, text, left),
         Mode::Bytes => match hex_pair(first, byte_at(text, 1)) {
             Some(b) => {
@@ -163,15 +172,15 @@ fn add_by_mode<A: Allocator + Copy>(
     }
 }
 
-/// Reads the word that begins a text, which is not empty and begins with no gap and no `/include/`.
-/// Adds it to the sheet, and returns its length.
+/// Reads the word that begins a text, which is not empty and begins with no gap and no `/include/`,
+/// and with so many bytes that labels may have. Adds it to the sheet, and returns its length.
 pub(crate) fn add_word<A: Allocator + Copy>(
     sheet: &mut Sheet<A>,
     folder: Piece,
     text: &[u8],
+    label: usize,
     left: usize,
 ) -> Result<usize, Stop> {
-    let label = label_length(text);
     match byte_at(text, 0) {
         b'/' => {
             let (word, length) = slash_word(sheet.mode, folder, text);
@@ -181,7 +190,7 @@ pub(crate) fn add_word<A: Allocator + Copy>(
         b'"' => add_string(sheet, text, left),
         b'\'' => add_character(sheet, text, left),
         b'&' => add_ampersand(sheet, text, left),
-        _ if label > 0 && byte_at(text, label) == b':' => {
+        first if label > 0 && !first.is_ascii_digit() && byte_at(text, label) == b':' => {
             let piece = sheet.keep(before(text, label), left)?;
             sheet.add(Word::Label(piece), left)?;
             Ok(label.saturating_add(1))
