@@ -67,7 +67,7 @@ OPEN = re.compile(r"`search` did not prove ((?:`[^`]+`(?:, )?)+)")
 REFUSED_ANSWER = re.compile(r"`[^`]+\.Answers\.([^`.]+)`")
 # A goal that a function meets where it returns, with the label of its clause if it has one.
 CLAUSE = re.compile(r"(?:.*-)?returns(?:-(?:.*-)?clause-(\w+))?(?:-.*)?")
-# The name of a clause without a label.
+# The name of a clause without a label, and of all clauses where a function proves them at once.
 UNLABELLED = "its clause"
 SENTINELS = "scripts/sentinels.txt"
 # A sentinel: its crate and name, its function, and the clauses that must refuse it.
