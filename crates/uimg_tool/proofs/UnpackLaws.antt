@@ -2,14 +2,14 @@
 use Rattle.std.proofs.Common.{◌≡◌, ◌⊎◌, inl, inr, ℕ, List, [], ◌∷◌, ◌++◌, Bool, true, false, ◌&&◌, refl, ap, ap₂, sym, subst, ◌∙◌, true≢false, arith}
 use mathlib.Core.List.{append_assoc}
 use Rattle.std.proofs.lemmas.List.Folds.{list_all-append}
-use Rattle.uimg_unpacking.proofs.Placing.{stays_naming}
-use Rattle.uimg_unpacking.specs.Deeds.{Deed, Follows, Opens, Identifies, changes, changes_only}
+use Rattle.uimg_unpacking.proofs.Placing.{no_more, stays_naming}
+use Rattle.uimg_unpacking.specs.Deeds.{Deed, Opens, Identifies, changes, changes_only}
 use Rattle.uimg_unpacking.specs.declared.file_id.FileId.{FileId}
 use Rattle.std.specs.Prelude.{Option, Some}
 use Rattle.std.specs.Borrow.{Bor}
 use Rattle.uimg_base.specs.Named.{FileMap}
 use Rattle.uimg_cli.specs.declared.command_line.unpack.UnpackRequest.{UnpackRequest}
-use Rattle.uimg_unpacking.specs.Places.{ChangesWithin, may_change, stays_within}
+use Rattle.uimg_unpacking.specs.Places.{ChangesWithin, Obeys, Terms, may_change, stays_within, terms_of}
 use Rattle.uimg_base.specs.declared.status.Status.TheVariants.{Done, NotRight}
 use Rattle.uimg_checks.specs.Answers.{answer_status}
 use Rattle.uimg_checks.specs.declared.answer.Answer.{Answer, TheVariants.{Failed, Refused}}
@@ -77,18 +77,18 @@ parts_right asked file is (legacy.Stopped fault) other by keeps told = differs (
 parts_right asked file is (legacy.Troubled trouble) other by keeps told = differs (end_of_parts (legacy.Troubled trouble)) refl told
 
 -- files of the folder hold it
-pub fit_holds : (asked : Unpacking) (file : List ℕ) (is : Bool) (ended : Ended) (old new : List Deed) → is ≡ true → is ≡ is_fit form.Guess file → Fills asked file ended old new → end_of ended ≡ ending.Told Done → HoldsPayloads asked file old new
-fit_holds asked file is fit.Kept old new right by fills told = subst (λ (b : Bool). HoldsIn b asked file old new) (sym right ∙ by) (fills refl)
-fit_holds asked file is fit.Refused old new right by fills told = differs (ending.Told NotRight) refl told
-fit_holds asked file is fit.NoImage old new right by fills told = differs ending.NoImage refl told
-fit_holds asked file is (fit.Stopped fault) old new right by fills told = differs (end_of (fit.Stopped fault)) refl told
-fit_holds asked file is (fit.Troubled trouble) old new right by fills told = differs (end_of (fit.Troubled trouble)) refl told
+pub fit_holds : (asked : Unpacking) (file : List ℕ) (is : Bool) (ended : Ended) (calls : List Deed) → is ≡ true → is ≡ is_fit form.Guess file → Fills asked file ended calls → end_of ended ≡ ending.Told Done → HoldsPayloads asked file calls
+fit_holds asked file is fit.Kept calls right by fills told = subst (λ (b : Bool). HoldsIn b asked file calls) (sym right ∙ by) (fills refl)
+fit_holds asked file is fit.Refused calls right by fills told = differs (ending.Told NotRight) refl told
+fit_holds asked file is fit.NoImage calls right by fills told = differs ending.NoImage refl told
+fit_holds asked file is (fit.Stopped fault) calls right by fills told = differs (end_of (fit.Stopped fault)) refl told
+fit_holds asked file is (fit.Troubled trouble) calls right by fills told = differs (end_of (fit.Troubled trouble)) refl told
 
-pub parts_hold : (asked : Unpacking) (file : List ℕ) (is : Bool) (ended : PartsEnded) (old new : List Deed) → is ≡ false → is ≡ is_fit form.Guess file → FillsKept asked file ended old new → end_of_parts ended ≡ ending.Told Done → HoldsPayloads asked file old new
-parts_hold asked file is legacy.Kept old new other by fills told = subst (λ (b : Bool). HoldsIn b asked file old new) (sym other ∙ by) fills
-parts_hold asked file is legacy.Weak old new other by fills told = differs ending.Weak refl told
-parts_hold asked file is (legacy.Stopped fault) old new other by fills told = differs (end_of_parts (legacy.Stopped fault)) refl told
-parts_hold asked file is (legacy.Troubled trouble) old new other by fills told = differs (end_of_parts (legacy.Troubled trouble)) refl told
+pub parts_hold : (asked : Unpacking) (file : List ℕ) (is : Bool) (ended : PartsEnded) (calls : List Deed) → is ≡ false → is ≡ is_fit form.Guess file → FillsKept asked file ended calls → end_of_parts ended ≡ ending.Told Done → HoldsPayloads asked file calls
+parts_hold asked file is legacy.Kept calls other by fills told = subst (λ (b : Bool). HoldsIn b asked file calls) (sym other ∙ by) fills
+parts_hold asked file is legacy.Weak calls other by fills told = differs ending.Weak refl told
+parts_hold asked file is (legacy.Stopped fault) calls other by fills told = differs (end_of_parts (legacy.Stopped fault)) refl told
+parts_hold asked file is (legacy.Troubled trouble) calls other by fills told = differs (end_of_parts (legacy.Troubled trouble)) refl told
 
 -- an end that is told as an object is none of status 0
 failed : {P : Type 0} (status : ℕ) → (status ≡ 1) ⊎ (status ≡ 3) → status ≡ 0 → P
@@ -113,18 +113,18 @@ object_fails end answer status is (inl three) zero = failed status (inr three) z
 object_fails end answer status is (inr told) zero = failed (answer_status answer) (shown end answer is) (sym told.0 ∙ zero)
 
 -- nothing was asked for
-pub nothing_later : (old new : List Deed) → new ≡ old → Follows old new
-nothing_later old new same = record { later = []; is = same }
+pub nothing_called : (terms : Terms) (old new : List Deed) → new ≡ old → Obeys terms true old new
+nothing_called terms old new same = no_more terms true old new same
 
 -- an image that was opened and looked at before
-pub right_at : (asked : UnpackRequest) (path : Bor (List ℕ)) (image : Option FileId) (file : List ℕ) (old middle new : List Deed) → middle ≡ Identifies path.now image ∷ Opens path.now true ∷ old → Follows middle new
-    → IsRight (unpacking_of asked image path) file → HoldsPayloads (unpacking_of asked image path) file middle new → UnpacksRight asked path file old new
-right_at asked path image file old middle new looked follows right holds =
+pub right_at : (asked : UnpackRequest) (path : Bor (List ℕ)) (image : Option FileId) (file : List ℕ) (old middle new : List Deed) → middle ≡ Identifies path.now image ∷ Opens path.now true ∷ old
+    → Obeys (terms_of (unpacking_of asked image path).folder) true middle new → IsRight (unpacking_of asked image path) file → HoldsPayloads (unpacking_of asked image path) file new → UnpacksRight asked path file old new
+right_at asked path image file old middle new looked obeys right holds =
     record {
       image = image;
-      follows = subst (λ (t : List Deed). Follows t new) looked follows;
+      obeys = subst (λ (t : List Deed). Obeys (terms_of (unpacking_of asked image path).folder) true t new) looked obeys;
       right = right;
-      holds = subst (λ (t : List Deed). HoldsPayloads (unpacking_of asked image path) file t new) looked holds;
+      holds = holds;
     }
 
 -- the same after it was told

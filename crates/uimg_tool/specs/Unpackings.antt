@@ -5,7 +5,7 @@ use Rattle.uimg_base.specs.Named.{FileMap}
 use Rattle.uimg_cli.specs.declared.command_line.unpack.UnpackRequest.{UnpackRequest}
 use Rattle.uimg_engine.specs.Headline.{is_fit}
 use Rattle.uimg_requests.specs.declared.command.Form.TheVariants as form
-use Rattle.uimg_unpacking.specs.{Deeds.{Deed, Follows, Identifies, Opens}, Ends.{asked_name, end_of_file}, Filling.{FillsIf, payloads_of}, PartEnds.KeepsRight, PartFilling.FillsParts}
+use Rattle.uimg_unpacking.specs.{Deeds.{Deed, Identifies, Opens}, Ends.{asked_name, end_of_file}, Filling.{FillsIf, payloads_of}, PartEnds.KeepsRight, PartFilling.FillsParts, Places.{Obeys, terms_of}}
 use Rattle.uimg_unpacking.specs.declared.file_id.FileId.{FileId}
 use Rattle.uimg_unpacking.specs.declared.part_unpacking.PartsEnded.TheVariants as legacy
 use Rattle.uimg_unpacking.specs.declared.unpacking.Ended.TheVariants as fit
@@ -20,13 +20,13 @@ IsRightIn false asked file = KeepsRight asked file legacy.Kept
 abbrev pub IsRight : Unpacking → List ℕ → Type 0
 IsRight asked file = IsRightIn (is_fit form.Guess file) asked file
 
--- By the calls that were made since, files of the folder hold the kept payloads of a FIT image, and those of the names
--- of a legacy image's requested parts hold these.
-abbrev pub HoldsIn : Bool → Unpacking → List ℕ → List Deed → List Deed → Type 0
-HoldsIn true asked file before after = FillsIf asked.folder.path.now (payloads_of asked (asked_name asked.only) file) before after
-HoldsIn false asked file before after = FillsParts asked file before after
+-- By the calls that were made, files of the folder hold the kept payloads of a FIT image, and those of the names of a
+-- legacy image's requested parts hold these.
+abbrev pub HoldsIn : Bool → Unpacking → List ℕ → List Deed → Type 0
+HoldsIn true asked file calls = FillsIf asked.folder.path.now (payloads_of asked (asked_name asked.only) file) calls
+HoldsIn false asked file calls = FillsParts asked file calls
 
-abbrev pub HoldsPayloads : Unpacking → List ℕ → List Deed → List Deed → Type 0
+abbrev pub HoldsPayloads : Unpacking → List ℕ → List Deed → Type 0
 HoldsPayloads asked file = HoldsIn (is_fit form.Guess file) asked file
 
 -- what a request asks of the image at a path, which is this file
@@ -45,13 +45,13 @@ unpacking_of asked image path = record {
   json = if asked.as_json then Some path else None;
 }
 
--- The image at a path was opened, and it was looked for which file it is. Then it was unpacked as
--- requested, all that is asked for is right, and files of the folder hold it.
+-- The image at a path was opened, and it was looked for which file it is. Then files were written as requested, all that
+-- is asked for is right, and files of the folder hold it.
 pub record UnpacksRight (asked : UnpackRequest) (path : Bor (List ℕ)) (file : List ℕ) (before after : List Deed) : Type 0 where
   pub image : Option FileId
-  pub follows : Follows (Identifies path.now image ∷ Opens path.now true ∷ before) after
+  pub obeys : Obeys (terms_of (unpacking_of asked image path).folder) true (Identifies path.now image ∷ Opens path.now true ∷ before) after
   pub right : IsRight (unpacking_of asked image path) file
-  pub holds : HoldsPayloads (unpacking_of asked image path) file (Identifies path.now image ∷ Opens path.now true ∷ before) after
+  pub holds : HoldsPayloads (unpacking_of asked image path) file after
 
 abbrev pub RightAt : FileMap → UnpackRequest → Option (Bor (List ℕ)) → (before after : List Deed) → Type 0
 RightAt files asked None before after = ⊤

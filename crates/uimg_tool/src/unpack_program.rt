@@ -5,7 +5,7 @@ ghost use Rattle.uimg_base.specs.Honest.{IfHonest};
 ghost use Rattle.uimg_tool.specs.{Complaining.ComplainsNot, Complaints.{Complains, Ends}, EndingStatuses.{HasEndingStatus, TellsCommand}, Statuses.{is_of_command, trouble_status}};
 ghost use Rattle.uimg_tool.specs.UnpackComplaints.{ComplainsImage, ComplainsUnpack, EndsAt, EndsOver, told_of_unpacking};
 ghost use Rattle.uimg_tool.specs.Unpackings.{AnswersUnpacking, HoldsPayloads, IsRight, RightAt, unpacking_of};
-ghost use Rattle.uimg_unpacking.specs.{Deeds.{Follows, changes}, Places.ChangesWithin};
+ghost use Rattle.uimg_unpacking.specs.{Deeds.changes, Places.{ChangesWithin, Obeys, terms_of}};
 
 use crate::check_answers::Names;
 use crate::complaints::Complaints;
@@ -149,7 +149,7 @@ fn unpack_at<'a, D: World, W: Write + Drop>(
 }
 
 // The first four bytes decide the image's format.
-#[tactic(auto, using(crate::proofs::UnpackLaws::unchanged, crate::proofs::UnpackLaws::nothing_later))]
+#[tactic(auto, using(crate::proofs::UnpackLaws::unchanged, crate::proofs::UnpackLaws::nothing_called))]
 fn unpack_source<D: World, S: Source, W: Write + Drop>(
     world: &mut D,
     asked: &Unpacking<'_>,
@@ -158,12 +158,12 @@ fn unpack_source<D: World, S: Source, W: Write + Drop>(
 ) -> Ending
     ensures within { ChangesWithin asked.now.folder.path.now true (D.trace world.old)
         (D.trace world.new) }
-    ensures later { Follows (D.trace world.old) (D.trace world.new) }
+    ensures obeys { Obeys (terms_of asked.now.folder) true (D.trace world.old) (D.trace world.new) }
     ensures done { IfHonest S.device source (λ file. result ≡ Ending.Told Status.Done →
         IsRight asked.now file) }
     ensures holds { IfHonest S.device source (λ file. IsTrue D.knows →
         result ≡ Ending.Told Status.Done →
-        HoldsPayloads asked.now file (D.trace world.old) (D.trace world.new)) }
+        HoldsPayloads asked.now file (D.trace world.new)) }
     ensures ended { IfHonest S.device source (λ file. EndsOver asked.now file result) }
 {
     match is_fit(Form::Guess, source) {

@@ -1,5 +1,5 @@
 -- Worked cases of what files hold.
-use Rattle.std.proofs.Common.{◌≡◌, ◌∷◌, [], List, ℕ, codes, true, false, Some, None, refl}
+use Rattle.std.proofs.Common.{◌≡◌, ◌∷◌, [], List, codes, true, Some, None, refl}
 use Rattle.uimg_unpacking.specs.Contents.{held}
 use Rattle.uimg_unpacking.specs.Deeds.{Done, Exists, Failed, Deed, Creates, Closes, Links, Renames, Removes, Overwrites}
 

@@ -1,25 +1,24 @@
 -- What files hold after they got their names.
-use Rattle.std.proofs.Common.{◌≡◌, ℕ, suc, zero, ◌+◌, ◌^◌, ◌<◌, List, [], ◌∷◌, ◌++◌, length, drop, codes, decimal, string_bytes, bytes_eq, slice_get, Bool, true, false, ◌&&◌, ◌||◌, ◌==◌, if◌then◌else◌, not, Option, Some, None, refl, ap, ap₂, sym, subst, ◌∙◌, true≢false, arith, get_or, nat_lt}
+use Rattle.std.proofs.Common.{◌≡◌, ℕ, suc, ◌^◌, ◌<◌, List, [], ◌∷◌, ◌++◌, length, drop, codes, decimal, string_bytes, bytes_eq, Bool, true, false, ◌&&◌, ◌||◌, ◌==◌, if◌then◌else◌, not, Option, Some, None, refl, ap, ap₂, sym, ◌∙◌, true≢false, arith, get_or}
 use Rattle.std.specs.Bool.{⊤}
 use Rattle.std.specs.Cmp.{unsigned_Decides}
 use mathlib.Core.List.{append_assoc}
-use Rattle.std.specs.List.{list_all, list_any}
+use Rattle.std.specs.List.{list_all}
 use Rattle.std.specs.Option.{option_map_or}
 use Rattle.std.proofs.lemmas.Bool.{and_parts, lt-ltb, ltb-true}
 use Rattle.std.proofs.lemmas.Slice.Eq.{bytes_eq-Decides}
 use Rattle.std.proofs.lemmas.Fmt.{decimal_injective}
 use Rattle.uimg_unpacking.specs.Allowing.{Allows, is_the_image, is_looked_at, Refused}
-use Rattle.uimg_unpacking.specs.Contents.{at, held, held_in, is_in, differ, HoldsAs}
+use Rattle.uimg_unpacking.specs.Contents.{at, held, held_in, is_in, differ}
 use Rattle.uimg_unpacking.specs.Deeds.{Answer, Done, Exists, Failed, Deed, Creates, Closes, Links, Renames, Removes, Looks}
 use Rattle.uimg_unpacking.specs.FileNames.{is_file_name}
 use Rattle.uimg_unpacking.specs.Naming.{is_done, GivesName, over, linked, exists, taken, moved, KeepsAs, linked_too, moved_away, NamesOver, nothing_there, not_kept, replaced, Names, no_memory, refused, anew, over_it}
-use Rattle.uimg_unpacking.specs.NamingAll.{NamesIt, NamesFiles}
+use Rattle.uimg_unpacking.specs.NamingAll.{NamesFiles}
 use Rattle.uimg_unpacking.specs.Places.{behind, is_file_of, is_temporary_file, is_inner, past_digits, is_begun_in}
 use Rattle.uimg_unpacking.specs.Staged.{has_paths, are_numbered, names_of, held_new}
 use Rattle.uimg_unpacking.specs.declared.begun.Begun.{Begun}
 use Rattle.uimg_unpacking.specs.declared.file_id.FileId.{FileId}
 use Rattle.uimg_unpacking.specs.declared.folder.Folder.{Folder}
-use Rattle.uimg_unpacking.specs.declared.kind.Kind.{Kind}
 use Rattle.uimg_unpacking.specs.declared.kind.Kind.TheVariants.{Nothing}
 use Rattle.uimg_unpacking.proofs.Placing.{begun_new, begun_old, begun_named, begun_path, begun_whole, own_in}
 

@@ -11,7 +11,7 @@ use Rattle.uimg_fit_checking.specs.declared.unpacking.Unpacked.{Unpacked, TheVar
 use Rattle.uimg_unpacking.specs.Contents.{HoldsAs, Holds}
 use Rattle.uimg_unpacking.specs.Deeds.{Deed}
 use Rattle.uimg_unpacking.specs.Ends.{asked_name, end_of_taken, is_whole, Ends}
-use Rattle.uimg_unpacking.specs.Filling.{kept_bytes, payloads_by, payloads_of, are_kept, FillsFolder, FillsIf, Fills, seen_of, as_take, MayComplete}
+use Rattle.uimg_unpacking.specs.Filling.{kept_bytes, payloads_by, payloads_of, are_kept, FillsIf, Fills, seen_of, as_take, MayComplete}
 use Rattle.uimg_unpacking.specs.Plan.{gives_names}
 use Rattle.uimg_unpacking.specs.Staged.{Completes}
 use Rattle.uimg_unpacking.specs.Troubles.{done_in}
@@ -72,12 +72,8 @@ names_by asked false false false is = or_false asked.keeps_good is
 pub named_at : (asked : Unpacking) (all : Bool) (count : ℕ) → are_kept asked (end_of_taken asked all count) ≡ true → gives_names asked.keeps_good all ≡ true
 named_at asked all count is = names_by asked (count == 0 && is_some asked.only) (count == 0 && is_some asked.need) all is
 
-filled_by : (folder : List ℕ) (contents : List (Option (List ℕ))) (takes : List Take) (calls : List Deed) → map as_take contents ≡ flat_map seen_of takes → HoldsAs folder contents calls → FillsFolder folder (kept_bytes takes) [] calls
-filled_by folder contents takes calls is holds = record {
-  made = calls;
-  is = sym (append-nil calls);
-  holds = subst (λ (cs : List (Option (List ℕ))). HoldsAs folder cs calls) (shown contents takes is) holds;
-}
+filled_by : (folder : List ℕ) (contents : List (Option (List ℕ))) (takes : List Take) (calls : List Deed) → map as_take contents ≡ flat_map seen_of takes → HoldsAs folder contents calls → Holds folder (kept_bytes takes) calls
+filled_by folder contents takes calls is holds = subst (λ (cs : List (Option (List ℕ))). HoldsAs folder cs calls) (shown contents takes is) holds
 
 not_kept : {P : Type 0} (asked : Unpacking) (end other : Ended) → end ≡ other → are_kept asked other ≡ false → are_kept asked end ≡ true → P
 not_kept asked end other is bad good = absurd (true≢false (sym good ∙ ap (are_kept asked) is ∙ bad))
@@ -85,7 +81,7 @@ not_kept asked end other is bad good = absurd (true≢false (sym good ∙ ap (ar
 by_result : (asked : Unpacking) (told : Result UnpackOutcome Fault) (r : Result Unpacked Fault) (count : ℕ) (trouble : Option Trouble) (end : Ended) (old new : Option (List ℕ)) (contents : List (Option (List ℕ))) (takes : List Take) (calls : List Deed)
     → Unpacks seen_of r told [] takes → takes ≡ map as_take contents → Ends asked r count trouble end old new
     → (gives_names asked.keeps_good (is_whole r) ≡ true → trouble ≡ None → HoldsAs asked.folder.path.now contents calls)
-    → are_kept asked end ≡ true → FillsIf asked.folder.path.now (payloads_by told) [] calls
+    → are_kept asked end ≡ true → FillsIf asked.folder.path.now (payloads_by told) calls
 by_result asked told (Ok (Taken all)) count (Some trouble) end old new contents takes calls unpacks are is holds good = not_kept asked end (Troubled trouble) is refl good
 by_result asked (Ok (taken ts)) (Ok (Taken all)) count None end old new contents takes calls unpacks are is holds good =
     filled_by asked.folder.path.now contents ts calls (sym are ∙ unpacks.0) (holds (named_at asked all count (sym (ap (are_kept asked) is) ∙ good)) refl)
@@ -105,25 +101,12 @@ pub fills : (asked : Unpacking) (file : List ℕ) (only : Option (List ℕ)) (r 
     → Some only ≡ asked_name asked.only → before ≡ [] → folder ≡ asked.folder.path.now
     → Unpacks seen_of r (unpack_of asked.need only file) before takes → takes ≡ map as_take contents → Ends asked r count trouble end old new
     → (gives_names asked.keeps_good (is_whole r) ≡ true → trouble ≡ None → HoldsAs folder contents calls)
-    → Fills asked file end [] calls
+    → Fills asked file end calls
 fills asked file only r count trouble end old new folder contents before takes calls named none at unpacks are is holds good =
-    subst (λ (o : Option (Option (List ℕ))). FillsIf asked.folder.path.now (payloads_of asked o file) [] calls) named
+    subst (λ (o : Option (Option (List ℕ))). FillsIf asked.folder.path.now (payloads_of asked o file) calls) named
     (by_result asked (unpack_of asked.need only file) r count trouble end old new contents takes calls
     (subst (λ (b : List Take). Unpacks seen_of r (unpack_of asked.need only file) b takes) none unpacks) are is
     (λ names no. subst (λ (f : List ℕ). HoldsAs f contents calls) at (holds names no)) good)
-
-fills_more : (folder : List ℕ) (payloads : Option (List (List ℕ))) (calls old new : List Deed) → FillsIf folder payloads [] calls → new ≡ calls ++ old → FillsIf folder payloads old new
-fills_more folder None calls old new fills is = tt
-fills_more folder (Some payloads) calls old new fills is = record {
-  made = calls;
-  is = is;
-  holds = subst (λ (t : List Deed). Holds folder payloads t) (sym (fills.is ∙ append-nil fills.made)) fills.holds;
-}
-
--- calls of a part of a world are those of the world since
-pub filled_since : (asked : Unpacking) (file : List ℕ) (end : Ended) (calls old new : List Deed) → Fills asked file end [] calls → new ≡ calls ++ old → Fills asked file end old new
-filled_since asked file end calls old new fills is = λ good.
-    fills_more asked.folder.path.now (payloads_of asked (asked_name asked.only) file) calls old new (fills good) is
 
 -- what was completed is added to what is shown
 map-append : (xs : List (Option (List ℕ))) (x : Option (List ℕ)) → map as_take (xs ++ x ∷ []) ≡ map as_take xs ++ as_take x ∷ []

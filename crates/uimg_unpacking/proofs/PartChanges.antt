@@ -1,8 +1,9 @@
--- What a part of a world was asked for is what the world was asked for since.
+-- What was called is what the rules allow.
 use Rattle.std.proofs.Common.{◌≡◌, ℕ, List, [], ◌∷◌, ◌++◌, Bool, true, ◌&&◌, refl, ap, ap₂, ◌∙◌}
 use Rattle.std.proofs.lemmas.Bool.{and_parts}
-use Rattle.uimg_unpacking.specs.Deeds.{Deed, Follows, changes, Creates, Links, Renames, Removes, MakesFolder, RemovesFolder, RemovesAll, Syncs, Resolves, Looks, Identifies, Opens, Explains, Reads, Finds, Overwrites, LendsReader, LendsShelf, Closes}
-use Rattle.uimg_unpacking.specs.Places.{ChangesWithin, stays_within}
+use Rattle.uimg_unpacking.specs.Deeds.{Deed, changes, Creates, Links, Renames, Removes, MakesFolder, RemovesFolder, RemovesAll, Syncs, Resolves, Looks, Identifies, Opens, Explains, Reads, Finds, Overwrites, LendsReader, LendsShelf, Closes}
+use Rattle.uimg_unpacking.specs.Places.{ChangesWithin, Obeys, Terms, since, stays_within}
+use Rattle.uimg_unpacking.proofs.Placing.{obeys_within}
 
 changes_of : (new old : List Deed) → changes (new ++ old) ≡ changes new ++ changes old
 changes_of [] old = refl
@@ -52,12 +53,9 @@ changes_stay folder n (Overwrites p x ∷ trace) ok = let h = and_parts _ _ ok i
 changes_stay folder n (LendsShelf p ∷ trace) ok = let h = and_parts _ _ ok in both _ _ h.0 (changes_stay folder n trace h.1)
 changes_stay folder n (Closes p s c x ∷ trace) ok = let h = and_parts _ _ ok in both _ _ h.0 (changes_stay folder n trace h.1)
 
-pub within : (folder : List ℕ) (is_naming : Bool) (trace old new : List Deed) → new ≡ trace ++ old → stays_within folder is_naming trace ≡ true → ChangesWithin folder is_naming old new
-within folder is_naming trace old new is ok = record {
-  made = changes trace;
-  is = ap changes is ∙ changes_of trace old;
-  within = changes_stay folder is_naming trace ok;
+pub within : (t : Terms) (is_naming : Bool) (old new : List Deed) → Obeys t is_naming old new → ChangesWithin t.0 is_naming old new
+within t is_naming old new does = record {
+  made = changes (since old new);
+  is = ap changes does.is ∙ changes_of (since old new) old;
+  within = changes_stay t.0 is_naming (since old new) (obeys_within t is_naming (since old new) does.rules);
 }
-
-pub follows : (trace old new : List Deed) → new ≡ trace ++ old → Follows old new
-follows trace old new is = record { later = trace; is = is }

@@ -1,7 +1,6 @@
 -- Worked cases of what the files of parts hold.
-use Rattle.std.proofs.Common.{◌≡◌, ◌+◌, ◌-◌, ◌^◌, ◌<◌, ◌++◌, ◌∷◌, [], List, ℕ, codes, decimal, get_or, inl, inr, false, Some, None, refl, ap, sym, ◌∙◌, arith}
+use Rattle.std.proofs.Common.{◌≡◌, ◌+◌, ◌-◌, ◌^◌, ◌<◌, ◌++◌, ◌∷◌, [], List, ℕ, codes, decimal, get_or, inl, inr, false, Some, refl, ap, sym, ◌∙◌, arith}
 use Rattle.std.proofs.lemmas.Fmt.{decimal_digit, decimal_injective}
-use Rattle.uimg_legacy.specs.Unpacking.{Part}
 use Rattle.uimg_unpacking.specs.Contents.{held_in}
 use Rattle.uimg_unpacking.specs.Deeds.{Done, Failed, Deed, Closes, Links, Removes}
 use Rattle.uimg_unpacking.specs.PartFilling.{image_name, parts_by, parts_in, IsNumberOf}

@@ -22,7 +22,7 @@ use Rattle.uimg_unpacking.specs.Staged.{are_numbered_in, complete, complete_name
 use Rattle.uimg_unpacking.specs.declared.begun.Begun.{Begun}
 use Rattle.uimg_unpacking.specs.declared.folder.Folder.{Folder}
 use Rattle.uimg_unpacking.specs.declared.part_unpacking.PartsEnded.{PartsEnded}
-use Rattle.uimg_unpacking.specs.declared.part_unpacking.PartsEnded.TheVariants.{Kept, Weak, Stopped, Troubled}
+use Rattle.uimg_unpacking.specs.declared.part_unpacking.PartsEnded.TheVariants.{Weak, Troubled}
 use Rattle.uimg_unpacking.specs.declared.trouble.Trouble.{Trouble}
 use Rattle.uimg_unpacking.specs.declared.unpacking.Unpacking.{Unpacking}
 use Rattle.uimg_unpacking.proofs.ContentLaws.{cancel, differs, not_or}
@@ -139,19 +139,17 @@ kept_held true folder calls now parts same = subst (λ (ps : List Part). HoldsPa
 kept_held false folder calls now parts same = tt
 
 -- Parts that were kept fill a folder.
-keeps_fill : (asked : Unpacking) (image : List ℕ) (only : Option ℕ) (kept : List Part) (calls : List Deed) → Requests asked.only only → KeepsParts (unpack_of only image) [] kept → HoldsParts asked.folder.path.now kept calls → FillsParts asked image [] calls
+keeps_fill : (asked : Unpacking) (image : List ℕ) (only : Option ℕ) (kept : List Part) (calls : List Deed) → Requests asked.only only → KeepsParts (unpack_of only image) [] kept → HoldsParts asked.folder.path.now kept calls → FillsParts asked image calls
 keeps_fill asked image only kept calls requests keeps holds = record {
   only = only;
   requested = requests;
   parts = keeps.parts;
   are = keeps.is;
-  made = calls;
-  is = sym (append-nil calls);
   holds = subst (λ (ps : List Part). HoldsParts asked.folder.path.now ps calls) keeps.kept holds;
 }
 
 by_result : (asked : Unpacking) (image : List ℕ) (only : Option ℕ) (r : Result Bool Fault) (trouble : Option Trouble) (kept : List Part) (calls : List Deed) → Requests asked.only only → UnpacksBetween r (unpack_of only image) [] kept → HoldsParts asked.folder.path.now kept calls
-    → FillsKept asked image (end_of_parts r trouble) [] calls
+    → FillsKept asked image (end_of_parts r trouble) calls
 by_result asked image only (Ok true) trouble kept calls requests unpacks holds = keeps_fill asked image only kept calls requests unpacks holds
 by_result asked image only (Ok false) trouble kept calls requests unpacks holds = tt
 by_result asked image only (Err (Legacy fault)) trouble kept calls requests unpacks holds = tt
@@ -164,7 +162,7 @@ pub fills_kept : (asked : Unpacking) (d e : Device) (only : Option ℕ) (r : Res
     → (was_named : Bool) (place : List ℕ) (before : List Deed) (nothing : List (ℕ × ℕ)) (is_named : Bool) (folder : List ℕ) (calls now : List Deed) (parts : List (ℕ × ℕ))
     → SameDevice d e → IsTrue d.honest → end ≡ end_of_parts r trouble → Requests asked.only only → folder ≡ asked.folder.path.now → was_named ≡ false
     → (IsTrue e.honest → UnpacksBetween r (unpack_of only e.bytes) (kept_parts was_named place before nothing) (kept_parts is_named folder calls parts))
-    → parts_in folder now parts ≡ parts_in folder calls parts → FillsKept asked d.bytes end [] now
+    → parts_in folder now parts ≡ parts_in folder calls parts → FillsKept asked d.bytes end now
 fills_kept asked d e only r trouble end was_named place before nothing is_named folder calls now parts same honest is requests at unnamed unpacks cleared =
     let its = kept_parts is_named folder calls parts in
     let its_honest : IsTrue e.honest = subst (λ (b : Bool). IsTrue b) (sym same.honest) honest in
@@ -173,34 +171,19 @@ fills_kept asked d e only r trouble end was_named place before nothing is_named 
     (subst (λ (b : Bool). UnpacksBetween r (unpack_of only e.bytes) (kept_parts b place before nothing) its) unnamed (unpacks its_honest)) in
     let holds : HoldsParts asked.folder.path.now its now =
     subst (λ (f : List ℕ). HoldsParts f its now) at (kept_held is_named folder calls now parts cleared) in
-    subst (λ (x : PartsEnded). FillsKept asked d.bytes x [] now) (sym is) (by_result asked d.bytes only r trouble its now requests told holds)
+    subst (λ (x : PartsEnded). FillsKept asked d.bytes x now) (sym is) (by_result asked d.bytes only r trouble its now requests told holds)
 
 -- where no parts are kept, nothing is claimed
-weak_after : (asked : Unpacking) (image : List ℕ) (checked : Result Bool Fault) (old new : List Deed) → FillsKept asked image (end_after checked Weak) old new
-weak_after asked image (Ok right) old new = tt
-weak_after asked image (Err fault) old new = tt
+weak_after : (asked : Unpacking) (image : List ℕ) (checked : Result Bool Fault) (calls : List Deed) → FillsKept asked image (end_after checked Weak) calls
+weak_after asked image (Ok right) calls = tt
+weak_after asked image (Err fault) calls = tt
 
-pub weak_fills : (asked : Unpacking) (image : List ℕ) (checked : Result Bool Fault) (end : PartsEnded) (old new : List Deed) → end ≡ end_after checked Weak → FillsKept asked image end old new
-weak_fills asked image checked end old new is = subst (λ (e : PartsEnded). FillsKept asked image e old new) (sym is) (weak_after asked image checked old new)
+pub weak_fills : (asked : Unpacking) (image : List ℕ) (checked : Result Bool Fault) (end : PartsEnded) (calls : List Deed) → end ≡ end_after checked Weak → FillsKept asked image end calls
+weak_fills asked image checked end calls is = subst (λ (e : PartsEnded). FillsKept asked image e calls) (sym is) (weak_after asked image checked calls)
 
-troubled_after : (asked : Unpacking) (image : List ℕ) (checked : Result Bool Fault) (trouble : Trouble) (old new : List Deed) → FillsKept asked image (end_after checked (Troubled trouble)) old new
-troubled_after asked image (Ok right) trouble old new = tt
-troubled_after asked image (Err fault) trouble old new = tt
+troubled_after : (asked : Unpacking) (image : List ℕ) (checked : Result Bool Fault) (trouble : Trouble) (calls : List Deed) → FillsKept asked image (end_after checked (Troubled trouble)) calls
+troubled_after asked image (Ok right) trouble calls = tt
+troubled_after asked image (Err fault) trouble calls = tt
 
-pub troubled_fills : (asked : Unpacking) (image : List ℕ) (checked : Result Bool Fault) (trouble : Trouble) (end : PartsEnded) (old new : List Deed) → end ≡ end_after checked (Troubled trouble) → FillsKept asked image end old new
-troubled_fills asked image checked trouble end old new is = subst (λ (e : PartsEnded). FillsKept asked image e old new) (sym is) (troubled_after asked image checked trouble old new)
-
--- calls of a part of a world are those of the world since
-pub filled_since : (asked : Unpacking) (image : List ℕ) (end : PartsEnded) (calls old new : List Deed) → FillsKept asked image end [] calls → new ≡ calls ++ old → FillsKept asked image end old new
-filled_since asked image Kept calls old new fills is = record {
-  only = fills.only;
-  requested = fills.requested;
-  parts = fills.parts;
-  are = fills.are;
-  made = calls;
-  is = is;
-  holds = subst (HoldsParts asked.folder.path.now fills.parts) (sym (fills.is ∙ append-nil fills.made)) fills.holds;
-}
-filled_since asked image Weak calls old new fills is = tt
-filled_since asked image (Stopped fault) calls old new fills is = tt
-filled_since asked image (Troubled trouble) calls old new fills is = tt
+pub troubled_fills : (asked : Unpacking) (image : List ℕ) (checked : Result Bool Fault) (trouble : Trouble) (end : PartsEnded) (calls : List Deed) → end ≡ end_after checked (Troubled trouble) → FillsKept asked image end calls
+troubled_fills asked image checked trouble end calls is = subst (λ (e : PartsEnded). FillsKept asked image e calls) (sym is) (troubled_after asked image checked trouble calls)

@@ -1,5 +1,5 @@
 -- Which paths are those that an unpacking may change.
-use Rattle.std.proofs.Common.{◌≡◌, ℕ, zero, suc, ◌/◌, ◌%◌, ◌<◌, ◌==◌, length, slice_index_or, Bool, true, false, ◌&&◌, ◌||◌, if◌then◌else◌, List, [], ◌∷◌, ◌++◌, Option, Some, None, inl, inr, refl, ap, ap₂, sym, ◌∙◌, arith, rules, codes, decimal, string_bytes}
+use Rattle.std.proofs.Common.{◌≡◌, ℕ, zero, suc, ◌/◌, ◌%◌, ◌<◌, ◌==◌, length, slice_index_or, Bool, true, false, ◌&&◌, ◌||◌, if◌then◌else◌, List, [], ◌∷◌, ◌++◌, Option, Some, None, inl, inr, refl, ap, ap₂, sym, ◌∙◌, arith, rules, codes, decimal, string_bytes, true≢false, not, ◌-◌, take_at, length-append}
 use Rattle.std.specs.Option.{option_to_list}
 use Rattle.std.specs.{Fmt.{digit_glyph, digits, digits_onto}, List.list_all, Option.option_map_or}
 use Rattle.std.proofs.lemmas.Bool.{and_parts, cases_eq}
@@ -12,7 +12,7 @@ use Rattle.uimg_unpacking.specs.Naming.{GivesName, over, linked, exists, taken, 
 use Rattle.uimg_unpacking.specs.Allowing.{Allows, is_the_image, is_looked_at, Refused}
 use Rattle.uimg_unpacking.specs.declared.file_id.FileId.{FileId}
 use Rattle.uimg_unpacking.specs.declared.kind.Kind.{Kind}
-use Rattle.uimg_unpacking.specs.Places.{behind, is_digit, past_digits, is_file_of, is_temporary_folder, is_inner, is_temporary_file, may_change, stays_within, is_begun_in}
+use Rattle.uimg_unpacking.specs.Places.{behind, is_digit, past_digits, is_file_of, is_temporary_folder, is_inner, is_temporary_file, is_kept_file, may_change, stays_within, is_begun_in, Terms, saw_nothing, may_call, obeys, since, Obeys}
 use Rattle.uimg_unpacking.specs.declared.kind.Kind.TheVariants.{Nothing}
 use Rattle.uimg_unpacking.specs.declared.begun.Begun.{Begun}
 
@@ -71,26 +71,45 @@ past_all (d ∷ ds) more h =
     let q = and_parts _ _ h in
     ap (λ (b : Bool). if b then past_digits (ds ++ more) else d ∷ (ds ++ more)) q.0 ∙ past_all ds more q.1
 
-file_by : (o p : Option (List ℕ)) (more : List ℕ) → option_map_or (list_all is_digit) o false ≡ true → ((rest : List ℕ) → o ≡ Some rest → p ≡ Some (rest ++ more)) → is_inner (past_digits more) ≡ true → option_map_or (λ rest. is_inner (past_digits rest)) p false ≡ true
-file_by None p more h k inner = cc
-file_by (Some rest) p more h k inner =
-    ap (λ o. option_map_or (λ rest. is_inner (past_digits rest)) o false) (k rest refl) ∙ ap is_inner (past_all rest more h) ∙ inner
+file_by : (q : List ℕ → Bool) (o p : Option (List ℕ)) (more : List ℕ) → option_map_or (list_all is_digit) o false ≡ true → ((rest : List ℕ) → o ≡ Some rest → p ≡ Some (rest ++ more)) → q (past_digits more) ≡ true → option_map_or (λ rest. q (past_digits rest)) p false ≡ true
+file_by q None p more h k inner = cc
+file_by q (Some rest) p more h k inner =
+    ap (λ o. option_map_or (λ rest. q (past_digits rest)) o false) (k rest refl) ∙ ap q (past_all rest more h) ∙ inner
 
 file_in : (folder made more : List ℕ) → is_temporary_folder folder made ≡ true → is_inner (past_digits more) ≡ true → is_temporary_file folder (made ++ more) ≡ true
 unfolding is_temporary_folder is_temporary_file
 file_in folder made more is inner =
     let text = folder ++ codes "/.uimg-new" in
-    file_by (behind text made) (behind text (made ++ more)) more is (λ rest e. behind-append text made rest more e) inner
+    file_by is_inner (behind text made) (behind text (made ++ more)) more is (λ rest e. behind-append text made rest more e) inner
 
 pub new_in : (folder made : List ℕ) (k : ℕ) → is_temporary_folder folder made ≡ true → is_temporary_file folder (made ++ codes "/new-" ++ decimal k) ≡ true
 new_in folder made k is =
     ap (is_temporary_file folder) (append_assoc made (codes "/new-") (decimal k))
     ∙ file_in folder made (codes "/new-" ++ decimal k) is (ap (λ (b : Bool). b || false) (are_digits k))
 
-pub old_in : (folder made : List ℕ) (k : ℕ) → is_temporary_folder folder made ≡ true → is_temporary_file folder (made ++ codes "/old-" ++ decimal k) ≡ true
+abbrev is_old : List ℕ → Bool
+is_old rest = option_map_or (list_all is_digit) (behind (codes "/old-") rest) false
+
+pub old_in : (folder made : List ℕ) (k : ℕ) → is_temporary_folder folder made ≡ true → is_kept_file folder (made ++ codes "/old-" ++ decimal k) ≡ true
+unfolding is_temporary_folder is_kept_file
 old_in folder made k is =
-    ap (is_temporary_file folder) (append_assoc made (codes "/old-") (decimal k))
-    ∙ file_in folder made (codes "/old-" ++ decimal k) is (are_digits k)
+    let text = folder ++ codes "/.uimg-new" in
+    let more = codes "/old-" ++ decimal k in
+    ap (λ path. option_map_or (λ rest. is_old (past_digits rest)) (behind text path) false) (append_assoc made (codes "/old-") (decimal k))
+    ∙ file_by is_old (behind text made) (behind text (made ++ more)) more is (λ rest e. behind-append text made rest more e) (are_digits k)
+
+-- such a file is a temporary one
+or_more : (a b : Bool) → b ≡ true → (a || b) ≡ true
+or_more true b h = refl
+or_more false b h = h
+
+kept_by : (o : Option (List ℕ)) → option_map_or (λ rest. is_old (past_digits rest)) o false ≡ true → option_map_or (λ rest. is_inner (past_digits rest)) o false ≡ true
+kept_by None is = is
+kept_by (Some rest) is = or_more (option_map_or (list_all is_digit) (behind (codes "/new-") (past_digits rest)) false) (is_old (past_digits rest)) is
+
+pub kept_is : (folder path : List ℕ) → is_kept_file folder path ≡ true → is_temporary_file folder path ≡ true
+unfolding is_kept_file is_temporary_file
+kept_is folder path is = kept_by (behind (folder ++ codes "/.uimg-new") path) is
 
 pub own_in : (folder name : List ℕ) → is_file_name name ≡ true → is_file_of folder (folder ++ codes "/" ++ name) ≡ true
 unfolding is_file_of
@@ -130,9 +149,12 @@ pub begun_new : (folder : List ℕ) (begun : Begun) → is_begun_in folder begun
 unfolding is_begun_in
 begun_new folder begun is = (and_parts _ _ (and_parts _ _ (and_parts _ _ is).0).0).0
 
-pub begun_old : (folder : List ℕ) (begun : Begun) → is_begun_in folder begun ≡ true → is_temporary_file folder (string_bytes begun.old) ≡ true
+pub begun_kept : (folder : List ℕ) (begun : Begun) → is_begun_in folder begun ≡ true → is_kept_file folder (string_bytes begun.old) ≡ true
 unfolding is_begun_in
-begun_old folder begun is = (and_parts _ _ (and_parts _ _ (and_parts _ _ is).0).0).1
+begun_kept folder begun is = (and_parts _ _ (and_parts _ _ (and_parts _ _ is).0).0).1
+
+pub begun_old : (folder : List ℕ) (begun : Begun) → is_begun_in folder begun ≡ true → is_temporary_file folder (string_bytes begun.old) ≡ true
+begun_old folder begun is = kept_is folder (string_bytes begun.old) (begun_kept folder begun is)
 
 pub begun_named : (folder : List ℕ) (begun : Begun) → is_begun_in folder begun ≡ true → is_file_name (string_bytes begun.name) ≡ true
 unfolding is_begun_in
@@ -145,15 +167,10 @@ begun_path folder begun is = (bytes_eq-Decides _ _).0 (and_parts _ _ is).1
 pub begun_whole : (folder : List ℕ) (begun : Begun) → is_begun_in folder begun ≡ true → is_file_of folder (string_bytes begun.whole) ≡ true
 begun_whole folder begun is = ap (is_file_of folder) (begun_path folder begun is) ∙ own_in folder (string_bytes begun.name) (begun_named folder begun is)
 
-pub begun_of : (folder : List ℕ) (begun : Begun) → is_temporary_file folder (string_bytes begun.new) ≡ true → is_temporary_file folder (string_bytes begun.old) ≡ true → is_file_name (string_bytes begun.name) ≡ true → string_bytes begun.whole ≡ folder ++ codes "/" ++ string_bytes begun.name → is_begun_in folder begun ≡ true
+pub begun_of : (folder : List ℕ) (begun : Begun) → is_temporary_file folder (string_bytes begun.new) ≡ true → is_kept_file folder (string_bytes begun.old) ≡ true → is_file_name (string_bytes begun.name) ≡ true → string_bytes begun.whole ≡ folder ++ codes "/" ++ string_bytes begun.name → is_begun_in folder begun ≡ true
 unfolding is_begun_in
 begun_of folder begun a b c d =
     ap₂ (λ (p q : Bool). p && q) (ap₂ (λ (p q : Bool). p && q) (ap₂ (λ (p q : Bool). p && q) a b) c) ((bytes_eq-Decides _ _).1 d)
-
--- a call that changes only what may be changed
-pub one_more : (folder : List ℕ) (is_naming : Bool) (deed : Deed) (before after : List Deed) → after ≡ deed ∷ before → changes_only (may_change folder is_naming) deed ≡ true → stays_within folder is_naming after ≡ stays_within folder is_naming before
-one_more folder is_naming deed before after is ok =
-    ap (stays_within folder is_naming) is ∙ ap (λ (b : Bool). b && stays_within folder is_naming before) ok
 
 both : (a b : Bool) → a ≡ true → b ≡ true → (a && b) ≡ true
 both a b p q = ap₂ (λ (x y : Bool). x && y) p q
@@ -190,6 +207,95 @@ stays_naming folder is_naming (deed ∷ trace) is =
     let h = and_parts _ _ is in
     both _ _ (wider_deed folder is_naming deed h.0) (stays_naming folder is_naming trace h.1)
 
+wider_call : (t : Terms) (is_naming : Bool) (deed : Deed) (before : List Deed) → may_call t is_naming deed before ≡ true → may_call t true deed before ≡ true
+wider_call t n (Closes p s c a) before is = let h = and_parts _ _ is in both _ _ (wider t.0 p n h.0) h.1
+wider_call t n (Renames p q a) before is =
+    let h = and_parts _ _ is in
+    let k = and_parts _ _ h.0 in
+    both _ _ (both _ _ (wider t.0 p n k.0) (wider t.0 q n k.1)) h.1
+wider_call t n (Creates p a) before is = wider_deed t.0 n (Creates p a) is
+wider_call t n (Links p q a) before is = wider_deed t.0 n (Links p q a) is
+wider_call t n (Removes p a) before is = wider_deed t.0 n (Removes p a) is
+wider_call t n (MakesFolder p a) before is = wider_deed t.0 n (MakesFolder p a) is
+wider_call t n (RemovesFolder p a) before is = wider_deed t.0 n (RemovesFolder p a) is
+wider_call t n (RemovesAll p a) before is = wider_deed t.0 n (RemovesAll p a) is
+wider_call t n (Overwrites p a) before is = wider_deed t.0 n (Overwrites p a) is
+wider_call t n (LendsShelf p) before is = wider_deed t.0 n (LendsShelf p) is
+wider_call t n _ before is = refl
+
+wider_obeys : (t : Terms) (is_naming : Bool) (calls : List Deed) → obeys t is_naming calls ≡ true → obeys t true calls ≡ true
+wider_obeys t n [] is = refl
+wider_obeys t n (deed ∷ before) is =
+    let h = and_parts _ _ is in
+    both _ _ (wider_call t n deed before h.0) (wider_obeys t n before h.1)
+
+pub obeys_naming : (t : Terms) (is_naming : Bool) (old new : List Deed) → Obeys t is_naming old new → Obeys t true old new
+obeys_naming t n old new does = record { is = does.is; rules = wider_obeys t n (since old new) does.rules }
+
+-- calls that are made change only what may be changed
+within_call : (t : Terms) (is_naming : Bool) (deed : Deed) (before : List Deed) → may_call t is_naming deed before ≡ true → changes_only (may_change t.0 is_naming) deed ≡ true
+within_call t n (Closes p s c a) before is = (and_parts _ _ is).0
+within_call t n (Renames p q a) before is = (and_parts _ _ is).0
+within_call t n _ before is = is
+
+pub obeys_within : (t : Terms) (is_naming : Bool) (calls : List Deed) → obeys t is_naming calls ≡ true → stays_within t.0 is_naming calls ≡ true
+obeys_within t n [] is = refl
+obeys_within t n (deed ∷ before) is =
+    let h = and_parts _ _ is in
+    both _ _ (within_call t n deed before h.0) (obeys_within t n before h.1)
+
+-- what was called since
+since_made : (made old new : List Deed) → new ≡ made ++ old → since old new ≡ made
+since_made made old new is =
+    let n : length (made ++ old) - length old ≡ length made = omega (arith, length-append made old) in
+    ap (since old) is ∙ take_at made old (length (made ++ old) - length old) (sym n)
+
+pub obeys_by : (t : Terms) (is_naming : Bool) (made old new : List Deed) → new ≡ made ++ old → obeys t is_naming made ≡ true → Obeys t is_naming old new
+obeys_by t n made old new is ok =
+    let e = since_made made old new is in
+    record { is = is ∙ ap (λ (m : List Deed). m ++ old) (sym e); rules = ap (obeys t n) e ∙ ok }
+
+pub one_more : (t : Terms) (is_naming : Bool) (deed : Deed) (before after : List Deed) → after ≡ deed ∷ before → may_call t is_naming deed [] ≡ true → Obeys t is_naming before after
+one_more t n deed before after is ok = obeys_by t n (deed ∷ []) before after is (both _ _ ok refl)
+
+pub no_more : (t : Terms) (is_naming : Bool) (before after : List Deed) → after ≡ before → Obeys t is_naming before after
+no_more t n before after is = obeys_by t n [] before after is refl
+
+-- a call that is made after some is made after more of them
+or_later : (a b c : Bool) → (b ≡ true → c ≡ true) → (a || b) ≡ true → (a || c) ≡ true
+or_later true b c h is = refl
+or_later false b c h is = h is
+
+saw_more : (path : List ℕ) (before more : List Deed) → saw_nothing path before ≡ true → saw_nothing path (before ++ more) ≡ true
+saw_more path [] more is = absurd (true≢false (sym is))
+saw_more path (last ∷ before) more is = is
+
+call_after : (t : Terms) (is_naming : Bool) (deed : Deed) (before more : List Deed) → may_call t is_naming deed before ≡ true → may_call t is_naming deed (before ++ more) ≡ true
+call_after t n (Renames p q a) before more is =
+    let h = and_parts _ _ is in
+    both _ _ h.0 (or_later (t.1 || is_kept_file t.0 p) (saw_nothing q before) (saw_nothing q (before ++ more)) (saw_more q before more) h.1)
+call_after t n (Closes p s c a) before more is = is
+call_after t n _ before more is = is
+
+obeys-append : (t : Terms) (is_naming : Bool) (made more : List Deed) → obeys t is_naming made ≡ true → obeys t is_naming more ≡ true → obeys t is_naming (made ++ more) ≡ true
+obeys-append t n [] more is also = also
+obeys-append t n (deed ∷ made) more is also =
+    let h = and_parts _ _ is in
+    both _ _ (call_after t n deed made more h.0) (obeys-append t n made more h.1 also)
+
+infixl 5 ◌◁◌
+-- some calls after others
+pub ◌◁◌ : {t : Terms} {is_naming : Bool} {a b c : List Deed} → Obeys t is_naming b c → Obeys t is_naming a b → Obeys t is_naming a c
+◌◁◌ {t = t} {is_naming = n} {a = a} {b = b} {c = c} late early =
+    obeys_by t n (since b c ++ since a b) a c
+    (late.is ∙ ap (λ (l : List Deed). since b c ++ l) early.is ∙ sym (append_assoc (since b c) (since a b) a))
+    (obeys-append t n (since b c) (since a b) late.rules early.rules)
+
+-- what is called while files get their names
+pub naming_more : (t : Terms) (is_naming : Bool) (a b c : List Deed) → is_naming ≡ true → Obeys t true b c → Obeys t is_naming a b → Obeys t is_naming a c
+naming_more t true a b c is late early = late ◁ early
+naming_more t false a b c is late early = absurd (true≢false (sym is))
+
 -- each of some files
 pub each_of : {X : Type 0} (p : X → Bool) (xs : List X) (i : ℕ) (d : X) → list_all p xs ≡ true → i < length xs → p (slice_index_or xs i d) ≡ true
 each_of p xs i d all inside = by_cases (p (slice_index_or xs i d)) (λ bad. list_all_at p xs i d inside bad) all
@@ -202,97 +308,106 @@ pub one_file_more : {X : Type 0} (p : X → Bool) (xs : List X) (x : X) → list
 one_file_more p xs x all is = list_all-append p xs (x ∷ []) ∙ both _ _ all (both _ _ is refl)
 
 -- how a name is given and taken back
-pub gives_within : (folder new whole : List ℕ) (replaces : Bool) (answer : Answer) (before after : List Deed) → GivesName new whole replaces answer before after → is_temporary_file folder new ≡ true → is_file_of folder whole ≡ true → stays_within folder true after ≡ stays_within folder true before
-gives_within f new whole r a before after (over e is) p q =
-    one_more f true (Renames new whole a) before after is (both _ _ (file_changes f new true p) (own_changes f whole q))
-gives_within f new whole r a before after (linked x e g is) p q =
-    one_more f true (Removes new x) (Links new whole Done ∷ before) after is (file_changes f new true p)
-    ∙ one_more f true (Links new whole Done) before (Links new whole Done ∷ before) refl (both _ _ (file_changes f new true p) (own_changes f whole q))
-gives_within f new whole r a before after (exists e g is) p q =
-    one_more f true (Links new whole Exists) before after is (both _ _ (file_changes f new true p) (own_changes f whole q))
-gives_within f new whole r a before after (taken kind e g h is) p q =
-    one_more f true (Looks whole kind) (Links new whole Failed ∷ before) after is refl
-    ∙ one_more f true (Links new whole Failed) before (Links new whole Failed ∷ before) refl (both _ _ (file_changes f new true p) (own_changes f whole q))
-gives_within f new whole r a before after (moved e is) p q =
-    let ok : changes_only (may_change f true) (Links new whole Failed) ≡ true = both _ _ (file_changes f new true p) (own_changes f whole q) in
-    one_more f true (Renames new whole a) (Looks whole Nothing ∷ Links new whole Failed ∷ before) after is ok
-    ∙ one_more f true (Looks whole Nothing) (Links new whole Failed ∷ before) (Looks whole Nothing ∷ Links new whole Failed ∷ before) refl refl
-    ∙ one_more f true (Links new whole Failed) before (Links new whole Failed ∷ before) refl ok
+linked_in : (t : Terms) (from to : List ℕ) (answer : Answer) → may_change t.0 true from ≡ true → may_change t.0 true to ≡ true → may_call t true (Links from to answer) [] ≡ true
+linked_in t from to a p q = both _ _ p q
 
-pub keeps_within : (folder whole old : List ℕ) (answer : Answer) (before after : List Deed) → KeepsAs whole old answer before after → is_file_of folder whole ≡ true → is_temporary_file folder old ≡ true → stays_within folder true after ≡ stays_within folder true before
-keeps_within f whole old a before after (linked_too e is) p q =
-    one_more f true (Links whole old Done) before after is (both _ _ (own_changes f whole p) (file_changes f old true q))
-keeps_within f whole old a before after (moved_away r e is) p q =
-    one_more f true (Renames whole old a) (Links whole old r ∷ before) after is (both _ _ (own_changes f whole p) (file_changes f old true q))
-    ∙ one_more f true (Links whole old r) before (Links whole old r ∷ before) refl (both _ _ (own_changes f whole p) (file_changes f old true q))
+renamed_in : (t : Terms) (from to : List ℕ) (answer : Answer) (before : List Deed) → may_change t.0 true from ≡ true → may_change t.0 true to ≡ true → (t.1 || is_kept_file t.0 from || saw_nothing to before) ≡ true → may_call t true (Renames from to answer) before ≡ true
+renamed_in t from to a before p q ok = both _ _ (both _ _ p q) ok
 
-pub puts_within : (folder whole old : List ℕ) (has_name is_back : Bool) (before after : List Deed) → PutsBack whole old has_name is_back before after → is_file_of folder whole ≡ true → is_temporary_file folder old ≡ true → stays_within folder true after ≡ stays_within folder true before
-puts_within f whole old h b before after (unnamed e g is) p q = one_more f true (Looks old Nothing) before after is refl
-puts_within f whole old h b before after (removed a e g is) p q =
-    one_more f true (Removes whole a) (Looks old Nothing ∷ before) after is (own_changes f whole p)
-    ∙ one_more f true (Looks old Nothing) before (Looks old Nothing ∷ before) refl refl
-puts_within f whole old h b before after (lost k a e g i is) p q =
-    one_more f true (Renames old whole a) (Looks old k ∷ before) after is (both _ _ (file_changes f old true q) (own_changes f whole p))
-    ∙ one_more f true (Looks old k) before (Looks old k ∷ before) refl refl
-puts_within f whole old h b before after (put k a e g is) p q =
-    one_more f true (Removes old a) (Renames old whole Done ∷ Looks old k ∷ before) after is (file_changes f old true q)
-    ∙ one_more f true (Renames old whole Done) (Looks old k ∷ before) (Renames old whole Done ∷ Looks old k ∷ before) refl (both _ _ (file_changes f old true q) (own_changes f whole p))
-    ∙ one_more f true (Looks old k) before (Looks old k ∷ before) refl refl
+by_force : (t : Terms) (from to : List ℕ) (before : List Deed) → t.1 ≡ true → (t.1 || is_kept_file t.0 from || saw_nothing to before) ≡ true
+by_force t from to before is = or_left _ _ (or_left _ _ is)
+
+pub gives_within : (t : Terms) (new whole : List ℕ) (replaces : Bool) (answer : Answer) (before after : List Deed) → GivesName new whole replaces answer before after → is_temporary_file t.0 new ≡ true → is_file_of t.0 whole ≡ true → (replaces ≡ true → t.1 ≡ true) → Obeys t true before after
+gives_within t new whole r a before after (over e is) p q f =
+    one_more t true (Renames new whole a) before after is (renamed_in t new whole a [] (file_changes t.0 new true p) (own_changes t.0 whole q) (by_force t new whole [] (f e)))
+gives_within t new whole r a before after (linked x e g is) p q f =
+    obeys_by t true (Removes new x ∷ Links new whole Done ∷ []) before after is
+    (both _ _ (file_changes t.0 new true p) (both _ _ (linked_in t new whole Done (file_changes t.0 new true p) (own_changes t.0 whole q)) refl))
+gives_within t new whole r a before after (exists e g is) p q f =
+    one_more t true (Links new whole Exists) before after is (linked_in t new whole Exists (file_changes t.0 new true p) (own_changes t.0 whole q))
+gives_within t new whole r a before after (taken kind e g h is) p q f =
+    obeys_by t true (Looks whole kind ∷ Links new whole Failed ∷ []) before after is
+    (both _ _ refl (both _ _ (linked_in t new whole Failed (file_changes t.0 new true p) (own_changes t.0 whole q)) refl))
+gives_within t new whole r a before after (moved e is) p q f =
+    let seen : List Deed = Looks whole Nothing ∷ Links new whole Failed ∷ [] in
+    obeys_by t true (Renames new whole a ∷ seen) before after is
+    (both _ _ (renamed_in t new whole a seen (file_changes t.0 new true p) (own_changes t.0 whole q) (or_right _ _ ((bytes_eq-Decides whole whole).1 refl)))
+    (both _ _ refl (both _ _ (linked_in t new whole Failed (file_changes t.0 new true p) (own_changes t.0 whole q)) refl)))
+
+pub keeps_within : (t : Terms) (whole old : List ℕ) (answer : Answer) (before after : List Deed) → KeepsAs whole old answer before after → t.1 ≡ true → is_file_of t.0 whole ≡ true → is_temporary_file t.0 old ≡ true → Obeys t true before after
+keeps_within t whole old a before after (linked_too e is) f p q =
+    one_more t true (Links whole old Done) before after is (linked_in t whole old Done (own_changes t.0 whole p) (file_changes t.0 old true q))
+keeps_within t whole old a before after (moved_away r e is) f p q =
+    obeys_by t true (Renames whole old a ∷ Links whole old r ∷ []) before after is
+    (both _ _ (renamed_in t whole old a (Links whole old r ∷ []) (own_changes t.0 whole p) (file_changes t.0 old true q) (by_force t whole old (Links whole old r ∷ []) f))
+    (both _ _ (linked_in t whole old r (own_changes t.0 whole p) (file_changes t.0 old true q)) refl))
+
+put_in : (t : Terms) (old whole : List ℕ) (answer : Answer) (before : List Deed) → is_file_of t.0 whole ≡ true → is_kept_file t.0 old ≡ true → may_call t true (Renames old whole answer) before ≡ true
+put_in t old whole a before p q = renamed_in t old whole a before (file_changes t.0 old true (kept_is t.0 old q)) (own_changes t.0 whole p) (or_left _ _ (or_right t.1 _ q))
+
+pub puts_within : (t : Terms) (whole old : List ℕ) (has_name is_back : Bool) (before after : List Deed) → PutsBack whole old has_name is_back before after → is_file_of t.0 whole ≡ true → is_kept_file t.0 old ≡ true → Obeys t true before after
+puts_within t whole old h b before after (unnamed e g is) p q = one_more t true (Looks old Nothing) before after is refl
+puts_within t whole old h b before after (removed a e g is) p q =
+    obeys_by t true (Removes whole a ∷ Looks old Nothing ∷ []) before after is (both _ _ (own_changes t.0 whole p) refl)
+puts_within t whole old h b before after (lost k a e g i is) p q =
+    obeys_by t true (Renames old whole a ∷ Looks old k ∷ []) before after is (both _ _ (put_in t old whole a (Looks old k ∷ []) p q) refl)
+puts_within t whole old h b before after (put k a e g is) p q =
+    obeys_by t true (Removes old a ∷ Renames old whole Done ∷ Looks old k ∷ []) before after is
+    (both _ _ (file_changes t.0 old true (kept_is t.0 old q)) (both _ _ (put_in t old whole Done (Looks old k ∷ []) p q) refl))
 
 -- a temporary folder is made
-pub made_within : (folder path : List ℕ) (n : ℕ) (answer : Answer) (before after : List Deed) → path ≡ folder ++ codes "/.uimg-new" ++ decimal n → after ≡ MakesFolder path answer ∷ before → (is_naming : Bool) → stays_within folder is_naming after ≡ stays_within folder is_naming before
-made_within folder path n answer before after text is is_naming =
-    one_more folder is_naming (MakesFolder path answer) before after is (folder_changes folder path is_naming (ap (is_temporary_folder folder) text ∙ made_in folder n))
+pub made_within : (t : Terms) (path : List ℕ) (n : ℕ) (answer : Answer) (before after : List Deed) → path ≡ t.0 ++ codes "/.uimg-new" ++ decimal n → after ≡ MakesFolder path answer ∷ before → (is_naming : Bool) → Obeys t is_naming before after
+made_within t path n answer before after text is is_naming =
+    one_more t is_naming (MakesFolder path answer) before after is (folder_changes t.0 path is_naming (ap (is_temporary_folder t.0) text ∙ made_in t.0 n))
 
 -- a file in it is created or removed
-pub created_within : (folder : List ℕ) (is_naming : Bool) (path : List ℕ) (answer : Answer) (before after : List Deed) → is_temporary_file folder path ≡ true → after ≡ Creates path answer ∷ before → stays_within folder is_naming after ≡ stays_within folder is_naming before
-created_within folder is_naming path answer before after ok is = one_more folder is_naming (Creates path answer) before after is (file_changes folder path is_naming ok)
+pub created_within : (t : Terms) (is_naming : Bool) (path : List ℕ) (answer : Answer) (before after : List Deed) → is_temporary_file t.0 path ≡ true → after ≡ Creates path answer ∷ before → Obeys t is_naming before after
+created_within t is_naming path answer before after ok is = one_more t is_naming (Creates path answer) before after is (file_changes t.0 path is_naming ok)
 
-pub removed_within : (folder : List ℕ) (is_naming : Bool) (path : List ℕ) (answer : Answer) (before after : List Deed) → is_temporary_file folder path ≡ true → after ≡ Removes path answer ∷ before → stays_within folder is_naming after ≡ stays_within folder is_naming before
-removed_within folder is_naming path answer before after ok is = one_more folder is_naming (Removes path answer) before after is (file_changes folder path is_naming ok)
+pub removed_within : (t : Terms) (is_naming : Bool) (path : List ℕ) (answer : Answer) (before after : List Deed) → is_temporary_file t.0 path ≡ true → after ≡ Removes path answer ∷ before → Obeys t is_naming before after
+removed_within t is_naming path answer before after ok is = one_more t is_naming (Removes path answer) before after is (file_changes t.0 path is_naming ok)
 
 pub begun_paths : (folder made : List ℕ) (k : ℕ) (begun : Begun) → is_temporary_folder folder made ≡ true → is_file_name (string_bytes begun.name) ≡ true → string_bytes begun.new ≡ made ++ codes "/new-" ++ decimal k → string_bytes begun.old ≡ made ++ codes "/old-" ++ decimal k → string_bytes begun.whole ≡ folder ++ codes "/" ++ string_bytes begun.name → is_begun_in folder begun ≡ true
 begun_paths folder made k begun is named new old whole =
     begun_of folder begun
     (ap (is_temporary_file folder) new ∙ new_in folder made k is)
-    (ap (is_temporary_file folder) old ∙ old_in folder made k is)
+    (ap (is_kept_file folder) old ∙ old_in folder made k is)
     named whole
 
-pub allows_within : (folder : List ℕ) (is_naming : Bool) (image : Option FileId) (is_forced : Bool) (path : List ℕ) (why : Option Refused) (before after : List Deed) → Allows image is_forced path why before after → stays_within folder is_naming after ≡ stays_within folder is_naming before
-allows_within f n image forced path why before after (is_the_image found e g is) = one_more f n (Identifies path found) before after is refl
-allows_within f n image forced path why before after (is_looked_at found kind e g is) =
-    one_more f n (Looks path kind) (Identifies path found ∷ before) after is refl
-    ∙ one_more f n (Identifies path found) before (Identifies path found ∷ before) refl refl
+pub allows_within : (t : Terms) (is_naming : Bool) (image : Option FileId) (is_forced : Bool) (path : List ℕ) (why : Option Refused) (before after : List Deed) → Allows image is_forced path why before after → Obeys t is_naming before after
+allows_within t n image forced path why before after (is_the_image found e g is) = one_more t n (Identifies path found) before after is refl
+allows_within t n image forced path why before after (is_looked_at found kind e g is) =
+    obeys_by t n (Looks path kind ∷ Identifies path found ∷ []) before after is refl
 
-looked : (f path : List ℕ) (kind : Kind) (before : List Deed) → stays_within f true (Looks path kind ∷ before) ≡ stays_within f true before
-looked f path kind before = one_more f true (Looks path kind) before (Looks path kind ∷ before) refl refl
+looked : (t : Terms) (path : List ℕ) (kind : Kind) (before : List Deed) → Obeys t true before (Looks path kind ∷ before)
+looked t path kind before = one_more t true (Looks path kind) before (Looks path kind ∷ before) refl refl
 
-over_within : (folder new old whole : List ℕ) (answer : Answer) (before after : List Deed) → NamesOver new old whole answer before after → is_temporary_file folder new ≡ true → is_temporary_file folder old ≡ true → is_file_of folder whole ≡ true → stays_within folder true after ≡ stays_within folder true before
-over_within f new old whole a before after (nothing_there kind e gives) p o q =
-    gives_within f new whole false a (Looks whole kind ∷ before) after gives p q ∙ looked f whole kind before
-over_within f new old whole a before after (not_kept kind e g keeps) p o q =
-    keeps_within f whole old a (Looks whole kind ∷ before) after keeps q o ∙ looked f whole kind before
-over_within f new old whole a before after (replaced kind kept e keeps gives) p o q =
-    gives_within f new whole true a kept after gives p q
-    ∙ keeps_within f whole old Done (Looks whole kind ∷ before) kept keeps q o
-    ∙ looked f whole kind before
+over_within : (t : Terms) (new old whole : List ℕ) (answer : Answer) (before after : List Deed) → NamesOver new old whole answer before after → t.1 ≡ true → is_temporary_file t.0 new ≡ true → is_temporary_file t.0 old ≡ true → is_file_of t.0 whole ≡ true → Obeys t true before after
+over_within t new old whole a before after (nothing_there kind e gives) f p o q =
+    gives_within t new whole false a (Looks whole kind ∷ before) after gives p q (λ is. f) ◁ looked t whole kind before
+over_within t new old whole a before after (not_kept kind e g keeps) f p o q =
+    keeps_within t whole old a (Looks whole kind ∷ before) after keeps f q o ◁ looked t whole kind before
+over_within t new old whole a before after (replaced kind kept e keeps gives) f p o q =
+    gives_within t new whole true a kept after gives p q (λ is. f)
+    ◁ keeps_within t whole old Done (Looks whole kind ∷ before) kept keeps f q o
+    ◁ looked t whole kind before
 
-pub names_within : (folder : List ℕ) (image : Option FileId) (is_forced : Bool) (begun : Begun) (is_named : Bool) (before after : List Deed) → Names image is_forced (string_bytes begun.new) (string_bytes begun.old) (string_bytes begun.whole) is_named before after → is_begun_in folder begun ≡ true → stays_within folder true after ≡ stays_within folder true before
-names_within f image forced b named before after (no_memory e is) ok = ap (stays_within f true) is
-names_within f image forced b named before after (refused why e allows) ok = allows_within f true image forced (string_bytes b.whole) why before after allows
-names_within f image forced b named before after (anew a seen e g allows gives) ok =
-    gives_within f (string_bytes b.new) (string_bytes b.whole) false a seen after gives (begun_new f b ok) (begun_whole f b ok)
-    ∙ allows_within f true image forced (string_bytes b.whole) None before seen allows
-names_within f image forced b named before after (over_it a seen e g allows names) ok =
-    over_within f (string_bytes b.new) (string_bytes b.old) (string_bytes b.whole) a seen after names (begun_new f b ok) (begun_old f b ok) (begun_whole f b ok)
-    ∙ allows_within f true image forced (string_bytes b.whole) None before seen allows
+pub names_within : (t : Terms) (image : Option FileId) (begun : Begun) (is_named : Bool) (before after : List Deed) → Names image t.1 (string_bytes begun.new) (string_bytes begun.old) (string_bytes begun.whole) is_named before after → is_begun_in t.0 begun ≡ true → Obeys t true before after
+names_within t image b named before after (no_memory e is) ok = no_more t true before after is
+names_within t image b named before after (refused why e allows) ok = allows_within t true image t.1 (string_bytes b.whole) why before after allows
+names_within t image b named before after (anew a seen e g allows gives) ok =
+    gives_within t (string_bytes b.new) (string_bytes b.whole) false a seen after gives (begun_new t.0 b ok) (begun_whole t.0 b ok) (λ is. absurd (true≢false (sym is)))
+    ◁ allows_within t true image t.1 (string_bytes b.whole) None before seen allows
+names_within t image b named before after (over_it a seen e g allows names) ok =
+    over_within t (string_bytes b.new) (string_bytes b.old) (string_bytes b.whole) a seen after names e (begun_new t.0 b ok) (begun_old t.0 b ok) (begun_whole t.0 b ok)
+    ◁ allows_within t true image t.1 (string_bytes b.whole) None before seen allows
 
-pub old_within : (folder : List ℕ) (is_forced : Bool) (begun : Begun) (before after : List Deed) → RemovesOld is_forced (string_bytes begun.whole) before after → is_begun_in folder begun ≡ true → stays_within folder true after ≡ stays_within folder true before
-old_within f forced b before after (not_forced e is) ok = ap (stays_within f true) is
-old_within f forced b before after (nothing_old kind e g is) ok = one_more f true (Looks (string_bytes b.whole) kind) before after is refl
-old_within f forced b before after (removed_old kind a e g is) ok =
-    one_more f true (Removes (string_bytes b.whole) a) (Looks (string_bytes b.whole) kind ∷ before) after is (own_changes f (string_bytes b.whole) (begun_whole f b ok))
-    ∙ looked f (string_bytes b.whole) kind before
+pub old_within : (t : Terms) (is_forced : Bool) (begun : Begun) (before after : List Deed) → RemovesOld is_forced (string_bytes begun.whole) before after → is_begun_in t.0 begun ≡ true → Obeys t true before after
+old_within t forced b before after (not_forced e is) ok = no_more t true before after is
+old_within t forced b before after (nothing_old kind e g is) ok = one_more t true (Looks (string_bytes b.whole) kind) before after is refl
+old_within t forced b before after (removed_old kind a e g is) ok =
+    obeys_by t true (Removes (string_bytes b.whole) a ∷ Looks (string_bytes b.whole) kind ∷ []) before after is
+    (both _ _ (own_changes t.0 (string_bytes b.whole) (begun_whole t.0 b ok)) refl)
 
 -- the files without the last, and the last
 pub without_last : {X : Type 0} (p : X → Bool) (xs ys : List X) (last : Option X) → xs ≡ ys ++ option_to_list last → list_all p xs ≡ true → list_all p ys ≡ true
@@ -308,9 +423,13 @@ pushed p xs ys x true e all is = ap (list_all p) e ∙ one_file_more p xs x all 
 pushed p xs ys x false e all is = ap (list_all p) e ∙ all
 
 -- a file is closed
-pub closed_within : (folder : List ℕ) (is_naming is_synced : Bool) (path : List ℕ) (contents : Option (List ℕ)) (answer : Answer) (before after : List Deed) → is_temporary_file folder path ≡ true → after ≡ Closes path is_synced contents answer ∷ before → stays_within folder is_naming after ≡ stays_within folder is_naming before
-closed_within folder is_naming is_synced path contents answer before after ok is = one_more folder is_naming (Closes path is_synced contents answer) before after is (file_changes folder path is_naming ok)
+synced_as : (is_synced : Bool) → (if is_synced then is_synced else not is_synced) ≡ true
+synced_as true = refl
+synced_as false = refl
+
+pub closed_within : (t : Terms) (is_naming : Bool) (path : List ℕ) (contents : Option (List ℕ)) (answer : Answer) (before after : List Deed) → is_temporary_file t.0 path ≡ true → after ≡ Closes path t.2 contents answer ∷ before → Obeys t is_naming before after
+closed_within t is_naming path contents answer before after ok is = one_more t is_naming (Closes path t.2 contents answer) before after is (both _ _ (file_changes t.0 path is_naming ok) (synced_as t.2))
 
 -- a temporary folder is removed
-pub unmade_within : (folder : List ℕ) (is_naming : Bool) (path : List ℕ) (answer : Answer) (before after : List Deed) → is_temporary_folder folder path ≡ true → after ≡ RemovesFolder path answer ∷ before → stays_within folder is_naming after ≡ stays_within folder is_naming before
-unmade_within folder is_naming path answer before after ok is = one_more folder is_naming (RemovesFolder path answer) before after is (folder_changes folder path is_naming ok)
+pub unmade_within : (t : Terms) (is_naming : Bool) (path : List ℕ) (answer : Answer) (before after : List Deed) → is_temporary_folder t.0 path ≡ true → after ≡ RemovesFolder path answer ∷ before → Obeys t is_naming before after
+unmade_within t is_naming path answer before after ok is = one_more t is_naming (RemovesFolder path answer) before after is (folder_changes t.0 path is_naming ok)

@@ -1,5 +1,5 @@
 -- What was requested of a world of files, and what it answered.
-use Rattle.std.specs.Prelude.{◌≡◌, ℕ, List, [], ◌∷◌, ◌++◌, ◌==◌, if◌then◌else◌, slice_index, Option, Some, None, Result, Ok, Err, Bool, true, ◌&&◌, IsTrue}
+use Rattle.std.specs.Prelude.{◌≡◌, ℕ, List, [], ◌∷◌, ◌==◌, if◌then◌else◌, slice_index, Option, Some, None, Result, Ok, Err, Bool, true, ◌&&◌, IsTrue}
 use Rattle.std.specs.Fs.{IsDir, IsSymlink, file_type}
 use Rattle.std.specs.declared.fs.attrs.Metadata.{Metadata}
 use Rattle.std.specs.declared.io.Error.{Error}
@@ -143,8 +143,3 @@ pub record ClosesFile (is_known : Bool) (path : List ℕ) (is_synced : Bool) (he
   pub contents : Option (List ℕ)
   pub is : new ≡ Closes path is_synced contents answer ∷ old
   pub known : IsTrue is_known → contents ≡ held
-
--- these calls, and then others
-pub record Follows (old new : List Deed) : Type 0 where
-  pub later : List Deed
-  pub is : new ≡ later ++ old

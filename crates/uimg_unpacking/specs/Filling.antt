@@ -1,5 +1,5 @@
 -- What the files hold that a FIT image was unpacked to.
-use Rattle.std.specs.Prelude.{◌≡◌, ◌⊎◌, ⊤, ℕ, List, [], ◌∷◌, ◌++◌, map, Bool, true, false, Option, Some, None, Result, Ok, Err}
+use Rattle.std.specs.Prelude.{◌≡◌, ◌⊎◌, ⊤, ℕ, List, [], ◌∷◌, ◌++◌, Bool, true, false, Option, Some, None, Result, Ok, Err}
 use Rattle.uimg_fit_base.specs.declared.fault.Fault.{Fault}
 use Rattle.uimg_fit_checking.specs.Unpacking.{Take, kept, refused, UnpackOutcome, taken, overlaps, unpack_of}
 use Rattle.uimg_unpacking.specs.Contents.{Holds}
@@ -33,20 +33,15 @@ are_kept asked NoImage = false
 are_kept asked (Stopped fault) = false
 are_kept asked (Troubled trouble) = false
 
--- By the calls that were made since, files of the folder have different names and hold these payloads.
-pub record FillsFolder (folder : List ℕ) (payloads : List (List ℕ)) (old new : List Deed) : Type 0 where
-  pub made : List Deed
-  pub is : new ≡ made ++ old
-  pub holds : Holds folder payloads made
-
-abbrev pub FillsIf : List ℕ → Option (List (List ℕ)) → List Deed → List Deed → Type 0
-FillsIf folder None old new = ⊤
-FillsIf folder (Some payloads) old new = FillsFolder folder payloads old new
+-- By the calls that were made, files of the folder have different names and hold these payloads.
+abbrev pub FillsIf : List ℕ → Option (List (List ℕ)) → List Deed → Type 0
+FillsIf folder None calls = ⊤
+FillsIf folder (Some payloads) calls = Holds folder payloads calls
 
 -- At such an end, files of the folder hold the kept payloads of the file, unless they overlap.
-abbrev pub Fills : Unpacking → List ℕ → Ended → List Deed → List Deed → Type 0
-Fills asked file end old new =
-    are_kept asked end ≡ true → FillsIf asked.folder.path.now (payloads_of asked (asked_name asked.only) file) old new
+abbrev pub Fills : Unpacking → List ℕ → Ended → List Deed → Type 0
+Fills asked file end calls =
+    are_kept asked end ≡ true → FillsIf asked.folder.path.now (payloads_of asked (asked_name asked.only) file) calls
 
 -- What a list of takes shows of one: the bytes of a payload that is kept.
 abbrev pub seen_of : Take → List Take

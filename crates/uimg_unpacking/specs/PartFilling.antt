@@ -57,19 +57,17 @@ abbrev pub HoldsParts : List ℕ → List Part → List Deed → Type 0
 HoldsParts folder parts calls =
     AllByRecursion (λ part. held calls (folder ++ codes "/" ++ image_name part.number) ≡ Some part.bytes) parts
 
--- By the calls that were made since, the files of the requested parts of an image hold these.
-pub record FillsParts (asked : Unpacking) (image : List ℕ) (old new : List Deed) : Type 0 where
+-- By the calls that were made, the files of the requested parts of an image hold these.
+pub record FillsParts (asked : Unpacking) (image : List ℕ) (calls : List Deed) : Type 0 where
   pub only : Option ℕ
   pub requested : Requests asked.only only
   pub parts : List Part
   pub are : unpack_of only image ≡ Ok (Some parts)
-  pub made : List Deed
-  pub is : new ≡ made ++ old
-  pub holds : HoldsParts asked.folder.path.now parts made
+  pub holds : HoldsParts asked.folder.path.now parts calls
 
 -- the same, if the parts are kept
-abbrev pub FillsKept : Unpacking → List ℕ → PartsEnded → List Deed → List Deed → Type 0
-FillsKept asked image Kept old new = FillsParts asked image old new
-FillsKept asked image Weak old new = ⊤
-FillsKept asked image (Stopped fault) old new = ⊤
-FillsKept asked image (Troubled trouble) old new = ⊤
+abbrev pub FillsKept : Unpacking → List ℕ → PartsEnded → List Deed → Type 0
+FillsKept asked image Kept calls = FillsParts asked image calls
+FillsKept asked image Weak calls = ⊤
+FillsKept asked image (Stopped fault) calls = ⊤
+FillsKept asked image (Troubled trouble) calls = ⊤

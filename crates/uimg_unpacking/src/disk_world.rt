@@ -62,14 +62,6 @@ impl<'a, R: Files + AllocGlobal> World for DiskWorld<'a, R> {
         self.rt.alloc()
     }
 
-    fn part(&self) -> DiskWorld<'a, R> {
-        DiskWorld::new(self.rt)
-    }
-
-    fn rejoin(&mut self, part: DiskWorld<'a, R>) {
-        self.record = part.record.after(&self.record);
-    }
-
     fn open(&mut self, path: &str) -> Result<FileSource<R::File>, SourceFault> {
         let opened = open_source(self.rt, path);
         let call = [OPENS, code_of_opening(&opened)];

@@ -1,12 +1,12 @@
 //! The folder for payloads and parts, and the paths of their files.
 
-ghost use Rattle.std.specs.Prelude.{◌≡◌, ◌++◌, codes, IfOk, string_bytes, decimal, false, true, ℕ, List, Bool};
+ghost use Rattle.std.specs.Prelude.{◌≡◌, ◌++◌, codes, IfOk, string_bytes, decimal, false, true, Bool};
 ghost use Rattle.uimg_unpacking.specs.Allowing.{Allows};
 ghost use Rattle.uimg_unpacking.specs.Contents.{held};
 ghost use Rattle.uimg_unpacking.specs.Cleaning.{MayBeIn, SeeksImage, CleansAt, removal, is_at_or_below, ends_name};
 ghost use Rattle.uimg_unpacking.specs.Deeds.{answer_of};
 ghost use Rattle.uimg_unpacking.specs.Kinds.{is_no_link};
-ghost use Rattle.uimg_unpacking.specs.Places.{ChangesWithin, is_temporary_folder, stays_within};
+ghost use Rattle.uimg_unpacking.specs.Places.{ChangesWithin, Obeys, Terms, is_temporary_folder, terms_of};
 ghost use Rattle.uimg_unpacking.specs.Refusing.{refused_of};
 ghost use Rattle.uimg_unpacking.specs.Troubles.{done_in};
 
@@ -50,9 +50,8 @@ impl<'a> Folder<'a> {
         ensures told { Allows self.now.image self.now.is_forced (string_bytes path)
             (refused_of result) (W.trace world.old) (W.trace world.new) }
         ensures same { IfOk result (λ it. it ≡ path) }
-        ensures within { (folder : List ℕ) → (is_naming : Bool) →
-            stays_within folder is_naming (W.trace world.new)
-            ≡ stays_within folder is_naming (W.trace world.old) }
+        ensures within { (terms : Terms) → (is_naming : Bool) →
+            Obeys terms is_naming (W.trace world.old) (W.trace world.new) }
     {
         let found = world.file_at(path.as_str());
         if FileId::is_image(found, self.image) {
@@ -77,9 +76,8 @@ impl<'a> Folder<'a> {
     ) -> Result<io::Result<String>, AllocError>
         ensures made { IfOk result (λ made. IfOk made (λ path.
             is_temporary_folder self.now.path.now (string_bytes path) ≡ true)) }
-        ensures within { (is_naming : Bool) →
-            stays_within self.now.path.now is_naming (W.trace world.new)
-            ≡ stays_within self.now.path.now is_naming (W.trace world.old) }
+        ensures within { (is_naming : Bool) → Obeys (terms_of self.now) is_naming
+            (W.trace world.old) (W.trace world.new) }
         ensures held { held (W.trace world.new) ≡ held (W.trace world.old) }
     {
         for number in 1..=TRIED {
@@ -102,7 +100,6 @@ impl<'a> Folder<'a> {
 
     /// Removes the files and folders without a name in it, which commands that were stopped have
     /// left, with a line for each on `out`. Stops before one that is the image at a path, or has it.
-    #[tactic(auto, using(crate::proofs::PartChanges::within))]
     pub fn clean<W: World, O: Write>(
         &self,
         world: &mut W,
@@ -111,10 +108,8 @@ impl<'a> Folder<'a> {
     ) -> Result<(), Trouble>
         ensures { ChangesWithin self.now.path.now false (W.trace world.old) (W.trace world.new) }
     {
-        let mut part = world.part();
-        let cleaned = self.clean_in(&mut part, world.alloc(), image, out);
-        world.rejoin(part);
-        cleaned
+        let alloc = world.alloc();
+        self.clean_in(world, alloc, image, out)
     }
 
     fn clean_in<W: World, O: Write>(
@@ -124,8 +119,7 @@ impl<'a> Folder<'a> {
         image: Option<&str>,
         out: &mut O,
     ) -> Result<(), Trouble>
-        ensures { stays_within self.now.path.now false (W.trace world.new)
-            ≡ stays_within self.now.path.now false (W.trace world.old) }
+        ensures { Obeys (terms_of self.now) false (W.trace world.old) (W.trace world.new) }
     {
         for number in 1..=TRIED {
             let path = self.unnamed(alloc, number)?;

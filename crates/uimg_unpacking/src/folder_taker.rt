@@ -7,7 +7,7 @@ ghost use Rattle.uimg_unpacking.specs.Contents.{HoldsAs, held};
 ghost use Rattle.uimg_unpacking.specs.Filling.{MayComplete, as_take, seen_of};
 ghost use Rattle.uimg_unpacking.specs.Names.{is_used};
 ghost use Rattle.uimg_unpacking.specs.Objects.{told_of, kept_told, refused_told};
-ghost use Rattle.uimg_unpacking.specs.Places.{stays_within};
+ghost use Rattle.uimg_unpacking.specs.Places.{Obeys, terms_of};
 ghost use Rattle.uimg_unpacking.specs.Refusals.{last_name, RefusesLast};
 ghost use Rattle.uimg_unpacking.specs.Staged.{names_of, staged, uses_names};
 ghost use Rattle.uimg_unpacking.specs.Telling.{with_kept, with_refused, TellsIf, is_named};
@@ -18,6 +18,7 @@ use crate::names::Names;
 use crate::new_file::{ErrorCode, NewFile};
 use crate::objects::told;
 use crate::staging::Staging;
+use crate::task::{Lent, Task};
 use crate::trouble::{Trouble, kept};
 use crate::unpacking::Unpacking;
 use crate::world::World;
@@ -29,12 +30,12 @@ use uimg_fit_checking::{NodeName, Refusal, Taker, Vouched};
 /// A taker that writes payloads to a folder. Their files get their names at the end: all of them,
 /// or, if one is refused, none or only the good ones.
 #[derive(Drop)]
-pub(crate) struct FolderTaker<'a, 'c, W: World, O: Write + Drop> {
+pub(crate) struct FolderTaker<'w, 'a, 'c, W: World, M: Task, O: Write + Drop> {
     alloc: Global,
     keeps_good: bool,
     json: Option<&'a str>,
     out: O,
-    staging: Staging<'a, 'c, W>,
+    staging: Staging<'w, 'a, 'c, W, M>,
     // The lines to print once the files have their names, or if none gets one.
     lines: Vec<u8>,
     has_refused: bool,
@@ -47,19 +48,20 @@ pub(crate) struct FolderTaker<'a, 'c, W: World, O: Write + Drop> {
     ghost names: { uses_names (is_used taken.given) (names_of staging.files.items) (names_of staging.outdated.items) ≡ true },
 }
 
-impl<'a, 'c, W: World, O: Write + Drop> FolderTaker<'a, 'c, W, O> {
+impl<'w, 'a, 'c, W: World, M: Task, O: Write + Drop> FolderTaker<'w, 'a, 'c, W, M, O> {
     /// Writes lines to `out`. Notes failed writes in `code`.
     pub(crate) fn new(
-        world: W,
+        lent: Lent<'w, W, M>,
         alloc: Global,
         asked: &Unpacking<'a>,
         out: O,
         code: &'c ErrorCode,
-    ) -> FolderTaker<'a, 'c, W, O>
-        requires { W.trace world ≡ [] }
+    ) -> FolderTaker<'w, 'a, 'c, W, M, O>
+        requires before { W.trace lent.world.now ≡ M.before }
+        requires agreed { terms_of asked.now.folder ≡ M.terms }
         ensures folder { result.staging.folder ≡ asked.now.folder }
         ensures none { result.taken.count ≡ 0 }
-        ensures empty { staged (W.trace result.staging.world) result.staging.files.items
+        ensures empty { staged (W.trace result.staging.world.now) result.staging.files.items
             result.staging.is_writing ≡ [] }
     {
         FolderTaker {
@@ -67,7 +69,7 @@ impl<'a, 'c, W: World, O: Write + Drop> FolderTaker<'a, 'c, W, O> {
             keeps_good: asked.keeps_good,
             json: asked.json,
             out,
-            staging: Staging::new(world, alloc, asked.folder, code),
+            staging: Staging::new(lent, alloc, asked.folder, code),
             lines: Vec::new(alloc),
             has_refused: false,
             looked: Names::new(alloc),
@@ -80,12 +82,12 @@ impl<'a, 'c, W: World, O: Write + Drop> FolderTaker<'a, 'c, W, O> {
     /// Gives the complete files their names, if `names`. Removes the others, and prints the lines.
     /// Returns the world, their writer, the number of payloads that were begun, and the trouble, if
     /// it is known.
-    pub(crate) fn end(self, names: bool) -> (W, O, usize, Option<Trouble>)
-        ensures within { stays_within self.entry.staging.folder.path.now names
-            (W.trace result.0) ≡ true }
+    pub(crate) fn end(self, names: bool) -> (&'w mut W, O, usize, Option<Trouble>)
+        ensures named { result.0.ghost_name ≡ M.name }
+        ensures obeys { Obeys M.terms names M.before (W.trace result.0.now) }
         ensures holds { names ≡ true → result.3 ≡ None → HoldsAs self.entry.staging.folder.path.now
-            (staged (W.trace self.entry.staging.world) self.entry.staging.files.items
-            self.entry.staging.is_writing) (W.trace result.0) }
+            (staged (W.trace self.entry.staging.world.now) self.entry.staging.files.items
+            self.entry.staging.is_writing) (W.trace result.0.now) }
         ensures told { result.3 ≡ None → TellsIf (names || self.entry.has_refused)
             (O.contents self.entry.out) (O.contents result.1) self.entry.lines.items }
         ensures count { result.2 ≡ self.entry.taken.count }
@@ -113,8 +115,8 @@ impl<'a, 'c, W: World, O: Write + Drop> FolderTaker<'a, 'c, W, O> {
     fn look(&mut self, name: &NodeName, length: u64) -> Result<(), Trouble>
         ensures folder { self.new.staging.folder ≡ self.old.staging.folder }
         ensures taken { self.new.taken ≡ self.old.taken }
-        ensures staged { staged (W.trace self.new.staging.world) self.new.staging.files.items
-            self.new.staging.is_writing ≡ staged (W.trace self.old.staging.world)
+        ensures staged { staged (W.trace self.new.staging.world.now) self.new.staging.files.items
+            self.new.staging.is_writing ≡ staged (W.trace self.old.staging.world.now)
             self.old.staging.files.items self.old.staging.is_writing }
     {
         self.claimed.claim(length)?;
@@ -128,8 +130,8 @@ impl<'a, 'c, W: World, O: Write + Drop> FolderTaker<'a, 'c, W, O> {
     fn begin(&mut self, name: &NodeName) -> Result<NewFile<'c, W::File>, Trouble>
         ensures folder { self.new.staging.folder ≡ self.old.staging.folder }
         ensures counted { OnOk result (nat_lt 0 self.new.taken.count ≡ true) }
-        ensures staged { staged (W.trace self.new.staging.world) self.new.staging.files.items
-            self.new.staging.is_writing ≡ staged (W.trace self.old.staging.world)
+        ensures staged { staged (W.trace self.new.staging.world.now) self.new.staging.files.items
+            self.new.staging.is_writing ≡ staged (W.trace self.old.staging.world.now)
             self.old.staging.files.items self.old.staging.is_writing }
         ensures empty { IsTrue W.knows → IfOk result (λ new.
             writer_contents W.File.contents new.file ≡ Some []) }
@@ -152,8 +154,8 @@ impl<'a, 'c, W: World, O: Write + Drop> FolderTaker<'a, 'c, W, O> {
         ensures staged { IsTrue W.knows → (bytes : List ℕ) →
             writer_contents W.File.contents file.entry.file ≡ Some bytes →
             MayComplete (is_ok result) (Some bytes)
-            (staged (W.trace self.old.staging.world) self.old.staging.files.items
-            self.old.staging.is_writing) (staged (W.trace self.new.staging.world)
+            (staged (W.trace self.old.staging.world.now) self.old.staging.files.items
+            self.old.staging.is_writing) (staged (W.trace self.new.staging.world.now)
             self.new.staging.files.items self.new.staging.is_writing) }
         ensures told { OnOk result (self.new.lines.items
             ≡ with_kept (self.old.has_refused && not self.old.keeps_good) self.old.lines.items
@@ -190,13 +192,13 @@ impl<'a, 'c, W: World, O: Write + Drop> FolderTaker<'a, 'c, W, O> {
         ensures folder { self.new.staging.folder ≡ self.old.staging.folder }
         ensures taken { self.new.taken ≡ self.old.taken }
         ensures refused { OnOk result (self.new.has_refused ≡ true) }
-        ensures staged { staged (W.trace self.new.staging.world) self.new.staging.files.items
-            self.new.staging.is_writing ≡ staged (W.trace self.old.staging.world)
+        ensures staged { staged (W.trace self.new.staging.world.now) self.new.staging.files.items
+            self.new.staging.is_writing ≡ staged (W.trace self.old.staging.world.now)
             self.old.staging.files.items self.old.staging.is_writing }
         ensures dropped { OnOk result (RefusesLast self.old.keeps_good
             self.old.staging.files.items self.new.staging.files.items
             self.old.staging.outdated.items self.new.staging.outdated.items
-            (W.trace self.old.staging.world) (W.trace self.new.staging.world)) }
+            (W.trace self.old.staging.world.now) (W.trace self.new.staging.world.now)) }
         ensures told { OnOk result (self.new.lines.items
             ≡ with_refused (self.old.keeps_good || self.old.has_refused) self.old.lines.items
             (refused_told self.old.json (as_bytes name.now) refusal)) }
@@ -212,8 +214,8 @@ impl<'a, 'c, W: World, O: Write + Drop> FolderTaker<'a, 'c, W, O> {
 
 // Gives the files their names and removes what refused ones were to replace, if `names`. Returns
 // the trouble that no file has its name, or that old files are left.
-fn name<W: World>(
-    staging: &mut Staging<'_, '_, W>,
+fn name<W: World, M: Task>(
+    staging: &mut Staging<'_, '_, '_, W, M>,
     names: bool,
 ) -> Result<Result<(), Trouble>, Trouble>
     requires { staging.old.is_naming ≡ false }
@@ -221,8 +223,8 @@ fn name<W: World>(
     ensures naming { staging.new.is_naming ≡ names }
     ensures holds { names ≡ true → is_named result ≡ true → (used : List ℕ → Bool) →
         uses_names used (names_of staging.old.files.items) (names_of staging.old.outdated.items) ≡ true →
-        HoldsAs staging.old.folder.path.now (staged (W.trace staging.old.world)
-        staging.old.files.items staging.old.is_writing) (W.trace staging.new.world) }
+        HoldsAs staging.old.folder.path.now (staged (W.trace staging.old.world.now)
+        staging.old.files.items staging.old.is_writing) (W.trace staging.new.world.now) }
 {
     if !names {
         return Ok(Ok(()));
@@ -252,7 +254,7 @@ fn tell<O: Write>(
     removed
 }
 
-impl<'a, 'c, W: World, O: Write + Drop> Taker for FolderTaker<'a, 'c, W, O> {
+impl<'w, 'a, 'c, W: World, M: Task, O: Write + Drop> Taker for FolderTaker<'w, 'a, 'c, W, M, O> {
     type Shelf = NewFile<'c, W::File>;
 
     ghost place = { λ t. t.staging.folder.path.now };
@@ -261,7 +263,7 @@ impl<'a, 'c, W: World, O: Write + Drop> Taker for FolderTaker<'a, 'c, W, O> {
 
     ghost seen = { seen_of };
 
-    ghost takes = { λ t. map as_take (staged (W.trace t.staging.world) t.staging.files.items
+    ghost takes = { λ t. map as_take (staged (W.trace t.staging.world.now) t.staging.files.items
         t.staging.is_writing) };
 
     ghost begun = { λ t. nat_lt 0 t.taken.count };

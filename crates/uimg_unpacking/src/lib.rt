@@ -29,6 +29,7 @@ mod part_unpacking;
 mod plan;
 mod record;
 mod staging;
+mod task;
 mod trouble;
 mod unpacking;
 mod world;

@@ -111,21 +111,6 @@ impl<'a> World for MemoryWorld<'a> {
         self.alloc
     }
 
-    fn part(&self) -> MemoryWorld<'a> {
-        MemoryWorld {
-            alloc: self.alloc,
-            files: self.files,
-            record: Record::new(),
-            refusals: 0,
-            new_files: self.new_files.copied(),
-        }
-    }
-
-    fn rejoin(&mut self, part: MemoryWorld<'a>) {
-        self.record = part.record.after(&self.record);
-        self.new_files = part.new_files;
-    }
-
     fn open(&mut self, path: &str) -> Result<MemSource<'a>, SourceFault> {
         match bytes_at(self.files, path) {
             Some(bytes) => {

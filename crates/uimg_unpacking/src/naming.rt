@@ -1,12 +1,12 @@
 //! Gives files their names, and takes names back.
 
-ghost use Rattle.std.specs.Prelude.{◌≡◌, None, length, ℕ, List, nat_lt, is_ok, is_some, not, true, string_bytes};
+ghost use Rattle.std.specs.Prelude.{◌≡◌, None, length, nat_lt, is_ok, is_some, not, true, string_bytes};
 ghost use Rattle.std.specs.List.{list_all};
 ghost use Rattle.uimg_unpacking.specs.Deeds.{answer_of};
 ghost use Rattle.uimg_unpacking.specs.Naming.{GivesName, KeepsAs, PutsBack};
 ghost use Rattle.uimg_unpacking.specs.Naming.{Names, NamesOver, RemovesOld, TellsCreated};
 ghost use Rattle.uimg_unpacking.specs.NamingAll.{NamesFiles, PutsBackFiles, UnlessLater, ForgetsOld};
-ghost use Rattle.uimg_unpacking.specs.{Places.{is_begun_in, stays_within}, Staged.{LeavesOthers, names_of}};
+ghost use Rattle.uimg_unpacking.specs.{Places.{Obeys, Terms, is_begun_in, terms_of}, Staged.{LeavesOthers, names_of}};
 
 use crate::begun::Begun;
 use crate::folder::Folder;
@@ -84,8 +84,7 @@ pub(crate) fn name_files<W: World>(
     ensures all { result.1 ≡ None → result.0 ≡ length files.now }
     ensures told { NamesFiles folder.now files.now result.0 (not (is_some result.1))
         (W.trace world.old) (W.trace world.new) }
-    ensures within { stays_within folder.now.path.now true (W.trace world.new)
-        ≡ stays_within folder.now.path.now true (W.trace world.old) }
+    ensures within { Obeys (terms_of folder.now) true (W.trace world.old) (W.trace world.new) }
 {
     let mut named = 0;
     for its in files {
@@ -106,8 +105,7 @@ pub(crate) fn put_back_all<W: World>(
 ) -> bool
     requires { list_all (is_begun_in folder.now.path.now) files.now ≡ true }
     ensures told { PutsBackFiles files.now number result (W.trace world.old) (W.trace world.new) }
-    ensures within { stays_within folder.now.path.now true (W.trace world.new)
-        ≡ stays_within folder.now.path.now true (W.trace world.old) }
+    ensures within { Obeys (terms_of folder.now) true (W.trace world.old) (W.trace world.new) }
 {
     let mut is_back = true;
     for (before, its) in files.iter().enumerate() {
@@ -122,9 +120,8 @@ pub(crate) fn put_back_all<W: World>(
 fn put_back_before<W: World>(world: &mut W, its: &Begun, before: usize, number: usize) -> bool
     ensures told { UnlessLater (nat_lt number before) its.now (nat_lt before number) result
         (W.trace world.old) (W.trace world.new) }
-    ensures within { (folder : List ℕ) → is_begun_in folder its.now ≡ true →
-        stays_within folder true (W.trace world.new)
-        ≡ stays_within folder true (W.trace world.old) }
+    ensures within { (terms : Terms) → is_begun_in terms.0 its.now ≡ true →
+        Obeys terms true (W.trace world.old) (W.trace world.new) }
 {
     if before > number {
         return true;
@@ -137,8 +134,7 @@ fn put_back_before<W: World>(world: &mut W, its: &Begun, before: usize, number: 
 pub(crate) fn forget_old<W: World>(world: &mut W, folder: &Folder<'_>, files: &[Begun])
     requires { list_all (is_begun_in folder.now.path.now) files.now ≡ true }
     ensures told { ForgetsOld files.now (W.trace world.old) (W.trace world.new) }
-    ensures within { stays_within folder.now.path.now true (W.trace world.new)
-        ≡ stays_within folder.now.path.now true (W.trace world.old) }
+    ensures within { Obeys (terms_of folder.now) true (W.trace world.old) (W.trace world.new) }
 {
     for its in files {
         let _ = world.remove_file(its.old.as_str());
@@ -201,8 +197,7 @@ pub(crate) fn remove_all_old<W: World>(
     files: &[Begun],
 ) -> Result<(), Trouble>
     requires { list_all (is_begun_in folder.now.path.now) files.now ≡ true }
-    ensures within { stays_within folder.now.path.now true (W.trace world.new)
-        ≡ stays_within folder.now.path.now true (W.trace world.old) }
+    ensures within { Obeys (terms_of folder.now) true (W.trace world.old) (W.trace world.new) }
     ensures leaves { LeavesOthers folder.now.path.now (names_of files.now)
         (W.trace world.old) (W.trace world.new) }
 {

@@ -16,8 +16,6 @@ pub struct NewFiles {
     alloc: Global,
     // The bytes of a file; a folder has none.
     made: BTreeMap<String, Option<Vec<u8>>>,
-    // Whether memory for them was refused. Then no call changes them.
-    is_lost: bool,
 }
 
 impl NewFiles {
@@ -28,7 +26,6 @@ impl NewFiles {
         NewFiles {
             alloc,
             made: BTreeMap::new(alloc),
-            is_lost: false,
         }
     }
 
@@ -53,22 +50,6 @@ impl NewFiles {
         }
     }
 
-    /// If memory is refused, the copy is empty and takes no files.
-    pub(crate) fn copied(&self) -> NewFiles {
-        match self.made.clone() {
-            Ok(made) => NewFiles {
-                alloc: self.alloc,
-                made,
-                is_lost: self.is_lost,
-            },
-            Err(_) => NewFiles {
-                alloc: self.alloc,
-                made: BTreeMap::new(self.alloc),
-                is_lost: true,
-            },
-        }
-    }
-
     pub(crate) fn make(&mut self, path: &str, bytes: Option<&[u8]>) -> io::Result<()>
         ensures done { OnOk result (MadeBut self.old.made self.new.made path.now
             (Some (option_map (λ bytes. bytes.now) bytes.entry))) }
@@ -84,9 +65,6 @@ impl NewFiles {
         ensures done { OnOk result (MadeBut self.old.made self.new.made path.now
             (Some (option_map (λ bytes. bytes.now) bytes.entry))) }
     {
-        if self.is_lost {
-            return Err(io::Error::from(ErrorKind::OutOfMemory));
-        }
         let path = String::from_str(self.alloc, path)?;
         let found = found_of(self.alloc, bytes)?;
         self.made.insert(path, found)?;
@@ -132,7 +110,7 @@ impl NewFiles {
     fn remove(&mut self, path: &str, kind: Kind) -> io::Result<()>
         ensures done { OnOk result (MadeBut self.old.made self.new.made path.now None) }
     {
-        if self.is_lost || self.kind_at(path) != kind {
+        if self.kind_at(path) != kind {
             return Err(io::Error::from(ErrorKind::NotFound));
         }
         self.forget(path);

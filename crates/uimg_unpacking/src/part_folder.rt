@@ -9,7 +9,7 @@ ghost use Rattle.uimg_unpacking.specs.Contents.{differ};
 ghost use Rattle.uimg_unpacking.specs.FileNames.{is_file_name};
 ghost use Rattle.uimg_unpacking.specs.Objects.{part_told, parts_told};
 ghost use Rattle.uimg_unpacking.specs.PartFilling.{held_parts, image_name, kept_parts, part_names, parts_in};
-ghost use Rattle.uimg_unpacking.specs.Places.{stays_within};
+ghost use Rattle.uimg_unpacking.specs.Places.{Obeys, terms_of};
 ghost use Rattle.uimg_unpacking.specs.Refusals.{last_name};
 ghost use Rattle.uimg_unpacking.specs.Staged.{complete_names, names_of, staged, with_name};
 
@@ -18,6 +18,7 @@ use crate::lines::Line;
 use crate::new_file::{ErrorCode, NewFile};
 use crate::objects::told;
 use crate::staging::Staging;
+use crate::task::{Lent, Task};
 use crate::trouble::{Trouble, kept};
 use crate::unpacking::Unpacking;
 use crate::world::World;
@@ -28,11 +29,11 @@ use uimg_legacy::PartTaker;
 
 /// A taker that writes parts to a folder. Their files get their names when all are kept.
 #[derive(Drop)]
-pub(crate) struct PartFolder<'a, 'c, W: World, O: Write + Drop> {
+pub(crate) struct PartFolder<'w, 'a, 'c, W: World, M: Task, O: Write + Drop> {
     alloc: Global,
     json: Option<&'a str>,
     out: O,
-    staging: Staging<'a, 'c, W>,
+    staging: Staging<'w, 'a, 'c, W, M>,
     // The number of each complete part, and its length in bytes.
     parts: Vec<(u32, u64)>,
     // The least number that the next part may have.
@@ -46,16 +47,17 @@ pub(crate) struct PartFolder<'a, 'c, W: World, O: Write + Drop> {
     ghost apart: { differ (part_names parts.items) ≡ true },
 }
 
-impl<'a, 'c, W: World, O: Write + Drop> PartFolder<'a, 'c, W, O> {
+impl<'w, 'a, 'c, W: World, M: Task, O: Write + Drop> PartFolder<'w, 'a, 'c, W, M, O> {
     /// Writes lines to `out`. Notes failed writes in `code`.
     pub(crate) fn new(
-        world: W,
+        lent: Lent<'w, W, M>,
         alloc: Global,
         asked: &Unpacking<'a>,
         out: O,
         code: &'c ErrorCode,
-    ) -> PartFolder<'a, 'c, W, O>
-        requires { W.trace world ≡ [] }
+    ) -> PartFolder<'w, 'a, 'c, W, M, O>
+        requires before { W.trace lent.world.now ≡ M.before }
+        requires agreed { terms_of asked.now.folder ≡ M.terms }
         ensures folder { result.staging.folder ≡ asked.now.folder }
         ensures none { result.parts.items ≡ [] }
         ensures unnamed { result.is_named ≡ false }
@@ -64,7 +66,7 @@ impl<'a, 'c, W: World, O: Write + Drop> PartFolder<'a, 'c, W, O> {
             alloc,
             json: asked.json,
             out,
-            staging: Staging::new(world, alloc, asked.folder, code),
+            staging: Staging::new(lent, alloc, asked.folder, code),
             parts: Vec::new(alloc),
             next: 0,
             is_named: false,
@@ -75,12 +77,12 @@ impl<'a, 'c, W: World, O: Write + Drop> PartFolder<'a, 'c, W, O> {
 
     /// Removes the files that did not get their names, and their folder. Returns the world, and the
     /// trouble, if it is known.
-    pub(crate) fn end(self) -> (W, Option<Trouble>)
-        ensures within { stays_within self.entry.staging.folder.path.now
-            self.entry.staging.is_naming (W.trace result.0) ≡ true }
-        ensures holds { parts_in self.entry.staging.folder.path.now (W.trace result.0)
+    pub(crate) fn end(self) -> (&'w mut W, Option<Trouble>)
+        ensures named { result.0.ghost_name ≡ M.name }
+        ensures obeys { Obeys M.terms self.entry.staging.is_naming M.before (W.trace result.0.now) }
+        ensures holds { parts_in self.entry.staging.folder.path.now (W.trace result.0.now)
             self.entry.parts.items ≡ parts_in self.entry.staging.folder.path.now
-            (W.trace self.entry.staging.world) self.entry.parts.items }
+            (W.trace self.entry.staging.world.now) self.entry.parts.items }
     {
         let PartFolder {
             alloc: _alloc,
@@ -108,10 +110,10 @@ impl<'a, 'c, W: World, O: Write + Drop> PartFolder<'a, 'c, W, O> {
     // Checks, before any part is written, whether the file of this one may be.
     fn look(&mut self, number: u32) -> Result<(), Trouble>
         ensures folder { self.new.staging.folder ≡ self.old.staging.folder }
-        ensures held { ⟦<PartFolder<'a, 'c, W, O> as PartTaker>⟧.held self.new
-            ≡ ⟦<PartFolder<'a, 'c, W, O> as PartTaker>⟧.held self.old }
-        ensures kept { ⟦<PartFolder<'a, 'c, W, O> as PartTaker>⟧.kept self.new
-            ≡ ⟦<PartFolder<'a, 'c, W, O> as PartTaker>⟧.kept self.old }
+        ensures held { ⟦<PartFolder<'w, 'a, 'c, W, M, O> as PartTaker>⟧.held self.new
+            ≡ ⟦<PartFolder<'w, 'a, 'c, W, M, O> as PartTaker>⟧.held self.old }
+        ensures kept { ⟦<PartFolder<'w, 'a, 'c, W, M, O> as PartTaker>⟧.kept self.new
+            ≡ ⟦<PartFolder<'w, 'a, 'c, W, M, O> as PartTaker>⟧.kept self.old }
     {
         self.claimed.claim(0)?;
         let name = self.name_of(number)?;
@@ -123,10 +125,10 @@ impl<'a, 'c, W: World, O: Write + Drop> PartFolder<'a, 'c, W, O> {
         ensures folder { self.new.staging.folder ≡ self.old.staging.folder }
         ensures name { names_of self.new.staging.files.items
             ≡ with_name (is_ok result) (names_of self.old.staging.files.items) (image_name number) }
-        ensures held { ⟦<PartFolder<'a, 'c, W, O> as PartTaker>⟧.held self.new
-            ≡ ⟦<PartFolder<'a, 'c, W, O> as PartTaker>⟧.held self.old }
-        ensures kept { ⟦<PartFolder<'a, 'c, W, O> as PartTaker>⟧.kept self.new
-            ≡ ⟦<PartFolder<'a, 'c, W, O> as PartTaker>⟧.kept self.old }
+        ensures held { ⟦<PartFolder<'w, 'a, 'c, W, M, O> as PartTaker>⟧.held self.new
+            ≡ ⟦<PartFolder<'w, 'a, 'c, W, M, O> as PartTaker>⟧.held self.old }
+        ensures kept { ⟦<PartFolder<'w, 'a, 'c, W, M, O> as PartTaker>⟧.kept self.new
+            ≡ ⟦<PartFolder<'w, 'a, 'c, W, M, O> as PartTaker>⟧.kept self.old }
         ensures empty { IsTrue W.knows → IfOk result (λ new.
             writer_contents W.File.contents new.file ≡ Some []) }
     {
@@ -144,10 +146,10 @@ impl<'a, 'c, W: World, O: Write + Drop> PartFolder<'a, 'c, W, O> {
             ≡ self.old.parts.items ++ (number, file.entry.size) ∷ []) }
         ensures held { IsTrue W.knows → (bytes : List ℕ) →
             writer_contents W.File.contents file.entry.file ≡ Some bytes →
-            OnOk result (⟦<PartFolder<'a, 'c, W, O> as PartTaker>⟧.held self.new
-            ≡ ⟦<PartFolder<'a, 'c, W, O> as PartTaker>⟧.held self.old ++ part_if true number bytes) }
-        ensures kept { ⟦<PartFolder<'a, 'c, W, O> as PartTaker>⟧.kept self.new
-            ≡ ⟦<PartFolder<'a, 'c, W, O> as PartTaker>⟧.kept self.old }
+            OnOk result (⟦<PartFolder<'w, 'a, 'c, W, M, O> as PartTaker>⟧.held self.new
+            ≡ ⟦<PartFolder<'w, 'a, 'c, W, M, O> as PartTaker>⟧.held self.old ++ part_if true number bytes) }
+        ensures kept { ⟦<PartFolder<'w, 'a, 'c, W, M, O> as PartTaker>⟧.kept self.new
+            ≡ ⟦<PartFolder<'w, 'a, 'c, W, M, O> as PartTaker>⟧.kept self.old }
     {
         if !self.is_next(number)? {
             return Err(Trouble::NoName);
@@ -182,11 +184,11 @@ impl<'a, 'c, W: World, O: Write + Drop> PartFolder<'a, 'c, W, O> {
         ensures folder { self.new.staging.folder ≡ self.old.staging.folder }
         ensures parts { self.new.parts ≡ self.old.parts }
         ensures same { self.new.json ≡ self.old.json × self.new.out ≡ self.old.out }
-        ensures kept { OnOk result (⟦<PartFolder<'a, 'c, W, O> as PartTaker>⟧.kept self.new
-            ≡ ⟦<PartFolder<'a, 'c, W, O> as PartTaker>⟧.kept self.old
-            ++ ⟦<PartFolder<'a, 'c, W, O> as PartTaker>⟧.held self.old) }
-        ensures unnamed { OnErr result (⟦<PartFolder<'a, 'c, W, O> as PartTaker>⟧.kept self.new
-            ≡ ⟦<PartFolder<'a, 'c, W, O> as PartTaker>⟧.kept self.old) }
+        ensures kept { OnOk result (⟦<PartFolder<'w, 'a, 'c, W, M, O> as PartTaker>⟧.kept self.new
+            ≡ ⟦<PartFolder<'w, 'a, 'c, W, M, O> as PartTaker>⟧.kept self.old
+            ++ ⟦<PartFolder<'w, 'a, 'c, W, M, O> as PartTaker>⟧.held self.old) }
+        ensures unnamed { OnErr result (⟦<PartFolder<'w, 'a, 'c, W, M, O> as PartTaker>⟧.kept self.new
+            ≡ ⟦<PartFolder<'w, 'a, 'c, W, M, O> as PartTaker>⟧.kept self.old) }
     {
         if self.is_named {
             return Err(Trouble::NoName);
@@ -198,14 +200,14 @@ impl<'a, 'c, W: World, O: Write + Drop> PartFolder<'a, 'c, W, O> {
 
     fn finish(&mut self, dcrc: u32) -> Result<(), Trouble>
         ensures folder { self.new.staging.folder ≡ self.old.staging.folder }
-        ensures kept { OnOk result (⟦<PartFolder<'a, 'c, W, O> as PartTaker>⟧.kept self.new
-            ≡ ⟦<PartFolder<'a, 'c, W, O> as PartTaker>⟧.kept self.old
-            ++ ⟦<PartFolder<'a, 'c, W, O> as PartTaker>⟧.held self.old) }
-        ensures perhaps { OnErr result ((⟦<PartFolder<'a, 'c, W, O> as PartTaker>⟧.kept self.new
-            ≡ ⟦<PartFolder<'a, 'c, W, O> as PartTaker>⟧.kept self.old)
-            ⊎ (⟦<PartFolder<'a, 'c, W, O> as PartTaker>⟧.kept self.new
-            ≡ ⟦<PartFolder<'a, 'c, W, O> as PartTaker>⟧.kept self.old
-            ++ ⟦<PartFolder<'a, 'c, W, O> as PartTaker>⟧.held self.old)) }
+        ensures kept { OnOk result (⟦<PartFolder<'w, 'a, 'c, W, M, O> as PartTaker>⟧.kept self.new
+            ≡ ⟦<PartFolder<'w, 'a, 'c, W, M, O> as PartTaker>⟧.kept self.old
+            ++ ⟦<PartFolder<'w, 'a, 'c, W, M, O> as PartTaker>⟧.held self.old) }
+        ensures perhaps { OnErr result ((⟦<PartFolder<'w, 'a, 'c, W, M, O> as PartTaker>⟧.kept self.new
+            ≡ ⟦<PartFolder<'w, 'a, 'c, W, M, O> as PartTaker>⟧.kept self.old)
+            ⊎ (⟦<PartFolder<'w, 'a, 'c, W, M, O> as PartTaker>⟧.kept self.new
+            ≡ ⟦<PartFolder<'w, 'a, 'c, W, M, O> as PartTaker>⟧.kept self.old
+            ++ ⟦<PartFolder<'w, 'a, 'c, W, M, O> as PartTaker>⟧.held self.old)) }
         ensures told { OnOk result (Appends (O.contents self.old.out) (O.contents self.new.out)
             (parts_told self.old.json dcrc self.old.parts.items)) }
     {
@@ -254,18 +256,18 @@ fn tell_part<O: Write>(
     Ok(())
 }
 
-impl<'a, 'c, W: World, O: Write + Drop> PartTaker for PartFolder<'a, 'c, W, O> {
+impl<'w, 'a, 'c, W: World, M: Task, O: Write + Drop> PartTaker for PartFolder<'w, 'a, 'c, W, M, O> {
     type Shelf = NewFile<'c, W::File>;
 
     ghost place = { λ t. t.staging.folder.path.now };
 
     ghost honest = { W.knows };
 
-    ghost held = { λ t. held_parts t.is_named t.parts.items (staged (W.trace t.staging.world)
+    ghost held = { λ t. held_parts t.is_named t.parts.items (staged (W.trace t.staging.world.now)
         t.staging.files.items t.staging.is_writing) };
 
     ghost kept = { λ t. kept_parts t.is_named t.staging.folder.path.now
-        (W.trace t.staging.world) t.parts.items };
+        (W.trace t.staging.world.now) t.parts.items };
 
     fn claim(&mut self, number: u32) -> Result<(), PutFault> {
         let looked = self.look(number);

@@ -1,6 +1,6 @@
 //! Unpacks a legacy image into a folder.
 
-ghost use Rattle.std.specs.Prelude.{◌≡◌, ◌++◌, [], true, codes, is_err, IfOk, IsTrue};
+ghost use Rattle.std.specs.Prelude.{◌≡◌, ◌++◌, true, codes, is_err, IfOk, IsTrue};
 ghost use Rattle.std.specs.Char.{is_ascii_digit};
 ghost use Rattle.std.specs.List.{list_all};
 ghost use Rattle.uimg_base.specs.Device.{SameDevice};
@@ -9,15 +9,17 @@ ghost use Rattle.uimg_base.specs.Using.{Asks};
 ghost use Rattle.uimg_legacy.specs.Unpacking.{is_part_asked};
 ghost use Rattle.uimg_unpacking.specs.PartEnds.{KeepsRight, end_of_parts, has_leading_zero, is_number, stands_by_crc32, size_at, EndsUnlessRefused};
 ghost use Rattle.uimg_unpacking.specs.PartFilling.{FillsKept, IsNumberOf, Requests};
-ghost use Rattle.uimg_unpacking.specs.{Deeds.Follows, Places.{ChangesWithin, stays_within}};
+ghost use Rattle.uimg_unpacking.specs.Places.{ChangesWithin, Obeys, terms_of};
 
 use crate::new_file::ErrorCode;
 use crate::part_folder::PartFolder;
+use crate::task::{Lent, Task};
 use crate::trouble::Trouble;
 use crate::unpacking::Unpacking;
 use crate::world::World;
 use std::alloc::Global;
 use std::io::Write;
+use std::marker::{Brand, PhantomData};
 use uimg_base::{Algo, MULTI, Room, SCRIPT, Source, SourceFault};
 use uimg_legacy::{Fault, LegacyFault, read_header};
 
@@ -54,7 +56,6 @@ pub enum PartsEnded {
 ///
 /// Where parts are kept, the source is honest and contracts know what new files hold, the file of
 /// each requested part holds exactly its bytes.
-#[tactic(auto, using(crate::proofs::PartChanges::within, crate::proofs::PartChanges::follows))]
 pub fn unpack_parts<W: World, S: Source, O: Write + Drop>(
     world: &mut W,
     asked: &Unpacking<'_>,
@@ -62,51 +63,65 @@ pub fn unpack_parts<W: World, S: Source, O: Write + Drop>(
     out: O,
 ) -> PartsEnded
     ensures within { ChangesWithin asked.now.folder.path.now true (W.trace world.old) (W.trace world.new) }
-    ensures later { Follows (W.trace world.old) (W.trace world.new) }
     ensures same { SameDevice (S.device source.old) (S.device source.new) }
     ensures kept { IfHonest S.device source (λ file. KeepsRight asked.now file result) }
+    ensures obeys { Obeys (terms_of asked.now.folder) true (W.trace world.old) (W.trace world.new) }
     ensures holds { IfHonest S.device source (λ file. IsTrue W.knows →
-        FillsKept asked.now file result (W.trace world.old) (W.trace world.new)) }
+        FillsKept asked.now file result (W.trace world.new)) }
 {
-    let (part, ended) = unpack_parts_in(world.part(), world.alloc(), asked, source, out);
-    world.rejoin(part);
-    ended
+    let alloc = world.alloc();
+    let mut end = PartsEnded::Weak;
+    let _world = unpack_parts_in::<_, _, _, Brand>(world, alloc, asked, source, out, &mut end);
+    end
 }
 
-// Returns the world. Changes nothing outside the folder.
-#[tactic(auto, using(crate::proofs::Placing::stays_naming))]
-fn unpack_parts_in<W: World, S: Source, O: Write + Drop>(
-    world: W,
+// Returns the world.
+#[tactic(auto, using(crate::proofs::Placing::obeys_naming, crate::proofs::Placing::no_more))]
+fn unpack_parts_in<'w, W: World, S: Source, O: Write + Drop, M: Task>(
+    world: &'w mut W,
     alloc: Global,
     asked: &Unpacking<'_>,
     source: &mut S,
     out: O,
-) -> (W, PartsEnded)
-    requires { W.trace world ≡ [] }
-    ensures within { stays_within asked.now.folder.path.now true (W.trace result.0) ≡ true }
+    end: &mut PartsEnded,
+) -> &'w mut W
+    requires named { world.ghost_name ≡ M.name }
+    requires before { W.trace world.now ≡ M.before }
+    requires agreed { terms_of asked.now.folder ≡ M.terms }
+    ensures named { result.ghost_name ≡ M.name }
+    ensures obeys { Obeys M.terms true M.before (W.trace result.now) }
     ensures same { SameDevice (S.device source.old) (S.device source.new) }
-    ensures kept { IfHonest S.device source (λ file. KeepsRight asked.now file result.1) }
+    ensures kept { IfHonest S.device source (λ file. KeepsRight asked.now file end.new) }
     ensures holds { IfHonest S.device source (λ file. IsTrue W.knows →
-        FillsKept asked.now file result.1 [] (W.trace result.0)) }
+        FillsKept asked.now file end.new (W.trace result.now)) }
 {
     let mut room = Room::new(alloc);
     if !stands_by_crc32(asked.need) {
-        return (world, unless_refused(source, &mut room, PartsEnded::Weak));
+        *end = unless_refused(source, &mut room, PartsEnded::Weak);
+        return world;
     }
     let only = requested(asked.only);
     match excess(asked.limits.bytes, only, source) {
         Ok(Some(trouble)) => {
-            let end = PartsEnded::Troubled(trouble);
-            return (world, unless_refused(source, &mut room, end));
+            *end = unless_refused(source, &mut room, PartsEnded::Troubled(trouble));
+            return world;
         }
         Ok(None) => {}
-        Err(fault) => return (world, PartsEnded::Stopped(fault)),
+        Err(fault) => {
+            *end = PartsEnded::Stopped(fault);
+            return world;
+        }
     }
     let code = ErrorCode::new(None);
-    let mut taker = PartFolder::new(world, alloc, asked, out, &code);
+    let lent = Lent::<'w, W, M> {
+        world,
+        task: PhantomData,
+    };
+    let mut taker = PartFolder::new(lent, alloc, asked, out, &code);
     let unpacked = uimg_legacy::unpack(only, source, &mut room, &mut taker);
     let (world, trouble) = taker.end();
-    (world, ended(unpacked, trouble))
+    *end = ended(unpacked, trouble);
+    world
 }
 
 fn ended(unpacked: Result<bool, Fault>, trouble: Option<Trouble>) -> PartsEnded

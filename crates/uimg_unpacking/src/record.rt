@@ -1,6 +1,6 @@
 //! A list of deeds that only clauses read: it takes no memory, and noting one takes no time.
 
-ghost use Rattle.std.specs.Prelude.{◌≡◌, List, [], ◌∷◌, ◌++◌};
+ghost use Rattle.std.specs.Prelude.{◌≡◌, List, [], ◌∷◌};
 ghost use Rattle.std.specs.Borrow.{ftrue};
 ghost use Rattle.uimg_unpacking.specs.Deeds.{Deed, deed_of};
 
@@ -30,12 +30,4 @@ impl Record {
     pub(crate) fn note(&mut self, _call: &[u64], _path: &[u8], _other: &[u8])
         ensures { self.new.deeds ≡ deed_of _call.now _path.now _other.now ∷ self.old.deeds }
     {}
-
-    pub(crate) fn after(&self, _earlier: &Record) -> Record
-        ensures { result.deeds ≡ self.now.deeds ++ _earlier.now.deeds }
-    {
-        Record {
-            marker: PhantomData,
-        }
-    }
 }

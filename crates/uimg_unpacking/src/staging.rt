@@ -1,13 +1,13 @@
 //! Files that are written in a folder of their own, and get their names all at once.
 
-ghost use Rattle.std.specs.Prelude.{◌≡◌, ◌++◌, ◌∷◌, [], List, ℕ, Some, map, true, false, codes, IfOk, IfSome, IsTrue, MatchOption, OnOk, is_ok, not, string_bytes};
+ghost use Rattle.std.specs.Prelude.{◌≡◌, ◌++◌, ◌∷◌, [], List, ℕ, Bool, Some, map, true, false, codes, IfOk, IfSome, IsTrue, MatchOption, OnOk, is_ok, not, string_bytes};
 ghost use Rattle.std.specs.{Io.Buffered.writer_contents, List.list_all};
 ghost use Rattle.std.specs.Option.{option_map, option_map_or};
 ghost use Rattle.uimg_unpacking.specs.Deeds.{Answer, ClosesFile, Deed, answer_of};
 ghost use Rattle.uimg_unpacking.specs.Clearing.{Clears};
 ghost use Rattle.uimg_unpacking.specs.Contents.{held};
 ghost use Rattle.uimg_unpacking.specs.FileNames.{is_file_name};
-ghost use Rattle.uimg_unpacking.specs.Places.{is_temporary_folder, is_temporary_file, is_begun_in, stays_within};
+ghost use Rattle.uimg_unpacking.specs.Places.{is_temporary_folder, is_temporary_file, is_begun_in, Obeys, terms_of};
 ghost use Rattle.uimg_unpacking.specs.Refusals.{last_of, last_name, DropsLast, RefusesLast, TellsUnwritten};
 ghost use Rattle.uimg_unpacking.specs.Staged.{ClosesLast, Completes, Drops, are_numbered_in, complete_names, names_of, staged, with_name};
 
@@ -16,16 +16,19 @@ mod naming_all;
 use crate::begun::{Begun, begun_in};
 use crate::folder::Folder;
 use crate::new_file::{ErrorCode, NewFile};
+use crate::task::{Lent, Task};
 use crate::trouble::{ShownPath, Trouble};
 use crate::world::World;
 use std::alloc::{AllocError, Global};
 use std::io;
 use std::io::{BufWriter, ErrorKind};
+use std::marker::PhantomData;
 
 /// New files for a folder. Until they get their names, they are in a temporary folder within it.
 #[derive(Drop)]
-pub(crate) struct Staging<'a, 'c, W: World> {
-    world: W,
+pub(crate) struct Staging<'w, 'a, 'c, W: World, M: Task> {
+    world: &'w mut W,
+    task: PhantomData<M>,
     alloc: Global,
     folder: Folder<'a>,
     // The path of the temporary folder, once it is created.
@@ -47,26 +50,31 @@ pub(crate) struct Staging<'a, 'c, W: World> {
     ghost files_inside: { list_all (is_begun_in folder.path.now) files.items ≡ true },
     ghost created_inside: { list_all (λ path. is_temporary_file folder.path.now (string_bytes path)) created.items ≡ true },
     ghost outdated_inside: { list_all (is_begun_in folder.path.now) outdated.items ≡ true },
-    ghost stays: { stays_within folder.path.now is_naming (W.trace world) ≡ true },
+    ghost named: { world.ghost_name ≡ M.name },
+    ghost agreed: { terms_of folder ≡ M.terms },
+    ghost obeys: { Obeys (terms_of folder) is_naming M.before (W.trace world.now) },
     ghost numbered: { are_numbered_in (option_map string_bytes made) files.items ≡ true },
 }
 
-impl<'a, 'c, W: World> Staging<'a, 'c, W> {
+impl<'w, 'a, 'c, W: World, M: Task> Staging<'w, 'a, 'c, W, M> {
     /// Notes failed writes in `code`.
     pub(crate) fn new(
-        world: W,
+        lent: Lent<'w, W, M>,
         alloc: Global,
         folder: Folder<'a>,
         code: &'c ErrorCode,
-    ) -> Staging<'a, 'c, W>
-        requires { W.trace world ≡ [] }
+    ) -> Staging<'w, 'a, 'c, W, M>
+        requires before { W.trace lent.world.now ≡ M.before }
+        requires agreed { terms_of folder ≡ M.terms }
         ensures folder { result.folder ≡ folder.entry }
         ensures unnamed { result.is_naming ≡ false }
         ensures none { result.files.items ≡ [] × result.outdated.items ≡ []
             × result.is_writing ≡ false }
     {
+        let Lent { world, task } = lent;
         Staging {
             world,
+            task,
             alloc,
             folder,
             made: None,
@@ -85,10 +93,10 @@ impl<'a, 'c, W: World> Staging<'a, 'c, W> {
         ensures files { self.new.files ≡ self.old.files }
         ensures outdated { self.new.outdated ≡ self.old.outdated }
         ensures writing { self.new.is_writing ≡ self.old.is_writing }
-        ensures held { held (W.trace self.new.world) ≡ held (W.trace self.old.world) }
+        ensures held { held (W.trace self.new.world.now) ≡ held (W.trace self.old.world.now) }
     {
         let whole = self.folder.path_of(self.alloc, name)?;
-        self.folder.allows(&mut self.world, whole)?;
+        self.folder.allows(self.world, whole)?;
         Ok(())
     }
 
@@ -102,8 +110,8 @@ impl<'a, 'c, W: World> Staging<'a, 'c, W> {
         ensures complete { complete_names self.new.files.items self.new.is_writing
             ≡ complete_names self.old.files.items self.old.is_writing }
         ensures outdated { self.new.outdated ≡ self.old.outdated }
-        ensures staged { staged (W.trace self.new.world) self.new.files.items self.new.is_writing
-            ≡ staged (W.trace self.old.world) self.old.files.items self.old.is_writing }
+        ensures staged { staged (W.trace self.new.world.now) self.new.files.items self.new.is_writing
+            ≡ staged (W.trace self.old.world.now) self.old.files.items self.old.is_writing }
         ensures empty { IsTrue W.knows → IfOk result (λ new.
             writer_contents W.File.contents new.file ≡ Some []) }
     {
@@ -133,12 +141,12 @@ impl<'a, 'c, W: World> Staging<'a, 'c, W> {
         ensures files { self.new.files ≡ self.old.files }
         ensures outdated { self.new.outdated ≡ self.old.outdated }
         ensures writing { self.new.is_writing ≡ self.old.is_writing }
-        ensures held { held (W.trace self.new.world) ≡ held (W.trace self.old.world) }
+        ensures held { held (W.trace self.new.world.now) ≡ held (W.trace self.old.world.now) }
     {
         if self.made.is_some() {
             return Ok(Ok(()));
         }
-        match self.folder.new_folder(&mut self.world, self.alloc) {
+        match self.folder.new_folder(self.world, self.alloc) {
             Ok(Ok(made)) => {
                 self.made = Some(made);
                 Ok(Ok(()))
@@ -193,8 +201,8 @@ impl<'a, 'c, W: World> Staging<'a, 'c, W> {
         ensures files { self.new.files ≡ self.old.files }
         ensures outdated { self.new.outdated ≡ self.old.outdated }
         ensures writing { self.new.is_writing ≡ self.old.is_writing }
-        ensures staged { staged (W.trace self.new.world) self.old.files.items self.old.is_writing
-            ≡ staged (W.trace self.old.world) self.old.files.items self.old.is_writing }
+        ensures staged { staged (W.trace self.new.world.now) self.old.files.items self.old.is_writing
+            ≡ staged (W.trace self.old.world.now) self.old.files.items self.old.is_writing }
         ensures empty { IsTrue W.knows →
             IfOk result (λ file. W.File.contents file ≡ Some []) }
     {
@@ -214,8 +222,8 @@ impl<'a, 'c, W: World> Staging<'a, 'c, W> {
         ensures complete { complete_names self.new.files.items self.new.is_writing
             ≡ complete_names self.old.files.items self.old.is_writing }
         ensures outdated { self.new.outdated ≡ self.old.outdated }
-        ensures staged { staged (W.trace self.new.world) self.new.files.items self.new.is_writing
-            ≡ staged (W.trace self.old.world) self.old.files.items self.old.is_writing }
+        ensures staged { staged (W.trace self.new.world.now) self.new.files.items self.new.is_writing
+            ≡ staged (W.trace self.old.world.now) self.old.files.items self.old.is_writing }
     {
         match self.files.push(begun) {
             Ok(()) => {
@@ -239,8 +247,8 @@ impl<'a, 'c, W: World> Staging<'a, 'c, W> {
         ensures staged { IsTrue W.knows → (bytes : List ℕ) →
             writer_contents W.File.contents file.entry.file ≡ Some bytes →
             Completes (is_ok result) (Some bytes)
-            (staged (W.trace self.old.world) self.old.files.items self.old.is_writing)
-            (staged (W.trace self.new.world) self.new.files.items self.new.is_writing) }
+            (staged (W.trace self.old.world.now) self.old.files.items self.old.is_writing)
+            (staged (W.trace self.new.world.now) self.new.files.items self.new.is_writing) }
     {
         if self.is_complete() {
             return Err(Trouble::NoName);
@@ -270,7 +278,7 @@ impl<'a, 'c, W: World> Staging<'a, 'c, W> {
         requires { self.old.is_writing ≡ true }
         ensures closed { ClosesLast W.knows self.old.folder.is_synced
             (last_of self.old.files.items) (W.File.contents file) (answer_of result)
-            (W.trace self.old.world) (W.trace self.new.world) }
+            (W.trace self.old.world.now) (W.trace self.new.world.now) }
         ensures folder { self.new.folder ≡ self.old.folder }
         ensures files { self.new.files ≡ self.old.files }
         ensures outdated { self.new.outdated ≡ self.old.outdated }
@@ -279,8 +287,8 @@ impl<'a, 'c, W: World> Staging<'a, 'c, W> {
             ≡ with_name (is_ok result) (complete_names self.old.files.items self.old.is_writing)
             (last_name self.old.files.items) }
         ensures staged { IsTrue W.knows → Completes (is_ok result) (W.File.contents file)
-            (staged (W.trace self.old.world) self.old.files.items self.old.is_writing)
-            (staged (W.trace self.new.world) self.new.files.items self.new.is_writing) }
+            (staged (W.trace self.old.world.now) self.old.files.items self.old.is_writing)
+            (staged (W.trace self.new.world.now) self.new.files.items self.new.is_writing) }
     {
         let Some(last) = self.files.last() else {
             return Err(io::Error::from(ErrorKind::NotFound));
@@ -301,12 +309,12 @@ impl<'a, 'c, W: World> Staging<'a, 'c, W> {
         ensures folder { self.new.folder ≡ self.old.folder }
         ensures names { Drops (names_of self.old.files.items) (names_of self.new.files.items)
             (names_of self.old.outdated.items) (names_of self.new.outdated.items) }
-        ensures staged { staged (W.trace self.new.world) self.new.files.items self.new.is_writing
-            ≡ staged (W.trace self.old.world) self.old.files.items self.old.is_writing }
+        ensures staged { staged (W.trace self.new.world.now) self.new.files.items self.new.is_writing
+            ≡ staged (W.trace self.old.world.now) self.old.files.items self.old.is_writing }
         ensures dropped { OnOk result (RefusesLast is_outdated
             self.old.files.items self.new.files.items
             self.old.outdated.items self.new.outdated.items
-            (W.trace self.old.world) (W.trace self.new.world)) }
+            (W.trace self.old.world.now) (W.trace self.new.world.now)) }
         ensures naming { self.new.is_naming ≡ self.old.is_naming }
     {
         if self.is_complete() {
@@ -324,17 +332,17 @@ impl<'a, 'c, W: World> Staging<'a, 'c, W> {
         ensures begun { IfOk result (λ last. is_begun_in self.old.folder.path.now last ≡ true) }
         ensures folder { self.new.folder ≡ self.old.folder }
         ensures last { IfOk result (λ last. self.old.files.items ≡ self.new.files.items ++ last ∷ []
-            × W.trace self.new.world
-            ≡ Deed.Removes (string_bytes last.new) Answer.Done ∷ W.trace self.old.world) }
+            × W.trace self.new.world.now
+            ≡ Deed.Removes (string_bytes last.new) Answer.Done ∷ W.trace self.old.world.now) }
         ensures dropped { DropsLast self.old.files.items self.new.files.items (is_ok result)
-            (W.trace self.old.world) (W.trace self.new.world) }
+            (W.trace self.old.world.now) (W.trace self.new.world.now) }
         ensures outdated { self.new.outdated ≡ self.old.outdated }
         ensures naming { self.new.is_naming ≡ self.old.is_naming }
         ensures names { Drops (names_of self.old.files.items) (names_of self.new.files.items)
             (names_of self.old.outdated.items) (names_of self.new.outdated.items) }
         ensures staged { self.old.is_writing ≡ true →
-            staged (W.trace self.new.world) self.new.files.items self.new.is_writing
-            ≡ staged (W.trace self.old.world) self.old.files.items true }
+            staged (W.trace self.new.world.now) self.new.files.items self.new.is_writing
+            ≡ staged (W.trace self.old.world.now) self.old.files.items true }
         ensures complete { self.old.is_writing ≡ true →
             complete_names self.new.files.items self.new.is_writing
             ≡ complete_names self.old.files.items true }
@@ -369,8 +377,8 @@ impl<'a, 'c, W: World> Staging<'a, 'c, W> {
         ensures files { self.new.files ≡ self.old.files }
         ensures outdated { self.new.outdated ≡ self.old.outdated }
         ensures writing { self.new.is_writing ≡ self.old.is_writing }
-        ensures removed { W.trace self.new.world
-            ≡ Deed.Removes (string_bytes begun.now.new) (answer_of result) ∷ W.trace self.old.world }
+        ensures removed { W.trace self.new.world.now
+            ≡ Deed.Removes (string_bytes begun.now.new) (answer_of result) ∷ W.trace self.old.world.now }
         ensures naming { self.new.is_naming ≡ self.old.is_naming }
     {
         self.world.remove_file(begun.new.as_str())
@@ -406,16 +414,18 @@ impl<'a, 'c, W: World> Staging<'a, 'c, W> {
     }
 
     /// Removes the files that have no name, and their folder. Returns the world.
-    pub(crate) fn end(self) -> W
-        ensures stays { stays_within self.entry.folder.path.now self.entry.is_naming (W.trace result) ≡ true }
+    pub(crate) fn end(self) -> &'w mut W
+        ensures named { result.ghost_name ≡ M.name }
+        ensures obeys { Obeys M.terms self.entry.is_naming M.before (W.trace result.now) }
         ensures cleared { Clears (option_map string_bytes self.entry.made)
             (map string_bytes self.entry.created.items)
-            (W.trace self.entry.world) (W.trace result) }
+            (W.trace self.entry.world.now) (W.trace result.now) }
     {
         let Staging {
-            mut world,
+            world,
+            task: _task,
             alloc: _alloc,
-            folder: _folder,
+            folder,
             made,
             files: _files,
             created,
@@ -424,15 +434,27 @@ impl<'a, 'c, W: World> Staging<'a, 'c, W> {
             is_naming: _is_naming,
             code: _code,
         } = self;
-        for path in &created {
-            let _ = world.remove_file(path.as_str());
-        }
-        match made {
-            Some(made) => {
-                let _ = world.remove_dir(made.as_str());
-                world
-            }
-            None => world,
-        }
+        clear(world, &folder, made, created.as_slice());
+        world
     }
+}
+
+// Removes these temporary files, and then the folder that was made.
+fn clear<W: World>(world: &mut W, folder: &Folder<'_>, made: Option<String>, created: &[String])
+    requires made { option_map_or (λ path. is_temporary_folder folder.now.path.now
+        (string_bytes path)) made true ≡ true }
+    requires created { list_all (λ path. is_temporary_file folder.now.path.now
+        (string_bytes path)) created.now ≡ true }
+    ensures obeys { (is_naming : Bool) → Obeys (terms_of folder.now) is_naming
+        (W.trace world.old) (W.trace world.new) }
+    ensures cleared { Clears (option_map string_bytes made) (map string_bytes created.now)
+        (W.trace world.old) (W.trace world.new) }
+{
+    for path in created {
+        let _ = world.remove_file(path.as_str());
+    }
+    let Some(made) = made else {
+        return;
+    };
+    let _ = world.remove_dir(made.as_str());
 }

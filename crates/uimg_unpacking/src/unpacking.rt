@@ -1,12 +1,12 @@
 //! Unpacks a FIT image into a folder.
 
-ghost use Rattle.std.specs.Prelude.{◌≡◌, ◌+◌, ◌≤◌, [], IsTrue, true};
+ghost use Rattle.std.specs.Prelude.{◌≡◌, ◌+◌, ◌≤◌, IsTrue, true};
 ghost use Rattle.std.specs.Option.{option_map};
 ghost use Rattle.uimg_base.specs.Device.{SameDevice};
 ghost use Rattle.uimg_base.specs.Honest.{IfHonest};
 ghost use Rattle.uimg_fit_checking.specs.Unpacking.{as_bytes, unpack_work};
 ghost use Rattle.uimg_unpacking.specs.Ends.{asked_name, is_whole, end_of_taken, end_of_fault, TellsOverlap, EndsGiven, Ends, EndsByFile};
-ghost use Rattle.uimg_unpacking.specs.{Deeds.Follows, Filling.Fills, Places.{ChangesWithin, stays_within}};
+ghost use Rattle.uimg_unpacking.specs.{Filling.Fills, Places.{ChangesWithin, Obeys, terms_of}};
 
 use crate::folder::Folder;
 use crate::folder_taker::FolderTaker;
@@ -15,10 +15,12 @@ use crate::lines::Line;
 use crate::new_file::ErrorCode;
 use crate::objects::told;
 use crate::plan::gives_names;
+use crate::task::{Lent, Task};
 use crate::trouble::Trouble;
 use crate::world::World;
 use std::alloc::Global;
 use std::io::Write;
+use std::marker::{Brand, PhantomData};
 use uimg_base::{Algo, Room, Source};
 use uimg_fit_base::{Fault, FitFault};
 use uimg_fit_checking::{NodeName, Unpacked};
@@ -81,7 +83,6 @@ pub enum Ended {
 /// Over an honest source it ends as the definition says of the image's bytes (`end_of_file`),
 /// unless a read fails, memory runs out or it returns a trouble. Where files are kept, and
 /// contracts know what new files hold, these are exactly the bytes of the kept payloads, in order.
-#[tactic(auto, using(crate::proofs::PartChanges::within, crate::proofs::PartChanges::follows))]
 pub fn unpack<W: World, S: Source, O: Write + Drop>(
     world: &mut W,
     asked: &Unpacking<'_>,
@@ -89,48 +90,58 @@ pub fn unpack<W: World, S: Source, O: Write + Drop>(
     out: O,
 ) -> Ended
     ensures within { ChangesWithin asked.now.folder.path.now true (W.trace world.old) (W.trace world.new) }
-    ensures later { Follows (W.trace world.old) (W.trace world.new) }
     ensures same { SameDevice (S.device source.old) (S.device source.new) }
     ensures asked { IfHonest S.device source (λ file. (S.device source.new).asked
         ≤ (S.device source.old).asked + unpack_work file) }
     ensures ended { IfHonest S.device source (λ file. EndsByFile asked.now file result) }
+    ensures obeys { Obeys (terms_of asked.now.folder) true (W.trace world.old) (W.trace world.new) }
     ensures filled { IfHonest S.device source (λ file. IsTrue W.knows →
-        Fills asked.now file result (W.trace world.old) (W.trace world.new)) }
+        Fills asked.now file result (W.trace world.new)) }
 {
-    let (part, ended) = unpack_in(world.part(), world.alloc(), asked, source, out);
-    world.rejoin(part);
-    ended
+    let alloc = world.alloc();
+    let mut end = Ended::NoImage;
+    let _world = unpack_in::<_, _, _, Brand>(world, alloc, asked, source, out, &mut end);
+    end
 }
 
-// Returns the world. Changes nothing outside the folder.
-#[tactic(auto, using(crate::proofs::Placing::stays_naming))]
-fn unpack_in<W: World, S: Source, O: Write + Drop>(
-    world: W,
+// Returns the world. Contracts lose the last value of a reference that is taken out of a tuple.
+#[tactic(auto, using(crate::proofs::Placing::obeys_naming))]
+fn unpack_in<'w, W: World, S: Source, O: Write + Drop, M: Task>(
+    world: &'w mut W,
     alloc: Global,
     asked: &Unpacking<'_>,
     source: &mut S,
     out: O,
-) -> (W, Ended)
-    requires { W.trace world ≡ [] }
-    ensures within { stays_within asked.now.folder.path.now true (W.trace result.0) ≡ true }
+    end: &mut Ended,
+) -> &'w mut W
+    requires named { world.ghost_name ≡ M.name }
+    requires before { W.trace world.now ≡ M.before }
+    requires agreed { terms_of asked.now.folder ≡ M.terms }
+    ensures named { result.ghost_name ≡ M.name }
+    ensures obeys { Obeys M.terms true M.before (W.trace result.now) }
     ensures same { SameDevice (S.device source.old) (S.device source.new) }
     ensures asked { IfHonest S.device source (λ file. (S.device source.new).asked
         ≤ (S.device source.old).asked + unpack_work file) }
-    ensures ended { IfHonest S.device source (λ file. EndsByFile asked.now file result.1) }
+    ensures ended { IfHonest S.device source (λ file. EndsByFile asked.now file end.new) }
     ensures filled { IfHonest S.device source (λ file. IsTrue W.knows →
-        Fills asked.now file result.1 [] (W.trace result.0)) }
+        Fills asked.now file end.new (W.trace result.now)) }
 {
     let Some(only) = only_of(asked.only) else {
-        return (world, Ended::Stopped(Fault::Fit(FitFault::NoSuchImage)));
+        *end = Ended::Stopped(Fault::Fit(FitFault::NoSuchImage));
+        return world;
     };
     let mut room = Room::new(alloc);
     let code = ErrorCode::new(None);
-    let mut taker = FolderTaker::new(world, alloc, asked, out, &code);
+    let lent = Lent::<'w, W, M> {
+        world,
+        task: PhantomData,
+    };
+    let mut taker = FolderTaker::new(lent, alloc, asked, out, &code);
     let unpacked = uimg_fit_checking::unpack(only, asked.need, source, &mut room, &mut taker);
     let names = gives_names(asked.keeps_good, is_whole(&unpacked));
     let (world, mut out, count, trouble) = taker.end(names);
-    let ended = how_ended(alloc, asked, unpacked, (count, trouble), &mut out);
-    (world, ended)
+    *end = how_ended(alloc, asked, unpacked, (count, trouble), &mut out);
+    world
 }
 
 fn how_ended<W: Write + Drop>(

@@ -16,7 +16,7 @@ use uimg_base::{Source, SourceFault};
 /// honest sources of the bytes that it has at a path. Where contracts know what new files hold, each
 /// call that closes one says it.
 pub trait World: Drop {
-    ghost use Rattle.std.specs.Prelude.{◌≡◌, List, [], ◌∷◌, ◌++◌, Bool, None, Some, false, IfOk, IsTrue, OnErr, is_err, is_ok};
+    ghost use Rattle.std.specs.Prelude.{◌≡◌, List, [], ◌∷◌, Bool, None, Some, false, IfOk, IsTrue, OnErr, is_err, is_ok};
     ghost use Rattle.uimg_base.specs.{Device.RisesIf, Named.{FileMap, SameFiles, Opens}};
     ghost use Rattle.uimg_unpacking.specs.Deeds.{ClosesFile, Deed, answer_of, resolved};
 
@@ -40,16 +40,6 @@ pub trait World: Drop {
 
     /// Returns the allocator of the program's memory.
     fn alloc(&self) -> Global;
-
-    /// Returns the same files as a world of their own, with no request yet. Its requests belong to
-    /// this world, too, once it is rejoined.
-    fn part(&self) -> Self
-        ensures trace { trace result ≡ [] }
-        ensures same { SameFiles (map self.now) (map result) };
-
-    /// Notes the requests of a part of the world.
-    fn rejoin(&mut self, part: Self)
-        ensures { trace self.new ≡ trace part ++ trace self.old };
 
     /// Opens the file at a path as a source. Nothing was requested of it yet.
     ///

@@ -8,10 +8,11 @@ ghost use Rattle.uimg_unpacking.specs.Troubles.{trouble_in};
 
 use crate::naming::{forget_old, name_files, put_back_all, remove_all_old};
 use crate::staging::Staging;
+use crate::task::Task;
 use crate::trouble::{ShownPath, Trouble};
 use crate::world::World;
 
-impl<'a, 'c, W: World> Staging<'a, 'c, W> {
+impl<'w, 'a, 'c, W: World, M: Task> Staging<'w, 'a, 'c, W, M> {
     fn begin_naming(&mut self)
         ensures files { self.new.files ≡ self.old.files }
         ensures writing { self.new.is_writing ≡ self.old.is_writing }
@@ -27,7 +28,7 @@ impl<'a, 'c, W: World> Staging<'a, 'c, W> {
     /// what they were to replace is restored.
     pub(crate) fn name_all(&mut self) -> Result<(), Trouble>
         ensures told { NamesComplete self.old.folder self.old.files.items self.old.is_writing
-            (is_ok result) (W.trace self.old.world) (W.trace self.new.world) }
+            (is_ok result) (W.trace self.old.world.now) (W.trace self.new.world.now) }
         ensures complete { complete_names self.new.files.items self.new.is_writing
             ≡ complete_names self.old.files.items self.old.is_writing }
         ensures folder { self.new.folder ≡ self.old.folder }
@@ -46,7 +47,7 @@ impl<'a, 'c, W: World> Staging<'a, 'c, W> {
     fn name_complete(&mut self) -> Result<(), Trouble>
         requires { self.old.is_naming ≡ true }
         ensures told { NamesAll self.old.folder self.old.files.items (is_ok result)
-            (W.trace self.old.world) (W.trace self.new.world) }
+            (W.trace self.old.world.now) (W.trace self.new.world.now) }
         ensures files { self.new.files ≡ self.old.files }
         ensures writing { self.new.is_writing ≡ self.old.is_writing }
         ensures folder { self.new.folder ≡ self.old.folder }
@@ -60,7 +61,7 @@ impl<'a, 'c, W: World> Staging<'a, 'c, W> {
             let all = self.files.len();
             return Err(self.taken_back(all, trouble));
         }
-        forget_old(&mut self.world, &self.folder, self.files.as_slice());
+        forget_old(self.world, &self.folder, self.files.as_slice());
         Ok(())
     }
 
@@ -70,10 +71,10 @@ impl<'a, 'c, W: World> Staging<'a, 'c, W> {
         ensures folder { self.new.folder ≡ self.old.folder }
         ensures naming { self.new.is_naming ≡ self.old.is_naming }
         ensures leaves { LeavesOthers self.old.folder.path.now (names_of self.old.outdated.items)
-            (W.trace self.old.world) (W.trace self.new.world) }
+            (W.trace self.old.world.now) (W.trace self.new.world.now) }
     {
         let outdated = self.outdated.as_slice();
-        remove_all_old(&mut self.world, self.alloc, &self.folder, outdated)?;
+        remove_all_old(self.world, self.alloc, &self.folder, outdated)?;
         if self.outdated.is_empty() {
             return Ok(());
         }
@@ -83,7 +84,7 @@ impl<'a, 'c, W: World> Staging<'a, 'c, W> {
     // Waits until the names in the folder are on the disk, if that is requested and there are any.
     fn sync(&mut self) -> Result<(), Trouble>
         ensures told { SyncsNames self.old.folder self.old.files.items (trouble_in result)
-            (W.trace self.old.world) (W.trace self.new.world) }
+            (W.trace self.old.world.now) (W.trace self.new.world.now) }
         ensures files { self.new.files ≡ self.old.files }
         ensures writing { self.new.is_writing ≡ self.old.is_writing }
         ensures folder { self.new.folder ≡ self.old.folder }
@@ -108,19 +109,14 @@ impl<'a, 'c, W: World> Staging<'a, 'c, W> {
         requires { self.old.is_naming ≡ true }
         ensures all { result.1 ≡ None → result.0 ≡ length self.new.files.items }
         ensures told { NamesFiles self.old.folder self.old.files.items result.0
-            (not (is_some result.1)) (W.trace self.old.world) (W.trace self.new.world) }
+            (not (is_some result.1)) (W.trace self.old.world.now) (W.trace self.new.world.now) }
         ensures files { self.new.files ≡ self.old.files }
         ensures writing { self.new.is_writing ≡ self.old.is_writing }
         ensures folder { self.new.folder ≡ self.old.folder }
         ensures outdated { self.new.outdated ≡ self.old.outdated }
         ensures naming { self.new.is_naming ≡ self.old.is_naming }
     {
-        name_files(
-            &mut self.world,
-            self.alloc,
-            &self.folder,
-            self.files.as_slice(),
-        )
+        name_files(self.world, self.alloc, &self.folder, self.files.as_slice())
     }
 
     // Takes the names of the files before a number away, and puts back what they, and the file of
@@ -130,14 +126,14 @@ impl<'a, 'c, W: World> Staging<'a, 'c, W> {
         requires { self.old.is_naming ≡ true }
         ensures told { TakesBack self.old.files.items number
             (option_map string_bytes self.old.made) trouble result
-            (W.trace self.old.world) (W.trace self.new.world) }
+            (W.trace self.old.world.now) (W.trace self.new.world.now) }
         ensures files { self.new.files ≡ self.old.files }
         ensures writing { self.new.is_writing ≡ self.old.is_writing }
         ensures folder { self.new.folder ≡ self.old.folder }
         ensures outdated { self.new.outdated ≡ self.old.outdated }
         ensures naming { self.new.is_naming ≡ self.old.is_naming }
     {
-        let is_back = put_back_all(&mut self.world, &self.folder, self.files.as_slice(), number);
+        let is_back = put_back_all(self.world, &self.folder, self.files.as_slice(), number);
         if is_back {
             return trouble;
         }

@@ -3,6 +3,7 @@ use Rattle.uimg_base.specs.Named.{Opens}
 use Rattle.uimg_tool.specs.Unpackings.{HoldsPayloads, IsRight, unpacking_of}
 use Rattle.uimg_unpacking.specs.declared.unpacking.Unpacking.{Unpacking}
 use Rattle.uimg_unpacking.specs.Deeds.{Identifies, Opens as Opened}
+use Rattle.uimg_unpacking.specs.Places.{Obeys, terms_of}
 use Rattle.uimg_tool.proofs.{UnpackLaws.right_at, UnpackTells.ended_at}
 use Rattle.uimg_tool.proofs.unpack_program.unpack_at.Goals as goal
 
@@ -18,10 +19,12 @@ returns-clause-done g c = λ honest told.
     let looked : middle ≡ Identifies c.args.path.now c.file_at.result ∷ Opened c.args.path.now true ∷ g.D.World.trace c.args.world.now = search rules in
     let right : IsRight (unpacking_of c.args.request.now c.file_at.result c.args.path) device.bytes =
     subst (λ (a : Unpacking). IsRight a device.bytes) asked (c.unpack_source-else-request.ensures.done (opened.honest honest) told) in
-    let holds : HoldsPayloads (unpacking_of c.args.request.now c.file_at.result c.args.path) device.bytes middle after =
-    subst (λ (a : Unpacking). HoldsPayloads a device.bytes middle after) asked
+    let obeys : Obeys (terms_of (unpacking_of c.args.request.now c.file_at.result c.args.path).folder) true middle after =
+    subst (λ (a : Unpacking). Obeys (terms_of a.folder) true middle after) asked c.unpack_source-else-request.ensures.obeys in
+    let holds : HoldsPayloads (unpacking_of c.args.request.now c.file_at.result c.args.path) device.bytes after =
+    subst (λ (a : Unpacking). HoldsPayloads a device.bytes after) asked
     (c.unpack_source-else-request.ensures.holds (opened.honest honest) (g.D.World.known c.args.world.now honest) told) in
-    (device.bytes, opened.bytes honest, right_at c.args.request.now c.args.path c.file_at.result device.bytes (g.D.World.trace c.args.world.now) middle after looked c.unpack_source-else-request.ensures.later right holds)
+    (device.bytes, opened.bytes honest, right_at c.args.request.now c.args.path c.file_at.result device.bytes (g.D.World.trace c.args.world.now) middle after looked obeys right holds)
 
 -- so its end is that of the file at the path
 pub returns-then-request-clause-ended : goal.returns-then-request-clause-ended

@@ -1,4 +1,4 @@
-use Rattle.std.proofs.Common.{◌≡◌, ap, subst, string_bytes, Bool, true, is_ok, Vec}
+use Rattle.std.proofs.Common.{ap, subst, string_bytes, Bool, true, is_ok, Vec}
 use Rattle.std.specs.Option.{option_map}
 use Rattle.std.specs.declared.alloc.Global.{Global}
 use Rattle.uimg_unpacking.specs.{NamingAll.NamesComplete, Staged.{LeavesOthers, names_of}}
@@ -11,9 +11,9 @@ pub returns-in-Ok-clause-holds : goal.returns-in-Ok-clause-holds
 returns-in-Ok-clause-holds g c = λ names done used uses.
     let it = c.args.staging.now in
     let named = c.name_all.new.self in
-    let before = g.W.World.trace it.world in
-    let seen = g.W.World.trace named.world in
-    let after = g.W.World.trace c.remove_outdated.new.self.world in
+    let before = g.W.World.trace it.world.now in
+    let seen = g.W.World.trace named.world.now in
+    let after = g.W.World.trace c.remove_outdated.new.self.world.now in
     let told : NamesComplete it.folder it.files.items it.is_writing true before seen =
     subst (λ (b : Bool). NamesComplete it.folder it.files.items it.is_writing b before seen) (ap is_ok c.in-Ok.is) c.name_all.ensures.told in
     let leaves : LeavesOthers it.folder.path.now (names_of it.outdated.items) seen after =

@@ -2,10 +2,10 @@ use Rattle.std.proofs.Common.{rules, ◌≡◌, ◌∙◌, ◌+◌, ◌∷◌, L
 use Rattle.std.proofs.lemmas.List.{drop_all}
 use Rattle.uimg_unpacking.specs.Clearing.{RemovesEach}
 use Rattle.uimg_unpacking.specs.Deeds.{answer_of}
-use Rattle.uimg_unpacking.specs.Places.{is_begun_in, is_temporary_file}
+use Rattle.uimg_unpacking.specs.Places.{is_begun_in, is_temporary_file, terms_of}
 use Rattle.uimg_unpacking.specs.declared.begun.Begun.{Begun}
 use Rattle.uimg_unpacking.proofs.NamingLaws.{first_of}
-use Rattle.uimg_unpacking.proofs.Placing.{each_of, begun_old, removed_within}
+use Rattle.uimg_unpacking.proofs.Placing.{each_of, begun_old, removed_within, ◌◁◌}
 use Rattle.uimg_unpacking.proofs.StagedLaws.{each_next}
 use Rattle.uimg_unpacking.proofs.naming.forget_old.Goals as goal
 
@@ -19,7 +19,7 @@ loop-its-preserved g c =
     let first : drop i files ≡ its ∷ drop (i + 1) files = search (rules, first_of files) in
     let old : is_temporary_file folder c.as_str.result.now ≡ true = ap (is_temporary_file folder) c.as_str.ensures.value ∙ begun_old folder its inside in
     record {
-      within = removed_within folder true c.as_str.result.now (answer_of c.remove_file.result) (g.W.World.trace c.loop-its.world) (g.W.World.trace c.remove_file.new.self) old c.remove_file.ensures ∙ c.loop-its.invariant.within;
+      within = removed_within (terms_of c.args.folder.now) true c.as_str.result.now (answer_of c.remove_file.result) (g.W.World.trace c.loop-its.world) (g.W.World.trace c.remove_file.new.self) old c.remove_file.ensures ◁ c.loop-its.invariant.within;
       left = λ t rest. c.loop-its.invariant.left t
           (subst (λ (fs : List Begun). RemovesEach (map (λ it. string_bytes it.old) fs) (g.W.World.trace c.loop-its.world) t) (sym first)
           (each_next (string_bytes its.old) c.as_str.result.now (map (λ it. string_bytes it.old) (drop (i + 1) files)) (answer_of c.remove_file.result) (g.W.World.trace c.loop-its.world) (g.W.World.trace c.remove_file.new.self) t c.as_str.ensures.value c.remove_file.ensures rest));

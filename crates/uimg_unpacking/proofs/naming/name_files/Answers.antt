@@ -1,10 +1,10 @@
-use Rattle.std.proofs.Common.{rules, arith, ◌≡◌, ◌∙◌, ◌+◌, ◌∷◌, ℕ, Bool, List, [], suc, refl, sym, ap, subst, true, false, is_ok, drop}
+use Rattle.std.proofs.Common.{rules, arith, ◌≡◌, ◌+◌, ◌∷◌, ℕ, Bool, List, [], suc, refl, sym, ap, subst, true, false, is_ok, drop}
 use Rattle.std.proofs.lemmas.List.{drop_all}
 use Rattle.uimg_unpacking.specs.NamingAll.{NamesIt, NamesFiles}
-use Rattle.uimg_unpacking.specs.Places.{is_begun_in}
+use Rattle.uimg_unpacking.specs.Places.{is_begun_in, terms_of}
 use Rattle.uimg_unpacking.specs.declared.begun.Begun.{Begun}
 use Rattle.uimg_unpacking.proofs.NamingLaws.{first_of, one_named, not_named_next}
-use Rattle.uimg_unpacking.proofs.Placing.{each_of, names_within}
+use Rattle.uimg_unpacking.proofs.Placing.{each_of, names_within, ◌◁◌}
 use Rattle.uimg_unpacking.proofs.naming.name_files.Goals as goal
 
 pub returns-in-Err-clause-told : goal.returns-in-Err-clause-told
@@ -25,8 +25,8 @@ returns-in-Err-clause-within g c =
     let folder = c.args.folder.now in
     let its = c.its-item.result in
     let inside : is_begun_in folder.path.now its ≡ true = search (rules, each_of (is_begun_in folder.path.now)) in
-    names_within folder.path.now folder.image folder.is_forced its (is_ok c.name.result) (g.W.World.trace c.loop-its.world) (g.W.World.trace c.name.new.world) c.name.ensures inside
-    ∙ c.loop-its.invariant.within
+    names_within (terms_of folder) folder.image its (is_ok c.name.result) (g.W.World.trace c.loop-its.world) (g.W.World.trace c.name.new.world) c.name.ensures inside
+    ◁ c.loop-its.invariant.within
 
 pub loop-its-preserved : goal.loop-its-preserved
 loop-its-preserved g c =
@@ -40,8 +40,8 @@ loop-its-preserved g c =
     subst (λ (b : Bool). NamesIt folder its b (g.W.World.trace c.loop-its.world) (g.W.World.trace c.name.new.world)) (ap is_ok c.in_default.is) c.name.ensures in
     record {
       named = ap (λ n. n + 1) c.loop-its.invariant.named;
-      within = names_within folder.path.now folder.image folder.is_forced its (is_ok c.name.result) (g.W.World.trace c.loop-its.world) (g.W.World.trace c.name.new.world) c.name.ensures inside
-          ∙ c.loop-its.invariant.within;
+      within = names_within (terms_of folder) folder.image its (is_ok c.name.result) (g.W.World.trace c.loop-its.world) (g.W.World.trace c.name.new.world) c.name.ensures inside
+          ◁ c.loop-its.invariant.within;
       left = λ more are_all t rest.
           let e : suc more + c.loop-its.named ≡ more + (c.loop-its.named + 1) = omega arith in
           subst (λ (n : ℕ). NamesFiles folder files n are_all (g.W.World.trace c.args.world.now) t) e

@@ -1,10 +1,10 @@
 use Rattle.std.proofs.Common.{rules, ◌≡◌, ◌∙◌, ◌+◌, ◌∷◌, Bool, List, [], sym, ap, subst, true, drop, ◌&&◌}
 use Rattle.std.proofs.lemmas.List.{drop_all}
 use Rattle.uimg_unpacking.specs.NamingAll.{PutsBackFiles}
-use Rattle.uimg_unpacking.specs.Places.{is_begun_in}
+use Rattle.uimg_unpacking.specs.Places.{is_begun_in, terms_of}
 use Rattle.uimg_unpacking.specs.declared.begun.Begun.{Begun}
 use Rattle.uimg_unpacking.proofs.NamingLaws.{first_of, back_of, and_assoc, and_true, none_left, LeftBack}
-use Rattle.uimg_unpacking.proofs.Placing.{each_of}
+use Rattle.uimg_unpacking.proofs.Placing.{each_of, ◌◁◌}
 use Rattle.uimg_unpacking.proofs.naming.put_back_all.Goals as goal
 
 pub loop-before-preserved : goal.loop-before-preserved
@@ -19,7 +19,7 @@ loop-before-preserved g c =
     let first : drop i files ≡ its ∷ drop (i + 1) files = search (rules, first_of files) in
     let both : c.if-is_back.is_back ≡ (was && one) = search rules in
     record {
-      within = c.put_back_before-back.ensures.within folder inside ∙ c.loop-before.invariant.within;
+      within = c.put_back_before-back.ensures.within (terms_of c.args.folder.now) inside ◁ c.loop-before.invariant.within;
       left = λ back t rest.
           subst (λ (b : Bool). PutsBackFiles files c.args.number b (g.W.World.trace c.args.world.now) t) (sym (and_assoc was one back) ∙ ap (λ (b : Bool). b && back) (sym both))
           (c.loop-before.invariant.left (one && back) t

@@ -1,8 +1,8 @@
-use Rattle.std.proofs.Common.{rules, ◌≡◌, ◌∙◌, List, ℕ, bytes_eq, not, string_bytes, true}
+use Rattle.std.proofs.Common.{rules, ◌≡◌, ◌∙◌, bytes_eq, not, string_bytes, true}
 use Rattle.std.specs.List.{list_all}
-use Rattle.uimg_unpacking.specs.Places.{is_begun_in}
+use Rattle.uimg_unpacking.specs.Places.{is_begun_in, terms_of}
 use Rattle.uimg_unpacking.specs.declared.begun.Begun.{Begun}
-use Rattle.uimg_unpacking.proofs.Placing.{each_of, old_within}
+use Rattle.uimg_unpacking.proofs.Placing.{each_of, old_within, ◌◁◌}
 use Rattle.uimg_unpacking.proofs.StagedLaws.{none_of_names, old_leaves}
 use Rattle.uimg_unpacking.proofs.naming.remove_all_old.Goals as goal
 
@@ -11,8 +11,8 @@ returns-in_err-remove_old-clause-within g c =
     let folder = c.args.folder.now in
     let its = c.its-item.result in
     let inside : is_begun_in folder.path.now its ≡ true = search (rules, each_of (is_begun_in folder.path.now)) in
-    old_within folder.path.now folder.is_forced its (g.W.World.trace c.loop-its.world) (g.W.World.trace c.remove_old.new.world) c.remove_old.ensures inside
-    ∙ c.loop-its.invariant.within
+    old_within (terms_of folder) folder.is_forced its (g.W.World.trace c.loop-its.world) (g.W.World.trace c.remove_old.new.world) c.remove_old.ensures inside
+    ◁ c.loop-its.invariant.within
 
 pub returns-in_err-remove_old-clause-leaves : goal.returns-in_err-remove_old-clause-leaves
 returns-in_err-remove_old-clause-leaves g c = λ name is other.
@@ -30,8 +30,8 @@ loop-its-preserved g c =
     let its = c.its-item.result in
     let inside : is_begun_in folder.path.now its ≡ true = search (rules, each_of (is_begun_in folder.path.now)) in
     record {
-      within = old_within folder.path.now folder.is_forced its (g.W.World.trace c.loop-its.world) (g.W.World.trace c.remove_old.new.world) c.remove_old.ensures inside
-          ∙ c.loop-its.invariant.within;
+      within = old_within (terms_of folder) folder.is_forced its (g.W.World.trace c.loop-its.world) (g.W.World.trace c.remove_old.new.world) c.remove_old.ensures inside
+          ◁ c.loop-its.invariant.within;
       leaves = λ name is other.
           let all : list_all (λ it. not (bytes_eq name (string_bytes it.name))) c.args.files.now ≡ true = none_of_names name c.args.files.now other in
           let apart : not (bytes_eq name (string_bytes its.name)) ≡ true = search (rules, all, each_of {X = Begun} (λ it. not (bytes_eq name (string_bytes it.name)))) in

@@ -1,11 +1,11 @@
 use Rattle.std.proofs.Common.{◌≡◌, Bool}
 use Rattle.uimg_unpacking.specs.Contents.{held}
-use Rattle.uimg_unpacking.specs.Places.{stays_within}
+use Rattle.uimg_unpacking.specs.Places.{Obeys, terms_of}
 use Rattle.uimg_unpacking.proofs.folder.Folder.new_folder.Given as goal
 
 -- the calls so far changed only what may be changed, and no file
 abbrev pub invariant-loop-number : goal.invariant-loop-number
 invariant-loop-number g l = record {
-  within : (is_naming : Bool) → stays_within l.self.path.now is_naming (g.W.World.trace l.world) ≡ stays_within l.self.path.now is_naming (g.W.World.trace l.fn.world);
+  within : (is_naming : Bool) → Obeys (terms_of l.self) is_naming (g.W.World.trace l.fn.world) (g.W.World.trace l.world);
   same : held (g.W.World.trace l.world) ≡ held (g.W.World.trace l.fn.world);
 }

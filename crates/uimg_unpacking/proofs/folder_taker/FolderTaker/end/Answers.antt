@@ -9,9 +9,9 @@ pub returns-clause-holds : goal.returns-clause-holds
 returns-clause-holds g c = λ names none.
     let it = c.args.self.staging in
     let now = c.name-named.new.staging in
-    let contents = staged (g.W.World.trace it.world) it.files.items it.is_writing in
-    let t = g.W.World.trace now.world in
-    let after = g.W.World.trace c.end.result in
+    let contents = staged (g.W.World.trace it.world.now) it.files.items it.is_writing in
+    let t = g.W.World.trace now.world.now in
+    let after = g.W.World.trace c.end.result.now in
     let named : is_named c.name-named.result ≡ true = search (rules, none) in
     let holds : HoldsAs now.folder.path.now contents t =
     subst (λ (f : Folder). HoldsAs f.path.now contents t) (sym c.name-named.ensures.folder) (c.name-named.ensures.holds names named (is_used c.args.self.taken.given) c.args.self.names) in

@@ -8,5 +8,5 @@ returns-clause-given g c = λ knows bytes is.
     let old = c.args.self.now.staging in
     let new = c.finish-finished.new.self.staging in
     adds_if c.kept.result c.finish-finished.result (as_bytes c.args.name.now) bytes c.args.vouched
-    (staged (g.W.World.trace old.world) old.files.items old.is_writing) (staged (g.W.World.trace new.world) new.files.items new.is_writing)
+    (staged (g.W.World.trace old.world.now) old.files.items old.is_writing) (staged (g.W.World.trace new.world.now) new.files.items new.is_writing)
     c.kept.ensures.done (c.finish-finished.ensures.staged knows bytes is)

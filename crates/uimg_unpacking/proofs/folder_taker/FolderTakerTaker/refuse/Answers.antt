@@ -11,5 +11,5 @@ returns-clause-given g c = λ knows.
     let new = c.throw_away-thrown.new.self.staging in
     let name = as_bytes c.args.name.now in
     adds_none c.kept.result (refused name (told_of name c.args.refusal))
-    (map as_take (staged (g.W.World.trace old.world) old.files.items old.is_writing)) (map as_take (staged (g.W.World.trace new.world) new.files.items new.is_writing))
+    (map as_take (staged (g.W.World.trace old.world.now) old.files.items old.is_writing)) (map as_take (staged (g.W.World.trace new.world.now) new.files.items new.is_writing))
     refl (ap (map as_take) c.throw_away-thrown.ensures.staged)

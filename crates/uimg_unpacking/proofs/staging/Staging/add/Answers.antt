@@ -1,4 +1,4 @@
-use Rattle.std.proofs.Common.{rules, ◌≡◌, ◌∙◌, List, Bool, true, false, is_ok, ap, sym, subst, string_bytes}
+use Rattle.std.proofs.Common.{◌≡◌, ◌∙◌, List, true, false, is_ok, ap, sym, subst, string_bytes}
 use Rattle.std.specs.Option.{option_map}
 use Rattle.uimg_unpacking.specs.Places.{is_begun_in}
 use Rattle.uimg_unpacking.specs.Staged.{are_numbered_in, complete_names, staged}
@@ -10,13 +10,13 @@ use Rattle.uimg_unpacking.proofs.staging.Staging.add.Goals as goal
 pub returns-in-Ok-clause-staged : goal.returns-in-Ok-clause-staged
 returns-in-Ok-clause-staged g c =
     let it = c.args.self.now in
-    let t = g.W.World.trace it.world in
+    let t = g.W.World.trace it.world.now in
     added_staged t it.files.items c.push.new.self.items c.args.begun c.in-Ok.ensures.items ∙ ap (staged t it.files.items) (sym c.requires.writing)
 
 pub returns-in-Err-clause-staged : goal.returns-in-Err-clause-staged
 returns-in-Err-clause-staged g c =
     let it = c.args.self.now in
-    ap (λ (fs : List Begun). staged (g.W.World.trace it.world) fs it.is_writing) c.in-Err.ensures.items
+    ap (λ (fs : List Begun). staged (g.W.World.trace it.world.now) fs it.is_writing) c.in-Err.ensures.items
 
 pub returns-in-Ok-clause-names : goal.returns-in-Ok-clause-names
 returns-in-Ok-clause-names g c = names_pushed c.args.self.now.files.items c.push.new.self.items c.args.begun true c.in-Ok.ensures.items
@@ -32,7 +32,9 @@ invariant_of-self g c =
       files_inside = pushed (is_begun_in it.folder.path.now) it.files.items c.push.new.self.items c.args.begun (is_ok c.push.result) c.push.ensures.items it.files_inside c.requires.begun;
       created_inside = it.created_inside;
       outdated_inside = it.outdated_inside;
-      stays = it.stays;
+      named = it.named;
+      agreed = it.agreed;
+      obeys = it.obeys;
       numbered = subst (λ (fs : List Begun). are_numbered_in (option_map string_bytes it.made) fs ≡ true) (sym c.in-Ok.ensures.items) c.requires.numbered;
     }
 

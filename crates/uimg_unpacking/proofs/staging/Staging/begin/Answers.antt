@@ -13,10 +13,10 @@ returns-clause-staged g c =
     let noted = c.note.new.self in
     let it = c.args.self.now in
     c.add.ensures.staged
-    ∙ same_staged (t c.create.new.self.world) (t c.create.new.self.world) noted.files.items c.create.new.self.files.items noted.is_writing c.create.new.self.is_writing refl (ap items c.create.ensures.files) c.create.ensures.writing
+    ∙ same_staged (t c.create.new.self.world.now) (t c.create.new.self.world.now) noted.files.items c.create.new.self.files.items noted.is_writing c.create.new.self.is_writing refl (ap items c.create.ensures.files) c.create.ensures.writing
     ∙ c.create.ensures.staged
-    ∙ same_staged (t made.world) (t noted.world) made.files.items noted.files.items made.is_writing noted.is_writing (ap (λ w. held (t w)) c.note.ensures.world) (ap items c.note.ensures.files) c.note.ensures.writing
-    ∙ same_staged (t it.world) (t made.world) it.files.items made.files.items it.is_writing made.is_writing c.make_folder.ensures.held (ap items c.make_folder.ensures.files) c.make_folder.ensures.writing
+    ∙ same_staged (t made.world.now) (t noted.world.now) made.files.items noted.files.items made.is_writing noted.is_writing (ap (λ w. held (t w.now)) c.note.ensures.world) (ap items c.note.ensures.files) c.note.ensures.writing
+    ∙ same_staged (t it.world.now) (t made.world.now) it.files.items made.files.items it.is_writing made.is_writing c.make_folder.ensures.held (ap items c.make_folder.ensures.files) c.make_folder.ensures.writing
 
 pub returns-in_err-add-clause-staged : goal.returns-in_err-add-clause-staged
 returns-in_err-add-clause-staged g c =
@@ -26,7 +26,7 @@ returns-in_err-add-clause-staged g c =
     let noted = c.note.new.self in
     let it = c.args.self.now in
     c.add.ensures.staged
-    ∙ same_staged (t c.create.new.self.world) (t c.create.new.self.world) noted.files.items c.create.new.self.files.items noted.is_writing c.create.new.self.is_writing refl (ap items c.create.ensures.files) c.create.ensures.writing
+    ∙ same_staged (t c.create.new.self.world.now) (t c.create.new.self.world.now) noted.files.items c.create.new.self.files.items noted.is_writing c.create.new.self.is_writing refl (ap items c.create.ensures.files) c.create.ensures.writing
     ∙ c.create.ensures.staged
-    ∙ same_staged (t made.world) (t noted.world) made.files.items noted.files.items made.is_writing noted.is_writing (ap (λ w. held (t w)) c.note.ensures.world) (ap items c.note.ensures.files) c.note.ensures.writing
-    ∙ same_staged (t it.world) (t made.world) it.files.items made.files.items it.is_writing made.is_writing c.make_folder.ensures.held (ap items c.make_folder.ensures.files) c.make_folder.ensures.writing
+    ∙ same_staged (t made.world.now) (t noted.world.now) made.files.items noted.files.items made.is_writing noted.is_writing (ap (λ w. held (t w.now)) c.note.ensures.world) (ap items c.note.ensures.files) c.note.ensures.writing
+    ∙ same_staged (t it.world.now) (t made.world.now) it.files.items made.files.items it.is_writing made.is_writing c.make_folder.ensures.held (ap items c.make_folder.ensures.files) c.make_folder.ensures.writing

@@ -1,4 +1,4 @@
-use Rattle.std.proofs.Common.{rules, arith, ◌≡◌, ◌∙◌, ◌<◌, ◌^◌, ◌++◌, ◌∷◌, [], List, ℕ, ap, sym, subst, true, string_bytes, length, Some, Option}
+use Rattle.std.proofs.Common.{rules, ◌≡◌, ◌∙◌, ◌<◌, ◌^◌, ◌++◌, ◌∷◌, [], List, ℕ, ap, sym, subst, true, string_bytes, length, Some, Option}
 use Rattle.std.specs.Option.{option_map}
 use Rattle.uimg_unpacking.specs.FileNames.{is_file_name}
 use Rattle.uimg_unpacking.specs.Places.{is_temporary_folder}

@@ -1,10 +1,10 @@
-use Rattle.std.proofs.Common.{rules, ◌≡◌, ◌∙◌, ◌-◌, ◌∷◌, [], ◌++◌, ℕ, List, Option, Some, Bool, true, false, is_ok, ap, ap₂, sym, subst, length, slice_get, string_bytes}
+use Rattle.std.proofs.Common.{rules, ◌≡◌, ◌∙◌, ◌-◌, ◌∷◌, [], ◌++◌, ℕ, List, Option, Some, Bool, true, ap, ap₂, sym, subst, length, slice_get, string_bytes}
 use Rattle.std.specs.Option.{option_map, option_map_or}
-use Rattle.uimg_unpacking.specs.Deeds.{Answer, Deed, Closes, Done, answer_of}
-use Rattle.uimg_unpacking.specs.Places.{is_begun_in, is_temporary_file}
+use Rattle.uimg_unpacking.specs.Deeds.{Answer, Closes, Done, answer_of}
+use Rattle.uimg_unpacking.specs.Places.{is_begun_in, is_temporary_file, terms_of}
 use Rattle.uimg_unpacking.specs.Staged.{complete_names, staged}
 use Rattle.uimg_unpacking.specs.declared.begun.Begun.{Begun}
-use Rattle.uimg_unpacking.proofs.Placing.{begun_new, closed_within, the_last}
+use Rattle.uimg_unpacking.proofs.Placing.{begun_new, closed_within, the_last, ◌◁◌}
 use Rattle.uimg_unpacking.proofs.StagedLaws.{closed_names, closed_staged, last_is, unclosed_staged}
 use Rattle.uimg_unpacking.proofs.staging.Staging.close_last.Goals as goal
 
@@ -23,7 +23,9 @@ invariant_of-self-in-Ok g c =
       files_inside = it.files_inside;
       created_inside = it.created_inside;
       outdated_inside = it.outdated_inside;
-      stays = closed_within folder it.is_naming it.folder.is_synced c.as_str-path.result.now c.close.ensures.contents (answer_of c.close.result) (g.W.World.trace it.world) (g.W.World.trace c.close.new.self) path c.close.ensures.is ∙ it.stays;
+      named = it.named;
+      agreed = it.agreed;
+      obeys = closed_within (terms_of it.folder) it.is_naming c.as_str-path.result.now c.close.ensures.contents (answer_of c.close.result) (g.W.World.trace it.world.now) (g.W.World.trace c.close.new.self) path c.close.ensures.is ◁ it.obeys;
       numbered = it.numbered;
     }
 
@@ -42,7 +44,9 @@ invariant_of-self-in-Err-1 g c =
       files_inside = it.files_inside;
       created_inside = it.created_inside;
       outdated_inside = it.outdated_inside;
-      stays = closed_within folder it.is_naming it.folder.is_synced c.as_str-path.result.now c.close.ensures.contents (answer_of c.close.result) (g.W.World.trace it.world) (g.W.World.trace c.close.new.self) path c.close.ensures.is ∙ it.stays;
+      named = it.named;
+      agreed = it.agreed;
+      obeys = closed_within (terms_of it.folder) it.is_naming c.as_str-path.result.now c.close.ensures.contents (answer_of c.close.result) (g.W.World.trace it.world.now) (g.W.World.trace c.close.new.self) path c.close.ensures.is ◁ it.obeys;
       numbered = it.numbered;
     }
 
@@ -50,7 +54,7 @@ pub returns-in-Ok-clause-staged : goal.returns-in-Ok-clause-staged
 returns-in-Ok-clause-staged g c = λ knows.
     let it = c.args.self.now in
     let files = it.files.items in
-    let before = g.W.World.trace it.world in
+    let before = g.W.World.trace it.world.now in
     let its = c.in-Some.last.now in
     let got : slice_get files (length files - 1) ≡ Some its = search rules in
     let last = last_is files its got in
@@ -64,7 +68,7 @@ pub returns-in-Err-clause-staged : goal.returns-in-Err-clause-staged
 returns-in-Err-clause-staged g c = λ knows.
     let it = c.args.self.now in
     let files = it.files.items in
-    let before = g.W.World.trace it.world in
+    let before = g.W.World.trace it.world.now in
     let after = g.W.World.trace c.close.new.self in
     let its = c.in-Some.last.now in
     let got : slice_get files (length files - 1) ≡ Some its = search rules in

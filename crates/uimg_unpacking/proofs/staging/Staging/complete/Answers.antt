@@ -1,5 +1,4 @@
-use Rattle.std.proofs.Common.{rules, refl}
-use Rattle.uimg_unpacking.proofs.StagedLaws.{completes_known, kept_known}
+use Rattle.std.proofs.Common.{refl}
 use Rattle.uimg_unpacking.proofs.staging.Staging.complete.Goals as goal
 
 pub returns-then-is_complete-clause-staged : goal.returns-then-is_complete-clause-staged

@@ -1,8 +1,8 @@
 use Rattle.std.proofs.Common.{◌≡◌, ◌∙◌, ◌∷◌, ap, true, string_bytes}
 use Rattle.std.specs.Option.{option_map}
-use Rattle.uimg_unpacking.specs.Deeds.{Deed, Creates, answer_of}
-use Rattle.uimg_unpacking.specs.Places.{is_temporary_file}
-use Rattle.uimg_unpacking.proofs.Placing.{begun_new, created_within}
+use Rattle.uimg_unpacking.specs.Deeds.{Creates, answer_of}
+use Rattle.uimg_unpacking.specs.Places.{is_temporary_file, terms_of}
+use Rattle.uimg_unpacking.proofs.Placing.{begun_new, created_within, ◌◁◌}
 use Rattle.uimg_unpacking.proofs.StagedLaws.{created_staged}
 use Rattle.uimg_unpacking.proofs.staging.Staging.create.Goals as goal
 
@@ -16,7 +16,9 @@ invariant_of-self g c =
       files_inside = c.args.self.now.files_inside;
       created_inside = c.args.self.now.created_inside;
       outdated_inside = c.args.self.now.outdated_inside;
-      stays = created_within folder it.is_naming c.as_str.result.now (answer_of c.create_new.result) (g.W.World.trace it.world) (g.W.World.trace c.create_new.new.self) new c.create_new.ensures.noted ∙ it.stays;
+      named = it.named;
+      agreed = it.agreed;
+      obeys = created_within (terms_of it.folder) it.is_naming c.as_str.result.now (answer_of c.create_new.result) (g.W.World.trace it.world.now) (g.W.World.trace c.create_new.new.self) new c.create_new.ensures.noted ◁ it.obeys;
       numbered = c.args.self.now.numbered;
     }
 
@@ -24,5 +26,5 @@ pub returns-clause-staged : goal.returns-clause-staged
 returns-clause-staged g c =
     let it = c.args.self.now in
     let answer = answer_of c.create_new.result in
-    created_staged (option_map string_bytes it.made) it.files.items it.is_writing c.args.begun.now answer (g.W.World.trace it.world) (g.W.World.trace c.create_new.new.self) c.requires.numbered
-    (c.create_new.ensures.noted ∙ ap (λ p. Creates p answer ∷ g.W.World.trace it.world) c.as_str.ensures.value)
+    created_staged (option_map string_bytes it.made) it.files.items it.is_writing c.args.begun.now answer (g.W.World.trace it.world.now) (g.W.World.trace c.create_new.new.self) c.requires.numbered
+    (c.create_new.ensures.noted ∙ ap (λ p. Creates p answer ∷ g.W.World.trace it.world.now) c.as_str.ensures.value)

@@ -2,7 +2,7 @@ use Rattle.std.proofs.Common.{rules, refl, sym, ap, ◌≡◌, ◌∙◌, ◌∷
 use Rattle.std.specs.Option.{option_map}
 use Rattle.uimg_unpacking.specs.Deeds.{answer_of}
 use Rattle.uimg_unpacking.specs.Refusals.{no_file, dropped}
-use Rattle.uimg_unpacking.specs.Staged.{last_gone, names_of, none_gone}
+use Rattle.uimg_unpacking.specs.Staged.{last_gone, names_of}
 use Rattle.uimg_unpacking.proofs.Answered.{done-ok}
 use Rattle.uimg_unpacking.proofs.StagedLaws.{dropped_names, dropped_staged, names_last}
 use Rattle.uimg_unpacking.proofs.staging.Staging.drop_last.Goals as goal
@@ -28,7 +28,7 @@ returns-in-Ok-clause-staged g c = λ writing.
     let it = c.args.self.now in
     let its = c.in-Some.last in
     let are : it.files.items ≡ c.pop.new.self.files.items ++ its ∷ [] = search rules in
-    dropped_staged (option_map string_bytes it.made) it.files.items c.pop.new.self.files.items c.remove.new.self.files.items c.remove.new.self.is_writing its (answer_of c.remove.result) (g.W.World.trace it.world) (g.W.World.trace c.pop.new.self.world) (g.W.World.trace c.remove.new.self.world) are it.numbered (search rules) c.remove.ensures.removed (search rules) (search rules)
+    dropped_staged (option_map string_bytes it.made) it.files.items c.pop.new.self.files.items c.remove.new.self.files.items c.remove.new.self.is_writing its (answer_of c.remove.result) (g.W.World.trace it.world.now) (g.W.World.trace c.pop.new.self.world.now) (g.W.World.trace c.remove.new.self.world.now) are it.numbered (search rules) c.remove.ensures.removed (search rules) (search rules)
 
 pub returns-in-Err-clause-names : goal.returns-in-Err-clause-names
 returns-in-Err-clause-names g c =
@@ -42,7 +42,7 @@ returns-in-Err-clause-staged g c = λ writing.
     let it = c.args.self.now in
     let its = c.in-Some.last in
     let are : it.files.items ≡ c.pop.new.self.files.items ++ its ∷ [] = search rules in
-    dropped_staged (option_map string_bytes it.made) it.files.items c.pop.new.self.files.items c.remove.new.self.files.items c.remove.new.self.is_writing its (answer_of c.remove.result) (g.W.World.trace it.world) (g.W.World.trace c.pop.new.self.world) (g.W.World.trace c.remove.new.self.world) are it.numbered (search rules) c.remove.ensures.removed (search rules) (search rules)
+    dropped_staged (option_map string_bytes it.made) it.files.items c.pop.new.self.files.items c.remove.new.self.files.items c.remove.new.self.is_writing its (answer_of c.remove.result) (g.W.World.trace it.world.now) (g.W.World.trace c.pop.new.self.world.now) (g.W.World.trace c.remove.new.self.world.now) are it.numbered (search rules) c.remove.ensures.removed (search rules) (search rules)
 
 pub returns-in-Ok-clause-complete : goal.returns-in-Ok-clause-complete
 returns-in-Ok-clause-complete g c = λ writing.

@@ -1,58 +1,9 @@
-use Rattle.std.proofs.Common.{rules, ◌≡◌, ◌∙◌, ◌+◌, ◌∷◌, List, [], map, drop, ap, sym, subst, refl, true, string_bytes, String}
-use Rattle.std.proofs.lemmas.List.{drop_all}
-use Rattle.std.specs.declared.alloc.Global.{Global}
-use Rattle.uimg_unpacking.specs.Clearing.{RemovesEach}
-use Rattle.uimg_unpacking.specs.Deeds.{answer_of}
-use Rattle.uimg_unpacking.specs.Places.{is_temporary_file, is_temporary_folder}
-use Rattle.uimg_unpacking.proofs.NamingLaws.{first_of}
-use Rattle.uimg_unpacking.proofs.Placing.{each_of, removed_within, unmade_within}
-use Rattle.uimg_unpacking.proofs.StagedLaws.{each_next}
+use Rattle.std.proofs.Common.{subst}
+use Rattle.uimg_unpacking.specs.Places.{Obeys, Terms}
+use Rattle.uimg_unpacking.proofs.Placing.{◌◁◌}
 use Rattle.uimg_unpacking.proofs.staging.Staging.end.Goals as goal
 
-pub loop-path-preserved : goal.loop-path-preserved
-loop-path-preserved g c =
+pub returns-clause-obeys : goal.returns-clause-obeys
+returns-clause-obeys g c =
     let it = c.args.self in
-    let folder = it.folder.path.now in
-    let paths = c.deref-path-items.result.now in
-    let i = c.loop-path.path-index in
-    let path = c.path-item.result in
-    let inside : is_temporary_file folder (string_bytes path) ≡ true = search (rules, each_of (λ path. is_temporary_file folder (string_bytes {Z = Global} path))) in
-    let first : drop i paths ≡ path ∷ drop (i + 1) paths = search (rules, first_of paths) in
-    let new : is_temporary_file folder c.as_str.result.now ≡ true = ap (is_temporary_file folder) c.as_str.ensures.value ∙ inside in
-    record {
-      stays = removed_within folder it.is_naming c.as_str.result.now (answer_of c.remove_file.result) (g.W.World.trace c.loop-path.world) (g.W.World.trace c.remove_file.new.self) new c.remove_file.ensures ∙ c.loop-path.invariant.stays;
-      left = λ t rest. c.loop-path.invariant.left t
-          (subst (λ (ps : List (String Global)). RemovesEach (map string_bytes ps) (g.W.World.trace c.loop-path.world) t) (sym first)
-          (each_next (string_bytes path) c.as_str.result.now (map string_bytes (drop (i + 1) paths)) (answer_of c.remove_file.result) (g.W.World.trace c.loop-path.world) (g.W.World.trace c.remove_file.new.self) t c.as_str.ensures.value c.remove_file.ensures rest));
-    }
-
-pub returns-in-Some-clause-stays : goal.returns-in-Some-clause-stays
-returns-in-Some-clause-stays g c =
-    let it = c.args.self in
-    let folder = it.folder.path.now in
-    let inside : is_temporary_folder folder c.as_str-in-Some.result.now ≡ true = search rules in
-    unmade_within folder it.is_naming c.as_str-in-Some.result.now (answer_of c.remove_dir.result) (g.W.World.trace c.loop-path.world) (g.W.World.trace c.remove_dir.new.self) inside c.remove_dir.ensures ∙ c.loop-path.invariant.stays
-
-pub returns-in-Some-clause-cleared : goal.returns-in-Some-clause-cleared
-returns-in-Some-clause-cleared g c =
-    let t = g.W.World.trace c.loop-path.world in
-    let paths = c.deref-path-items.result.now in
-    let none : drop c.loop-path.path-index paths ≡ [] = search (rules, drop_all c.loop-path.path-index paths) in
-    record {
-      seen = t;
-      files = subst (λ (ps : List (String Global)). RemovesEach (map string_bytes ps) (g.W.World.trace c.args.self.world) t) c.deref-path-items.ensures.value
-          (c.loop-path.invariant.left t (subst (λ (ps : List (String Global)). RemovesEach (map string_bytes ps) t t) (sym none) refl));
-      folder = rw (c.in-Some.is) (answer_of c.remove_dir.result, search rules);
-    }
-
-pub returns-clause-cleared : goal.returns-clause-cleared
-returns-clause-cleared g c =
-    let t = g.W.World.trace c.loop-path.world in
-    let paths = c.deref-path-items.result.now in
-    let none : drop c.loop-path.path-index paths ≡ [] = search (rules, drop_all c.loop-path.path-index paths) in
-    record {
-      seen = t;
-      files = subst (λ (ps : List (String Global)). RemovesEach (map string_bytes ps) (g.W.World.trace c.args.self.world) t) c.deref-path-items.ensures.value
-          (c.loop-path.invariant.left t (subst (λ (ps : List (String Global)). RemovesEach (map string_bytes ps) t t) (sym none) refl));
-      folder = search rules;
-    }
+    subst (λ (t : Terms). Obeys t it.is_naming g.M.Task.before (g.W.World.trace c.clear.new.world)) it.agreed (c.clear.ensures.obeys it.is_naming ◁ it.obeys)

@@ -1,5 +1,6 @@
-use Rattle.std.proofs.Common.{rules, ◌∙◌, string_bytes}
+use Rattle.std.proofs.Common.{rules, string_bytes}
 use Rattle.std.specs.Option.{option_map}
+use Rattle.uimg_unpacking.proofs.Placing.{◌◁◌}
 use Rattle.uimg_unpacking.proofs.StagedLaws.{numbered_made}
 use Rattle.uimg_unpacking.proofs.staging.Staging.make_folder.Goals as goal
 
@@ -10,7 +11,9 @@ invariant_of-self g c =
       files_inside = c.args.self.now.files_inside;
       created_inside = c.args.self.now.created_inside;
       outdated_inside = c.args.self.now.outdated_inside;
-      stays = c.new_folder.ensures.within c.args.self.now.is_naming ∙ c.args.self.now.stays;
+      named = c.args.self.now.named;
+      agreed = c.args.self.now.agreed;
+      obeys = c.new_folder.ensures.within c.args.self.now.is_naming ◁ c.args.self.now.obeys;
       numbered = numbered_made (option_map string_bytes c.args.self.now.made) _ c.args.self.now.files.items (search rules) c.args.self.now.numbered;
     }
 
@@ -21,7 +24,9 @@ invariant_of-self-in-Err-1 g c =
       files_inside = c.args.self.now.files_inside;
       created_inside = c.args.self.now.created_inside;
       outdated_inside = c.args.self.now.outdated_inside;
-      stays = c.new_folder.ensures.within c.args.self.now.is_naming ∙ c.args.self.now.stays;
+      named = c.args.self.now.named;
+      agreed = c.args.self.now.agreed;
+      obeys = c.new_folder.ensures.within c.args.self.now.is_naming ◁ c.args.self.now.obeys;
       numbered = c.args.self.now.numbered;
     }
 
@@ -32,6 +37,8 @@ invariant_of-self-in-Err-new_folder g c =
       files_inside = c.args.self.now.files_inside;
       created_inside = c.args.self.now.created_inside;
       outdated_inside = c.args.self.now.outdated_inside;
-      stays = c.new_folder.ensures.within c.args.self.now.is_naming ∙ c.args.self.now.stays;
+      named = c.args.self.now.named;
+      agreed = c.args.self.now.agreed;
+      obeys = c.new_folder.ensures.within c.args.self.now.is_naming ◁ c.args.self.now.obeys;
       numbered = c.args.self.now.numbered;
     }

@@ -1,7 +1,8 @@
 use Rattle.std.proofs.Common.{rules, refl, ◌∙◌, ap, None, false, List}
-use Rattle.uimg_unpacking.specs.Places.{stays_within}
+use Rattle.uimg_unpacking.specs.Places.{terms_of}
 use Rattle.uimg_unpacking.specs.Staged.{are_numbered_in}
 use Rattle.uimg_unpacking.specs.declared.begun.Begun.{Begun}
+use Rattle.uimg_unpacking.proofs.Placing.{no_more}
 use Rattle.uimg_unpacking.proofs.StagedLaws.{numbered_none}
 use Rattle.uimg_unpacking.proofs.staging.Staging.new.Goals as goal
 
@@ -11,6 +12,8 @@ invariant_of-result g c = record {
   files_inside = search rules;
   created_inside = search rules;
   outdated_inside = search rules;
-  stays = ap (stays_within c.args.folder.path.now false) c.requires;
+  named = c.args.lent.named;
+  agreed = c.requires.agreed;
+  obeys = no_more (terms_of c.args.folder) false _ _ c.requires.before;
   numbered = ap (λ (fs : List Begun). are_numbered_in None fs) c.new.ensures.items ∙ numbered_none;
 }

@@ -14,6 +14,8 @@ invariant_of-self g c =
       files_inside = c.args.self.now.files_inside;
       created_inside = pushed (λ path. is_temporary_file folder (string_bytes path)) it.created.items c.push.new.self.items c.in_ok-path.path (is_ok c.push.result) c.push.ensures.items it.created_inside new;
       outdated_inside = c.args.self.now.outdated_inside;
-      stays = c.args.self.now.stays;
+      named = it.named;
+      agreed = it.agreed;
+      obeys = it.obeys;
       numbered = c.args.self.now.numbered;
     }

@@ -13,6 +13,8 @@ invariant_of-self g c =
       files_inside = without_last (is_begun_in it.folder.path.now) it.files.items c.pop.new.self.items c.pop.result c.pop.ensures.items it.files_inside;
       created_inside = it.created_inside;
       outdated_inside = it.outdated_inside;
-      stays = it.stays;
+      named = it.named;
+      agreed = it.agreed;
+      obeys = it.obeys;
       numbered = numbered_popped (option_map string_bytes it.made) it.files.items c.pop.new.self.items c.pop.result c.pop.ensures.items it.numbered;
     }

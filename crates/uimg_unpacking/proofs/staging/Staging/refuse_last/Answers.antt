@@ -20,7 +20,9 @@ invariant_of-self g c =
       files_inside = it.files_inside;
       created_inside = it.created_inside;
       outdated_inside = pushed (is_begun_in it.folder.path.now) it.outdated.items c.push.new.self.items c.in_ok-refused.refused (is_ok c.push.result) c.push.ensures.items it.outdated_inside last;
-      stays = it.stays;
+      named = it.named;
+      agreed = it.agreed;
+      obeys = it.obeys;
       numbered = it.numbered;
     }
 

@@ -1,7 +1,7 @@
 use Rattle.std.proofs.Common.{◌≡◌, ◌∙◌, ap, true}
 use Rattle.uimg_unpacking.specs.Deeds.{answer_of}
-use Rattle.uimg_unpacking.specs.Places.{is_temporary_file}
-use Rattle.uimg_unpacking.proofs.Placing.{begun_new, removed_within}
+use Rattle.uimg_unpacking.specs.Places.{is_temporary_file, terms_of}
+use Rattle.uimg_unpacking.proofs.Placing.{begun_new, removed_within, ◌◁◌}
 use Rattle.uimg_unpacking.proofs.staging.Staging.remove.Goals as goal
 
 pub invariant_of-self : goal.invariant_of-self
@@ -14,6 +14,8 @@ invariant_of-self g c =
       files_inside = c.args.self.now.files_inside;
       created_inside = c.args.self.now.created_inside;
       outdated_inside = c.args.self.now.outdated_inside;
-      stays = removed_within folder it.is_naming c.as_str.result.now (answer_of c.remove_file.result) (g.W.World.trace it.world) (g.W.World.trace c.remove_file.new.self) new c.remove_file.ensures ∙ it.stays;
+      named = it.named;
+      agreed = it.agreed;
+      obeys = removed_within (terms_of it.folder) it.is_naming c.as_str.result.now (answer_of c.remove_file.result) (g.W.World.trace it.world.now) (g.W.World.trace c.remove_file.new.self) new c.remove_file.ensures ◁ it.obeys;
       numbered = c.args.self.now.numbered;
     }
