@@ -222,8 +222,10 @@ def refused_in(lines, name):
         path = path.removeprefix(f"{name}::")
         own = f"Rattle.{name}.proofs.{path.replace('::', '.')}."
         if UNFOUND.match(why) or why.startswith("not proved") and (path in errors or f"`{own}" in why):
-            its = errors.get(path, [])
-            refused[function_of(path, name)] = Refusal(its[0] if its else f"fn {name}::{path}: {why}", goals_of(its, why))
+            its, place = errors.get(path, []), function_of(path, name)
+            # A closure's goals are those of the function that contains it.
+            goals = goals_of(its, why) | (refused[place].goals if place in refused else set())
+            refused[place] = Refusal(its[0] if its else f"fn {name}::{path}: {why}", goals)
         told.add(path)
     refused.update({path: Refusal(its[0], goals_of(its, "")) for path, its in errors.items() if path not in told})
     return refused

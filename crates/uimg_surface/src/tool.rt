@@ -1,4 +1,4 @@
-//! The calls of `uimg_tool`: commands on images of both formats.
+//! The calls of `uimg_tool` on images of both formats, which it re-exports from `uimg_engine`.
 
 ghost use Rattle.std.specs.Prelude.{◌≡◌, ◌+◌, ◌*◌, length, true, false, [], Some, Err, is_err, IsTrue};
 ghost use Rattle.uimg_base.specs.{Honest.HonestSource, Device.SameDevice, Held.held_bytes};
