@@ -12,10 +12,10 @@ other function of the crate its contract is assumed, by a hole in place of its p
 proved leads to.
 
 A wrong body is refused if a clause of its own function is: if what the function ensures is not
-proved where it returns, by a search or by its written answer. A sentinel is refused if all the
-clauses are that scripts/sentinels.txt names with it. One that is refused for anything else is not
-refused: a loop's invariant, a measure, a condition of a call, a lemma that no longer fits, an
-answer that only names what is not there. A wrong body outside of functions may name a lemma there,
+proved where it returns, by a search or by its written answer; or if a condition with a label is not
+of a call that it makes. A sentinel is refused if all the clauses are that scripts/sentinels.txt
+names with it. One that is refused for anything else is not refused: a loop's invariant, a measure,
+a lemma that no longer fits, an answer that only names what is not there. A wrong body outside of functions may name a lemma there,
 one that states what a table is.
 
 If a check refuses a function without a wrong body, or a lemma, it counts for nothing, and each half
@@ -66,7 +66,7 @@ NAMED = re.compile(r".*: error: .*(has no `|has no field|is not in scope|was not
 OPEN = re.compile(r"`search` did not prove ((?:`[^`]+`(?:, )?)+)")
 REFUSED_ANSWER = re.compile(r"`[^`]+\.Answers\.([^`.]+)`")
 # A goal that a function meets where it returns, with the label of its clause if it has one.
-CLAUSE = re.compile(r"(?:.*-)?returns(?:-(?:.*-)?clause-(\w+))?(?:-.*)?")
+CLAUSE = re.compile(r"(?:.*-)?returns(?:-(?:.*-)?clause-(\w+))?(?:-.*)?|.*-requires-(\w+)")
 # The name of a clause without a label, and of all clauses where a function proves them at once.
 UNLABELLED = "its clause"
 SENTINELS = "scripts/sentinels.txt"
@@ -206,7 +206,7 @@ class Refusal:
     def clauses(self):
         """Returns the clauses among its goals."""
         found = [CLAUSE.fullmatch(it) for it in self.goals]
-        return {it[1] or UNLABELLED for it in found if it}
+        return {it[1] or it[2] or UNLABELLED for it in found if it}
 
 
 def refused_in(lines, name):
