@@ -66,7 +66,7 @@ NAMED = re.compile(r".*: error: .*(has no `|has no field|is not in scope|was not
 OPEN = re.compile(r"`search` did not prove ((?:`[^`]+`(?:, )?)+)")
 REFUSED_ANSWER = re.compile(r"`[^`]+\.Answers\.([^`.]+)`")
 # A goal that a function meets where it returns, with the label of its clause if it has one.
-CLAUSE = re.compile(r"(?:.*-)?returns(?:-(?:.*-)?clause-(\w+))?(?:-.*)?|.*-requires-(\w+)")
+CLAUSE = re.compile(r"(?:.*-)?returns(?:-(?:.*-)?clause-(\w+))?(?:-.*)?|.*-requires-clause-(\w+)(?:-.*)?")
 # The name of a clause without a label, and of all clauses where a function proves them at once.
 UNLABELLED = "its clause"
 SENTINELS = "scripts/sentinels.txt"
