@@ -57,12 +57,12 @@ def many_parts(count):
     return legacy(4, data), legacy(2, data)
 
 
-def source(more):
-    """A source in the whole language of dtc: a FIT image, and more nodes in its root."""
+def source(more, rest=""):
+    """A source in the whole language of dtc: a FIT image, more nodes in its root, and more after it."""
     image = 'description = "k"; data = [61]; type = "kernel"; arch = "arm"; os = "linux"; compression = "none";'
     return (
         f'/dts-v1/; / {{ description = "shape"; #address-cells = <(1)>; images {{ k {{ {image} load = <0>;'
-        f' entry = <0>; }}; }}; configurations {{ default = "c"; c {{ description = "c"; kernel = "k"; }}; }}; {more} }};'
+        f' entry = <0>; }}; }}; configurations {{ default = "c"; c {{ description = "c"; kernel = "k"; }}; }}; {more} }};{rest}'
     ).encode()
 
 
@@ -77,6 +77,12 @@ def operators(count):
     return beside(source("s { a = <(" + "1+" * count + "1)>; };"))
 
 
+def labels(count):
+    """So many nodes with labels that refer to one another, and are given again."""
+    nodes = "".join(f"l{number}: n{number} {{ a = <&l{count - 1 - number}>; }}; " for number in range(count))
+    return beside(source(f"s {{ {nodes}}};", "".join(f" &l{number} {{ b; }};" for number in range(count))))
+
+
 def shapes():
     """Yields for each shape the command, its name, and in parts its file and an ordinary one of the
     same length."""
@@ -84,3 +90,4 @@ def shapes():
     yield "check", "100 images with one payload", *overlapping(100)
     yield "list", "1,000,000 parts of a multi image", *many_parts(1000000)
     yield "make", "500,000 operators in a row", *operators(500000)
+    yield "make", "20,000 nodes with labels and references", *labels(20000)

@@ -39,10 +39,9 @@ fn add_labels<A: Allocator + Copy>(
     prefix: &[Token],
     owner: Owner,
 ) -> Result<(), Stop> {
-    let first = table.labels.len();
     for token in prefix {
         if let Word::Label(name) = token.word {
-            table.add_label(first, name, owner, token.left)?;
+            table.add_label(name, owner, token.left)?;
         }
     }
     Ok(())
@@ -63,7 +62,7 @@ fn add_property<A: Allocator + Copy>(
     left: usize,
 ) -> Result<usize, Stop> {
     let place = table.add_property(name, left)?;
-    table.append_property(node, place);
+    table.append_property(node, place)?;
     add_labels(table, prefix, Owner::Property(place))?;
     Ok(place)
 }
@@ -77,7 +76,7 @@ fn add_child<A: Allocator + Copy>(
 ) -> Result<usize, Stop> {
     let level = table.level_of(parent).saturating_add(1);
     let place = table.add_node(name, level, left)?;
-    table.append_child(parent, place);
+    table.append_child(parent, place)?;
     if let Some(node) = table.nodes.get_mut(place) {
         node.is_optional = is_optional(prefix);
     }

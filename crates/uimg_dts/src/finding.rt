@@ -1,6 +1,8 @@
 //! Look-ups of nodes and properties, and walks over the tree.
 
 use crate::bytes::{after, before, byte_at};
+use crate::index::{CHILD, LABEL};
+use crate::stop::Stop;
 use crate::table::{Owner, Table};
 use crate::tokens::Piece;
 use std::alloc::Allocator;
@@ -61,20 +63,7 @@ impl<'t, A: Allocator + Copy> Table<'t, A> {
         None
     }
 
-    /// The child may be deleted.
-    pub(crate) fn child_named(&self, parent: usize, name: Piece) -> Option<usize> {
-        let mut found = self.node(parent)?.first_child;
-        for _ in 0..self.nodes.len() {
-            let node = self.node(found)?;
-            if self.same(node.name, name) {
-                return Some(found);
-            }
-            found = node.next;
-        }
-        None
-    }
-
-    /// The property may be deleted.
+    /// Returns the first property of a name. It may be deleted.
     pub(crate) fn property_named(&self, owner: usize, name: &[u8]) -> Option<usize> {
         let mut found = self.node(owner)?.first_property;
         for _ in 0..self.properties.len() {
@@ -99,20 +88,23 @@ impl<'t, A: Allocator + Copy> Table<'t, A> {
         None
     }
 
-    fn live_child(&self, parent: usize, name: &[u8]) -> Option<usize> {
-        let mut found = self.node(parent)?.first_child;
+    fn live_child(&mut self, parent: usize, name: &'t [u8]) -> Result<Option<usize>, Stop> {
+        self.index_node(parent)?;
+        let mut place = self.index.first(CHILD, parent, name);
         for _ in 0..self.nodes.len() {
-            let node = self.node(found)?;
-            if !node.is_deleted && self.text(node.name) == name {
-                return Some(found);
+            let Some(node) = self.node(place) else {
+                return Ok(None);
+            };
+            if !node.is_deleted {
+                return Ok(Some(place));
             }
-            found = node.next;
+            place = node.later;
         }
-        None
+        Ok(None)
     }
 
     // A path begins with a slash.
-    fn at_path(&self, path: &[u8]) -> Option<usize> {
+    fn at_path(&mut self, path: &'t [u8]) -> Result<Option<usize>, Stop> {
         let mut found = ROOT;
         let mut rest = path;
         for _ in 0..path.len() {
@@ -121,36 +113,40 @@ impl<'t, A: Allocator + Copy> Table<'t, A> {
             }
             let name = after(rest, slashes_length(rest));
             let length = part_length(name);
-            found = self.live_child(found, before(name, length))?;
+            let Some(child) = self.live_child(found, before(name, length))? else {
+                return Ok(None);
+            };
+            found = child;
             rest = after(after(name, length), 1);
         }
         if self.is_live(found) {
-            Some(found)
+            Ok(Some(found))
         } else {
-            None
+            Ok(None)
         }
     }
 
-    fn labelled(&self, name: &[u8]) -> Option<usize> {
-        for label in self.labels.as_slice() {
-            if let Owner::Node(place) = label.owner {
-                if self.text(label.name) == name && self.is_live_label(*label) {
-                    return Some(place);
-                }
+    fn labelled(&self, name: &'t [u8]) -> Option<usize> {
+        let mut place = self.index.first(LABEL, 0, name);
+        for _ in 0..self.labels.len() {
+            let label = self.labels.get(place)?;
+            match label.owner {
+                Owner::Node(node) if self.is_live_label(*label) => return Some(node),
+                _ => place = label.later,
             }
         }
         None
     }
 
     /// Returns the node of a reference: a label, or a path, which begins with a slash.
-    pub(crate) fn referred(&self, reference: Piece) -> Option<usize> {
+    pub(crate) fn referred(&mut self, reference: Piece) -> Result<Option<usize>, Stop> {
         let text = self.text(reference);
         if text == b"/".as_slice() {
-            Some(ROOT)
+            Ok(Some(ROOT))
         } else if byte_at(text, 0) == b'/' {
             self.at_path(text)
         } else {
-            self.labelled(text)
+            Ok(self.labelled(text))
         }
     }
 

@@ -1,69 +1,80 @@
 //! Labels of nodes and properties.
 
+use crate::index::{LABEL, LABEL_OF_NODE, LABEL_OF_PROPERTY};
 use crate::stop::{Stop, out_of_memory};
-use crate::table::{LabelEntry, Owner, Table};
+use crate::table::{LabelEntry, NONE, Owner, Table};
 use crate::tokens::Piece;
 use std::alloc::Allocator;
 
-impl<'t, A: Allocator + Copy> Table<'t, A> {
-    fn label_from(&self, first: usize, name: Piece, owner: Owner) -> Option<usize> {
-        for i in first..self.labels.len() {
-            match self.labels.get(i) {
-                Some(label) if label.owner == owner && self.same(label.name, name) => return Some(
-                    i,
-                ),
-                _ => {}
-            }
-        }
-        None
+// What the names of an owner's labels are of, and its place. Those have no empty name, by which the
+// first and the last of them are known.
+fn key_of(owner: Owner) -> (u8, usize) {
+    match owner {
+        Owner::Node(place) => (LABEL_OF_NODE, place),
+        Owner::Property(place) => (LABEL_OF_PROPERTY, place),
     }
+}
 
-    /// Adds a label, unless what it names has it among those from a place on. A deleted label is
-    /// restored.
-    pub(crate) fn add_label(
-        &mut self,
-        first: usize,
-        name: Piece,
-        owner: Owner,
-        left: usize,
-    ) -> Result<(), Stop> {
-        if let Some(found) = self.label_from(first, name, owner) {
-            if let Some(label) = self.labels.get_mut(found) {
-                label.is_deleted = false;
-            }
+impl<'t, A: Allocator + Copy> Table<'t, A> {
+    /// Adds a label, unless what it names has it. A deleted label is restored.
+    pub(crate) fn add_label(&mut self, name: Piece, owner: Owner, left: usize) -> Result<(), Stop> {
+        let text = self.text(name);
+        let (kind, of) = key_of(owner);
+        let found = self.index.first(kind, of, text);
+        if let Some(label) = self.labels.get_mut(found) {
+            label.is_deleted = false;
             return Ok(());
         }
+        let place = self.labels.len();
         let label = LabelEntry {
             name,
             left,
             owner,
             is_deleted: false,
+            next: NONE,
+            later: NONE,
         };
-        match self.labels.push(label) {
-            Ok(()) => Ok(()),
-            Err(_) => Err(out_of_memory(left)),
+        if self.labels.push(label).is_err() {
+            return Err(out_of_memory(left));
         }
+        self.index.add(kind, of, text, place)?;
+        let last = self.index.add(kind, of, &[], place)?;
+        if let Some(label) = self.labels.get_mut(last) {
+            label.next = place;
+        }
+        if kind == LABEL_OF_NODE {
+            let before = self.index.add(LABEL, 0, text, place)?;
+            if let Some(label) = self.labels.get_mut(before) {
+                label.later = place;
+            }
+        }
+        Ok(())
     }
 
     /// Adds the labels of one thing, deleted or not, to another.
     pub(crate) fn move_labels(&mut self, from: Owner, to: Owner) -> Result<(), Stop> {
-        for i in 0..self.labels.len() {
-            let Some(label) = self.labels.get(i).copied() else {
-                return Ok(());
+        let (kind, of) = key_of(from);
+        let mut place = self.index.first(kind, of, &[]);
+        for _ in 0..self.labels.len() {
+            let Some(label) = self.labels.get(place).copied() else {
+                break;
             };
-            if label.owner == from {
-                self.add_label(0, label.name, to, label.left)?;
-            }
+            self.add_label(label.name, to, label.left)?;
+            place = label.next;
         }
         self.delete_labels(from);
         Ok(())
     }
 
     pub(crate) fn delete_labels(&mut self, owner: Owner) {
-        for label in self.labels.as_mut_slice() {
-            if label.owner == owner {
-                label.is_deleted = true;
-            }
+        let (kind, of) = key_of(owner);
+        let mut place = self.index.first(kind, of, &[]);
+        for _ in 0..self.labels.len() {
+            let Some(label) = self.labels.get_mut(place) else {
+                return;
+            };
+            label.is_deleted = true;
+            place = label.next;
         }
     }
 

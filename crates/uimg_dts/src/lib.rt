@@ -15,6 +15,7 @@ mod expressions;
 mod fault;
 mod finding;
 mod gaps;
+mod index;
 mod labelling;
 mod lexing;
 mod literals;

@@ -1,6 +1,7 @@
 //! Merging of nodes that are given again, and deletion.
 
 use crate::finding::ROOT;
+use crate::index::{CHILD, PROPERTY};
 use crate::stop::Stop;
 use crate::table::{NONE, NodeEntry, Owner, PropertyEntry, Table};
 use crate::tokens::Piece;
@@ -74,14 +75,14 @@ impl<'t, A: Allocator + Copy> Table<'t, A> {
         place: usize,
         new: PropertyEntry,
     ) -> Result<(), Stop> {
-        match self.property_named(node, self.text(new.name)) {
-            Some(old) if new.is_deleted => self.delete_property(old),
-            Some(old) => {
+        match self.index.first(PROPERTY, node, self.text(new.name)) {
+            NONE if new.is_deleted => {}
+            NONE => self.append_property(node, place)?,
+            old if new.is_deleted => self.delete_property(old),
+            old => {
                 self.move_labels(Owner::Property(place), Owner::Property(old))?;
                 self.replace(old, new);
             }
-            None if new.is_deleted => {}
-            None => self.append_property(node, place),
         }
         Ok(())
     }
@@ -98,6 +99,7 @@ impl<'t, A: Allocator + Copy> Table<'t, A> {
             node.is_deleted = false;
         }
         self.move_labels(Owner::Node(new), Owner::Node(old))?;
+        self.index_node(old)?;
         for _ in 0..self.properties.len() {
             let Some(found) = self.property(property) else {
                 break;
@@ -110,11 +112,12 @@ impl<'t, A: Allocator + Copy> Table<'t, A> {
 
     // Merges a node of a definition into the child of this name, or adds it as a child.
     fn merge_child(&mut self, parent: usize, place: usize, new: NodeEntry) -> Result<(), Stop> {
-        match self.child_named(parent, new.name) {
-            Some(old) if new.is_deleted => self.delete_node(old),
-            Some(old) => self.merge_one(old, place)?,
-            None if new.is_deleted => {}
-            None => self.append_child(parent, place),
+        self.index_node(parent)?;
+        match self.index.first(CHILD, parent, self.text(new.name)) {
+            NONE if new.is_deleted => {}
+            NONE => self.append_child(parent, place)?,
+            old if new.is_deleted => self.delete_node(old),
+            old => self.merge_one(old, place)?,
         }
         Ok(())
     }

@@ -2,10 +2,12 @@
 
 use crate::bytes::after;
 use crate::fault::Refusal;
+use crate::index::{CHILD, Index, PROPERTY};
 use crate::stop::{Stop, at, out_of_memory};
-use crate::table::{MarkKind, NodeEntry, PropertyEntry, Table};
+use crate::table::{MarkKind, NONE, NodeEntry, Table};
 use crate::tokens::Piece;
 use std::alloc::Allocator;
+use std::collections::BTreeMap;
 
 // Returns how many bytes of a node's name are before its unit address.
 fn base_length(name: &[u8]) -> usize {
@@ -36,6 +38,25 @@ fn add_name<A: Allocator>(
     }
 }
 
+// Returns how many bytes of the text remain at the first two labels of a name, with one more.
+fn with_label(both: (usize, Option<usize>), left: usize) -> (usize, Option<usize>) {
+    let (first, second) = both;
+    if first >= left {
+        (first, Some(usize::max(second.unwrap_or(0), left)))
+    } else {
+        (left, Some(first))
+    }
+}
+
+// Returns the earlier of what was found and of what is at a place, unless there is none.
+fn earlier(found: Option<(usize, usize)>, place: usize, left: usize) -> Option<(usize, usize)> {
+    match found {
+        _ if place == NONE => found,
+        Some((before, _)) if before <= place => found,
+        _ => Some((place, left)),
+    }
+}
+
 // Returns whether bytes are one string: a NUL ends them, and they have no other.
 fn is_string(bytes: &[u8]) -> bool {
     let length = bytes.iter().take_while(|b| **b != 0).count();
@@ -43,52 +64,59 @@ fn is_string(bytes: &[u8]) -> bool {
 }
 
 impl<'t, A: Allocator + Copy> Table<'t, A> {
-    // Returns the next child of the same parent, deleted or not, that has a child's name.
-    fn later_child(&self, child: usize, name: Piece) -> Option<NodeEntry> {
-        let mut place = self.node(child)?.next;
+    // Links the children of a node, deleted or not, that have one name.
+    fn link_children(&mut self, first: usize) -> Result<(), Stop> {
+        let mut names = Index::new(self.alloc);
+        let mut place = first;
         for _ in 0..self.nodes.len() {
-            let node = self.node(place)?;
-            if self.same(node.name, name) {
-                return Some(node);
+            let Some(child) = self.node(place) else {
+                break;
+            };
+            let before = names.add(CHILD, 0, self.text(child.name), place)?;
+            if let Some(node) = self.nodes.get_mut(before) {
+                node.later = place;
             }
-            place = node.next;
-        }
-        None
-    }
-
-    // Returns the next property of the node that is not deleted and has a property's name.
-    fn later_property(&self, property: usize, name: Piece) -> Option<PropertyEntry> {
-        let mut place = self.property(property)?.next;
-        for _ in 0..self.properties.len() {
-            let found = self.property(place)?;
-            if !found.is_deleted && self.same(found.name, name) {
-                return Some(found);
-            }
-            place = found.next;
-        }
-        None
-    }
-
-    // Refuses a property, which is not deleted, of the name of a later one, or with an `@` in it.
-    fn check_property(&self, place: usize, property: PropertyEntry) -> Result<(), Stop> {
-        if let Some(later) = self.later_property(place, property.name) {
-            return Err(at(Refusal::Duplicate, later.left));
-        }
-        let name = self.text(property.name);
-        if base_length(name) < name.len() {
-            return Err(at(Refusal::BadName, property.left));
+            place = child.next;
         }
         Ok(())
     }
 
-    fn check_properties(&self, first: usize) -> Result<(), Stop> {
+    // Returns how many properties are before the first one whose name a later one has, and how many
+    // bytes of the text remain at the later one. Neither is deleted.
+    fn repeated(&self, first: usize) -> Result<Option<(usize, usize)>, Stop> {
+        let mut names = Index::new(self.alloc);
+        let mut found = None;
         let mut place = first;
-        for _ in 0..self.properties.len() {
+        for i in 0..self.properties.len() {
+            let Some(property) = self.property(place) else {
+                break;
+            };
+            if !property.is_deleted {
+                let name = self.text(property.name);
+                let known = names.first(PROPERTY, 0, name);
+                names.add(PROPERTY, 0, name, i)?;
+                found = earlier(found, known, property.left);
+            }
+            place = property.next;
+        }
+        Ok(found)
+    }
+
+    // Refuses a property of the name of a later one, or with an `@` in it, in order.
+    fn check_properties(&self, first: usize) -> Result<(), Stop> {
+        let repeated = self.repeated(first)?;
+        let mut place = first;
+        for i in 0..self.properties.len() {
             let Some(found) = self.property(place) else {
                 return Ok(());
             };
-            if !found.is_deleted {
-                self.check_property(place, found)?;
+            match repeated {
+                Some((before, left)) if before == i => return Err(at(Refusal::Duplicate, left)),
+                _ => {}
+            }
+            let name = self.text(found.name);
+            if !found.is_deleted && base_length(name) < name.len() {
+                return Err(at(Refusal::BadName, found.left));
             }
             place = found.next;
         }
@@ -96,8 +124,8 @@ impl<'t, A: Allocator + Copy> Table<'t, A> {
     }
 
     // Refuses a node of the name of a later one, with two unit addresses, or with other bytes.
-    fn check_name(&self, place: usize, node: NodeEntry) -> Result<(), Stop> {
-        if let Some(later) = self.later_child(place, node.name) {
+    fn check_name(&self, node: NodeEntry) -> Result<(), Stop> {
+        if let Some(later) = self.node(node.later) {
             return Err(at(Refusal::Duplicate, later.left));
         }
         let text = self.text(node.name);
@@ -141,7 +169,8 @@ impl<'t, A: Allocator + Copy> Table<'t, A> {
             let Some(node) = self.node(*place) else {
                 return Ok(());
             };
-            self.check_name(*place, node)?;
+            self.check_name(node)?;
+            self.link_children(node.first_child)?;
             self.check_properties(node.first_property)?;
             self.check_name_property(*place, node.name)?;
         }
@@ -175,31 +204,24 @@ impl<'t, A: Allocator + Copy> Table<'t, A> {
         Ok(names)
     }
 
-    // Returns how many bytes of the text remain at the second label of a name, of two or more.
-    fn second(&self, names: &[Labelled], name: Piece) -> Option<usize> {
-        let mut first = None;
-        let mut second = None;
-        for label in names {
-            if self.same(label.name, name) {
-                match first {
-                    Some(left) if left >= label.left => {
-                        second = Some(usize::max(second.unwrap_or(0), label.left))
-                    }
-                    _ => {
-                        second = first;
-                        first = Some(label.left);
-                    }
-                }
-            }
-        }
-        second
-    }
-
+    /// Refuses a label that names two things, at the second of them in the text.
     pub(crate) fn check_labels(&self) -> Result<(), Stop> {
         let names = self.label_names()?;
+        let mut first_two = BTreeMap::new(self.alloc);
         for label in names.as_slice() {
-            if let Some(left) = self.second(names.as_slice(), label.name) {
-                return Err(at(Refusal::Duplicate, left));
+            let name = self.text(label.name);
+            let both = match first_two.get(&name) {
+                Some(both) => with_label(*both, label.left),
+                None => (label.left, None),
+            };
+            if first_two.insert(name, both).is_err() {
+                return Err(out_of_memory(0));
+            }
+        }
+        for label in names.as_slice() {
+            match first_two.get(&self.text(label.name)) {
+                Some((_, Some(left))) => return Err(at(Refusal::Duplicate, *left)),
+                _ => {}
             }
         }
         Ok(())

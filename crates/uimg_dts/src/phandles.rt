@@ -24,7 +24,7 @@ impl<'t, A: Allocator + Copy> Table<'t, A> {
     }
 
     // Zero if the node has none yet.
-    fn given_number(&self, place: usize, name: &[u8]) -> Result<u32, Stop> {
+    fn given_number(&mut self, place: usize, name: &[u8]) -> Result<u32, Stop> {
         let Some(found) = self.live_property(place, name) else {
             return Ok(0);
         };
@@ -35,33 +35,26 @@ impl<'t, A: Allocator + Copy> Table<'t, A> {
         let [a, b, c, d] = self.value(property.value) else {
             return Err(bad);
         };
+        let number = u32::from_be_bytes([*a, *b, *c, *d]);
         if let Some(mark) = self.first_mark(property, MarkKind::Phandle) {
-            return if self.referred(mark.name) == Some(place) {
-                Ok(0)
-            } else {
-                Err(bad)
+            return match self.referred(mark.name)? {
+                Some(node) if node == place => Ok(0),
+                _ => Err(bad),
             };
         }
-        match u32::from_be_bytes([*a, *b, *c, *d]) {
+        match number {
             0 | u32::MAX => Err(bad),
-            number => Ok(number),
+            _ => Ok(number),
         }
     }
 
-    fn is_taken(&self, order: &[usize], number: u32) -> bool {
-        for place in order {
-            if let Some(node) = self.nodes.get(*place) {
-                if node.phandle == number {
-                    return true;
-                }
-            }
-        }
-        false
-    }
-
-    fn set_number(&mut self, place: usize, number: u32) {
+    fn set_number(&mut self, place: usize, number: u32) -> Result<(), Stop> {
         if let Some(node) = self.nodes.get_mut(place) {
             node.phandle = number;
+        }
+        match self.numbers.insert(number) {
+            Ok(_) => Ok(()),
+            Err(_) => Err(out_of_memory(0)),
         }
     }
 
@@ -87,19 +80,21 @@ impl<'t, A: Allocator + Copy> Table<'t, A> {
             let other = self.given_number(*place, b"linux,phandle")?;
             let number = if own == 0 { other } else { own };
             let differ = own != 0 && other != 0 && own != other;
-            if differ || (number != 0 && self.is_taken(order, number)) {
+            if differ || self.numbers.contains(&number) {
                 return Err(at(Refusal::BadPhandle, self.left_of_number(*place)));
             }
-            self.set_number(*place, number);
+            if number != 0 {
+                self.set_number(*place, number)?;
+            }
         }
         Ok(())
     }
 
     // Returns the first number that is free, from one on.
-    fn free_number(&self, order: &[usize], first: u32) -> u32 {
+    fn free_number(&self, first: u32) -> u32 {
         let mut number = first;
-        for _ in 0..order.len() {
-            if !self.is_taken(order, number) {
+        for _ in 0..self.nodes.len() {
+            if !self.numbers.contains(&number) {
                 break;
             }
             number = number.saturating_add(1);
@@ -125,19 +120,18 @@ impl<'t, A: Allocator + Copy> Table<'t, A> {
         if let Some(found) = self.properties.get_mut(property) {
             found.value = Piece { start, end };
         }
-        self.append_property(place, property);
-        Ok(())
+        self.append_property(place, property)
     }
 
     // Returns the number of a node; one that has none gets the first that is free, from one on, and
     // a property with it.
-    fn number_of(&mut self, order: &[usize], place: usize, next: &mut u32) -> Result<u32, Stop> {
+    fn number_of(&mut self, place: usize, next: &mut u32) -> Result<u32, Stop> {
         match self.node(place) {
             Some(node) if node.phandle != 0 => return Ok(node.phandle),
             _ => {}
         }
-        *next = self.free_number(order, *next);
-        self.set_number(place, *next);
+        *next = self.free_number(*next);
+        self.set_number(place, *next)?;
         self.add_number(place, *next)?;
         Ok(*next)
     }
@@ -153,7 +147,7 @@ impl<'t, A: Allocator + Copy> Table<'t, A> {
 
     // Returns the node that the mark refers to.
     fn refer_to(&mut self, place: usize, mark: MarkEntry) -> Result<usize, Stop> {
-        let Some(found) = self.referred(mark.name) else {
+        let Some(found) = self.referred(mark.name)? else {
             return Err(at(Refusal::NoNode, mark.left));
         };
         if let Some(node) = self.nodes.get_mut(found) {
@@ -165,13 +159,7 @@ impl<'t, A: Allocator + Copy> Table<'t, A> {
         Ok(found)
     }
 
-    fn resolve_mark(
-        &mut self,
-        order: &[usize],
-        start: usize,
-        place: usize,
-        next: &mut u32,
-    ) -> Result<(), Stop> {
+    fn resolve_mark(&mut self, start: usize, place: usize, next: &mut u32) -> Result<(), Stop> {
         let Some(mark) = self.marks.get(place).copied() else {
             return Ok(());
         };
@@ -180,13 +168,13 @@ impl<'t, A: Allocator + Copy> Table<'t, A> {
         }
         let node = self.refer_to(place, mark)?;
         if mark.kind == MarkKind::Phandle {
-            let number = self.number_of(order, node, next)?;
+            let number = self.number_of(node, next)?;
             self.put_number(start.saturating_add(mark.offset), number);
         }
         Ok(())
     }
 
-    fn resolve_node(&mut self, order: &[usize], place: usize, next: &mut u32) -> Result<(), Stop> {
+    fn resolve_node(&mut self, place: usize, next: &mut u32) -> Result<(), Stop> {
         let Some(node) = self.node(place) else {
             return Ok(());
         };
@@ -197,7 +185,7 @@ impl<'t, A: Allocator + Copy> Table<'t, A> {
             };
             if !found.is_deleted {
                 for i in found.marks.start..found.marks.end {
-                    self.resolve_mark(order, found.value.start, i, next)?;
+                    self.resolve_mark(found.value.start, i, next)?;
                 }
             }
             property = found.next;
@@ -209,7 +197,7 @@ impl<'t, A: Allocator + Copy> Table<'t, A> {
     pub(crate) fn resolve(&mut self, order: &[usize]) -> Result<(), Stop> {
         let mut next = 1;
         for place in order {
-            self.resolve_node(order, *place, &mut next)?;
+            self.resolve_node(*place, &mut next)?;
         }
         Ok(())
     }

@@ -62,11 +62,11 @@ pub(crate) fn reservations<'a, A: Allocator>(
     Ok(rest)
 }
 
-fn target<A: Allocator + Copy>(table: &Table<'_, A>, tokens: &[Token]) -> Result<usize, Stop> {
+fn target<A: Allocator + Copy>(table: &mut Table<'_, A>, tokens: &[Token]) -> Result<usize, Stop> {
     let Some(Word::Reference(name)) = word_at(tokens) else {
         return Err(unexpected(tokens));
     };
-    match table.referred(name) {
+    match table.referred(name)? {
         Some(place) => Ok(place),
         None => Err(at(Refusal::NoNode, left_at(tokens))),
     }
@@ -102,7 +102,7 @@ fn overlay<'a, F: Files, A: Allocator + Copy>(
 {
     let into = target(table, tokens)?;
     if let Some(name) = label {
-        table.add_label(0, name, Owner::Node(into), left_at(tokens))?;
+        table.add_label(name, Owner::Node(into), left_at(tokens))?;
     }
     merged(files, table, into, expect(b'{', behind(tokens))?)
 }
@@ -110,7 +110,7 @@ fn overlay<'a, F: Files, A: Allocator + Copy>(
 // Reads a statement that marks or deletes a referred node, from the reference on. Returns it and
 // the words after it.
 fn marked<'a, A: Allocator + Copy>(
-    table: &Table<'_, A>,
+    table: &mut Table<'_, A>,
     tokens: &'a [Token],
 ) -> Result<(usize, &'a [Token]), Stop> {
     let place = target(table, tokens)?;

@@ -3,9 +3,11 @@
 //! Each names others by their places in the tables, and a place that is none is `NONE`. `left` is
 //! how many bytes of the text remain at the word that gave an entry.
 
+use crate::index::{CHILD, Index, PROPERTY};
 use crate::stop::{Stop, out_of_memory};
 use crate::tokens::{NOTHING, Piece};
 use std::alloc::Allocator;
+use std::collections::BTreeSet;
 
 /// No place in a table.
 pub(crate) const NONE: usize = usize::MAX;
@@ -31,6 +33,10 @@ pub(crate) struct NodeEntry {
     pub(crate) phandle: u32,
     /// The node that it was merged into.
     pub(crate) merged: usize,
+    /// Whether the index has its children and properties.
+    pub(crate) is_indexed: bool,
+    /// The next child of the same parent that has the same name, if they were looked for.
+    pub(crate) later: usize,
 }
 
 /// A property. A value that is a file is the file's name.
@@ -61,6 +67,10 @@ pub(crate) struct LabelEntry {
     pub(crate) left: usize,
     pub(crate) owner: Owner,
     pub(crate) is_deleted: bool,
+    /// The next label of the same owner.
+    pub(crate) next: usize,
+    /// The next label of a node that has the same name.
+    pub(crate) later: usize,
 }
 
 /// What a mark in a value is.
@@ -94,6 +104,9 @@ pub(crate) struct Table<'t, A: Allocator> {
     pub(crate) labels: Vec<LabelEntry, A>,
     pub(crate) marks: Vec<MarkEntry, A>,
     pub(crate) values: Vec<u8, A>,
+    pub(crate) index: Index<'t, A>,
+    /// The numbers of nodes.
+    pub(crate) numbers: BTreeSet<u32, A>,
 }
 
 impl<'t, A: Allocator + Copy> Table<'t, A> {
@@ -106,15 +119,13 @@ impl<'t, A: Allocator + Copy> Table<'t, A> {
             labels: Vec::new(alloc),
             marks: Vec::new(alloc),
             values: Vec::new(alloc),
+            index: Index::new(alloc),
+            numbers: BTreeSet::new(alloc),
         }
     }
 
     pub(crate) fn text(&self, piece: Piece) -> &'t [u8] {
         self.bytes.get(piece.start..piece.end).unwrap_or(&[])
-    }
-
-    pub(crate) fn same(&self, a: Piece, b: Piece) -> bool {
-        self.text(a) == self.text(b)
     }
 
     pub(crate) fn value(&self, piece: Piece) -> &[u8] {
@@ -185,6 +196,8 @@ impl<'t, A: Allocator + Copy> Table<'t, A> {
             is_referenced: false,
             phandle: 0,
             merged: NONE,
+            is_indexed: false,
+            later: NONE,
         };
         match self.nodes.push(node) {
             Ok(()) => Ok(place),
@@ -211,9 +224,11 @@ impl<'t, A: Allocator + Copy> Table<'t, A> {
         }
     }
 
-    pub(crate) fn append_child(&mut self, parent: usize, child: usize) {
+    pub(crate) fn append_child(&mut self, parent: usize, child: usize) -> Result<(), Stop> {
         let mut last = NONE;
+        let mut is_indexed = false;
         if let Some(node) = self.nodes.get_mut(parent) {
+            is_indexed = node.is_indexed;
             last = node.last_child;
             node.last_child = child;
             if last == NONE {
@@ -227,11 +242,18 @@ impl<'t, A: Allocator + Copy> Table<'t, A> {
             node.parent = parent;
             node.next = NONE;
         }
+        if is_indexed {
+            self.index_child(parent, child)
+        } else {
+            Ok(())
+        }
     }
 
-    pub(crate) fn append_property(&mut self, owner: usize, place: usize) {
+    pub(crate) fn append_property(&mut self, owner: usize, place: usize) -> Result<(), Stop> {
         let mut last = NONE;
+        let mut is_indexed = false;
         if let Some(node) = self.nodes.get_mut(owner) {
+            is_indexed = node.is_indexed;
             last = node.last_property;
             node.last_property = place;
             if last == NONE {
@@ -245,5 +267,62 @@ impl<'t, A: Allocator + Copy> Table<'t, A> {
             property.node = owner;
             property.next = NONE;
         }
+        if is_indexed {
+            self.index_property(owner, place)
+        } else {
+            Ok(())
+        }
+    }
+
+    fn index_child(&mut self, parent: usize, child: usize) -> Result<(), Stop> {
+        let Some(node) = self.node(child) else {
+            return Ok(());
+        };
+        let text = self.text(node.name);
+        let before = self.index.add(CHILD, parent, text, child)?;
+        if let Some(node) = self.nodes.get_mut(before) {
+            node.later = child;
+        }
+        Ok(())
+    }
+
+    fn index_property(&mut self, owner: usize, place: usize) -> Result<(), Stop> {
+        let Some(property) = self.property(place) else {
+            return Ok(());
+        };
+        let text = self.text(property.name);
+        self.index.add(PROPERTY, owner, text, place)?;
+        Ok(())
+    }
+
+    /// Makes the children and properties of a node known by their names. Those that are appended
+    /// later are so too.
+    pub(crate) fn index_node(&mut self, place: usize) -> Result<(), Stop> {
+        let Some(node) = self.node(place) else {
+            return Ok(());
+        };
+        if node.is_indexed {
+            return Ok(());
+        }
+        let mut child = node.first_child;
+        for _ in 0..self.nodes.len() {
+            let Some(found) = self.node(child) else {
+                break;
+            };
+            self.index_child(place, child)?;
+            child = found.next;
+        }
+        let mut property = node.first_property;
+        for _ in 0..self.properties.len() {
+            let Some(found) = self.property(property) else {
+                break;
+            };
+            self.index_property(place, property)?;
+            property = found.next;
+        }
+        if let Some(node) = self.nodes.get_mut(place) {
+            node.is_indexed = true;
+        }
+        Ok(())
     }
 }
