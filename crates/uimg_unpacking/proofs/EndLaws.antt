@@ -1,5 +1,5 @@
 -- How the unpacking of a FIT image ends by its bytes.
-use Rattle.std.proofs.Common.{◌≡◌, ◌==◌, ◌&&◌, ◌||◌, nat_lt, ℕ, zero, suc, List, [], ◌∷◌, length, Option, Some, None, is_some, Bool, true, false, refl, ap, sym, subst, ◌∙◌, arith}
+use Rattle.std.proofs.Common.{◌≡◌, ◌==◌, ◌&&◌, ◌||◌, nat_lt, ℕ, zero, suc, List, [], ◌∷◌, length, Option, Some, None, is_some, Bool, true, false, refl, ap, sym, subst, ◌∙◌, true≢false, arith}
 use Rattle.std.specs.Prelude.{Result, Ok, Err, if◌then◌else◌}
 use Rattle.std.specs.List.{list_all}
 use Rattle.uimg_fit_base.specs.declared.fault.Fault.{Fault, TheVariants.{Blob, Fit, Read, Put}}
@@ -12,7 +12,7 @@ use Rattle.uimg_unpacking.specs.declared.trouble.Trouble.TheVariants as of
 use Rattle.uimg_unpacking.specs.declared.unpacking.Ended.{Ended}
 use Rattle.uimg_unpacking.specs.declared.unpacking.Ended.TheVariants.{Kept, Refused, NoImage, Stopped, Troubled}
 use Rattle.uimg_unpacking.specs.declared.unpacking.Unpacking.{Unpacking}
-use Rattle.uimg_unpacking.specs.Ends.{asked_name, end_of_taken, end_of, end_by_name, has_failed, Ends, EndsByFile}
+use Rattle.uimg_unpacking.specs.Ends.{asked_name, end_of_taken, end_of, end_by_name, has_failed, is_whole, Ends, EndsByFile}
 
 true_false : true ≡ false → ⊥
 true_false h = grind (arith, h)
@@ -70,3 +70,33 @@ ends_by_file asked file only r before after count trouble end old new named none
     by_result asked (unpack_of asked.need only file) r count trouble end old new (subst (λ (n : ℕ). EndsAs r (unpack_of asked.need only file) false (nat_lt 0 n)) (sym counted)
     (subst (λ (n : ℕ). EndsAs r (unpack_of asked.need only file) (nat_lt 0 n) (nat_lt 0 after)) none ends)) is good
     ∙ ap (λ (o : Option (Option (List ℕ))). end_by_name asked o file) named
+
+-- what is whole at an end
+abbrev is_kept_end : Ended → Bool
+is_kept_end Kept = true
+is_kept_end _ = false
+
+kept_taken : (asked : Unpacking) (all : Bool) (none asks : Bool) → is_kept_end (if none then Stopped (Fit NoSuchImage) else if asks then NoImage else if all then Kept else Refused) ≡ true → all ≡ true
+kept_taken asked all true asks is = absurd (true≢false (sym is))
+kept_taken asked all false true is = absurd (true≢false (sym is))
+kept_taken asked true false false is = refl
+kept_taken asked false false false is = absurd (true≢false (sym is))
+
+other_end : {P : Type 0} (end other : Ended) → end ≡ other → is_kept_end other ≡ false → end ≡ Kept → P
+other_end end other is bad good = absurd (true≢false (sym (ap is_kept_end good) ∙ ap is_kept_end is ∙ bad))
+
+-- At the end that all is kept, all was whole and there was no trouble.
+pub whole_at : (asked : Unpacking) (r : Result Unpacked Fault) (count : ℕ) (trouble : Option Trouble) (end : Ended) (old new : Option (List ℕ)) → Ends asked r count trouble end old new → end ≡ Kept → (is_whole r ≡ true) × (trouble ≡ None)
+whole_at asked (Ok (Taken all)) count (Some trouble) end old new is good = other_end end (Troubled trouble) is refl good
+whole_at asked (Ok (Taken all)) count None end old new is good =
+    (kept_taken asked all (count == 0 && is_some asked.only) (count == 0 && is_some asked.need) (sym (ap is_kept_end is) ∙ ap is_kept_end good), refl)
+whole_at asked (Ok (Overlapping name)) count trouble Kept old new is good = absurd is
+whole_at asked (Ok (Overlapping name)) count trouble Refused old new is good = other_end Refused Refused refl refl good
+whole_at asked (Ok (Overlapping name)) count trouble NoImage old new is good = absurd is
+whole_at asked (Ok (Overlapping name)) count trouble (Stopped fault) old new is good = absurd is
+whole_at asked (Ok (Overlapping name)) count trouble (Troubled bad) old new is good = other_end (Troubled bad) (Troubled bad) refl refl good
+whole_at asked (Err (Blob fault at)) count trouble end old new is good = other_end end (Stopped (Blob fault at)) is refl good
+whole_at asked (Err (Fit fault)) count trouble end old new is good = other_end end (Stopped (Fit fault)) is refl good
+whole_at asked (Err Read) count trouble end old new is good = other_end end (Stopped Read) is refl good
+whole_at asked (Err Put) count (Some trouble) end old new is good = other_end end (Troubled trouble) is refl good
+whole_at asked (Err Put) count None end old new is good = other_end end (Troubled of.Put) is refl good

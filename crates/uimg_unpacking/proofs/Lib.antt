@@ -5,6 +5,7 @@ pub mod ContentExamples
 pub mod ContentLaws
 pub mod EndLaws
 pub mod FillingLaws
+pub mod LimitLaws
 pub mod MadeLaws
 pub mod NameLaws
 pub mod NameUses

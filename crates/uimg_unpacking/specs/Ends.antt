@@ -9,6 +9,8 @@ use Rattle.uimg_printing.specs.Printing.{printed}
 use Rattle.uimg_fit_base.specs.Faults.{is_read, is_out_of_memory}
 use Rattle.uimg_fit_checking.specs.Unpacking.{as_bytes, UnpackOutcome, taken, overlaps, unpack_of, is_kept}
 use Rattle.uimg_fit_checking.specs.declared.unpacking.Unpacked.{Unpacked, TheVariants.{Taken, Overlapping}}
+use Rattle.uimg_fit_checking.specs.Claiming.{claims_of}
+use Rattle.uimg_unpacking.specs.Limiting.{fits}
 use Rattle.uimg_unpacking.specs.Objects.{told_as, about_payload}
 use Rattle.uimg_unpacking.specs.declared.trouble.Trouble.{Trouble}
 use Rattle.uimg_unpacking.specs.declared.trouble.Trouble.TheVariants as of
@@ -89,3 +91,11 @@ has_failed (Troubled trouble) = true
 -- It is the end of the file by the definition, unless something failed.
 abbrev pub EndsByFile : Unpacking → List ℕ → Ended → Type 0
 EndsByFile asked file result = has_failed result ≡ false → result ≡ end_of_file asked file
+
+-- If all is kept, the requested payloads are no more than the limits allow.
+abbrev pub FitsFor : Unpacking → Option (Option (List ℕ)) → List ℕ → Type 0
+FitsFor asked None file = ⊥
+FitsFor asked (Some only) file = fits asked.limits (claims_of only file) ≡ true
+
+abbrev pub FitsIf : Unpacking → List ℕ → Ended → Type 0
+FitsIf asked file end = end ≡ Kept → FitsFor asked (asked_name asked.only) file

@@ -1,5 +1,7 @@
 -- How many files and bytes are claimed, and whether that is too much.
-use Rattle.std.specs.Prelude.{ℕ, ◌+◌, ◌-◌, ◌^◌, min, nat_lt, if◌then◌else◌, Option, Some, None}
+use Rattle.std.specs.Prelude.{ℕ, ◌+◌, ◌-◌, ◌^◌, min, nat_lt, if◌then◌else◌, List, [], ◌∷◌, ◌++◌, length, sum_by, Bool, false, not, ◌&&◌, Option, Some, None}
+use Rattle.std.specs.Int.{from_be_bytes, w64}
+use Rattle.uimg_fit_checking.specs.Claiming.{Claim, claim}
 use Rattle.uimg_unpacking.specs.declared.limits.Limits.{Limits}
 use Rattle.uimg_unpacking.specs.declared.limits.Claimed.{Claimed}
 use Rattle.uimg_unpacking.specs.declared.trouble.Trouble.{Trouble}
@@ -29,3 +31,24 @@ abbrev pub exceeded : Claimed → Option Trouble
 exceeded claimed =
     if nat_lt claimed.limits.files claimed.files then Some (TooManyFiles claimed.limits.files)
     else exceeded_bytes claimed.limits.bytes claimed.bytes
+
+-- the claims of which first the name and then the length were noted, the newest first
+abbrev pub claims_by : List (List ℕ) → List Claim
+claims_by [] = []
+claims_by (size ∷ []) = []
+claims_by (size ∷ name ∷ noted) = claims_by noted ++ claim name (from_be_bytes w64 size) ∷ []
+
+-- how many files and bytes are claimed
+abbrev pub files_in : List Claim → ℕ
+files_in claims = min (length claims) (2 ^ 64 - 1)
+
+abbrev pub bytes_in : List Claim → ℕ
+bytes_in claims = min (sum_by (λ one. one.size) claims) (2 ^ 64 - 1)
+
+abbrev pub is_over : Option ℕ → ℕ → Bool
+is_over None bytes = false
+is_over (Some most) bytes = nat_lt most bytes
+
+-- These are no more than the limits allow.
+abbrev pub fits : Limits → List Claim → Bool
+fits limits claims = not (nat_lt limits.files (files_in claims)) && not (is_over limits.bytes (bytes_in claims))

@@ -1,10 +1,11 @@
 //! Writes payloads to a folder, with a line for each.
 
-ghost use Rattle.std.specs.Prelude.{◌≡◌, ◌++◌, ◌&&◌, ◌||◌, ℕ, List, [], Bool, None, Some, IfOk, IsTrue, OnOk, map, nat_lt, not, is_ok, false, true};
+ghost use Rattle.std.specs.Prelude.{◌≡◌, ◌++◌, ◌&&◌, ◌||◌, ℕ, List, [], Bool, None, Some, IfOk, IsTrue, OnOk, map, nat_lt, not, is_none, is_ok, false, true};
 ghost use Rattle.std.specs.Io.Buffered.{writer_contents};
 ghost use Rattle.uimg_fit_checking.specs.Unpacking.{as_bytes};
 ghost use Rattle.uimg_unpacking.specs.Contents.{HoldsAs, held};
 ghost use Rattle.uimg_unpacking.specs.Filling.{MayComplete, as_take, seen_of};
+ghost use Rattle.uimg_unpacking.specs.Limiting.{claims_by, exceeded};
 ghost use Rattle.uimg_unpacking.specs.Names.{is_used};
 ghost use Rattle.uimg_unpacking.specs.Objects.{told_of, kept_told, refused_told};
 ghost use Rattle.uimg_unpacking.specs.Places.{Obeys, terms_of};
@@ -12,7 +13,7 @@ ghost use Rattle.uimg_unpacking.specs.Refusals.{last_name, RefusesLast};
 ghost use Rattle.uimg_unpacking.specs.Staged.{names_of, staged, uses_names};
 ghost use Rattle.uimg_unpacking.specs.Telling.{with_kept, with_refused, TellsIf, is_named};
 
-use crate::limits::Claimed;
+use crate::limits::Claims;
 use crate::lines::Line;
 use crate::names::Names;
 use crate::new_file::{ErrorCode, NewFile};
@@ -42,10 +43,12 @@ pub(crate) struct FolderTaker<'w, 'a, 'c, W: World, M: Task, O: Write + Drop> {
     // The names of the files that were checked, then of those that were begun: the same ones.
     looked: Names,
     taken: Names,
-    claimed: Claimed,
+    claims: Claims,
     trouble: Option<Trouble>,
     ghost unnamed: { staging.is_naming ≡ false },
     ghost names: { uses_names (is_used taken.given) (names_of staging.files.items) (names_of staging.outdated.items) ≡ true },
+    ghost limits: { (claims.claimed.limits.files, claims.claimed.limits.bytes) ≡ M.limits },
+    ghost fits: { is_none trouble ≡ true → is_none (exceeded claims.claimed) ≡ true },
 }
 
 impl<'w, 'a, 'c, W: World, M: Task, O: Write + Drop> FolderTaker<'w, 'a, 'c, W, M, O> {
@@ -59,6 +62,8 @@ impl<'w, 'a, 'c, W: World, M: Task, O: Write + Drop> FolderTaker<'w, 'a, 'c, W, 
     ) -> FolderTaker<'w, 'a, 'c, W, M, O>
         requires before { W.trace lent.world.now ≡ M.before }
         requires agreed { terms_of asked.now.folder ≡ M.terms }
+        requires limits { (asked.now.limits.files, asked.now.limits.bytes) ≡ M.limits }
+        ensures claims { claims_by result.claims.noted.names ≡ [] }
         ensures folder { result.staging.folder ≡ asked.now.folder }
         ensures none { result.taken.count ≡ 0 }
         ensures empty { staged (W.trace result.staging.world.now) result.staging.files.items
@@ -74,7 +79,7 @@ impl<'w, 'a, 'c, W: World, M: Task, O: Write + Drop> FolderTaker<'w, 'a, 'c, W, 
             has_refused: false,
             looked: Names::new(alloc),
             taken: Names::new(alloc),
-            claimed: Claimed::new(asked.limits),
+            claims: Claims::new(asked.limits),
             trouble: None,
         }
     }
@@ -85,6 +90,7 @@ impl<'w, 'a, 'c, W: World, M: Task, O: Write + Drop> FolderTaker<'w, 'a, 'c, W, 
     pub(crate) fn end(self, names: bool) -> (&'w mut W, O, usize, Option<Trouble>)
         ensures named { result.0.ghost_name ≡ M.name }
         ensures obeys { Obeys M.terms names M.before (W.trace result.0.now) }
+        ensures none { is_none result.3 ≡ true → is_none self.entry.trouble ≡ true }
         ensures holds { names ≡ true → result.3 ≡ None → HoldsAs self.entry.staging.folder.path.now
             (staged (W.trace self.entry.staging.world.now) self.entry.staging.files.items
             self.entry.staging.is_writing) (W.trace result.0.now) }
@@ -102,7 +108,7 @@ impl<'w, 'a, 'c, W: World, M: Task, O: Write + Drop> FolderTaker<'w, 'a, 'c, W, 
             has_refused,
             looked: _looked,
             taken,
-            claimed: _claimed,
+            claims: _claims,
             trouble,
         } = self;
         let trouble = trouble.or(staging.unwritten());
@@ -112,14 +118,14 @@ impl<'w, 'a, 'c, W: World, M: Task, O: Write + Drop> FolderTaker<'w, 'a, 'c, W, 
     }
 
     // Checks, before any payload is written, whether the file of this one may be.
-    fn look(&mut self, name: &NodeName, length: u64) -> Result<(), Trouble>
+    fn look(&mut self, name: &NodeName) -> Result<(), Trouble>
         ensures folder { self.new.staging.folder ≡ self.old.staging.folder }
+        ensures claims { self.new.claims ≡ self.old.claims }
         ensures taken { self.new.taken ≡ self.old.taken }
         ensures staged { staged (W.trace self.new.staging.world.now) self.new.staging.files.items
             self.new.staging.is_writing ≡ staged (W.trace self.old.staging.world.now)
             self.old.staging.files.items self.old.staging.is_writing }
     {
-        self.claimed.claim(length)?;
         match self.looked.next(name)? {
             Some(name) => self.staging.look(name.as_str()),
             None => Err(Trouble::NoName),
@@ -130,6 +136,7 @@ impl<'w, 'a, 'c, W: World, M: Task, O: Write + Drop> FolderTaker<'w, 'a, 'c, W, 
     fn begin(&mut self, name: &NodeName) -> Result<NewFile<'c, W::File>, Trouble>
         ensures folder { self.new.staging.folder ≡ self.old.staging.folder }
         ensures counted { OnOk result (nat_lt 0 self.new.taken.count ≡ true) }
+        ensures claims { self.new.claims ≡ self.old.claims }
         ensures staged { staged (W.trace self.new.staging.world.now) self.new.staging.files.items
             self.new.staging.is_writing ≡ staged (W.trace self.old.staging.world.now)
             self.old.staging.files.items self.old.staging.is_writing }
@@ -150,6 +157,7 @@ impl<'w, 'a, 'c, W: World, M: Task, O: Write + Drop> FolderTaker<'w, 'a, 'c, W, 
     ) -> Result<(), Trouble>
         ensures folder { self.new.staging.folder ≡ self.old.staging.folder }
         ensures taken { self.new.taken ≡ self.old.taken }
+        ensures claims { self.new.claims ≡ self.old.claims }
         ensures files { self.new.staging.files ≡ self.old.staging.files }
         ensures staged { IsTrue W.knows → (bytes : List ℕ) →
             writer_contents W.File.contents file.entry.file ≡ Some bytes →
@@ -179,6 +187,7 @@ impl<'w, 'a, 'c, W: World, M: Task, O: Write + Drop> FolderTaker<'w, 'a, 'c, W, 
     fn add(&mut self, line: &Line<'_>) -> Result<(), Trouble>
         ensures staging { self.new.staging ≡ self.old.staging }
         ensures taken { self.new.taken ≡ self.old.taken }
+        ensures claims { self.new.claims ≡ self.old.claims }
         ensures refused { self.new.has_refused ≡ self.old.has_refused }
         ensures told { OnOk result
             (self.new.lines.items ≡ self.old.lines.items ++ told_of self.old.json line.now) }
@@ -191,6 +200,7 @@ impl<'w, 'a, 'c, W: World, M: Task, O: Write + Drop> FolderTaker<'w, 'a, 'c, W, 
     fn throw_away(&mut self, name: &NodeName, refusal: Refusal) -> Result<(), Trouble>
         ensures folder { self.new.staging.folder ≡ self.old.staging.folder }
         ensures taken { self.new.taken ≡ self.old.taken }
+        ensures claims { self.new.claims ≡ self.old.claims }
         ensures refused { OnOk result (self.new.has_refused ≡ true) }
         ensures staged { staged (W.trace self.new.staging.world.now) self.new.staging.files.items
             self.new.staging.is_writing ≡ staged (W.trace self.old.staging.world.now)
@@ -266,18 +276,27 @@ impl<'w, 'a, 'c, W: World, M: Task, O: Write + Drop> Taker for FolderTaker<'w, '
     ghost takes = { λ t. map as_take (staged (W.trace t.staging.world.now) t.staging.files.items
         t.staging.is_writing) };
 
+    ghost notes = { true };
+
+    ghost claimed = { λ t. claims_by t.claims.noted.names };
+
     ghost begun = { λ t. nat_lt 0 t.taken.count };
 
+    #[tactic(auto, using(crate::proofs::LimitLaws::fits_noted, crate::proofs::LimitLaws::fits_kept))]
     fn claim(&mut self, name: &NodeName, length: u64) -> Result<(), PutFault> {
-        let looked = self.look(name, length);
+        let claimed = self.claims.claim(name, length);
+        kept(claimed, &mut self.trouble)?;
+        let looked = self.look(name);
         kept(looked, &mut self.trouble)
     }
 
+    #[tactic(auto, using(crate::proofs::LimitLaws::fits_kept))]
     fn shelf(&mut self, name: &NodeName) -> Result<NewFile<'c, W::File>, PutFault> {
         let begun = self.begin(name);
         kept(begun, &mut self.trouble)
     }
 
+    #[tactic(auto, using(crate::proofs::LimitLaws::fits_kept))]
     fn keep(
         &mut self,
         name: &NodeName,
@@ -288,6 +307,7 @@ impl<'w, 'a, 'c, W: World, M: Task, O: Write + Drop> Taker for FolderTaker<'w, '
         kept(finished, &mut self.trouble)
     }
 
+    #[tactic(auto, using(crate::proofs::LimitLaws::fits_kept))]
     fn refuse(
         &mut self,
         name: &NodeName,

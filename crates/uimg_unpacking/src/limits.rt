@@ -1,10 +1,13 @@
 //! How many files an image may become, and how many bytes.
 
-ghost use Rattle.std.specs.Prelude.{◌≡◌};
-ghost use Rattle.uimg_unpacking.specs.Limiting.{none_claimed, with_file, exceeded};
+ghost use Rattle.std.specs.Prelude.{◌≡◌, ◌++◌, ◌∷◌, []};
+ghost use Rattle.uimg_fit_checking.specs.{Claiming.claim, Unpacking.as_bytes};
+ghost use Rattle.uimg_unpacking.specs.Limiting.{bytes_in, claims_by, exceeded, files_in, none_claimed, with_file};
 ghost use Rattle.uimg_unpacking.specs.Troubles.{trouble_in};
 
 use crate::trouble::Trouble;
+use uimg_base::OpenedNames;
+use uimg_fit_checking::NodeName;
 
 /// How many files an image may become, and how many bytes they may have together.
 #[derive(Clone, Copy, Debug)]
@@ -49,5 +52,39 @@ impl Claimed {
             Some(most) if self.bytes > most => Err(Trouble::TooManyBytes(most)),
             _ => Ok(()),
         }
+    }
+}
+
+/// What was claimed of the limits by payloads of images.
+#[derive(Drop)]
+pub(crate) struct Claims {
+    claimed: Claimed,
+    // For contracts alone: the name and then the length of each.
+    noted: OpenedNames,
+    ghost files: { claimed.files ≡ files_in (claims_by noted.names) },
+    ghost bytes: { claimed.bytes ≡ bytes_in (claims_by noted.names) },
+}
+
+impl Claims {
+    pub(crate) fn new(limits: Limits) -> Claims
+        ensures claimed { result.claimed ≡ none_claimed limits }
+        ensures noted { claims_by result.noted.names ≡ [] }
+    {
+        Claims {
+            claimed: Claimed::new(limits),
+            noted: OpenedNames::new(),
+        }
+    }
+
+    /// Fails if the payloads are too many or too long with this one.
+    pub(crate) fn claim(&mut self, name: &NodeName, length: u64) -> Result<(), Trouble>
+        ensures limits { self.new.claimed.limits ≡ self.old.claimed.limits }
+        ensures noted { claims_by self.new.noted.names
+            ≡ claims_by self.old.noted.names ++ claim (as_bytes name.now) length ∷ [] }
+        ensures told { trouble_in result ≡ exceeded self.new.claimed }
+    {
+        self.noted.note(name.bytes());
+        self.noted.note(length.to_be_bytes().as_slice());
+        self.claimed.claim(length)
     }
 }

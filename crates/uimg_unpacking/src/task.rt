@@ -7,7 +7,7 @@ use std::marker::{Brand, PhantomData};
 
 /// An unpacking, for contracts alone.
 pub(crate) trait Task {
-    ghost use Rattle.std.specs.Prelude.{ℕ, List};
+    ghost use Rattle.std.specs.Prelude.{ℕ, List, Option};
     ghost use Rattle.uimg_unpacking.specs.{Deeds.Deed, Places.Terms};
 
     /// The reference to its world.
@@ -18,16 +18,21 @@ pub(crate) trait Task {
 
     /// How it writes files to its folder.
     ghost terms: { Terms };
+
+    /// The greatest numbers of files and bytes.
+    ghost limits: { ℕ × Option ℕ };
 }
 
 impl Task for Brand {
-    ghost use Rattle.std.specs.Prelude.{[], false};
+    ghost use Rattle.std.specs.Prelude.{[], None, false};
 
     ghost name = { 0 };
 
     ghost before = { [] };
 
     ghost terms = { ([], false, false) };
+
+    ghost limits = { (0, None) };
 }
 
 /// The world that is lent to an unpacking.

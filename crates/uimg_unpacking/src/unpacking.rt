@@ -5,7 +5,7 @@ ghost use Rattle.std.specs.Option.{option_map};
 ghost use Rattle.uimg_base.specs.Device.{SameDevice};
 ghost use Rattle.uimg_base.specs.Honest.{IfHonest};
 ghost use Rattle.uimg_fit_checking.specs.Unpacking.{as_bytes, unpack_work};
-ghost use Rattle.uimg_unpacking.specs.Ends.{asked_name, is_whole, end_of_taken, end_of_fault, TellsOverlap, EndsGiven, Ends, EndsByFile};
+ghost use Rattle.uimg_unpacking.specs.Ends.{asked_name, is_whole, end_of_taken, end_of_fault, TellsOverlap, EndsGiven, Ends, EndsByFile, FitsIf};
 ghost use Rattle.uimg_unpacking.specs.{Filling.Fills, Places.{ChangesWithin, Obeys, terms_of}};
 
 use crate::folder::Folder;
@@ -95,6 +95,7 @@ pub fn unpack<W: World, S: Source, O: Write + Drop>(
         ≤ (S.device source.old).asked + unpack_work file) }
     ensures ended { IfHonest S.device source (λ file. EndsByFile asked.now file result) }
     ensures obeys { Obeys (terms_of asked.now.folder) true (W.trace world.old) (W.trace world.new) }
+    ensures fits { IfHonest S.device source (λ file. FitsIf asked.now file result) }
     ensures filled { IfHonest S.device source (λ file. IsTrue W.knows →
         Fills asked.now file result (W.trace world.new)) }
 {
@@ -117,12 +118,14 @@ fn unpack_in<'w, W: World, S: Source, O: Write + Drop, M: Task>(
     requires named { world.ghost_name ≡ M.name }
     requires before { W.trace world.now ≡ M.before }
     requires agreed { terms_of asked.now.folder ≡ M.terms }
+    requires limits { (asked.now.limits.files, asked.now.limits.bytes) ≡ M.limits }
     ensures named { result.ghost_name ≡ M.name }
     ensures obeys { Obeys M.terms true M.before (W.trace result.now) }
     ensures same { SameDevice (S.device source.old) (S.device source.new) }
     ensures asked { IfHonest S.device source (λ file. (S.device source.new).asked
         ≤ (S.device source.old).asked + unpack_work file) }
     ensures ended { IfHonest S.device source (λ file. EndsByFile asked.now file end.new) }
+    ensures fits { IfHonest S.device source (λ file. FitsIf asked.now file end.new) }
     ensures filled { IfHonest S.device source (λ file. IsTrue W.knows →
         Fills asked.now file end.new (W.trace result.now)) }
 {

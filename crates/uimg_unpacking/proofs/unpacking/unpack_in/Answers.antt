@@ -1,11 +1,14 @@
-use Rattle.std.proofs.Common.{rules, refl, ◌∙◌, map, ap, sym}
+use Rattle.std.proofs.Common.{rules, refl, ◌≡◌, ◌∙◌, true, false, List, map, is_none, ap, sym, Option}
 use Rattle.std.specs.Option.{option_map}
 use Rattle.uimg_fit_checking.specs.Unpacking.{as_bytes}
 use Rattle.uimg_unpacking.specs.declared.folder.Folder.{Folder}
-use Rattle.uimg_unpacking.specs.{Staged.staged}
+use Rattle.uimg_unpacking.specs.{Ends.is_whole, Plan.gives_names, Staged.staged}
+use Rattle.uimg_fit_checking.specs.Claiming.{claims_of}
 use Rattle.uimg_unpacking.specs.Filling.{as_take}
+use Rattle.uimg_unpacking.specs.Limiting.{claims_by}
 use Rattle.uimg_unpacking.proofs.FillingLaws.{fills}
-use Rattle.uimg_unpacking.proofs.EndLaws.{ends_by_file}
+use Rattle.uimg_unpacking.proofs.LimitLaws.{all_claimed, fits_by, fits_for}
+use Rattle.uimg_unpacking.proofs.EndLaws.{ends_by_file, whole_at}
 use Rattle.uimg_unpacking.proofs.Placing.{obeys_naming}
 use Rattle.uimg_unpacking.proofs.unpacking.unpack_in.Goals as goal
 
@@ -22,6 +25,18 @@ pub returns-clause-ended : goal.returns-clause-ended
 returns-clause-ended g c = λ honest.
     ends_by_file c.args.asked.now (g.S.Source.device c.args.source.now).bytes (option_map as_bytes c.in-Some.only) c.unpack-unpacked.result _ _ _ _ c.how_ended.result _ _
     (sym (ap (option_map (option_map as_bytes)) c.in-Some.is) ∙ c.only_of.ensures) c.new-taker.ensures.none c.end-world.ensures.count (c.unpack-unpacked.ensures.ended honest) c.how_ended.ensures
+
+pub returns-clause-fits : goal.returns-clause-fits
+returns-clause-fits g c = λ honest good.
+    let asked = c.args.asked.now in
+    let file = (g.S.Source.device c.args.source.now).bytes in
+    let taker = c.unpack-unpacked.new.taker in
+    let only = option_map as_bytes c.in-Some.only in
+    let claims = claims_by taker.claims.noted.names in
+    let whole = whole_at asked c.unpack-unpacked.result _ _ c.how_ended.result _ _ c.how_ended.ensures good in
+    let all : claims ≡ claims_of only file = all_claimed c.unpack-unpacked.result (claims_of only file) (claims_by c.new-taker.result.claims.noted.names) claims whole.0 c.new-taker.ensures.claims (c.unpack-unpacked.ensures.claimed honest refl) in
+    fits_for asked only file claims (sym (ap (option_map (option_map as_bytes)) c.in-Some.is) ∙ c.only_of.ensures) all
+    (fits_by asked.limits taker.claims.claimed g.M.Task.limits claims c.requires.limits taker.limits taker.claims.files taker.claims.bytes (taker.fits (c.end-world.ensures.none (ap is_none whole.1))))
 
 pub returns-clause-filled : goal.returns-clause-filled
 returns-clause-filled g c = λ honest knows.

@@ -11,6 +11,8 @@ invariant_of-self g c =
     record {
       unnamed = it.unnamed;
       names = uses_more (is_used it.taken.given) (is_used c.next.new.self.given) (names_of it.staging.files.items) (names_of it.staging.outdated.items) c.next.ensures.stays it.names;
+      limits = it.limits;
+      fits = it.fits;
     }
 
 pub invariant_of-self-in-None : goal.invariant_of-self-in-None
@@ -19,6 +21,8 @@ invariant_of-self-in-None g c =
     record {
       unnamed = it.unnamed;
       names = uses_more (is_used it.taken.given) (is_used c.next.new.self.given) (names_of it.staging.files.items) (names_of it.staging.outdated.items) c.next.ensures.stays it.names;
+      limits = it.limits;
+      fits = it.fits;
     }
 
 pub invariant_of-self-in-Some : goal.invariant_of-self-in-Some
@@ -33,4 +37,6 @@ invariant_of-self-in-Some g c =
       unnamed = c.begin.ensures.naming ∙ it.unnamed;
       names = subst (λ (o : Vec Begun Global). uses_names used (names_of now.files.items) (names_of o.items) ≡ true) (sym c.begin.ensures.outdated)
           (uses_next (is_used it.taken.given) used (names_of it.staging.files.items) (names_of it.staging.outdated.items) name (is_ok c.begin.result) (names_of now.files.items) c.next.ensures.stays other given c.begin.ensures.names it.names);
+      limits = it.limits;
+      fits = it.fits;
     }

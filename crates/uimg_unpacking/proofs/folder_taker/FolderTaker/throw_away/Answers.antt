@@ -10,6 +10,8 @@ invariant_of-self g c =
     record {
       unnamed = c.refuse_last.ensures.naming ∙ it.unnamed;
       names = uses_fewer (is_used it.taken.given) (names_of it.staging.files.items) (names_of now.files.items) (names_of it.staging.outdated.items) (names_of now.outdated.items) c.refuse_last.ensures.names it.names;
+      limits = it.limits;
+      fits = it.fits;
     }
 
 pub invariant_of-self-2 : goal.invariant_of-self-2
@@ -19,4 +21,6 @@ invariant_of-self-2 g c =
     record {
       unnamed = c.refuse_last.ensures.naming ∙ it.unnamed;
       names = uses_fewer (is_used it.taken.given) (names_of it.staging.files.items) (names_of now.files.items) (names_of it.staging.outdated.items) (names_of now.outdated.items) c.refuse_last.ensures.names it.names;
+      limits = it.limits;
+      fits = it.fits;
     }
