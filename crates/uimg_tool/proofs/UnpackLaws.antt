@@ -13,17 +13,9 @@ use Rattle.uimg_unpacking.specs.Places.{ChangesWithin, Obeys, Terms, may_change,
 use Rattle.uimg_base.specs.declared.status.Status.TheVariants.{Done, NotRight}
 use Rattle.uimg_checks.specs.Answers.{answer_status}
 use Rattle.uimg_checks.specs.declared.answer.Answer.{Answer, TheVariants.{Failed, Refused}}
-use Rattle.uimg_engine.specs.Headline.{is_fit}
-use Rattle.uimg_requests.specs.declared.command.Form.TheVariants as form
-use Rattle.uimg_tool.specs.{CheckEnds.AnswersEnding, UnpackEnds.{end_of, end_of_parts}, Unpackings.{HoldsIn, HoldsPayloads, IsRight, IsRightIn, RightAt, UnpacksRight, unpacking_of}}
+use Rattle.uimg_tool.specs.{CheckEnds.AnswersEnding, Unpackings.{HoldsPayloads, IsRight, RightAt, UnpacksRight, unpacking_of}}
 use Rattle.uimg_tool.specs.declared.unpack_answers.Ending.{Ending}
 use Rattle.uimg_tool.specs.declared.unpack_answers.Ending.TheVariants as ending
-use Rattle.uimg_unpacking.specs.{Ends.EndsByFile, Filling.Fills, PartEnds.KeepsRight, PartFilling.FillsKept}
-use Rattle.uimg_unpacking.specs.declared.part_unpacking.PartsEnded.{PartsEnded}
-use Rattle.uimg_unpacking.specs.declared.part_unpacking.PartsEnded.TheVariants as legacy
-use Rattle.uimg_unpacking.specs.declared.unpacking.Ended.{Ended}
-use Rattle.uimg_unpacking.specs.declared.unpacking.Ended.TheVariants as fit
-use Rattle.uimg_unpacking.specs.declared.unpacking.Unpacking.{Unpacking}
 
 both : (a b : Bool) → a ≡ true → b ≡ true → (a && b) ≡ true
 both a b p q = ap₂ (λ (x y : Bool). x && y) p q
@@ -54,41 +46,6 @@ told_after folder old middle new first same = record { made = first.made; is = s
 -- an image that was opened and looked at before
 pub looked_before : (folder path : List ℕ) (file : Option FileId) (old middle new : List Deed) → middle ≡ Identifies path file ∷ Opens path true ∷ old → ChangesWithin folder true middle new → ChangesWithin folder true old new
 looked_before folder path file old middle new looked last = record { made = last.made; is = last.is ∙ ap (λ (t : List Deed). last.made ++ changes t) looked; within = last.within }
-
-abbrev is_done : Ending → Bool
-is_done (ending.Told Done) = true
-is_done end = false
-
-differs : {P : Type 0} (end : Ending) → is_done end ≡ false → end ≡ ending.Told Done → P
-differs end other is = absurd (true≢false (sym (ap is_done is) ∙ other))
-
--- all that is asked for is right, if all is told as kept
-pub fit_right : (asked : Unpacking) (file : List ℕ) (is : Bool) (ended : Ended) → is ≡ true → is ≡ is_fit form.Guess file → EndsByFile asked file ended → end_of ended ≡ ending.Told Done → IsRight asked file
-fit_right asked file is fit.Kept right by ends told = subst (λ (b : Bool). IsRightIn b asked file) (sym right ∙ by) (sym (ends refl))
-fit_right asked file is fit.Refused right by ends told = differs (ending.Told NotRight) refl told
-fit_right asked file is fit.NoImage right by ends told = differs ending.NoImage refl told
-fit_right asked file is (fit.Stopped fault) right by ends told = differs (end_of (fit.Stopped fault)) refl told
-fit_right asked file is (fit.Troubled trouble) right by ends told = differs (end_of (fit.Troubled trouble)) refl told
-
-pub parts_right : (asked : Unpacking) (file : List ℕ) (is : Bool) (ended : PartsEnded) → is ≡ false → is ≡ is_fit form.Guess file → KeepsRight asked file ended → end_of_parts ended ≡ ending.Told Done → IsRight asked file
-parts_right asked file is legacy.Kept other by keeps told = subst (λ (b : Bool). IsRightIn b asked file) (sym other ∙ by) keeps
-parts_right asked file is legacy.Weak other by keeps told = differs ending.Weak refl told
-parts_right asked file is (legacy.Stopped fault) other by keeps told = differs (end_of_parts (legacy.Stopped fault)) refl told
-parts_right asked file is (legacy.Troubled trouble) other by keeps told = differs (end_of_parts (legacy.Troubled trouble)) refl told
-
--- files of the folder hold it
-pub fit_holds : (asked : Unpacking) (file : List ℕ) (is : Bool) (ended : Ended) (calls : List Deed) → is ≡ true → is ≡ is_fit form.Guess file → Fills asked file ended calls → end_of ended ≡ ending.Told Done → HoldsPayloads asked file calls
-fit_holds asked file is fit.Kept calls right by fills told = subst (λ (b : Bool). HoldsIn b asked file calls) (sym right ∙ by) (fills refl)
-fit_holds asked file is fit.Refused calls right by fills told = differs (ending.Told NotRight) refl told
-fit_holds asked file is fit.NoImage calls right by fills told = differs ending.NoImage refl told
-fit_holds asked file is (fit.Stopped fault) calls right by fills told = differs (end_of (fit.Stopped fault)) refl told
-fit_holds asked file is (fit.Troubled trouble) calls right by fills told = differs (end_of (fit.Troubled trouble)) refl told
-
-pub parts_hold : (asked : Unpacking) (file : List ℕ) (is : Bool) (ended : PartsEnded) (calls : List Deed) → is ≡ false → is ≡ is_fit form.Guess file → FillsKept asked file ended calls → end_of_parts ended ≡ ending.Told Done → HoldsPayloads asked file calls
-parts_hold asked file is legacy.Kept calls other by fills told = subst (λ (b : Bool). HoldsIn b asked file calls) (sym other ∙ by) fills
-parts_hold asked file is legacy.Weak calls other by fills told = differs ending.Weak refl told
-parts_hold asked file is (legacy.Stopped fault) calls other by fills told = differs (end_of_parts (legacy.Stopped fault)) refl told
-parts_hold asked file is (legacy.Troubled trouble) calls other by fills told = differs (end_of_parts (legacy.Troubled trouble)) refl told
 
 -- an end that is told as an object is none of status 0
 failed : {P : Type 0} (status : ℕ) → (status ≡ 1) ⊎ (status ≡ 3) → status ≡ 0 → P
