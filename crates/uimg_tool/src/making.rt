@@ -173,7 +173,7 @@ fn make_over<F: Files, H: Shelf, W: Write>(
 
 // The path is that of the command line.
 fn end_of<'a, K: Drop>(
-    request: &'a MakeRequest<'_>,
+    request: &'a MakeRequest<'a>,
     made: Result<K, Fault>,
     has_met_outfile: bool,
 ) -> Result<Status, RequestFault<'a>>
