@@ -461,7 +461,9 @@ The outfile gets its name when it is complete, also through a link, and an exist
   mkimage: cannot write out: File too large (os error 27)
   beforeout
   outside
-  $ printf '/dts-v1/; / { images { a { data = /incbin/("%s"); }; }; };' "$(command -v uimg)" > large.its
+  $ head -c 100000 /dev/zero > zeros && cat > large.its <<'END'
+  > /dts-v1/; / { description = "d"; #address-cells = <1>; images { a { description = "a"; data = /incbin/("zeros"); }; }; };
+  > END
   $ (ulimit -f 1; trap '' XFSZ; mkimage -q -f large.its out 2>&1; echo "[$?]"); cat out; ls out*
   mkimage: cannot write out: File too large (os error 27)
   [3]
