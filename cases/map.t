@@ -252,6 +252,8 @@ A picture in place of the lines, one text and one bar for each row, as XML:
   [1]
   $ python3 look.py cut.svg | head -n 1
   svg 6 6 cut.itb, 797 bytes
+  $ cp name.itb 'a<b&c>.itb' && uimg map --svg odd.svg 'a<b&c>.itb' && python3 look.py odd.svg | head -n 1
+  svg 7 7 a<b&c>.itb, 800 bytes
   $ ls *uimg-new*
   ls: cannot access '*uimg-new*': No such file or directory
   [2]

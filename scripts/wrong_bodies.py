@@ -62,6 +62,8 @@ ERROR_IN = re.compile(r".*?: error: `([^`]+)`: ")
 # An error for a name alone: a proof names what the wrong body removed, so it says nothing of the
 # contract.
 NAMED = re.compile(r".*: error: .*(has no `|has no field|is not in scope|was not admitted|were not admitted)")
+# An error for an answer to a goal that is not there. It may have another name, and be open for that.
+RENAMED = re.compile(r".*: error: `[^`]+`: `goal\.[^`]+`: module `[^`]+\.Goals` has no `")
 # The goals that no search proves, and the answer that is refused.
 OPEN = re.compile(r"`search` did not prove ((?:`[^`]+`(?:, )?)+)")
 REFUSED_ANSWER = re.compile(r"`[^`]+\.Answers\.([^`.]+)`")
@@ -233,11 +235,12 @@ def refused_in(lines, name):
 
 def goals_of(errors, why):
     """Returns the goals that do not hold by the errors in a function's answers and the line about
-    it, without those whose answer only names what is not there."""
+    it, without those whose answer only names what is not there. If an answer is to a goal that is not
+    there, a goal that no search proves may be the one that it was for: none of these counts."""
     named = {ERROR_IN.match(it)[1] for it in errors if NAMED.match(it) and ERROR_IN.match(it)}
     found = {ERROR_IN.match(it)[1] for it in errors if ERROR_IN.match(it)}
     found.update(REFUSED_ANSWER.findall(why))
-    for it in OPEN.findall(why):
+    for it in [] if any(RENAMED.match(it) for it in errors) else OPEN.findall(why):
         found.update(re.findall("`([^`]+)`", it))
     return found - named
 

@@ -1,7 +1,7 @@
 -- What becomes of the unpacked payloads of a FIT image.
 use Rattle.std.specs.Prelude.{◌≡◌, ⊤, ℕ, ◌+◌, ◌-◌, List, [], ◌∷◌, ◌++◌, length, take, nat_lt, Bool}
 use Rattle.std.specs.Prelude.{true, false, if◌then◌else◌, Option, Some, None, Result, Ok, Err}
-use Rattle.std.specs.Prelude.{IfSome, ◌||◌, ◌⊎◌, IsTrue, flat_map}
+use Rattle.std.specs.Prelude.{IfSome, ◌||◌, ◌⊎◌, flat_map}
 use Rattle.std.specs.List.{last_or, list_all}
 use Rattle.std.specs.Option.{option_map}
 use Rattle.std.specs.Str.{bytes_eq}
@@ -9,7 +9,6 @@ use Rattle.uimg_sums.specs.declared.algo.Algo.{Algo}
 use Rattle.uimg_sums.specs.Algorithms.{digest_by}
 use Rattle.uimg_sums.specs.AnySum.{padded_digest}
 use Rattle.uimg_names.specs.declared.naming.Naming.TheVariants as naming
-use Rattle.uimg_base.specs.Lent.{Lent}
 use Rattle.uimg_base.specs.Results.{◌>>=◌}
 use Rattle.uimg_blob_reading.specs.LookUps.{NodeOf, hashes}
 use Rattle.uimg_blob_reading.specs.Spots.{Spot}
@@ -18,7 +17,6 @@ use Rattle.uimg_fit_base.specs.declared.fault.Fault.{Fault}
 use Rattle.uimg_fit_base.specs.declared.fault.Fault.TheVariants as of
 use Rattle.uimg_fit_base.specs.declared.fault.FitFault.{FitFault}
 use Rattle.uimg_fit_base.specs.AlgoSets.{no_algos, chosen}
-use Rattle.uimg_fit_base.specs.Faults.{is_put}
 use Rattle.uimg_fit_base.specs.Files.{images_of}
 use Rattle.uimg_fit_base.specs.Places.{payload}
 use Rattle.uimg_fit_checking.specs.declared.unpacking.node_names.NodeName.{NodeName}
@@ -202,11 +200,6 @@ pub record GivesBy (seen : Take → List Take) (all : Bool) (old new : List Take
 abbrev pub Gives : (Take → List Take) → Unpacked → List Take → List Take → Type 0
 Gives seen (Taken all) old new = GivesBy seen all old new
 Gives seen (Overlapping name) old new = new ≡ old
-
--- Unless the result is a failed write, no call of a taker failed, if it tells that.
-abbrev pub NoneFails : {X T : Type 0} → Result X Fault → Bool → (T → Bool) → Lent T → Type 0
-NoneFails result tells failed taker = IsTrue tells
-    → (is_put result || failed taker.exit.now) ≡ (is_put result || failed taker.entry.now)
 
 -- the most bytes requested: all taken payloads have at most the file's length together
 abbrev pub unpack_work : List ℕ → ℕ

@@ -3,7 +3,7 @@
 ghost use Rattle.std.specs.Prelude.{◌≡◌, IfOk, IsTrue};
 ghost use Rattle.std.specs.Option.{option_map};
 ghost use Rattle.uimg_base.specs.Honest.{IfHonest};
-ghost use Rattle.uimg_fit_checking.specs.Unpacking.{Unpacks, EndsAs, Gives, NoneFails};
+ghost use Rattle.uimg_fit_checking.specs.Unpacking.{Unpacks, EndsAs, Gives};
 ghost use Rattle.uimg_fit_checking.specs.Unpacking.{unpack_of, unpack_work, as_bytes};
 ghost use Rattle.uimg_fit_checking.specs.Claiming.{ClaimsTo, claims_of};
 ghost use Rattle.uimg_fit_reading.specs.Rooms.{TakesOut};
@@ -70,7 +70,6 @@ pub fn unpack<S: Source, A: Allocator, T: Taker>(
 ) -> Result<Unpacked, Fault>
     ensures takes { TakesOut unpack_work result S.device source room }
     ensures place { T.place taker.new ≡ T.place taker.old }
-    ensures fails { NoneFails result T.tells T.failed taker }
     ensures told { IfHonest S.device source (λ file. IsTrue T.honest → Unpacks T.seen result
         (unpack_of need (option_map as_bytes only) file) (T.takes taker.old) (T.takes taker.new)) }
     ensures given { IsTrue T.honest → IfOk result

@@ -1,8 +1,8 @@
 -- The calls that the taker of a legacy image's parts gets, in order, whatever it does with them.
 use Rattle.std.specs.Prelude.{◌≡◌, ⊤, ℕ, zero, suc, List, [], ◌∷◌, ◌++◌, Option, Some, None}
-use Rattle.std.specs.Prelude.{Bool, true, false, ◌||◌, Result, Ok, Err, IsTrue, is_err}
+use Rattle.std.specs.Prelude.{Bool, true, false, Result, Ok, Err, IsTrue, is_err}
 use Rattle.uimg_base.specs.Lent.{Lent}
-use Rattle.uimg_legacy.specs.{Faults.is_put, Unpacking.is_part_asked}
+use Rattle.uimg_legacy.specs.Unpacking.{is_part_asked}
 use Rattle.uimg_legacy.specs.declared.fault.LegacyFault.{LegacyFault}
 use Rattle.uimg_legacy.specs.declared.fault.LegacyFault.TheVariants.{PartOutside, BadDataCrc}
 use Rattle.uimg_legacy.specs.declared.fault.Fault.{Fault, TheVariants.{Legacy, Read, Put}}
@@ -80,11 +80,6 @@ abbrev pub Tells : {X E T : Type 0} → List Deed → Result X E → Bool → (T
     → Type 0
 Tells deeds result notes told taker = IsTrue notes
     → ToldBetween (is_err result) deeds (told taker.entry.now) (told taker.exit.now)
-
--- No call of a taker that tells so failed, unless the result is a failed write.
-abbrev pub NoneFails : {X T : Type 0} → Result X Fault → Bool → (T → Bool) → Lent T → Type 0
-NoneFails result tells failed taker = IsTrue tells
-    → (is_put result || failed taker.exit.now) ≡ (is_put result || failed taker.entry.now)
 
 -- A refusal is one that is found at a part.
 abbrev pub RefusesPart : {X : Type 0} → Result X Fault → Type 0

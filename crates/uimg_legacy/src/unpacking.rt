@@ -1,10 +1,10 @@
 //! Unpacking: parts are written while the image's data are summed.
 
-ghost use Rattle.std.specs.Prelude.{◌≡◌, [], ◌||◌, is_err, IfOk, IsTrue};
+ghost use Rattle.std.specs.Prelude.{◌≡◌, [], IfOk, IsTrue};
 ghost use Rattle.uimg_base.specs.Honest.{IfHonest};
 ghost use Rattle.uimg_legacy.specs.{Commands.TakesOut, UnpackingSteps.{Settles, unpack_work}};
 ghost use Rattle.uimg_legacy.specs.Unpacking.{AreRight, Unpacks, EndsAs, KeepsRight, Extracts, unpack_of};
-ghost use Rattle.uimg_legacy.specs.Told.{TellsAll, Tells, NoneFails, settling};
+ghost use Rattle.uimg_legacy.specs.Told.{TellsAll, Tells, settling};
 
 mod mem_parts;
 mod part_taker;
@@ -26,7 +26,6 @@ fn settle<T: PartTaker>(right: bool, dcrc: u32, taker: &mut T) -> Result<bool, P
     ensures is { IfOk result (λ kept. kept ≡ right) }
     ensures kept { Settles right result T.honest T.held T.kept taker }
     ensures stays { T.place taker.new ≡ T.place taker.old }
-    ensures fails { IsTrue T.tells → T.failed taker.new ≡ (is_err result || T.failed taker.old) }
     ensures told { Tells (settling right dcrc) result T.notes T.told taker }
 {
     if right {
@@ -73,7 +72,6 @@ pub fn unpack<S: Source, A: Allocator, T: PartTaker>(
     ensures ends { IfHonest S.device source (λ file. EndsAs result (unpack_of only file)) }
     ensures extracts { Extracts result S.device source T.honest T.kept taker }
     ensures stays { T.place taker.new ≡ T.place taker.old }
-    ensures fails { NoneFails result T.tells T.failed taker }
     ensures tells { TellsAll only result T.notes T.told taker }
 {
     room.clear();

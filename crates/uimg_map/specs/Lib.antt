@@ -18,5 +18,3 @@ pub mod Work
 pub mod Stops
 pub mod Labels
 pub mod Lines
-pub mod Xml
-pub mod Picture

@@ -1,13 +1,7 @@
 //! A map as a picture.
 
-ghost use Rattle.std.specs.Prelude.{◌≡◌, ◌<◌, ◌≤◌, ◌+◌, ◌*◌, length, take, OnOk, IfErr, IsTrue};
-ghost use Rattle.std.specs.Io.KnownBytes.{Appends};
-ghost use Rattle.uimg_base.specs.Honest.{HonestSource};
-ghost use Rattle.uimg_map.specs.{Bars.{first_cell, last_cell}, Cover.{place_of, row_end}, Stops.is_stop};
-ghost use Rattle.uimg_map.specs.Picture.{colour_of, kind_of, bar_left, bar_right, rect_text, bar_rect};
-ghost use Rattle.uimg_map.specs.Picture.{whole_text, shown_text, row_drawing, Draws, rest_text};
-ghost use Rattle.uimg_map.specs.Picture.{picture_height, opening_text, title_text, background_text};
-ghost use Rattle.uimg_map.specs.Picture.{heading_text, legend_item, legend_text, head_text, DrawsPicture};
+ghost use Rattle.std.specs.Prelude.{◌<◌, ◌≤◌, IfErr, IsTrue};
+ghost use Rattle.uimg_map.specs.Stops.{is_stop};
 
 use crate::bar::{Bar, bar_of};
 use crate::contents::Label;
@@ -53,9 +47,7 @@ enum Kind {
 }
 
 impl Kind {
-    fn colour(self) -> &'static str
-        ensures { result.now ≡ colour_of self }
-    {
+    fn colour(self) -> &'static str {
         match self {
             Kind::Item => "#3465a4",
             Kind::Shared => "#f57900",
@@ -77,10 +69,7 @@ pub fn put_picture<S: Source, W: Write>(
     name: &str,
     out: &mut W,
 ) -> Result<(), MapStop>
-    ensures drawn { HonestSource S.device source → OnOk result
-        (DrawsPicture (S.device source.old).bytes map.now name.now
-        (W.contents out.old) (W.contents out.new)) }
-    ensures stops { IfErr result (λ stop. IsTrue (is_stop stop)) }
+    ensures { IfErr result (λ stop. IsTrue (is_stop stop)) }
 {
     put_head(map, name, out)?;
     put_rows(alloc, source, map, out)?;
@@ -95,10 +84,7 @@ fn put_rows<S: Source, W: Write>(
     map: &Map,
     out: &mut W,
 ) -> Result<(), MapStop>
-    ensures drawn { HonestSource S.device source → OnOk result
-        (Draws (S.device source.old).bytes map.now (take 1000 map.now.rows.items)
-        (W.contents out.old) (W.contents out.new)) }
-    ensures stops { IfErr result (λ stop. IsTrue (is_stop stop)) }
+    ensures { IfErr result (λ stop. IsTrue (is_stop stop)) }
 {
     for index in 0..usize::min(map.rows.len(), ROWS) {
         let row = &map.rows[index];
@@ -110,15 +96,11 @@ fn put_rows<S: Source, W: Write>(
 
 fn top_of(index: usize) -> u32
     requires { index < 1000 }
-    ensures { result ≡ 70 + 40 * index }
 {
     HEAD + ROW * index as u32
 }
 
-fn put_head<W: Write>(map: &Map, name: &str, out: &mut W) -> io::Result<()>
-    ensures { OnOk result (Appends (W.contents out.old) (W.contents out.new)
-        (head_text name.now map.now.size (length map.now.rows.items))) }
-{
+fn put_head<W: Write>(map: &Map, name: &str, out: &mut W) -> io::Result<()> {
     let height = height_of(map.rows.len());
     put_opening(height, out)?;
     put_title(name, map.size, out)?;
@@ -128,10 +110,7 @@ fn put_head<W: Write>(map: &Map, name: &str, out: &mut W) -> io::Result<()>
     Ok(())
 }
 
-fn put_opening<W: Write>(height: u64, out: &mut W) -> io::Result<()>
-    ensures { OnOk result (Appends (W.contents out.old) (W.contents out.new)
-        (opening_text height)) }
-{
+fn put_opening<W: Write>(height: u64, out: &mut W) -> io::Result<()> {
     let width = WIDTH as u64 + 2 * MARGIN;
     writeln!(
         out,
@@ -139,10 +118,7 @@ fn put_opening<W: Write>(height: u64, out: &mut W) -> io::Result<()>
     )
 }
 
-fn put_background<W: Write>(height: u64, out: &mut W) -> io::Result<()>
-    ensures { OnOk result (Appends (W.contents out.old) (W.contents out.new)
-        (background_text height)) }
-{
+fn put_background<W: Write>(height: u64, out: &mut W) -> io::Result<()> {
     let width = WIDTH as u64 + 2 * MARGIN;
     writeln!(
         out,
@@ -150,10 +126,7 @@ fn put_background<W: Write>(height: u64, out: &mut W) -> io::Result<()>
     )
 }
 
-fn put_heading<W: Write>(name: &str, size: u64, out: &mut W) -> io::Result<()>
-    ensures { OnOk result (Appends (W.contents out.old) (W.contents out.new)
-        (heading_text name.now size)) }
-{
+fn put_heading<W: Write>(name: &str, size: u64, out: &mut W) -> io::Result<()> {
     let shown = Cut {
         text: name,
         most: TITLE_LETTERS,
@@ -164,24 +137,16 @@ fn put_heading<W: Write>(name: &str, size: u64, out: &mut W) -> io::Result<()>
     )
 }
 
-fn height_of(rows: usize) -> u64
-    ensures { result ≡ picture_height rows }
-{
+fn height_of(rows: usize) -> u64 {
     let drawn = usize::min(rows, ROWS) as u64 + (rows > ROWS) as u64;
     HEAD as u64 + drawn * ROW as u64 + MARGIN
 }
 
-fn put_title<W: Write>(name: &str, size: u64, out: &mut W) -> io::Result<()>
-    ensures { OnOk result (Appends (W.contents out.old) (W.contents out.new)
-        (title_text name.now size)) }
-{
+fn put_title<W: Write>(name: &str, size: u64, out: &mut W) -> io::Result<()> {
     writeln!(out, "<title>{}, {size} bytes</title>", Escaped(name))
 }
 
-fn put_legend<W: Write>(out: &mut W) -> io::Result<()>
-    ensures { OnOk result (Appends (W.contents out.old) (W.contents out.new)
-        (legend_text)) }
-{
+fn put_legend<W: Write>(out: &mut W) -> io::Result<()> {
     put_item(Kind::Item, "item", 10, out)?;
     put_item(Kind::Shared, "shares bytes with an earlier item", 90, out)?;
     put_item(Kind::Outside, "ends outside the file", 410, out)?;
@@ -190,10 +155,7 @@ fn put_legend<W: Write>(out: &mut W) -> io::Result<()>
     Ok(())
 }
 
-fn put_item<W: Write>(kind: Kind, words: &str, left: u32, out: &mut W) -> io::Result<()>
-    ensures { OnOk result (Appends (W.contents out.old) (W.contents out.new)
-        (legend_item kind words.now left)) }
-{
+fn put_item<W: Write>(kind: Kind, words: &str, left: u32, out: &mut W) -> io::Result<()> {
     let after = left as u64 + 18;
     put_rect(left as u64, 42, 12, kind.colour(), out)?;
     writeln!(out, "<text x=\"{after}\" y=\"53\">{words}</text>")?;
@@ -201,10 +163,7 @@ fn put_item<W: Write>(kind: Kind, words: &str, left: u32, out: &mut W) -> io::Re
 }
 
 // Writes a row: its whole text, the text that fits, and its bar.
-fn put_row<W: Write>(top: u32, map: &Map, row: &Row, text: &str, out: &mut W) -> io::Result<()>
-    ensures { OnOk result (Appends (W.contents out.old) (W.contents out.new)
-        (row_drawing top map.now row.now text.now)) }
-{
+fn put_row<W: Write>(top: u32, map: &Map, row: &Row, text: &str, out: &mut W) -> io::Result<()> {
     writeln!(out, "<g class=\"row\">")?;
     put_whole(row, text, out)?;
     put_text(top, row, text, out)?;
@@ -214,21 +173,14 @@ fn put_row<W: Write>(top: u32, map: &Map, row: &Row, text: &str, out: &mut W) ->
 }
 
 // Writes a text that does not fit as a title.
-#[tactic(auto, unfolding(crate::specs::Picture::whole_text))]
-fn put_whole<W: Write>(row: &Row, text: &str, out: &mut W) -> io::Result<()>
-    ensures { OnOk result (Appends (W.contents out.old) (W.contents out.new)
-        (whole_text row.now text.now)) }
-{
+fn put_whole<W: Write>(row: &Row, text: &str, out: &mut W) -> io::Result<()> {
     if fits(text, LETTERS) {
         return Ok(());
     }
     writeln!(out, "<title>{}{}</title>", Place(row), Escaped(text))
 }
 
-fn put_text<W: Write>(top: u32, row: &Row, text: &str, out: &mut W) -> io::Result<()>
-    ensures { OnOk result (Appends (W.contents out.old) (W.contents out.new)
-        (shown_text top row.now text.now)) }
-{
+fn put_text<W: Write>(top: u32, row: &Row, text: &str, out: &mut W) -> io::Result<()> {
     let base = top as u64 + 14;
     let shown = Cut {
         text,
@@ -242,11 +194,7 @@ fn put_text<W: Write>(top: u32, row: &Row, text: &str, out: &mut W) -> io::Resul
 }
 
 // Writes the bar of a row, or a mark where it has no width.
-#[tactic(auto, unfolding(crate::specs::Picture::bar_rect))]
-fn put_bar<W: Write>(top: u32, map: &Map, row: &Row, out: &mut W) -> io::Result<()>
-    ensures { OnOk result (Appends (W.contents out.old) (W.contents out.new)
-        (bar_rect top map.now row.now)) }
-{
+fn put_bar<W: Write>(top: u32, map: &Map, row: &Row, out: &mut W) -> io::Result<()> {
     let kind = kind_of(map, row);
     let bar = bar_of(WIDTH, map.size, row.place(), row.end());
     let bar = marked(bar, kind, map, row);
@@ -254,10 +202,7 @@ fn put_bar<W: Write>(top: u32, map: &Map, row: &Row, out: &mut W) -> io::Result<
     put_rect(left, top as u64 + 20, bar.to - bar.from, kind.colour(), out)
 }
 
-fn put_rect<W: Write>(x: u64, y: u64, width: u32, colour: &str, out: &mut W) -> io::Result<()>
-    ensures { OnOk result (Appends (W.contents out.old) (W.contents out.new)
-        (rect_text x y width colour.now)) }
-{
+fn put_rect<W: Write>(x: u64, y: u64, width: u32, colour: &str, out: &mut W) -> io::Result<()> {
     writeln!(
         out,
         "<rect x=\"{x}\" y=\"{y}\" width=\"{width}\" height=\"12\" fill=\"{colour}\"/>"
@@ -267,16 +212,8 @@ fn put_rect<W: Write>(x: u64, y: u64, width: u32, colour: &str, out: &mut W) -> 
 // Widens a bar that would not show: a fault, and what begins outside the file, have a mark at their
 // offset.
 fn marked(bar: Bar, kind: Kind, map: &Map, row: &Row) -> Bar
-    requires ordered { bar.from ≤ bar.to }
-    requires cells { bar ≡ record {
-      from = first_cell 1000 map.now.size (place_of row.now) (row_end row.now);
-      to = last_cell 1000 map.now.size (place_of row.now) (row_end row.now);
-    } }
-    ensures ordered { result.from ≤ result.to }
-    ensures marked { result ≡ record {
-      from = bar_left map.now.size row.now kind;
-      to = bar_right map.now.size row.now kind;
-    } }
+    requires { bar.from ≤ bar.to }
+    ensures { result.from ≤ result.to }
 {
     if bar.from < bar.to || (kind != Kind::Fault && kind != Kind::Outside) {
         return bar;
@@ -293,9 +230,7 @@ fn marked(bar: Bar, kind: Kind, map: &Map, row: &Row) -> Bar
     }
 }
 
-fn kind_of(map: &Map, row: &Row) -> Kind
-    ensures { result ≡ kind_of map.now row.now }
-{
+fn kind_of(map: &Map, row: &Row) -> Kind {
     match *row {
         Row::Taken(thing, over) => match (map.label_of(thing), map.standing_of(thing, over)) {
             (Some(Label::Fault(_)), _) => Kind::Fault,
@@ -308,11 +243,7 @@ fn kind_of(map: &Map, row: &Row) -> Kind
 }
 
 // Writes how many rows are not drawn, if any are not.
-#[tactic(auto, unfolding(crate::specs::Picture::rest_text))]
-fn put_rest<W: Write>(rows: usize, out: &mut W) -> io::Result<()>
-    ensures { OnOk result (Appends (W.contents out.old) (W.contents out.new)
-        (rest_text rows)) }
-{
+fn put_rest<W: Write>(rows: usize, out: &mut W) -> io::Result<()> {
     if rows <= ROWS {
         return Ok(());
     }

@@ -1,8 +1,5 @@
 //! Text in XML (Extensible Markup Language 1.0).
 
-ghost use Rattle.std.specs.{Prelude.{◌≡◌, Some, chars, nat_le, length, take}, Fmt.WritesOnOk, List.flat_map};
-ghost use Rattle.uimg_map.specs.Xml.{letter_text, escaped, cut};
-
 use std::fmt;
 use std::fmt::{Display, Formatter, Write};
 
@@ -11,8 +8,6 @@ use std::fmt::{Display, Formatter, Write};
 pub(crate) struct Escaped<'a>(pub(crate) &'a str);
 
 impl<'a> Display for Escaped<'a> {
-    ghost output = { λ it. Some (escaped it.0.now) };
-
     fn fmt<W: Write>(&self, f: &mut Formatter<W>) -> fmt::Result {
         put_text(self.0, f)
     }
@@ -26,9 +21,6 @@ pub(crate) struct Cut<'a> {
 }
 
 impl<'a> Display for Cut<'a> {
-    ghost output = { λ it. Some (cut it.most it.text.now) };
-
-    #[tactic(auto, unfolding(crate::specs::Xml::cut))]
     fn fmt<W: Write>(&self, f: &mut Formatter<W>) -> fmt::Result {
         if fits(self.text, self.most) {
             return put_text(self.text, f);
@@ -38,15 +30,11 @@ impl<'a> Display for Cut<'a> {
     }
 }
 
-pub(crate) fn fits(text: &str, most: usize) -> bool
-    ensures { result ≡ nat_le (length (chars text.now)) most }
-{
+pub(crate) fn fits(text: &str, most: usize) -> bool {
     text.chars().count() <= most
 }
 
-fn put_text<W: Write>(text: &str, f: &mut Formatter<W>) -> fmt::Result
-    ensures { WritesOnOk W.Write.write_str_gives f.old result (escaped text.now) f.new }
-{
+fn put_text<W: Write>(text: &str, f: &mut Formatter<W>) -> fmt::Result {
     let mut rest = text.chars();
     while let Some(letter) = rest.next() {
         put_letter(letter, f)?;
@@ -54,10 +42,7 @@ fn put_text<W: Write>(text: &str, f: &mut Formatter<W>) -> fmt::Result
     Ok(())
 }
 
-fn put_first<W: Write>(text: &str, count: usize, f: &mut Formatter<W>) -> fmt::Result
-    ensures { WritesOnOk W.Write.write_str_gives f.old result
-        (flat_map letter_text (take count (chars text.now))) f.new }
-{
+fn put_first<W: Write>(text: &str, count: usize, f: &mut Formatter<W>) -> fmt::Result {
     let mut rest = text.chars();
     for _left in 0..count {
         let Some(letter) = rest.next() else {
@@ -68,10 +53,7 @@ fn put_first<W: Write>(text: &str, count: usize, f: &mut Formatter<W>) -> fmt::R
     Ok(())
 }
 
-#[tactic(auto, unfolding(crate::specs::Xml::letter_text))]
-fn put_letter<W: Write>(letter: char, f: &mut Formatter<W>) -> fmt::Result
-    ensures { WritesOnOk W.Write.write_str_gives f.old result (letter_text letter) f.new }
-{
+fn put_letter<W: Write>(letter: char, f: &mut Formatter<W>) -> fmt::Result {
     match letter {
         '&' => f.write_str("&amp;"),
         '<' => f.write_str("&lt;"),

@@ -1,15 +1,12 @@
 -- What is answered of a file by its map.
-use Rattle.std.proofs.Common.{◌≡◌, ℕ, List, [], length, Option, Some, None, Result, Ok, Err, OnOk, ◌⊎◌, inl, inr, ap, sym, subst, ◌∙◌}
+use Rattle.std.proofs.Common.{◌≡◌, ℕ, List, [], length, Option, Some, None, Result, Ok, Err, OnOk, ◌⊎◌, inl, inr, ap, subst, ◌∙◌}
 use Rattle.std.specs.{Prelude.{◌≢◌, IfOk, IsTrue}, Io.KnownBytes.{Appends, Keeps}}
-use Rattle.std.specs.Io.Buffered.{writer_buffer, writer_contents, writer_inner}
-use Rattle.std.specs.declared.io.buffered.BufWriter.{BufWriter}
 use Rattle.uimg_base.specs.{Device.{Device, SameDevice}, Named.FileMap}
 use Rattle.uimg_map.specs.declared.{fault.MapFault.MapFault, map.Map.Map, row.Row.Row}
-use Rattle.uimg_map.specs.{Lines.PutsLines, Maps.{IsMapOf, contents_of}, Picture.DrawsPicture}
+use Rattle.uimg_map.specs.{Lines.PutsLines, Maps.{IsMapOf, contents_of}}
 use Rattle.uimg_tool.specs.{Answering.AnswersBy, MapAnswers.{IsMapAnswer, PrintsMap}}
 use Rattle.uimg_tool.specs.{Complaining.{ComplainsLines, ComplainsMapped, ComplainsPicture}, Complaints.ComplainsBetween, FaultTexts.told_of_map}
 use Rattle.uimg_tool.specs.{MapEnds.{map_status, mapped_status}, declared.{complaints.Complaints.Complaints, map_program.Stop.Stop}}
-use Rattle.uimg_tool.proofs.BufferLaws.{unbuffered}
 
 appends_kept : (a b c : Option (List ℕ)) (text : List ℕ) → Appends a b text → Keeps b c → Appends a c text
 appends_kept None b c text put kept = tt
@@ -53,18 +50,3 @@ drawn_complained contents files image path file map status old new bytes is (inr
 pub unless_failed : {P : Type 0} (ended : Result (Option MapFault) Stop) (status : ℕ) → status ≡ map_status ended → OnOk ended P → status ≢ 3 → P
 unless_failed (Ok fault) status is so other = so
 unless_failed (Err stop) status is so other = absurd (other is)
-
--- a picture, when the buffer of its file was flushed
-picture_kept : (file : List ℕ) (map : Map) (name : List ℕ) (a b c : Option (List ℕ)) → DrawsPicture file map name a b → Keeps b c → DrawsPicture file map name a c
-picture_kept file map name a b c put kept =
-    record { drawing = put.drawing; drawn = put.drawn; appended = appends_kept a b c _ put.appended kept }
-
-pub picture_written : {F A : Type 0} (contents : F → Option (List ℕ)) (file : List ℕ) (map : Map) (name : List ℕ) (first mid last : BufWriter F A) (given written : F) → writer_inner first ≡ given
-    → writer_buffer first ≡ [] → DrawsPicture file map name (writer_contents contents first) (writer_contents contents mid)
-    → Keeps (writer_contents contents mid) (writer_contents contents last) → writer_buffer last ≡ [] → written ≡ writer_inner last → DrawsPicture file map name (contents given) (contents written)
-picture_written contents file map name first mid last given written inner empty put kept flushed is =
-    let from = unbuffered (contents (writer_inner first)) (writer_buffer first) empty ∙ ap contents inner in
-    let to = unbuffered (contents (writer_inner last)) (writer_buffer last) flushed ∙ ap contents (sym is) in
-    subst (λ (it : Option (List ℕ)). DrawsPicture file map name it (contents written)) from
-    (subst (λ (it : Option (List ℕ)). DrawsPicture file map name (writer_contents contents first) it) to
-    (picture_kept file map name _ _ _ put kept))

@@ -5,7 +5,7 @@ use Rattle.uimg_base.specs.Named.{FileMap}
 use Rattle.uimg_cli.specs.declared.command_line.unpack.UnpackRequest.{UnpackRequest}
 use Rattle.uimg_engine.specs.Headline.{is_fit}
 use Rattle.uimg_requests.specs.declared.command.Form.TheVariants as form
-use Rattle.uimg_unpacking.specs.{Deeds.{Deed, Identifies, Opens}, Ends.{asked_name, end_of_file}, Filling.{FillsIf, payloads_of}, PartEnds.KeepsRight, PartFilling.FillsParts, Places.{Obeys, terms_of}}
+use Rattle.uimg_unpacking.specs.{Deeds.{Deed, Identifies, Opens}, Ends.{asked_name, end_of_file}, Filling.{FillsIf, takes_of}, PartEnds.KeepsRight, PartFilling.FillsParts, Places.{Obeys, terms_of}}
 use Rattle.uimg_unpacking.specs.declared.file_id.FileId.{FileId}
 use Rattle.uimg_unpacking.specs.declared.part_unpacking.PartsEnded.TheVariants as legacy
 use Rattle.uimg_unpacking.specs.declared.unpacking.Ended.TheVariants as fit
@@ -20,10 +20,10 @@ IsRightIn false asked file = KeepsRight asked file legacy.Kept
 abbrev pub IsRight : Unpacking → List ℕ → Type 0
 IsRight asked file = IsRightIn (is_fit form.Guess file) asked file
 
--- By the calls that were made, files of the folder hold the kept payloads of a FIT image, and those of the names of a
+-- By the calls that were made, the files of the kept payloads of a FIT image hold these, and those of the names of a
 -- legacy image's requested parts hold these.
 abbrev pub HoldsIn : Bool → Unpacking → List ℕ → List Deed → Type 0
-HoldsIn true asked file calls = FillsIf asked.folder.path.now (payloads_of asked (asked_name asked.only) file) calls
+HoldsIn true asked file calls = FillsIf asked.folder.path.now (takes_of asked (asked_name asked.only) file) calls
 HoldsIn false asked file calls = FillsParts asked file calls
 
 abbrev pub HoldsPayloads : Unpacking → List ℕ → List Deed → Type 0

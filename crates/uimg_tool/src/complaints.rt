@@ -14,7 +14,7 @@ use uimg_unpacking::World;
 /// Standard error of a program. The program's name begins each line of a fault. Failed writes are
 /// ignored.
 #[derive(Drop)]
-pub(crate) struct Complaints<'a, V: Write> {
+pub struct Complaints<'a, V: Write> {
     name: &'a str,
     /// Other lines are written here, too.
     pub(crate) err: &'a mut V,

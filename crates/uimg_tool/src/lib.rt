@@ -40,8 +40,10 @@ mod watched_files;
 mod writing;
 mod xip_files;
 
+pub use command_line::CommandLine;
+pub use complaints::Complaints;
 pub use in_memory::{Answered, answer_in_memory};
-pub use main_program::program;
+pub use main_program::{program, run_as_uimg};
 pub use moments::{can_erase, epoch, now};
 pub use progress::{Cleared, Meter};
 pub use uimg_engine::{Action, Command, DiskFiles, Fault, Form, MakeCommand, make, run};

@@ -71,7 +71,7 @@ pub fn program<R: Files + AllocGlobal, W: Write, V: Write>(
 /// the bytes at the paths of the arguments. Else nothing is done or printed, and the status is that
 /// of what is wrong.
 #[tactic(auto, using(uimg_cli::proofs::ReadingLaws::nothing_read))]
-pub(crate) fn run_as_uimg<'a, D: MakingWorld<'a>, W: Write + Drop, V: Write>(
+pub fn run_as_uimg<'a, D: MakingWorld<'a>, W: Write + Drop, V: Write>(
     world: &mut D,
     line: CommandLine<'a>,
     out: W,

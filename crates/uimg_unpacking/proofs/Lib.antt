@@ -4,7 +4,9 @@ pub mod Cleaned
 pub mod ContentExamples
 pub mod ContentLaws
 pub mod EndLaws
+pub mod FillingExamples
 pub mod FillingLaws
+pub mod GivenLaws
 pub mod LimitLaws
 pub mod MadeLaws
 pub mod NameLaws

@@ -3,7 +3,8 @@ use Rattle.std.proofs.Common.{◌≡◌, ◌+◌, ◌-◌, ◌^◌, ◌<◌, ◌
 use Rattle.std.proofs.lemmas.Fmt.{decimal_digit, decimal_injective}
 use Rattle.uimg_unpacking.specs.Contents.{held_in}
 use Rattle.uimg_unpacking.specs.Deeds.{Done, Failed, Deed, Closes, Links, Removes}
-use Rattle.uimg_unpacking.specs.PartFilling.{image_name, parts_by, parts_in, IsNumberOf}
+use Rattle.uimg_unpacking.specs.FileNames.{image_name}
+use Rattle.uimg_unpacking.specs.PartFilling.{parts_by, parts_in, IsNumberOf}
 use Rattle.uimg_unpacking.proofs.ContentLaws.{cancel}
 
 name_of : (n : ℕ) → n < 10 → image_name n ≡ codes "image-" ++ (48 + n) ∷ []

@@ -12,10 +12,10 @@ use Rattle.uimg_legacy.specs.declared.fault.Fault.{Fault, TheVariants.{Legacy, R
 use Rattle.uimg_unpacking.specs.Clearing.{Clears}
 use Rattle.uimg_unpacking.specs.Contents.{held, held_in, is_in, differ}
 use Rattle.uimg_unpacking.specs.Deeds.{Deed}
-use Rattle.uimg_unpacking.specs.FileNames.{is_file_name}
+use Rattle.uimg_unpacking.specs.FileNames.{image_name, is_file_name}
 use Rattle.uimg_unpacking.specs.NamingAll.{NamesComplete}
 use Rattle.uimg_unpacking.specs.PartEnds.{end_after, end_of_parts}
-use Rattle.uimg_unpacking.specs.PartFilling.{image_name, part_names, known_part, parts_by, parts_in, held_parts, kept_parts, HoldsParts, FillsParts, FillsKept, Requests}
+use Rattle.uimg_unpacking.specs.PartFilling.{part_names, known_part, parts_by, parts_in, held_parts, kept_parts, HoldsParts, FillsParts, FillsKept, Requests}
 use Rattle.uimg_unpacking.specs.Places.{is_temporary_file, is_begun_in}
 use Rattle.uimg_unpacking.specs.Refusals.{last_name}
 use Rattle.uimg_unpacking.specs.Staged.{are_numbered_in, complete, complete_names, held_new, names_of, staged}

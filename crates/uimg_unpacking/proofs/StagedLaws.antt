@@ -1,6 +1,7 @@
 -- What files that were begun hold, and their names.
 use Rattle.std.proofs.Common.{◌≡◌, ℕ, suc, ◌+◌, ◌^◌, ◌<◌, ◌≤◌, List, [], ◌∷◌, ◌++◌, map, length, codes, decimal, string_bytes, bytes_eq, slice_get, ◌-◌, is_none, option_to_list, String, Bool, true, false, ◌||◌, if◌then◌else◌, not, Option, Some, None, refl, ap, ap₂, sym, subst, ◌∙◌, true≢false, arith}
 use Rattle.std.specs.List.{list_all}
+use Rattle.std.specs.Option.{option_map_or}
 use Rattle.std.specs.Io.KnownBytes.{Keeps}
 use Rattle.std.specs.declared.alloc.Global.{Global}
 use Rattle.std.proofs.lemmas.Bool.{and_parts}
@@ -8,13 +9,13 @@ use Rattle.std.proofs.lemmas.List.{append-nil}
 use Rattle.std.proofs.lemmas.List.Folds.{list_all-append}
 use Rattle.uimg_unpacking.specs.Allowing.{Allows, is_the_image, is_looked_at, Refused}
 use Rattle.uimg_unpacking.specs.Clearing.{RemovesEach, RemovesMade, Clears}
-use Rattle.uimg_unpacking.specs.Contents.{held, held_in, is_in, differ, HoldsAs}
+use Rattle.uimg_unpacking.specs.Contents.{held, held_in, is_in, differ}
 use Rattle.uimg_unpacking.specs.Deeds.{Answer, Done, Exists, Failed, Deed, Creates, Closes, Removes, MakesFolder}
 use Rattle.uimg_unpacking.specs.FileNames.{is_file_name}
 use Rattle.uimg_unpacking.specs.Naming.{is_done, RemovesOld, not_forced, nothing_old, removed_old}
 use Rattle.uimg_unpacking.specs.NamingAll.{NamesFiles, SyncsNames, not_needed, waited, NamesAll, all_named, not_named, not_synced, NamesComplete, complete as all_complete, without_last as all_but_last, not_dropped}
 use Rattle.uimg_unpacking.specs.Places.{is_file_of, is_temporary_file, is_begun_in}
-use Rattle.uimg_unpacking.specs.Refusals.{no_file, dropped}
+use Rattle.uimg_unpacking.specs.Refusals.{last_name, no_file, dropped}
 use Rattle.uimg_unpacking.specs.Staged.{are_numbered_in, without_last, complete, complete_names, held_new, staged, names_of, with_name, Completes, uses_names, LeavesOthers}
 use Rattle.uimg_unpacking.specs.declared.begun.Begun.{Begun}
 use Rattle.uimg_unpacking.specs.declared.file_id.FileId.{FileId}
@@ -287,7 +288,7 @@ all_names p (its ∷ files) all = let h = and_parts (p (string_bytes its.name)) 
 
 -- The files that are complete have their names, and hold there what they held in the temporary folder.
 pub hold_named : (folder : Folder) (made : Option (List ℕ)) (files : List Begun) (is_writing : Bool) (others : List (List ℕ)) (used : List ℕ → Bool) (before seen after : List Deed) → list_all (is_begun_in folder.path.now) files ≡ true → are_numbered_in made files ≡ true
-    → uses_names used (names_of files) others ≡ true → NamesComplete folder files is_writing true before seen → LeavesOthers folder.path.now others seen after → HoldsAs folder.path.now (staged before files is_writing) after
+    → uses_names used (names_of files) others ≡ true → NamesComplete folder files is_writing true before seen → LeavesOthers folder.path.now others seen after → held_in folder.path.now after (complete_names files is_writing) ≡ staged before files is_writing
 hold_named folder made files is_writing others used before seen after all numbered-in is names leaves =
     let numbered = is_numbered made files numbered-in in
     let uses = names_used used (names_of files) others is in
@@ -295,20 +296,12 @@ hold_named folder made files is_writing others used before seen after all number
     let some = complete files is_writing in
     let named = are_names at some (complete_all (is_begun_in at) files is_writing all) in
     let apart = all_names (λ name. not (is_in name others)) some (complete_all (λ its. not (is_in (string_bytes its.name) others)) files is_writing (names_all (λ name. not (is_in name others)) files uses.apart)) in
-    record {
-      names = names_of some;
-      are_names = named;
-      apart = complete_unlike files is_writing uses.unlike;
-      hold = held_by_others at (names_of some) others seen after named apart leaves ∙ complete_hold folder made files is_writing before seen all numbered (complete_unlike files is_writing uses.unlike) names;
-    }
+    held_by_others at (names_of some) others seen after named apart leaves ∙ complete_hold folder made files is_writing before seen all numbered (complete_unlike files is_writing uses.unlike) names
 
-pub hold_cleared : (folder : List ℕ) (contents : List (Option (List ℕ))) (made : Option (List ℕ)) (paths : List (List ℕ)) (before after : List Deed) → list_all (is_temporary_file folder) paths ≡ true → Clears made paths before after → HoldsAs folder contents before → HoldsAs folder contents after
-hold_cleared folder contents made paths before after all clears holds = record {
-  names = holds.names;
-  are_names = holds.are_names;
-  apart = holds.apart;
-  hold = held_by_names folder holds.names before after holds.are_names (clears_rest folder made paths before after all clears) ∙ holds.hold;
-}
+pub hold_cleared : (folder : List ℕ) (files : List Begun) (is_writing : Bool) (made : Option (List ℕ)) (paths : List (List ℕ)) (before after : List Deed) → list_all (is_begun_in folder) files ≡ true → list_all (is_temporary_file folder) paths ≡ true → Clears made paths before after
+    → held_in folder after (complete_names files is_writing) ≡ held_in folder before (complete_names files is_writing)
+hold_cleared folder files is_writing made paths before after begun all clears =
+    held_by_names folder (complete_names files is_writing) before after (are_names folder (complete files is_writing) (complete_all (is_begun_in folder) files is_writing begun)) (clears_rest folder made paths before after all clears)
 
 -- files with their numbers, as they are told
 pub numbered_front : (made : Option (List ℕ)) (files left : List Begun) (its : Begun) → files ≡ left ++ its ∷ [] → are_numbered_in made files ≡ true → are_numbered_in made left ≡ true
@@ -387,6 +380,16 @@ dropped_staged made files left now is_writing its answer before middle after are
 pub dropped_names : (files left now : List Begun) (is_writing : Bool) (its : Begun) → files ≡ left ++ its ∷ [] → now ≡ left → is_writing ≡ false → complete_names now is_writing ≡ complete_names files true
 dropped_names files left now is_writing its are now-left done =
     ap₂ complete_names now-left done ∙ ap names_of (sym (ap without_last are ∙ front_of left its))
+
+pushed_at : (files : List Begun) (its : Begun) → slice_get (files ++ its ∷ []) (length (files ++ its ∷ []) - 1) ≡ Some its
+pushed_at [] its = refl
+pushed_at (one ∷ []) its = refl
+pushed_at (one ∷ next ∷ files) its =
+    let e : length (one ∷ next ∷ (files ++ its ∷ [])) - 1 ≡ suc (length (next ∷ (files ++ its ∷ [])) - 1) = omega arith in
+    ap (slice_get (one ∷ next ∷ (files ++ its ∷ []))) e ∙ pushed_at (next ∷ files) its
+
+pub pushed_last : (files now : List Begun) (its : Begun) → now ≡ files ++ its ∷ [] → last_name now ≡ string_bytes its.name
+pushed_last files now its is = ap (λ (fs : List Begun). last_name fs) is ∙ ap (λ (o : Option Begun). option_map_or (λ it. string_bytes it.name) o []) (pushed_at files its)
 
 -- what is known stays known
 pub kept_known : (old new : Option (List ℕ)) (bytes : List ℕ) → Keeps old new → old ≡ Some bytes → new ≡ Some bytes

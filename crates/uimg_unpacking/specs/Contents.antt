@@ -1,8 +1,7 @@
 -- What files hold by the calls that were made, so far as the calls show it. None: that is not known.
-use Rattle.std.specs.Prelude.{◌≡◌, ℕ, List, [], ◌∷◌, ◌++◌, map, codes, bytes_eq, Bool, true, ◌&&◌, not, Option, Some, None, if◌then◌else◌}
-use Rattle.std.specs.List.{list_all, list_any}
+use Rattle.std.specs.Prelude.{ℕ, List, [], ◌∷◌, ◌++◌, map, codes, bytes_eq, Bool, true, ◌&&◌, not, Option, Some, None, if◌then◌else◌}
+use Rattle.std.specs.List.{list_any}
 use Rattle.uimg_unpacking.specs.Deeds.{Done, Deed, Creates, Closes, Links, Renames, Removes, RemovesAll, Overwrites, LendsShelf}
-use Rattle.uimg_unpacking.specs.FileNames.{is_file_name}
 
 -- what is at each path, after something else is at one
 abbrev pub at : List ℕ → Option (List ℕ) → (List ℕ → Option (List ℕ)) → List ℕ → Option (List ℕ)
@@ -39,14 +38,3 @@ differ (name ∷ names) = not (is_in name names) && differ names
 -- what the files of some names in a folder hold
 abbrev pub held_in : List ℕ → List Deed → List (List ℕ) → List (Option (List ℕ))
 held_in folder calls = map (λ name. held calls (folder ++ codes "/" ++ name))
-
--- A folder has files of different names that hold this, one after another.
-pub record HoldsAs (folder : List ℕ) (contents : List (Option (List ℕ))) (calls : List Deed) : Type 0 where
-  pub names : List (List ℕ)
-  pub are_names : list_all is_file_name names ≡ true
-  pub apart : differ names ≡ true
-  pub hold : held_in folder calls names ≡ contents
-
--- the same of files whose bytes are known
-abbrev pub Holds : List ℕ → List (List ℕ) → List Deed → Type 0
-Holds folder payloads calls = HoldsAs folder (map Some payloads) calls

@@ -1,5 +1,6 @@
--- Which names of images are used as file names.
-use Rattle.std.specs.Prelude.{ℕ, List, ◌==◌, codes, Bool, false, ◌&&◌, not}
+-- The names of files that images are unpacked to.
+use Rattle.std.specs.Prelude.{ℕ, zero, suc, List, [], ◌++◌, length, map, ◌==◌, bytes_eq, codes, decimal, Bool, false, ◌&&◌, not, if◌then◌else◌}
+use Rattle.std.specs.Char.{to_ascii_lowercase}
 use Rattle.std.specs.List.{list_all, list_any, slice_get}
 use Rattle.std.specs.Option.{option_map_or}
 
@@ -17,3 +18,23 @@ may_begin byte = not (list_any (λ known. known == byte) (codes ".-"))
 -- Such a name is no path and no option. It is not `.` or `..`, is not hidden, and has no slash.
 abbrev pub is_file_name : List ℕ → Bool
 is_file_name name = option_map_or may_begin (slice_get name 0) false && list_all is_allowed name
+
+-- the name of the file of a number
+abbrev pub image_name : ℕ → List ℕ
+image_name number = codes "image-" ++ decimal number
+
+-- whether some names have one, in lower or upper case
+abbrev pub is_among : List (List ℕ) → List ℕ → Bool
+is_among names name = list_any (λ known. bytes_eq (map to_ascii_lowercase name) (map to_ascii_lowercase known)) names
+
+-- The first of so many numbers whose name is free. If none is, there is no name.
+unfoldable pub first_free : List (List ℕ) → ℕ → ℕ → List ℕ
+first_free names number zero = []
+first_free names number (suc more) =
+    if is_among names (image_name number) then first_free names (suc number) more else image_name number
+
+-- The name of the file of an image, behind files of these names: that of the image if it is a file name and free, or
+-- else that of the file's number, or of the first number after it that is free, of a hundred.
+unfoldable pub file_name : List (List ℕ) → List ℕ → List ℕ
+file_name names image =
+    if is_file_name image && not (is_among names image) then image else first_free names (length names) 100

@@ -6,6 +6,7 @@ pub mod Deeds
 pub mod Ends
 pub mod FileNames
 pub mod Filling
+pub mod Given
 pub mod Kinds
 pub mod Limiting
 pub mod Lines

@@ -1,17 +1,14 @@
 -- What the files hold that a legacy image was unpacked to.
-use Rattle.std.specs.Prelude.{◌≡◌, ◌⊎◌, ⊤, ℕ, ◌-◌, ◌^◌, ◌<◌, List, [], ◌∷◌, ◌++◌, map, codes, decimal, Bool, true, if◌then◌else◌, Option, Some, None, Ok}
+use Rattle.std.specs.Prelude.{◌≡◌, ◌⊎◌, ⊤, ℕ, ◌-◌, ◌^◌, ◌<◌, List, [], ◌∷◌, ◌++◌, map, codes, Bool, true, if◌then◌else◌, Option, Some, None, Ok}
 use Rattle.std.specs.Borrow.{Bor}
 use Rattle.std.specs.List.{AllByRecursion}
 use Rattle.uimg_legacy.specs.Unpacking.{Part, part_if, unpack_of}
 use Rattle.uimg_unpacking.specs.Contents.{held, held_in}
 use Rattle.uimg_unpacking.specs.Deeds.{Deed}
+use Rattle.uimg_unpacking.specs.FileNames.{image_name}
 use Rattle.uimg_unpacking.specs.declared.part_unpacking.PartsEnded.{PartsEnded}
 use Rattle.uimg_unpacking.specs.declared.part_unpacking.PartsEnded.TheVariants.{Kept, Weak, Stopped, Troubled}
 use Rattle.uimg_unpacking.specs.declared.unpacking.Unpacking.{Unpacking}
-
--- the name of the file of a part
-abbrev pub image_name : ℕ → List ℕ
-image_name number = codes "image-" ++ decimal number
 
 -- the names of the files of parts, by their numbers and lengths
 abbrev pub part_names : List (ℕ × ℕ) → List (List ℕ)

@@ -1,8 +1,8 @@
 -- What becomes of the file that was begun last.
-use Rattle.std.specs.Prelude.{◌≡◌, ⊤, Option, Some, None, true, ℕ, ◌-◌, length, List, [], ◌∷◌, ◌++◌, Bool, false, if◌then◌else◌, string_bytes}
+use Rattle.std.specs.Prelude.{◌≡◌, ⊤, Option, Some, None, true, ℕ, ◌-◌, length, List, [], ◌∷◌, ◌++◌, Bool, false, string_bytes}
 use Rattle.std.specs.List.{slice_get}
 use Rattle.std.specs.Option.{option_map_or}
-use Rattle.uimg_unpacking.specs.Deeds.{Answer, Done, Deed, Removes}
+use Rattle.uimg_unpacking.specs.Deeds.{Answer, Deed, Removes}
 use Rattle.uimg_unpacking.specs.Naming.{is_done}
 use Rattle.uimg_unpacking.specs.declared.begun.Begun.{Begun}
 use Rattle.uimg_unpacking.specs.declared.trouble.Trouble.{Trouble}
@@ -33,10 +33,3 @@ TellsUnwritten false last found = found ≡ None
 pub data DropsLast (files left : List Begun) (is_dropped : Bool) (before after : List Deed) : Type 0 where
   no_file : files ≡ [] → left ≡ [] → is_dropped ≡ false → after ≡ before → DropsLast files left is_dropped before after
   dropped : (last : Begun) (answer : Answer) → files ≡ left ++ last ∷ [] → is_dropped ≡ is_done answer → after ≡ Removes (string_bytes last.new) answer ∷ before → DropsLast files left is_dropped before after
-
--- It was removed, and gets no name. If it is outdated, what it was to replace is removed later.
-pub record RefusesLast (is_outdated : Bool) (files left outdated now_outdated : List Begun) (before after : List Deed) : Type 0 where
-  pub last : Begun
-  pub is_last : files ≡ left ++ last ∷ []
-  pub removed : after ≡ Removes (string_bytes last.new) Done ∷ before
-  pub noted : now_outdated ≡ (if is_outdated then outdated ++ last ∷ [] else outdated)

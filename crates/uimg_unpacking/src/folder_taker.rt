@@ -1,16 +1,17 @@
 //! Writes payloads to a folder, with a line for each.
 
-ghost use Rattle.std.specs.Prelude.{◌≡◌, ◌++◌, ◌&&◌, ◌||◌, ℕ, List, [], Bool, None, Some, IfOk, IsTrue, OnOk, map, nat_lt, not, is_none, is_ok, false, true};
+ghost use Rattle.std.specs.Prelude.{◌≡◌, ◌++◌, ◌∷◌, ◌&&◌, ◌||◌, ℕ, List, [], Bool, None, Some, IfOk, IsTrue, OnOk, length, nat_lt, not, is_none, is_ok, false, true};
 ghost use Rattle.std.specs.Io.Buffered.{writer_contents};
-ghost use Rattle.uimg_fit_checking.specs.Unpacking.{as_bytes};
-ghost use Rattle.uimg_unpacking.specs.Contents.{HoldsAs, held};
-ghost use Rattle.uimg_unpacking.specs.Filling.{MayComplete, as_take, seen_of};
+ghost use Rattle.uimg_fit_checking.specs.Unpacking.{as_bytes, kept, refused};
+ghost use Rattle.uimg_fit_checking.specs.declared.checking.Finding.TheVariants as finding;
+ghost use Rattle.uimg_unpacking.specs.Contents.{held_in};
+ghost use Rattle.uimg_unpacking.specs.FileNames.{is_among};
+ghost use Rattle.uimg_unpacking.specs.Given.{AreNamed, AreWhole, MayGive, last_noted, noted_takes, seen_of, takes_given};
 ghost use Rattle.uimg_unpacking.specs.Limiting.{claims_by, exceeded};
-ghost use Rattle.uimg_unpacking.specs.Names.{is_used};
 ghost use Rattle.uimg_unpacking.specs.Objects.{told_of, kept_told, refused_told};
 ghost use Rattle.uimg_unpacking.specs.Places.{Obeys, terms_of};
-ghost use Rattle.uimg_unpacking.specs.Refusals.{last_name, RefusesLast};
-ghost use Rattle.uimg_unpacking.specs.Staged.{names_of, staged, uses_names};
+ghost use Rattle.uimg_unpacking.specs.Refusals.{last_name};
+ghost use Rattle.uimg_unpacking.specs.Staged.{complete_names, names_of, staged, uses_names};
 ghost use Rattle.uimg_unpacking.specs.Telling.{with_kept, with_refused, TellsIf, is_named};
 
 use crate::limits::Claims;
@@ -25,8 +26,13 @@ use crate::unpacking::Unpacking;
 use crate::world::World;
 use std::alloc::Global;
 use std::io::Write;
-use uimg_base::PutFault;
+use uimg_base::{OpenedNames, PutFault};
 use uimg_fit_checking::{NodeName, Refusal, Taker, Vouched};
+
+/// What is noted of a payload that is kept, and of a refused one.
+const KEPT: &[u8] = b"kept";
+
+const REFUSED: &[u8] = b"";
 
 /// A taker that writes payloads to a folder. Their files get their names at the end: all of them,
 /// or, if one is refused, none or only the good ones.
@@ -43,10 +49,16 @@ pub(crate) struct FolderTaker<'w, 'a, 'c, W: World, M: Task, O: Write + Drop> {
     // The names of the files that were checked, then of those that were begun: the same ones.
     looked: Names,
     taken: Names,
+    // For contracts alone: the names of the images whose files were begun, and of each payload that
+    // was kept or refused the name of its image and a mark.
+    begun: OpenedNames,
+    given: OpenedNames,
     claims: Claims,
     trouble: Option<Trouble>,
     ghost unnamed: { staging.is_naming ≡ false },
-    ghost names: { uses_names (is_used taken.given) (names_of staging.files.items) (names_of staging.outdated.items) ≡ true },
+    ghost whole: { AreWhole staging.files.items staging.is_writing (noted_takes given.names) },
+    ghost named: { is_none trouble ≡ true → AreNamed staging.files.items staging.is_writing (noted_takes given.names) taken.named.names (last_noted begun.names) },
+    ghost apart: { is_none trouble ≡ true → uses_names (is_among taken.named.names) (names_of staging.files.items) (names_of staging.outdated.items) ≡ true },
     ghost limits: { (claims.claimed.limits.files, claims.claimed.limits.bytes) ≡ M.limits },
     ghost fits: { is_none trouble ≡ true → is_none (exceeded claims.claimed) ≡ true },
 }
@@ -65,9 +77,8 @@ impl<'w, 'a, 'c, W: World, M: Task, O: Write + Drop> FolderTaker<'w, 'a, 'c, W, 
         requires limits { (asked.now.limits.files, asked.now.limits.bytes) ≡ M.limits }
         ensures claims { claims_by result.claims.noted.names ≡ [] }
         ensures folder { result.staging.folder ≡ asked.now.folder }
-        ensures none { result.taken.count ≡ 0 }
-        ensures empty { staged (W.trace result.staging.world.now) result.staging.files.items
-            result.staging.is_writing ≡ [] }
+        ensures none { result.taken.named.names ≡ [] }
+        ensures empty { result.given.names ≡ [] }
     {
         FolderTaker {
             alloc,
@@ -79,6 +90,8 @@ impl<'w, 'a, 'c, W: World, M: Task, O: Write + Drop> FolderTaker<'w, 'a, 'c, W, 
             has_refused: false,
             looked: Names::new(alloc),
             taken: Names::new(alloc),
+            begun: OpenedNames::new(),
+            given: OpenedNames::new(),
             claims: Claims::new(asked.limits),
             trouble: None,
         }
@@ -91,12 +104,14 @@ impl<'w, 'a, 'c, W: World, M: Task, O: Write + Drop> FolderTaker<'w, 'a, 'c, W, 
         ensures named { result.0.ghost_name ≡ M.name }
         ensures obeys { Obeys M.terms names M.before (W.trace result.0.now) }
         ensures none { is_none result.3 ≡ true → is_none self.entry.trouble ≡ true }
-        ensures holds { names ≡ true → result.3 ≡ None → HoldsAs self.entry.staging.folder.path.now
-            (staged (W.trace self.entry.staging.world.now) self.entry.staging.files.items
-            self.entry.staging.is_writing) (W.trace result.0.now) }
+        ensures holds { names ≡ true → result.3 ≡ None → held_in self.entry.staging.folder.path.now
+            (W.trace result.0.now)
+            (complete_names self.entry.staging.files.items self.entry.staging.is_writing)
+            ≡ staged (W.trace self.entry.staging.world.now) self.entry.staging.files.items
+            self.entry.staging.is_writing }
         ensures told { result.3 ≡ None → TellsIf (names || self.entry.has_refused)
             (O.contents self.entry.out) (O.contents result.1) self.entry.lines.items }
-        ensures count { result.2 ≡ self.entry.taken.count }
+        ensures count { result.2 ≡ length self.entry.taken.named.names }
     {
         let FolderTaker {
             alloc: _alloc,
@@ -108,6 +123,8 @@ impl<'w, 'a, 'c, W: World, M: Task, O: Write + Drop> FolderTaker<'w, 'a, 'c, W, 
             has_refused,
             looked: _looked,
             taken,
+            begun: _begun,
+            given: _given,
             claims: _claims,
             trouble,
         } = self;
@@ -122,31 +139,13 @@ impl<'w, 'a, 'c, W: World, M: Task, O: Write + Drop> FolderTaker<'w, 'a, 'c, W, 
         ensures folder { self.new.staging.folder ≡ self.old.staging.folder }
         ensures claims { self.new.claims ≡ self.old.claims }
         ensures taken { self.new.taken ≡ self.old.taken }
+        ensures given { self.new.given ≡ self.old.given }
         ensures staged { staged (W.trace self.new.staging.world.now) self.new.staging.files.items
             self.new.staging.is_writing ≡ staged (W.trace self.old.staging.world.now)
             self.old.staging.files.items self.old.staging.is_writing }
     {
-        match self.looked.next(name)? {
-            Some(name) => self.staging.look(name.as_str()),
-            None => Err(Trouble::NoName),
-        }
-    }
-
-    // The file gets its name later.
-    fn begin(&mut self, name: &NodeName) -> Result<NewFile<'c, W::File>, Trouble>
-        ensures folder { self.new.staging.folder ≡ self.old.staging.folder }
-        ensures counted { OnOk result (nat_lt 0 self.new.taken.count ≡ true) }
-        ensures claims { self.new.claims ≡ self.old.claims }
-        ensures staged { staged (W.trace self.new.staging.world.now) self.new.staging.files.items
-            self.new.staging.is_writing ≡ staged (W.trace self.old.staging.world.now)
-            self.old.staging.files.items self.old.staging.is_writing }
-        ensures empty { IsTrue W.knows → IfOk result (λ new.
-            writer_contents W.File.contents new.file ≡ Some []) }
-    {
-        match self.taken.next(name)? {
-            Some(name) => self.staging.begin(name),
-            None => Err(Trouble::NoName),
-        }
+        let file = self.looked.next(name)?;
+        self.staging.look(file.as_str())
     }
 
     fn finish(
@@ -155,22 +154,26 @@ impl<'w, 'a, 'c, W: World, M: Task, O: Write + Drop> FolderTaker<'w, 'a, 'c, W, 
         file: NewFile<'c, W::File>,
         vouched: Option<Vouched>,
     ) -> Result<(), Trouble>
+        requires { last_noted self.old.begun.names ≡ as_bytes name.now }
         ensures folder { self.new.staging.folder ≡ self.old.staging.folder }
         ensures taken { self.new.taken ≡ self.old.taken }
         ensures claims { self.new.claims ≡ self.old.claims }
         ensures files { self.new.staging.files ≡ self.old.staging.files }
-        ensures staged { IsTrue W.knows → (bytes : List ℕ) →
+        ensures given { IsTrue W.knows → (bytes : List ℕ) →
             writer_contents W.File.contents file.entry.file ≡ Some bytes →
-            MayComplete (is_ok result) (Some bytes)
-            (staged (W.trace self.old.staging.world.now) self.old.staging.files.items
-            self.old.staging.is_writing) (staged (W.trace self.new.staging.world.now)
-            self.new.staging.files.items self.new.staging.is_writing) }
+            MayGive (is_ok result) (kept (as_bytes name.now) bytes None)
+            (takes_given self.old.given.names (staged (W.trace self.old.staging.world.now)
+            self.old.staging.files.items self.old.staging.is_writing))
+            (takes_given self.new.given.names (staged (W.trace self.new.staging.world.now)
+            self.new.staging.files.items self.new.staging.is_writing)) }
         ensures told { OnOk result (self.new.lines.items
             ≡ with_kept (self.old.has_refused && not self.old.keeps_good) self.old.lines.items
             (kept_told self.old.json (as_bytes name.now) (last_name self.old.staging.files.items)
             file.entry.size vouched)) }
     {
         let size = self.staging.complete(file)?;
+        self.given.note(name.bytes());
+        self.given.note(KEPT);
         if self.has_refused && !self.keeps_good {
             return Ok(());
         }
@@ -188,6 +191,7 @@ impl<'w, 'a, 'c, W: World, M: Task, O: Write + Drop> FolderTaker<'w, 'a, 'c, W, 
         ensures staging { self.new.staging ≡ self.old.staging }
         ensures taken { self.new.taken ≡ self.old.taken }
         ensures claims { self.new.claims ≡ self.old.claims }
+        ensures given { self.new.given ≡ self.old.given }
         ensures refused { self.new.has_refused ≡ self.old.has_refused }
         ensures told { OnOk result
             (self.new.lines.items ≡ self.old.lines.items ++ told_of self.old.json line.now) }
@@ -198,21 +202,25 @@ impl<'w, 'a, 'c, W: World, M: Task, O: Write + Drop> FolderTaker<'w, 'a, 'c, W, 
     }
 
     fn throw_away(&mut self, name: &NodeName, refusal: Refusal) -> Result<(), Trouble>
+        requires { last_noted self.old.begun.names ≡ as_bytes name.now }
         ensures folder { self.new.staging.folder ≡ self.old.staging.folder }
         ensures taken { self.new.taken ≡ self.old.taken }
         ensures claims { self.new.claims ≡ self.old.claims }
         ensures refused { OnOk result (self.new.has_refused ≡ true) }
-        ensures staged { staged (W.trace self.new.staging.world.now) self.new.staging.files.items
-            self.new.staging.is_writing ≡ staged (W.trace self.old.staging.world.now)
-            self.old.staging.files.items self.old.staging.is_writing }
-        ensures dropped { OnOk result (RefusesLast self.old.keeps_good
-            self.old.staging.files.items self.new.staging.files.items
-            self.old.staging.outdated.items self.new.staging.outdated.items
-            (W.trace self.old.staging.world.now) (W.trace self.new.staging.world.now)) }
+        ensures given { MayGive (is_ok result) (refused (as_bytes name.now) (finding.Weak []))
+            (takes_given self.old.given.names (staged (W.trace self.old.staging.world.now)
+            self.old.staging.files.items self.old.staging.is_writing))
+            (takes_given self.new.given.names (staged (W.trace self.new.staging.world.now)
+            self.new.staging.files.items self.new.staging.is_writing)) }
         ensures told { OnOk result (self.new.lines.items
             ≡ with_refused (self.old.keeps_good || self.old.has_refused) self.old.lines.items
             (refused_told self.old.json (as_bytes name.now) refusal)) }
     {
+        if self.staging.is_complete() {
+            return Err(Trouble::NoName);
+        }
+        self.given.note(name.bytes());
+        self.given.note(REFUSED);
         self.staging.refuse_last(self.keeps_good)?;
         if !self.keeps_good && !self.has_refused {
             self.lines.clear();
@@ -233,8 +241,9 @@ fn name<W: World, M: Task>(
     ensures naming { staging.new.is_naming ≡ names }
     ensures holds { names ≡ true → is_named result ≡ true → (used : List ℕ → Bool) →
         uses_names used (names_of staging.old.files.items) (names_of staging.old.outdated.items) ≡ true →
-        HoldsAs staging.old.folder.path.now (staged (W.trace staging.old.world.now)
-        staging.old.files.items staging.old.is_writing) (W.trace staging.new.world.now) }
+        held_in staging.old.folder.path.now (W.trace staging.new.world.now)
+        (complete_names staging.old.files.items staging.old.is_writing)
+        ≡ staged (W.trace staging.old.world.now) staging.old.files.items staging.old.is_writing }
 {
     if !names {
         return Ok(Ok(()));
@@ -273,14 +282,16 @@ impl<'w, 'a, 'c, W: World, M: Task, O: Write + Drop> Taker for FolderTaker<'w, '
 
     ghost seen = { seen_of };
 
-    ghost takes = { λ t. map as_take (staged (W.trace t.staging.world.now) t.staging.files.items
-        t.staging.is_writing) };
+    ghost takes = { λ t. takes_given t.given.names (staged (W.trace t.staging.world.now)
+        t.staging.files.items t.staging.is_writing) };
 
     ghost notes = { true };
 
     ghost claimed = { λ t. claims_by t.claims.noted.names };
 
-    ghost begun = { λ t. nat_lt 0 t.taken.count };
+    ghost shelved = { λ t. last_noted t.begun.names };
+
+    ghost begun = { λ t. nat_lt 0 (length t.taken.named.names) };
 
     #[tactic(auto, using(crate::proofs::LimitLaws::fits_noted, crate::proofs::LimitLaws::fits_kept))]
     fn claim(&mut self, name: &NodeName, length: u64) -> Result<(), PutFault> {
@@ -292,8 +303,14 @@ impl<'w, 'a, 'c, W: World, M: Task, O: Write + Drop> Taker for FolderTaker<'w, '
 
     #[tactic(auto, using(crate::proofs::LimitLaws::fits_kept))]
     fn shelf(&mut self, name: &NodeName) -> Result<NewFile<'c, W::File>, PutFault> {
-        let begun = self.begin(name);
-        kept(begun, &mut self.trouble)
+        self.begun.note(name.bytes());
+        match self.taken.next(name) {
+            Ok(file) => {
+                let begun = self.staging.begin(file);
+                kept(begun, &mut self.trouble)
+            }
+            Err(trouble) => kept(Err(trouble), &mut self.trouble),
+        }
     }
 
     #[tactic(auto, using(crate::proofs::LimitLaws::fits_kept))]

@@ -1,85 +1,121 @@
 //! The names of files, each used once.
 
-ghost use Rattle.std.specs.Prelude.{◌≡◌, [], not, IfOk, IfSome, OnOk, string_bytes, nat_lt, true, false};
-ghost use Rattle.std.specs.Bool.{OnFalse};
-ghost use Rattle.uimg_unpacking.specs.FileNames.{is_file_name};
-ghost use Rattle.uimg_unpacking.specs.Names.{is_used, StayUsed};
+ghost use Rattle.std.specs.Prelude.{◌≡◌, ◌∷◌, ◌&&◌, [], length, map, not, IfOk, MatchOption, string_bytes, true, false, if◌then◌else◌};
+ghost use Rattle.std.specs.Char.{to_ascii_lowercase};
+ghost use Rattle.uimg_fit_checking.specs.Unpacking.{as_bytes};
+ghost use Rattle.uimg_unpacking.specs.FileNames.{file_name, first_free, is_among, is_file_name};
+ghost use Rattle.uimg_unpacking.specs.Names.{HasNames, Gives};
 
 use crate::file_names::is_file_name;
+use crate::trouble::Trouble;
 use std::alloc::{AllocError, Global};
 use std::collections::BTreeSet;
+use uimg_base::OpenedNames;
 use uimg_fit_checking::NodeName;
 
 /// How many numbers are tried for a file.
 const TRIED: usize = 100;
 
-/// The names that were used, in lower case, since some file systems ignore the case of letters.
+/// The names that were given, in lower case, since some file systems ignore the case of letters.
 #[derive(Drop)]
 pub(crate) struct Names {
     alloc: Global,
     given: BTreeSet<Vec<u8>>,
-    count: usize,
+    // For contracts alone: the names, the newest first.
+    named: OpenedNames,
+    ghost count: { length given.keys ≡ length named.names },
+    ghost used: { HasNames given named.names },
 }
 
 impl Names {
     pub(crate) fn new(alloc: Global) -> Names
-        ensures none { result.given.keys ≡ [] }
-        ensures count { result.count ≡ 0 }
+        ensures { result.named.names ≡ [] }
     {
         Names {
             alloc,
             given: BTreeSet::new(alloc),
-            count: 0,
+            named: OpenedNames::new(),
         }
     }
 
     /// Returns the name of the next file: that of the image if it is a file name and was not used.
     /// Otherwise it is `image-` with the number of the file, or with the first following number
-    /// that was not used. Returns none if a hundred of these were used. Fails if memory is refused.
-    #[tactic(auto, using(crate::proofs::Placing::image_name))]
-    pub(crate) fn next(&mut self, name: &NodeName) -> Result<Option<String>, AllocError>
-        ensures is_name { IfOk result (λ it. IfSome it (λ text.
-            is_file_name (string_bytes text) ≡ true)) }
-        ensures is_new { IfOk result (λ it. IfSome it (λ text.
-            is_used self.old.given (string_bytes text) ≡ false)) }
-        ensures used { IfOk result (λ it. IfSome it (λ text.
-            is_used self.new.given (string_bytes text) ≡ true)) }
-        ensures stays { StayUsed self.old.given self.new.given }
-        ensures counted { nat_lt 0 self.new.count ≡ true }
+    /// that was not used. Fails if a hundred of these were used, or memory is refused.
+    pub(crate) fn next(&mut self, name: &NodeName) -> Result<String, Trouble>
+        ensures { IfOk result (λ text. Gives
+            (file_name self.old.named.names (as_bytes name.now)) (string_bytes text)
+            self.old.named.names self.new.named.names) }
     {
-        let number = self.count;
-        self.count = self.count.saturating_add(1);
-        if is_file_name(name.bytes())
-            && let Ok(text) = str::from_utf8(name.bytes())
-            && self.give(text)?
-        {
-            return Ok(Some(String::from_str(self.alloc, text)?));
+        match self.own(name)? {
+            Some(text) => Ok(text),
+            None => self.numbered(),
         }
-        for further in 0..TRIED {
-            let text = format!(in self.alloc; "image-{}", number.saturating_add(further))?;
-            if self.give(text.as_str())? {
-                return Ok(Some(text));
-            }
-        }
-        Ok(None)
     }
 
     pub(crate) fn count(&self) -> usize
-        ensures { result ≡ self.now.count }
+        ensures { result ≡ length self.now.named.names }
     {
-        self.count
+        self.given.len()
+    }
+
+    // Returns the name of the image if it is a file name and was not used.
+    fn own(&mut self, name: &NodeName) -> Result<Option<String>, AllocError>
+        ensures { IfOk result (λ it. MatchOption it
+            ((is_file_name (as_bytes name.now)
+            && not (is_among self.old.named.names (as_bytes name.now))) ≡ false
+            × self.new.named.names ≡ self.old.named.names)
+            (λ text. (is_file_name (as_bytes name.now)
+            && not (is_among self.old.named.names (as_bytes name.now))) ≡ true
+            × Gives (as_bytes name.now) (string_bytes text)
+            self.old.named.names self.new.named.names)) }
+    {
+        if !is_file_name(name.bytes()) {
+            return Ok(None);
+        }
+        let Ok(text) = str::from_utf8(name.bytes()) else {
+            return Ok(None);
+        };
+        if !self.give(text)? {
+            return Ok(None);
+        }
+        Ok(Some(String::from_str(self.alloc, text)?))
+    }
+
+    fn numbered(&mut self) -> Result<String, Trouble>
+        ensures { IfOk result (λ text. Gives
+            (first_free self.old.named.names (length self.old.named.names) 100)
+            (string_bytes text) self.old.named.names self.new.named.names) }
+    {
+        let number = self.given.len();
+        for further in 0..TRIED {
+            let text = format!(in self.alloc; "image-{}", number + further)?;
+            if self.give(text.as_str())? {
+                return Ok(text);
+            }
+        }
+        Err(Trouble::NoName)
     }
 
     // Returns whether the name was not used before.
     fn give(&mut self, name: &str) -> Result<bool, AllocError>
-        ensures is_new { IfOk result (λ is_new. is_new ≡ not (is_used self.old.given name.now)) }
-        ensures same { IfOk result (λ is_new. OnFalse is_new (self.new.given.keys ≡ self.old.given.keys)) }
-        ensures used { OnOk result (is_used self.new.given name.now ≡ true) }
-        ensures stays { StayUsed self.old.given self.new.given }
-        ensures count { self.new.count ≡ self.old.count }
+        ensures is_new { IfOk result (λ is_new.
+            is_new ≡ not (is_among self.old.named.names name.now)) }
+        ensures named { IfOk result (λ is_new. self.new.named.names
+            ≡ (if is_new then name.now ∷ self.old.named.names else self.old.named.names)) }
     {
-        let mut small = Vec::from_slice(self.alloc, name.as_bytes())?;
-        small.make_ascii_lowercase();
-        Ok(self.given.insert(small)?)
+        let small = in_lower_case(self.alloc, name)?;
+        if !self.given.insert(small)? {
+            return Ok(false);
+        }
+        self.named.note(name.as_bytes());
+        Ok(true)
     }
+}
+
+fn in_lower_case(alloc: Global, name: &str) -> Result<Vec<u8>, AllocError>
+    ensures { IfOk result (λ small. small.items ≡ map to_ascii_lowercase name.now) }
+{
+    let mut small = Vec::from_slice(alloc, name.as_bytes())?;
+    small.make_ascii_lowercase();
+    Ok(small)
 }

@@ -1,6 +1,6 @@
 //! Files that are written in a folder of their own, and get their names all at once.
 
-ghost use Rattle.std.specs.Prelude.{◌≡◌, ◌++◌, ◌∷◌, [], List, ℕ, Bool, Some, map, true, false, codes, IfOk, IfSome, IsTrue, MatchOption, OnOk, is_ok, not, string_bytes};
+ghost use Rattle.std.specs.Prelude.{◌≡◌, ◌++◌, ◌∷◌, [], List, ℕ, Bool, Some, map, true, false, codes, IfOk, IfSome, IsTrue, MatchOption, OnErr, OnOk, is_ok, not, string_bytes};
 ghost use Rattle.std.specs.{Io.Buffered.writer_contents, List.list_all};
 ghost use Rattle.std.specs.Option.{option_map, option_map_or};
 ghost use Rattle.uimg_unpacking.specs.Deeds.{Answer, ClosesFile, Deed, answer_of};
@@ -8,7 +8,7 @@ ghost use Rattle.uimg_unpacking.specs.Clearing.{Clears};
 ghost use Rattle.uimg_unpacking.specs.Contents.{held};
 ghost use Rattle.uimg_unpacking.specs.FileNames.{is_file_name};
 ghost use Rattle.uimg_unpacking.specs.Places.{is_temporary_folder, is_temporary_file, is_begun_in, Obeys, terms_of};
-ghost use Rattle.uimg_unpacking.specs.Refusals.{last_of, last_name, DropsLast, RefusesLast, TellsUnwritten};
+ghost use Rattle.uimg_unpacking.specs.Refusals.{last_of, last_name, DropsLast, TellsUnwritten};
 ghost use Rattle.uimg_unpacking.specs.Staged.{ClosesLast, Completes, Drops, are_numbered_in, complete_names, names_of, staged, with_name};
 
 mod naming_all;
@@ -110,6 +110,8 @@ impl<'w, 'a, 'c, W: World, M: Task> Staging<'w, 'a, 'c, W, M> {
         ensures complete { complete_names self.new.files.items self.new.is_writing
             ≡ complete_names self.old.files.items self.old.is_writing }
         ensures outdated { self.new.outdated ≡ self.old.outdated }
+        ensures writing { OnOk result (self.old.is_writing ≡ false × self.new.is_writing ≡ true
+            × last_name self.new.files.items ≡ string_bytes name) }
         ensures staged { staged (W.trace self.new.world.now) self.new.files.items self.new.is_writing
             ≡ staged (W.trace self.old.world.now) self.old.files.items self.old.is_writing }
         ensures empty { IsTrue W.knows → IfOk result (λ new.
@@ -222,6 +224,8 @@ impl<'w, 'a, 'c, W: World, M: Task> Staging<'w, 'a, 'c, W, M> {
         ensures complete { complete_names self.new.files.items self.new.is_writing
             ≡ complete_names self.old.files.items self.old.is_writing }
         ensures outdated { self.new.outdated ≡ self.old.outdated }
+        ensures writing { OnOk result (self.new.is_writing ≡ true
+            × last_name self.new.files.items ≡ string_bytes begun.name) }
         ensures staged { staged (W.trace self.new.world.now) self.new.files.items self.new.is_writing
             ≡ staged (W.trace self.old.world.now) self.old.files.items self.old.is_writing }
     {
@@ -244,6 +248,8 @@ impl<'w, 'a, 'c, W: World, M: Task> Staging<'w, 'a, 'c, W, M> {
             (last_name self.old.files.items) }
         ensures outdated { self.new.outdated ≡ self.old.outdated }
         ensures naming { self.new.is_naming ≡ self.old.is_naming }
+        ensures writing { OnOk result (self.old.is_writing ≡ true × self.new.is_writing ≡ false) }
+        ensures unwritten { OnErr result (self.new.is_writing ≡ self.old.is_writing) }
         ensures staged { IsTrue W.knows → (bytes : List ℕ) →
             writer_contents W.File.contents file.entry.file ≡ Some bytes →
             Completes (is_ok result) (Some bytes)
@@ -263,7 +269,7 @@ impl<'w, 'a, 'c, W: World, M: Task> Staging<'w, 'a, 'c, W, M> {
         }
     }
 
-    fn is_complete(&self) -> bool
+    pub(crate) fn is_complete(&self) -> bool
         ensures { result ≡ not self.now.is_writing }
     {
         !self.is_writing
@@ -286,6 +292,8 @@ impl<'w, 'a, 'c, W: World, M: Task> Staging<'w, 'a, 'c, W, M> {
         ensures complete { complete_names self.new.files.items self.new.is_writing
             ≡ with_name (is_ok result) (complete_names self.old.files.items self.old.is_writing)
             (last_name self.old.files.items) }
+        ensures writing { OnOk result (self.new.is_writing ≡ false) }
+        ensures unwritten { OnErr result (self.new.is_writing ≡ self.old.is_writing) }
         ensures staged { IsTrue W.knows → Completes (is_ok result) (W.File.contents file)
             (staged (W.trace self.old.world.now) self.old.files.items self.old.is_writing)
             (staged (W.trace self.new.world.now) self.new.files.items self.new.is_writing) }
@@ -303,23 +311,19 @@ impl<'w, 'a, 'c, W: World, M: Task> Staging<'w, 'a, 'c, W, M> {
         }
     }
 
-    /// If the file is outdated, what it was to replace is removed with the names. Fails if it is
-    /// complete.
+    /// If the file is outdated, what it was to replace is removed with the names.
     pub(crate) fn refuse_last(&mut self, is_outdated: bool) -> Result<(), Trouble>
+        requires { self.old.is_writing ≡ true }
         ensures folder { self.new.folder ≡ self.old.folder }
         ensures names { Drops (names_of self.old.files.items) (names_of self.new.files.items)
             (names_of self.old.outdated.items) (names_of self.new.outdated.items) }
         ensures staged { staged (W.trace self.new.world.now) self.new.files.items self.new.is_writing
             ≡ staged (W.trace self.old.world.now) self.old.files.items self.old.is_writing }
-        ensures dropped { OnOk result (RefusesLast is_outdated
-            self.old.files.items self.new.files.items
-            self.old.outdated.items self.new.outdated.items
-            (W.trace self.old.world.now) (W.trace self.new.world.now)) }
         ensures naming { self.new.is_naming ≡ self.old.is_naming }
+        ensures writing { self.new.is_writing ≡ false }
+        ensures complete { complete_names self.new.files.items self.new.is_writing
+            ≡ complete_names self.old.files.items self.old.is_writing }
     {
-        if self.is_complete() {
-            return Err(Trouble::NoName);
-        }
         let refused = self.drop_last()?;
         if !is_outdated {
             return Ok(());
@@ -338,6 +342,7 @@ impl<'w, 'a, 'c, W: World, M: Task> Staging<'w, 'a, 'c, W, M> {
             (W.trace self.old.world.now) (W.trace self.new.world.now) }
         ensures outdated { self.new.outdated ≡ self.old.outdated }
         ensures naming { self.new.is_naming ≡ self.old.is_naming }
+        ensures writing { self.new.is_writing ≡ false }
         ensures names { Drops (names_of self.old.files.items) (names_of self.new.files.items)
             (names_of self.old.outdated.items) (names_of self.new.outdated.items) }
         ensures staged { self.old.is_writing ≡ true →

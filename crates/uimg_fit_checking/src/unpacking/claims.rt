@@ -1,11 +1,11 @@
 //! Checks, before any payload is taken, that the payloads of all requested images are present and
 //! have at most the file's length together.
 
-ghost use Rattle.std.specs.Prelude.{◌≡◌, ◌++◌, ◌||◌, is_err, IfOk, IsTrue};
+ghost use Rattle.std.specs.Prelude.{◌≡◌, ◌++◌, IfOk, IsTrue};
 ghost use Rattle.std.specs.Option.{option_map};
 ghost use Rattle.uimg_blob_reading.specs.Roles.{in_images};
 ghost use Rattle.uimg_fit_reading.specs.Nodes.{OfNodes, HasNodes};
-ghost use Rattle.uimg_fit_checking.specs.{Unpacking.{as_bytes, NoneFails}, Claiming.claim_of};
+ghost use Rattle.uimg_fit_checking.specs.{Unpacking.as_bytes, Claiming.claim_of};
 ghost use Rattle.uimg_fit_checking.specs.UnpackingParts.{LeavesImage, Claims, ClaimsImages};
 
 use crate::unpacking::node_names::NodeName;
@@ -33,7 +33,6 @@ fn claim_requested<T: Taker>(
     taker: &mut T,
 ) -> Result<Claim, PutFault>
     ensures place { T.place taker.new ≡ T.place taker.old }
-    ensures fails { IsTrue T.tells → T.failed taker.new ≡ (is_err result || T.failed taker.old) }
     ensures none_begun { T.begun taker.new ≡ T.begun taker.old }
     ensures none_given { IsTrue T.honest → T.takes taker.new ≡ T.takes taker.old }
     ensures told { IfOk result (Claims left found) }
@@ -63,7 +62,6 @@ pub(super) fn claim_images<S: Source, A: Allocator, T: Taker>(
     requires { HasNodes (S.device source.old) blob.now room.old first }
     ensures leaves { LeavesImage result S.device source room }
     ensures place { T.place taker.new ≡ T.place taker.old }
-    ensures fails { NoneFails result T.tells T.failed taker }
     ensures none_begun { T.begun taker.new ≡ T.begun taker.old }
     ensures none_given { IsTrue T.honest → T.takes taker.new ≡ T.takes taker.old }
     ensures told { OfNodes (S.device source.old) blob.now room.old in_images first

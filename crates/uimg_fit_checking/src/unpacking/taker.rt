@@ -1,7 +1,6 @@
 //! The trait of takers, which receive unpacked payloads.
 
 ghost use Rattle.std.specs.Prelude.{◌≡◌, ℕ, [], ◌∷◌, ◌++◌, List, Bool, true, false, Some, IfOk, IsTrue, OnOk};
-ghost use Rattle.std.specs.Prelude.{◌||◌, is_err};
 ghost use Rattle.uimg_fit_checking.specs.Unpacking.{Take, kept, refused, told_of, as_bytes, AddsIf, IsVouched};
 ghost use Rattle.uimg_fit_checking.specs.Claiming.{Claim, claim};
 
@@ -54,17 +53,14 @@ pub trait Taker {
     /// What was given so far, as far as the list shows it.
     ghost takes: { Self → List Take };
 
-    /// Whether `failed` has each call that fails.
-    ghost tells: { Bool } = { false };
-
-    /// Whether a call ever failed; false for a taker that does not say.
-    ghost failed: { Self → Bool } = { λ _. false };
-
-    /// Whether the list of claims has each call.
+    /// Whether contracts see what was claimed, and for which image a shelf was returned.
     ghost notes: { Bool } = { false };
 
     /// What was claimed so far.
     ghost claimed: { Self → List Claim } = { λ _. [] };
+
+    /// The name of the image for which a shelf was returned last.
+    ghost shelved: { Self → List ℕ } = { λ _. [] };
 
     /// Whether a shelf was ever returned; true for a taker that does not say.
     ghost begun: { Self → Bool } = { λ _. true };
@@ -73,7 +69,6 @@ pub trait Taker {
     /// it refuses.
     fn claim(&mut self, name: &NodeName, length: u64) -> Result<(), PutFault>
         ensures place { place self.new ≡ place self.old }
-        ensures fails { IsTrue tells → failed self.new ≡ (is_err result || failed self.old) }
         ensures begun { begun self.new ≡ begun self.old }
         ensures told { IsTrue notes → claimed self.new ≡ claimed self.old
             ++ claim (as_bytes name.now) length ∷ [] }
@@ -82,40 +77,41 @@ pub trait Taker {
     /// Returns an empty shelf to write the payload of an image to.
     fn shelf(&mut self, name: &NodeName) -> Result<Self::Shelf, PutFault>
         ensures place { place self.new ≡ place self.old }
-        ensures fails { IsTrue tells → failed self.new ≡ (is_err result || failed self.old) }
         ensures begun { OnOk result (begun self.new ≡ true) }
+        ensures its { IsTrue notes → OnOk result (shelved self.new ≡ as_bytes name.now) }
         ensures none { IsTrue notes → claimed self.new ≡ claimed self.old }
         ensures same { IsTrue honest → takes self.new ≡ takes self.old }
         ensures empty { IsTrue honest → IfOk result (λ shelf. Self.Shelf.contents shelf ≡ Some []) };
 
-    /// Takes a payload to keep, with what vouches for it; at a failure it may be kept or not. For an
-    /// honest taker the caller has shown that this is the digest of what the shelf holds, whatever
-    /// source it was read from.
+    /// Takes a payload to keep, with what vouches for it; at a failure it may be kept or not. The
+    /// shelf is the last one that was returned, and was requested by this name. For an honest taker
+    /// the caller has shown that the digest is that of what it holds, whatever source it was read
+    /// from.
     fn keep(
         &mut self,
         name: &NodeName,
         shelf: Self::Shelf,
         vouched: Option<Vouched>,
     ) -> Result<(), PutFault>
-        requires { IsTrue honest → (bytes : List ℕ) → Self.Shelf.contents shelf ≡ Some bytes →
-            IsVouched bytes vouched }
+        requires its { IsTrue notes → shelved self.old ≡ as_bytes name.now }
+        requires vouched { IsTrue honest → (bytes : List ℕ) →
+            Self.Shelf.contents shelf ≡ Some bytes → IsVouched bytes vouched }
         ensures place { place self.new ≡ place self.old }
-        ensures fails { IsTrue tells → failed self.new ≡ (is_err result || failed self.old) }
         ensures begun { begun self.new ≡ begun self.old }
         ensures none { IsTrue notes → claimed self.new ≡ claimed self.old }
         ensures given { IsTrue honest → (bytes : List ℕ) → Self.Shelf.contents shelf ≡ Some bytes →
             AddsIf seen result (takes self.old) (takes self.new)
             (kept (as_bytes name.now) bytes vouched) };
 
-    /// Takes a payload that is not kept, to discard it.
+    /// Takes a payload that is not kept, to discard it. The shelf is the last one, as for `keep`.
     fn refuse(
         &mut self,
         name: &NodeName,
         shelf: Self::Shelf,
         refusal: Refusal,
     ) -> Result<(), PutFault>
+        requires { IsTrue notes → shelved self.old ≡ as_bytes name.now }
         ensures place { place self.new ≡ place self.old }
-        ensures fails { IsTrue tells → failed self.new ≡ (is_err result || failed self.old) }
         ensures begun { begun self.new ≡ begun self.old }
         ensures none { IsTrue notes → claimed self.new ≡ claimed self.old }
         ensures given { IsTrue honest → AddsIf seen result (takes self.old) (takes self.new)

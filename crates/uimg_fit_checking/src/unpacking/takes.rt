@@ -7,7 +7,7 @@ ghost use Rattle.uimg_blob_reading.specs.LookUps.{hashes};
 ghost use Rattle.uimg_blob_reading.specs.Roles.{in_images};
 ghost use Rattle.uimg_fit_base.specs.Places.{payload};
 ghost use Rattle.uimg_fit_reading.specs.Nodes.{OfNode, OfNodes, HasNode, HasNodes};
-ghost use Rattle.uimg_fit_checking.specs.Unpacking.{GivesBy, NoneFails, take_of, takes, as_bytes, bytes_or_none, is_asked};
+ghost use Rattle.uimg_fit_checking.specs.Unpacking.{GivesBy, take_of, takes, as_bytes, bytes_or_none, is_asked};
 ghost use Rattle.uimg_fit_checking.specs.UnpackingParts.{LeavesImage, TakesTo, TakesRequested, TakesAll, EndsImage, EndsAll, Fitting, size_if, take_allowance};
 ghost use Rattle.uimg_fit_reading.specs.Puts.{Pays};
 ghost use Rattle.uimg_fit_reading.specs.Values.{in_span};
@@ -38,7 +38,6 @@ fn take_requested<S: Source, A: Allocator, T: Taker>(
         ≤ length (S.device source.old).bytes }
     ensures leaves { LeavesImage result S.device source room }
     ensures place { T.place taker.new ≡ T.place taker.old }
-    ensures fails { NoneFails result T.tells T.failed taker }
     ensures none_claimed { IsTrue T.notes → T.claimed taker.new ≡ T.claimed taker.old }
     ensures paid { OfNode (S.device source.old) blob.now room.old in_images payload.image
         (λ found. Pays (payload.span.length + 383 * length (hashes found)) S.device source) }
@@ -80,7 +79,6 @@ fn take_image<S: Source, A: Allocator, T: Taker>(
     requires { HasNode (S.device source.old) blob.now room.old image }
     ensures leaves { LeavesImage result S.device source room }
     ensures place { T.place taker.new ≡ T.place taker.old }
-    ensures fails { NoneFails result T.tells T.failed taker }
     ensures none_claimed { IsTrue T.notes → T.claimed taker.new ≡ T.claimed taker.old }
     ensures paid { OfNode (S.device source.old) blob.now room.old in_images image
         (λ found. Pays (size_if (is_asked (option_map as_bytes request.only) found.name)
@@ -116,7 +114,6 @@ pub(super) fn take_images<S: Source, A: Allocator, T: Taker>(
     requires { HasNodes (S.device source.old) blob.now room.old first }
     ensures leaves { LeavesImage result S.device source room }
     ensures place { T.place taker.new ≡ T.place taker.old }
-    ensures fails { NoneFails result T.tells T.failed taker }
     ensures none_claimed { IsTrue T.notes → T.claimed taker.new ≡ T.claimed taker.old }
     ensures paid { OfNodes (S.device source.old) blob.now room.old in_images first
         (λ found. Fitting (option_map as_bytes request.only) (S.device source.old).bytes found

@@ -1,7 +1,7 @@
 //! The trait of takers, which receive unpacked parts.
 
 ghost use Rattle.std.specs.Prelude.{◌≡◌, ℕ, [], ◌∷◌, ◌++◌, List, Bool, false, Some, IfOk, OnOk, OnErr, IsTrue};
-ghost use Rattle.std.specs.Prelude.{◌||◌, ◌⊎◌, is_err};
+ghost use Rattle.std.specs.Prelude.{◌⊎◌};
 ghost use Rattle.uimg_legacy.specs.Unpacking.{Part, AreRight, part_if};
 ghost use Rattle.std.specs.Prelude.{true};
 ghost use Rattle.uimg_legacy.specs.Told.{Deed};
@@ -31,12 +31,6 @@ pub trait PartTaker {
     /// The parts that are kept.
     ghost kept: { Self → List Part };
 
-    /// Whether `failed` has each call.
-    ghost tells: { Bool } = { false };
-
-    /// Whether a call ever failed; false for a taker that does not say.
-    ghost failed: { Self → Bool } = { λ _. false };
-
     /// Whether the list of its calls has each call.
     ghost notes: { Bool } = { false };
 
@@ -46,7 +40,6 @@ pub trait PartTaker {
     /// Announces a part, before any is unpacked. Nothing is unpacked if it refuses.
     fn claim(&mut self, number: u32) -> Result<(), PutFault>
         ensures stays { place self.new ≡ place self.old }
-        ensures fails { IsTrue tells → failed self.new ≡ (is_err result || failed self.old) }
         ensures told { IsTrue notes → told self.new ≡ told self.old ++ Claimed number ∷ [] }
         ensures held { IsTrue honest → held self.new ≡ held self.old }
         ensures kept { IsTrue honest → kept self.new ≡ kept self.old };
@@ -54,7 +47,6 @@ pub trait PartTaker {
     /// Returns an empty shelf to write a part to.
     fn shelf(&mut self, number: u32) -> Result<Self::Shelf, PutFault>
         ensures stays { place self.new ≡ place self.old }
-        ensures fails { IsTrue tells → failed self.new ≡ (is_err result || failed self.old) }
         ensures told { IsTrue notes → told self.new ≡ told self.old ++ Shelved number ∷ [] }
         ensures held { IsTrue honest → held self.new ≡ held self.old }
         ensures kept { IsTrue honest → kept self.new ≡ kept self.old }
@@ -63,7 +55,6 @@ pub trait PartTaker {
     /// Takes a written part, to hold it.
     fn hold(&mut self, number: u32, shelf: Self::Shelf) -> Result<(), PutFault>
         ensures stays { place self.new ≡ place self.old }
-        ensures fails { IsTrue tells → failed self.new ≡ (is_err result || failed self.old) }
         ensures told { IsTrue notes → told self.new ≡ told self.old ++ Given number ∷ [] }
         ensures held { IsTrue honest → (bytes : List ℕ) → Self.Shelf.contents shelf ≡ Some bytes →
             OnOk result (held self.new ≡ held self.old ++ part_if true number bytes) }
@@ -75,7 +66,6 @@ pub trait PartTaker {
     fn keep(&mut self, dcrc: u32) -> Result<(), PutFault>
         requires { IsTrue honest → AreRight dcrc (held self.old) }
         ensures stays { place self.new ≡ place self.old }
-        ensures fails { IsTrue tells → failed self.new ≡ (is_err result || failed self.old) }
         ensures told { IsTrue notes → told self.new ≡ told self.old ++ Kept dcrc ∷ [] }
         ensures ok { IsTrue honest → OnOk result (kept self.new ≡ kept self.old ++ held self.old) }
         ensures err { IsTrue honest → OnErr result ((kept self.new ≡ kept self.old)
@@ -84,7 +74,6 @@ pub trait PartTaker {
     /// Discards the held parts, because the data's CRC is not that in the header.
     fn refuse(&mut self) -> Result<(), PutFault>
         ensures stays { place self.new ≡ place self.old }
-        ensures fails { IsTrue tells → failed self.new ≡ (is_err result || failed self.old) }
         ensures told { IsTrue notes → told self.new ≡ told self.old ++ Refused ∷ [] }
         ensures kept { IsTrue honest → kept self.new ≡ kept self.old };
 }

@@ -1,9 +1,9 @@
 //! Takes the requested parts while the data are summed.
 
-ghost use Rattle.std.specs.Prelude.{◌≡◌, ◌+◌, ◌≤◌, ◌||◌, length, true, false, is_err, IsTrue};
+ghost use Rattle.std.specs.Prelude.{◌≡◌, ◌+◌, ◌≤◌, length, true, false, IsTrue};
 ghost use Rattle.uimg_base.specs.Using.{UsesAtMost};
 ghost use Rattle.uimg_legacy.specs.{Parts.has_parts, Unpacking.is_there};
-ghost use Rattle.uimg_legacy.specs.Told.{Tells, TellsData, NoneFails, claims};
+ghost use Rattle.uimg_legacy.specs.Told.{Tells, TellsData, claims};
 ghost use Rattle.uimg_legacy.specs.UnpackingSteps.{Takes, TakesData, listed_work, data_work};
 
 use crate::fault::{Fault, LegacyFault};
@@ -29,7 +29,6 @@ fn claim_parts<T: PartTaker>(only: Option<u32>, count: u32, taker: &mut T) -> Re
     ensures held { IsTrue T.honest → T.held taker.new ≡ T.held taker.old }
     ensures kept { IsTrue T.honest → T.kept taker.new ≡ T.kept taker.old }
     ensures stays { T.place taker.new ≡ T.place taker.old }
-    ensures fails { IsTrue T.tells → T.failed taker.new ≡ (is_err result || T.failed taker.old) }
     ensures told { Tells (claims only count) result T.notes T.told taker }
 {
     if let Some(number) = only {
@@ -55,7 +54,6 @@ fn take_whole<S: Source, A: Allocator, T: PartTaker>(
         S.device source room T.honest T.kept taker }
     ensures taken { TakesData only header.now result S.device source T.honest T.held taker }
     ensures stays { T.place taker.new ≡ T.place taker.old }
-    ensures fails { NoneFails result T.tells T.failed taker }
     ensures told { TellsData only result T.notes T.told taker }
 {
     if !is_there(only, 1) {
@@ -87,7 +85,6 @@ fn take_listed<S: Source, A: Allocator, T: PartTaker>(
         S.device source room T.honest T.kept taker }
     ensures taken { TakesData only header.now result S.device source T.honest T.held taker }
     ensures stays { T.place taker.new ≡ T.place taker.old }
-    ensures fails { NoneFails result T.tells T.failed taker }
     ensures told { TellsData only result T.notes T.told taker }
 {
     let mut sum = Crc::start();
@@ -128,7 +125,6 @@ pub(super) fn take_data<S: Source, A: Allocator, T: PartTaker>(
         S.device source room T.honest T.kept taker }
     ensures taken { TakesData only header.now result S.device source T.honest T.held taker }
     ensures stays { T.place taker.new ≡ T.place taker.old }
-    ensures fails { NoneFails result T.tells T.failed taker }
     ensures told { TellsData only result T.notes T.told taker }
 {
     if has_parts(header.kind) {

@@ -3,7 +3,7 @@
 ghost use Rattle.std.specs.Prelude.{◌≡◌, ◌+◌, ◌-◌, ◌*◌, ◌≤◌, length, false, true};
 ghost use Rattle.uimg_base.specs.{Honest.IfHonest, Using.Asks};
 ghost use Rattle.uimg_legacy.specs.{Faults.is_refused, Unpacking.is_part_asked};
-ghost use Rattle.uimg_legacy.specs.Told.{Tells, NoneFails, RefusesPart, takes_if, takes_to};
+ghost use Rattle.uimg_legacy.specs.Told.{Tells, RefusesPart, takes_if, takes_to};
 ghost use Rattle.uimg_legacy.specs.UnpackingSteps.{Takes, TakesPart, TakesNext, PaysWalked, Walks, RefusesNumber, RefusesFrom};
 
 use crate::fault::{Fault, LegacyFault};
@@ -67,7 +67,6 @@ pub(super) fn take_part<S: Source, A: Allocator, T: PartTaker>(
     ensures accepted { is_refused result ≡ false }
     ensures taken { TakesPart true part result S.device source sum T.honest T.held taker }
     ensures stays { T.place taker.new ≡ T.place taker.old }
-    ensures fails { NoneFails result T.tells T.failed taker }
     ensures told { Tells (takes_if true part.number) result T.notes T.told taker }
 {
     let mut out = Out::new(taker.shelf(part.number)?);
@@ -90,7 +89,6 @@ fn take_if<S: Source, A: Allocator, T: PartTaker>(
     ensures accepted { is_refused result ≡ false }
     ensures taken { TakesPart asked part result S.device source sum T.honest T.held taker }
     ensures stays { T.place taker.new ≡ T.place taker.old }
-    ensures fails { NoneFails result T.tells T.failed taker }
     ensures told { Tells (takes_if asked part.number) result T.notes T.told taker }
 {
     if asked {
@@ -118,7 +116,6 @@ fn take_next<S: Source, A: Allocator, T: PartTaker>(
     ensures paid { PaysWalked 4 result S.device source walk }
     ensures taken { TakesNext parts number result S.device source walk T.honest T.held taker }
     ensures stays { T.place taker.new ≡ T.place taker.old }
-    ensures fails { NoneFails result T.tells T.failed taker }
     ensures told { Tells (takes_if (is_part_asked parts.only number) number) result
         T.notes T.told taker }
     ensures at_part { RefusesPart result }
@@ -160,7 +157,6 @@ pub(super) fn take_parts<S: Source, A: Allocator, T: PartTaker>(
     ensures paid { PaysWalked (4 * parts.count) result S.device source walk }
     ensures taken { Walks parts result S.device source walk T.honest T.held taker }
     ensures stays { T.place taker.new ≡ T.place taker.old }
-    ensures fails { NoneFails result T.tells T.failed taker }
     ensures told { Tells (takes_to parts.only parts.count) result T.notes T.told taker }
     ensures at_part { RefusesPart result }
     ensures refused { IfHonest S.device source (λ file.

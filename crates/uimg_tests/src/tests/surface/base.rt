@@ -9,13 +9,17 @@ use uimg_base::{
     Algo, Crc, Files, Md5Sum, MemSource, MoveFault, PutFault, Sha1Sum, Sha256Sum, Sha384Sum,
     Sha512Sum, Shelf, Source, Status, Summer,
 };
-use uimg_surface::base::{
-    add, add_sum, algo, arch_code, arch_text, asked, bundle, clear, comp_code, comp_text,
-    copy_range, count, crc_entry, digest_len, digests, entry, failures, feed, feed_sums,
-    file_shelf, file_source, fill_at, finish, fuse_files, fuse_source, fuse_writer, held,
-    into_inner, keep, kind_code, kind_text, mem_files, mem_keep, mem_shelf, mem_source, open,
-    os_code, os_text, out_of, put_all, room_of, set, size, size_text, start, sum_count, sum_range,
-    time_text, window,
+use uimg_surface::devices::{
+    asked, failures, file_shelf, file_source, fill_at, fuse_files, fuse_source, fuse_writer,
+    into_inner, keep, mem_files, mem_keep, mem_shelf, mem_source, open, out_of, put_all, size,
+};
+use uimg_surface::sums::{
+    add, add_sum, algo, bundle, clear, copy_range, count, crc_entry, digest_len, digests, entry,
+    feed, feed_sums, finish, held, room_of, set, start, sum_count, sum_range, window,
+};
+use uimg_surface::texts::{
+    arch_code, arch_text, comp_code, comp_text, kind_code, kind_text, os_code, os_text, size_text,
+    time_text,
 };
 
 // Sources.

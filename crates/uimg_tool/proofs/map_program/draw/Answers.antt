@@ -4,7 +4,7 @@ use Rattle.uimg_tool.proofs.map_program.draw.Goals as goal
 
 pub returns-in-Ok-Beside : goal.returns-in-Ok-Beside
 returns-in-Ok-Beside g c = record {
-  ends = c.name_picture.ensures.ends (c.close-drawn.ensures _ c.draw_into.ensures.ends);
+  ends = c.name_picture.ensures.ends (c.close-drawn.ensures _ c.draw_into.ensures);
   asks = drawn_beside c.args.path.now c.args.request.now.is_forced c.writing_of.result c.in-Ok-Beside.file c.in-Ok-Beside.safe _ _ _ (c.in-Ok-Beside.is ∙ ap (λ w. Ok w) c.in-Ok-Beside.field-0-is) c.writing_of.ensures.writes c.name_picture.ensures.asks;
 }
 

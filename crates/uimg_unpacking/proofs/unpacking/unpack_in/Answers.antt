@@ -1,12 +1,14 @@
-use Rattle.std.proofs.Common.{rules, refl, ◌≡◌, ◌∙◌, true, false, List, map, is_none, ap, sym, Option}
+use Rattle.std.proofs.Common.{rules, refl, ◌≡◌, ◌∙◌, true, false, ℕ, List, length, is_none, ap, sym, Option}
 use Rattle.std.specs.Option.{option_map}
 use Rattle.uimg_fit_checking.specs.Unpacking.{as_bytes}
 use Rattle.uimg_unpacking.specs.declared.folder.Folder.{Folder}
 use Rattle.uimg_unpacking.specs.{Ends.is_whole, Plan.gives_names, Staged.staged}
 use Rattle.uimg_fit_checking.specs.Claiming.{claims_of}
-use Rattle.uimg_unpacking.specs.Filling.{as_take}
+use Rattle.uimg_unpacking.specs.Contents.{held_in}
+use Rattle.uimg_unpacking.specs.Given.{noted_takes, takes_given}
 use Rattle.uimg_unpacking.specs.Limiting.{claims_by}
 use Rattle.uimg_unpacking.proofs.FillingLaws.{fills}
+use Rattle.uimg_unpacking.proofs.GivenLaws.{as_many}
 use Rattle.uimg_unpacking.proofs.LimitLaws.{all_claimed, fits_by, fits_for}
 use Rattle.uimg_unpacking.proofs.EndLaws.{ends_by_file, whole_at}
 use Rattle.uimg_unpacking.proofs.Placing.{obeys_naming}
@@ -24,7 +26,7 @@ returns-clause-asked g c = λ honest. c.unpack-unpacked.ensures.takes.uses.asked
 pub returns-clause-ended : goal.returns-clause-ended
 returns-clause-ended g c = λ honest.
     ends_by_file c.args.asked.now (g.S.Source.device c.args.source.now).bytes (option_map as_bytes c.in-Some.only) c.unpack-unpacked.result _ _ _ _ c.how_ended.result _ _
-    (sym (ap (option_map (option_map as_bytes)) c.in-Some.is) ∙ c.only_of.ensures) c.new-taker.ensures.none c.end-world.ensures.count (c.unpack-unpacked.ensures.ended honest) c.how_ended.ensures
+    (sym (ap (option_map (option_map as_bytes)) c.in-Some.is) ∙ c.only_of.ensures) (ap (λ (ns : List (List ℕ)). length ns) c.new-taker.ensures.none) c.end-world.ensures.count (c.unpack-unpacked.ensures.ended honest) c.how_ended.ensures
 
 pub returns-clause-fits : goal.returns-clause-fits
 returns-clause-fits g c = λ honest good.
@@ -41,10 +43,15 @@ returns-clause-fits g c = λ honest good.
 pub returns-clause-filled : goal.returns-clause-filled
 returns-clause-filled g c = λ honest knows.
     let taker = c.unpack-unpacked.new.taker in
+    let staging = taker.staging in
+    let before = g.W.World.trace staging.world.now in
+    let noted = noted_takes taker.given.names in
+    let contents = staged before staging.files.items staging.is_writing in
     fills c.args.asked.now (g.S.Source.device c.args.source.now).bytes (option_map as_bytes c.in-Some.only) c.unpack-unpacked.result _ _ c.how_ended.result _ _
-    taker.staging.folder.path.now (staged (g.W.World.trace taker.staging.world.now) taker.staging.files.items taker.staging.is_writing) _ _ (g.W.World.trace c.end-world.result.0.now)
+    staging.folder.path.now noted contents _ _ (g.W.World.trace c.end-world.result.0.now)
     (sym (ap (option_map (option_map as_bytes)) c.in-Some.is) ∙ c.only_of.ensures)
-    (ap (map as_take) c.new-taker.ensures.empty)
+    (ap (λ (ns : List (List ℕ)). takes_given ns (staged (g.W.World.trace c.new-taker.result.staging.world.now) c.new-taker.result.staging.files.items c.new-taker.result.staging.is_writing)) c.new-taker.ensures.empty)
     (c.unpack-unpacked.ensures.place ∙ ap (λ (f : Folder). f.path.now) c.new-taker.ensures.folder)
-    (c.unpack-unpacked.ensures.told honest knows) refl c.how_ended.ensures
-    (λ names none. c.end-world.ensures.holds (search (rules, names)) none)
+    (c.unpack-unpacked.ensures.told honest knows) refl (as_many before staging.files.items staging.is_writing noted taker.whole) c.how_ended.ensures
+    (λ names none. ap (held_in staging.folder.path.now (g.W.World.trace c.end-world.result.0.now)) (sym (taker.named (c.end-world.ensures.none (ap is_none none))).whole)
+    ∙ c.end-world.ensures.holds (search (rules, names)) none)

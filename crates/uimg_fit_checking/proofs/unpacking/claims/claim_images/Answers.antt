@@ -19,7 +19,6 @@ loop-next-preserved g c = record {
   same = search rules;
   failures = search rules;
   room = search rules;
-  fails = search rules;
   place = search rules;
   within = search rules;
   none_begun = search rules;

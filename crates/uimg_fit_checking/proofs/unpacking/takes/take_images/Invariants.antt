@@ -22,7 +22,6 @@ invariant-loop-next g l =
       same : SameDevice (device l.fn.source) (device l.source);
       failures : (device l.source).failures ≡ (device l.fn.source).failures;
       room : l.room ≡ l.fn.room;
-      fails : IsTrue g.T.Taker.tells → g.T.Taker.failed l.taker ≡ g.T.Taker.failed l.fn.taker;
       place : g.T.Taker.place l.taker ≡ g.T.Taker.place l.fn.taker;
       within : IfSome l.next (λ i. i < length l.fn.room.entries);
       none_claimed : IsTrue g.T.Taker.notes → g.T.Taker.claimed l.taker ≡ g.T.Taker.claimed l.fn.taker;

@@ -4,7 +4,7 @@ use Rattle.uimg_legacy.proofs.ToldLaws.{claims_none, claims_more, claims_fail}
 use Rattle.uimg_legacy.proofs.unpacking.taken_data.claim_parts.Goals as goal
 
 pub loop-number-init : goal.loop-number-init
-loop-number-init g c = record { held = λ known. refl; kept = λ known. refl; fails = λ known. refl; stays = refl; told = λ known. claims_none _ }
+loop-number-init g c = record { held = λ known. refl; kept = λ known. refl; stays = refl; told = λ known. claims_none _ }
 
 pub loop-number-preserved : goal.loop-number-preserved
 loop-number-preserved g c =
@@ -12,7 +12,6 @@ loop-number-preserved g c =
     record {
       held = λ known. c.claim-in-loop-number.ensures.held known ∙ inv.held known;
       kept = λ known. c.claim-in-loop-number.ensures.kept known ∙ inv.kept known;
-      fails = search rules;
       stays = c.claim-in-loop-number.ensures.stays ∙ inv.stays;
       told = λ known. claims_more c.loop-number.number _ _ _ (inv.told known) (c.claim-in-loop-number.ensures.told known);
     }

@@ -9,7 +9,6 @@ invariant-loop-number g l =
     record {
       held : IsTrue taker.honest → taker.held l.taker ≡ taker.held l.fn.taker;
       kept : IsTrue taker.honest → taker.kept l.taker ≡ taker.kept l.fn.taker;
-      fails : IsTrue taker.tells → taker.failed l.taker ≡ taker.failed l.fn.taker;
       stays : taker.place l.taker ≡ taker.place l.fn.taker;
       told : IsTrue taker.notes → taker.told l.taker ≡ taker.told l.fn.taker ++ claims_to l.number;
     }

@@ -15,7 +15,6 @@ invariant-loop-number g l =
       within : l.walk.at ≤ l.parts.size;
       room : l.room ≡ l.fn.room;
       kept : IsTrue taker.honest → taker.kept l.taker ≡ taker.kept l.fn.taker;
-      fails : IsTrue taker.tells → taker.failed l.taker ≡ taker.failed l.fn.taker;
       stays : taker.place l.taker ≡ taker.place l.fn.taker;
       told : IsTrue taker.notes → taker.told l.taker ≡ taker.told l.fn.taker ++ takes_to l.parts.only l.number;
       taken : Walked l.parts.only taker.honest l.number l.parts.size (device l.fn.source) l.fn.walk l.walk (taker.held l.fn.taker) (taker.held l.taker);

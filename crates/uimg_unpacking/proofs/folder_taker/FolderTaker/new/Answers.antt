@@ -1,16 +1,20 @@
-use Rattle.std.proofs.Common.{◌∙◌, List, is_none, ap, ap₂}
-use Rattle.uimg_unpacking.specs.{Limiting.exceeded, Names.is_used, Staged.{names_of, uses_names}}
+use Rattle.std.proofs.Common.{◌∙◌, ℕ, List, sym, subst, is_none, ap, ap₂}
+use Rattle.uimg_unpacking.specs.{FileNames.is_among, Given.{AreNamed, AreWhole, last_noted, noted_takes}, Limiting.exceeded, Staged.{names_of, uses_names}}
 use Rattle.uimg_unpacking.specs.declared.begun.Begun.{Begun}
-use Rattle.uimg_unpacking.proofs.{LimitLaws.none_exceeds, NameUses.none_used}
+use Rattle.uimg_unpacking.proofs.{GivenLaws.{none_named, none_whole}, LimitLaws.none_exceeds, NameUses.none_used}
 use Rattle.uimg_unpacking.proofs.folder_taker.FolderTaker.new.Goals as goal
 
 pub invariant_of-result : goal.invariant_of-result
 invariant_of-result g c =
-    let used = is_used c.new-4.result.given in
+    let it = c.new.result in
+    let names = c.new-4.result.named.names in
+    let image = last_noted c.new-5.result.names in
     let none = c.new.ensures.none in
     record {
       unnamed = c.new.ensures.unnamed;
-      names = ap₂ (λ (files outdated : List Begun). uses_names used (names_of files) (names_of outdated)) none.0 none.1 ∙ none_used used;
-      limits = ap (λ k. (k.limits.files, k.limits.bytes)) c.new-5.ensures.claimed ∙ c.requires.limits;
-      fits = λ no. ap (λ k. is_none (exceeded k)) c.new-5.ensures.claimed ∙ none_exceeds c.args.asked.now.limits;
+      whole = subst (λ (ns : List (List ℕ)). AreWhole it.files.items it.is_writing (noted_takes ns)) (sym c.new-6.ensures) (none_whole it.files.items it.is_writing none.0 none.2);
+      named = λ yes. subst (λ (ns : List (List ℕ)). AreNamed it.files.items it.is_writing (noted_takes ns) names image) (sym c.new-6.ensures) (none_named it.files.items it.is_writing names image none.0 none.2 c.new-4.ensures);
+      apart = λ yes. ap₂ (λ (files outdated : List Begun). uses_names (is_among names) (names_of files) (names_of outdated)) none.0 none.1 ∙ none_used (is_among names);
+      limits = ap (λ k. (k.limits.files, k.limits.bytes)) c.new-7.ensures.claimed ∙ c.requires.limits;
+      fits = λ yes. ap (λ k. is_none (exceeded k)) c.new-7.ensures.claimed ∙ none_exceeds c.args.asked.now.limits;
     }

@@ -1,23 +1,13 @@
-use Rattle.std.proofs.Common.{rules, ◌≡◌, ◌∙◌, false, string_bytes}
-use Rattle.uimg_unpacking.specs.Names.{is_used}
-use Rattle.uimg_unpacking.proofs.NameLaws.{same_used, same_stay}
+use Rattle.std.proofs.Common.{rules, ◌≡◌, subst, false, string_bytes, IfOk, Result, Option}
+use Rattle.uimg_unpacking.proofs.NameLaws.{gives_own, gives_number, some_by, none_by, ok_by}
 use Rattle.uimg_unpacking.proofs.names.Names.next.Goals as goal
 
-pub returns-in_err-text-clause-stays : goal.returns-in_err-text-clause-stays
-returns-in_err-text-clause-stays c = same_stay c.args.self.now.given c.loop-further.self.given c.loop-further.invariant.keys
+pub returns-in-Some : goal.returns-in-Some
+returns-in-Some c =
+    let own = some_by _ _ c.in_ok-text.field-0 c.in-Some.text c.in-Some.is c.in_ok-text.ensures in
+    gives_own _ _ _ _ own.0 own.1
 
-pub returns-in_err-give-2-clause-stays : goal.returns-in_err-give-2-clause-stays
-returns-in_err-give-2-clause-stays c = λ name used.
-    c.give-in-loop-further.ensures.stays name (same_stay c.args.self.now.given c.loop-further.self.given c.loop-further.invariant.keys name used)
-
-pub returns-then-branch-2-clause-is_new : goal.returns-then-branch-2-clause-is_new
-returns-then-branch-2-clause-is_new c =
-    let fresh : is_used c.loop-further.self.given (string_bytes c.in_ok-text.text) ≡ false = search rules in
-    same_used c.args.self.now.given c.loop-further.self.given c.loop-further.invariant.keys (string_bytes c.in_ok-text.text) ∙ fresh
-
-pub returns-then-branch-2-clause-stays : goal.returns-then-branch-2-clause-stays
-returns-then-branch-2-clause-stays c = λ name used.
-    c.give-in-loop-further.ensures.stays name (same_stay c.args.self.now.given c.loop-further.self.given c.loop-further.invariant.keys name used)
-
-pub returns-2-clause-stays : goal.returns-2-clause-stays
-returns-2-clause-stays c = same_stay c.args.self.now.given c.loop-further.self.given c.loop-further.invariant.keys
+pub returns-in-None : goal.returns-in-None
+returns-in-None c =
+    let another = none_by _ _ c.in_ok-text.field-0 c.in-None.is c.in_ok-text.ensures in
+    ok_by _ _ c.numbered.result (λ text. gives_number _ _ _ _ _ another.0 another.1) c.numbered.ensures

@@ -1,10 +1,10 @@
-use Rattle.std.proofs.Common.{◌≡◌, ◌∙◌, List, true, false, is_ok, ap, sym, subst, string_bytes}
+use Rattle.std.proofs.Common.{refl, ◌≡◌, ◌∙◌, List, true, false, is_ok, ap, sym, subst, string_bytes}
 use Rattle.std.specs.Option.{option_map}
 use Rattle.uimg_unpacking.specs.Places.{is_begun_in}
 use Rattle.uimg_unpacking.specs.Staged.{are_numbered_in, complete_names, staged}
 use Rattle.uimg_unpacking.specs.declared.begun.Begun.{Begun}
 use Rattle.uimg_unpacking.proofs.Placing.{pushed}
-use Rattle.uimg_unpacking.proofs.StagedLaws.{added_names, added_staged, names_pushed}
+use Rattle.uimg_unpacking.proofs.StagedLaws.{added_names, added_staged, names_pushed, pushed_last}
 use Rattle.uimg_unpacking.proofs.staging.Staging.add.Goals as goal
 
 pub returns-in-Ok-clause-staged : goal.returns-in-Ok-clause-staged
@@ -45,3 +45,6 @@ returns-in-Ok-clause-complete g c =
 
 pub returns-in-Err-clause-complete : goal.returns-in-Err-clause-complete
 returns-in-Err-clause-complete g c = ap (λ (fs : List Begun). complete_names fs c.args.self.now.is_writing) c.in-Err.ensures.items
+
+pub returns-in-Ok-clause-writing : goal.returns-in-Ok-clause-writing
+returns-in-Ok-clause-writing g c = (refl, pushed_last c.args.self.now.files.items c.push.new.self.items c.args.begun c.in-Ok.ensures.items)

@@ -1,15 +1,11 @@
 use Rattle.std.proofs.Common.{rules, refl, ◌≡◌, ◌∙◌, ◌++◌, ◌∷◌, [], ap, true, is_ok, string_bytes, Vec}
 use Rattle.std.specs.declared.alloc.Global.{Global}
 use Rattle.uimg_unpacking.specs.Places.{is_begun_in}
-use Rattle.uimg_unpacking.specs.Staged.{last_gone, last_noted, names_of, none_gone}
+use Rattle.uimg_unpacking.specs.Staged.{last_gone, last_noted, names_of}
 use Rattle.uimg_unpacking.specs.declared.begun.Begun.{Begun}
 use Rattle.uimg_unpacking.proofs.StagedLaws.{names_last}
 use Rattle.uimg_unpacking.proofs.Placing.{pushed}
 use Rattle.uimg_unpacking.proofs.staging.Staging.refuse_last.Goals as goal
-
-pub returns-then-not-is_outdated-clause-dropped : goal.returns-then-not-is_outdated-clause-dropped
-returns-then-not-is_outdated-clause-dropped g c =
-    record { last = c.in_ok-refused.refused; is_last = search rules; removed = search rules; noted = search rules }
 
 pub invariant_of-self : goal.invariant_of-self
 invariant_of-self g c =
@@ -25,13 +21,6 @@ invariant_of-self g c =
       obeys = it.obeys;
       numbered = it.numbered;
     }
-
-pub returns-clause-dropped : goal.returns-clause-dropped
-returns-clause-dropped g c =
-    record { last = c.in_ok-refused.refused; is_last = search rules; removed = search rules; noted = search rules }
-
-pub returns-then-is_complete-clause-names : goal.returns-then-is_complete-clause-names
-returns-then-is_complete-clause-names g c = none_gone refl refl
 
 pub returns-then-not-is_outdated-clause-names : goal.returns-then-not-is_outdated-clause-names
 returns-then-not-is_outdated-clause-names g c = c.drop_last.ensures.names

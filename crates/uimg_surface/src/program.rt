@@ -1,0 +1,71 @@
+//! The program over any world of files, and its unpacking.
+
+ghost use Rattle.std.specs.Prelude.{◌≡◌, ◌+◌, ◌≤◌, None, IsTrue, true};
+ghost use Rattle.uimg_base.specs.{Honest.IfHonest, Device.SameDevice};
+ghost use Rattle.uimg_fit_checking.specs.Unpacking.{unpack_work};
+ghost use Rattle.uimg_unpacking.specs.{Ends.{EndsByFile, FitsIf}, Filling.Fills, Places.{ChangesWithin, Obeys, terms_of}};
+ghost use Rattle.uimg_tool.specs.Complaining.{ComplainsLine};
+ghost use Rattle.uimg_tool.specs.WordAnswers.{AnswersLine, printed};
+
+use std::io::Write;
+use uimg_base::Source;
+use uimg_tool::{CommandLine, Complaints};
+use uimg_unpacking::{Ended, MakingWorld, Unpacking, World};
+
+/// Carries out a command line of `uimg` over a world of files. Returns the exit status, and `out`
+/// unless memory for its buffer was refused.
+///
+/// - `told`: over an honest world output, new files and status are those that the definition of
+///   command lines gives for the bytes at the paths, or the status is 3. If it refuses the
+///   arguments, nothing is done or printed.
+/// - `complained`: standard error has nothing, or the line of the fault.
+/// - `lost`: if `out` is not returned, the status is 3.
+pub fn run_as_uimg<'a, D: MakingWorld<'a>, W: Write + Drop, V: Write>(
+    world: &mut D,
+    line: CommandLine<'a>,
+    out: W,
+    complaints: &mut Complaints<'_, V>,
+) -> (u8, Option<W>)
+    ensures told { AnswersLine D.File.contents D.Shelf.Kept.device (D.identities world.old)
+        line.entry (D.map world.old) result.0 (W.contents out) (printed W.contents result.1)
+        (D.trace world.old) (D.trace world.new) }
+    ensures complained { ComplainsLine V.contents D.Shelf.Kept.device line.entry
+        (D.map world.old) result.0 complaints.old complaints.new }
+    ensures lost { result.1 ≡ None → result.0 ≡ 3 }
+{
+    uimg_tool::run_as_uimg(world, line, out, complaints)
+}
+
+/// Writes the payloads of a FIT image to a folder, with a line for each on `out`.
+///
+/// Over any source:
+///
+/// - `within`: only what is at `.uimg-newN` in the folder, and at file names in it, changes.
+/// - `obeys`: files are synced, and existing files replaced, just as it is asked.
+///
+/// Over an honest source:
+///
+/// - `ended`: the end is that of the definition for the image's bytes, unless something failed.
+/// - `fits`: where all is kept, the payloads are no more than the limits.
+/// - `filled`: where payloads are kept, the file of each has the name that the definition gives, and
+///   holds exactly its bytes, as far as contracts know what a closed file holds.
+/// - `asked`: at most the metadata and the length of the image were requested.
+pub fn unpack<W: World, S: Source, O: Write + Drop>(
+    world: &mut W,
+    asked: &Unpacking<'_>,
+    source: &mut S,
+    out: O,
+) -> Ended
+    ensures within { ChangesWithin asked.now.folder.path.now true
+        (W.trace world.old) (W.trace world.new) }
+    ensures obeys { Obeys (terms_of asked.now.folder) true (W.trace world.old) (W.trace world.new) }
+    ensures ended { IfHonest S.device source (λ file. EndsByFile asked.now file result) }
+    ensures fits { IfHonest S.device source (λ file. FitsIf asked.now file result) }
+    ensures filled { IfHonest S.device source (λ file. IsTrue W.knows →
+        Fills asked.now file result (W.trace world.new)) }
+    ensures asked { IfHonest S.device source (λ file. (S.device source.new).asked
+        ≤ (S.device source.old).asked + unpack_work file) }
+    ensures same { SameDevice (S.device source.old) (S.device source.new) }
+{
+    uimg_unpacking::unpack(world, asked, source, out)
+}
