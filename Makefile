@@ -4,7 +4,7 @@ PREFIX ?= /usr/local
 IMAGE ?= examples/abc-kernel.img
 export RT
 
-.PHONY: all demo try check test gate wrong-bodies definitions contracts lib lib-test json-test farm-test install deb release arm64-test peers uboot-tests bench clean help
+.PHONY: all demo try check test gate wrong-bodies definitions contracts lib lib-test json-test farm-test install deb release arm64-test peers boot-test uboot-tests bench clean help
 .NOTPARALLEL:
 
 ## make          proves the program and all crates below it, and builds bin/uimg
@@ -128,6 +128,12 @@ peers: bin/uimg bin/uimg_peers
 	@python3 peers/peers.py bin/uimg bin/uimg_peers
 	@python3 peers/strict.py bin/uimg
 	@python3 peers/hostile.py bin/uimg
+
+## make boot-test   compares strict checks and unpacking with U-Boot itself, in qemu; prints a table for
+##               docs/PEERS.md
+boot-test: bin/uimg
+	@scripts/needs.sh python3 mkimage qemu-system-aarch64 qemu-system-arm qemu-system-i386
+	@python3 peers/boot.py bin/uimg
 
 ## make uboot-tests   runs U-Boot's own tests with its tools, with the program by their names, and with
 ##               the wrappers; fetches and compiles U-Boot of Debian's source package, in out/uboot

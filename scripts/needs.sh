@@ -15,6 +15,9 @@ for command; do
         gcc) what="$command: apt install gcc libc6-dev" ;;
         aarch64-linux-gnu-gcc) what="$command: apt install gcc-aarch64-linux-gnu libc6-dev-arm64-cross" ;;
         qemu-aarch64-static) what="$command: apt install qemu-user-static" ;;
+        mkimage) what="$command: apt install u-boot-tools" ;;
+        qemu-system-i386) what="$command: apt install qemu-system-x86 u-boot-qemu" ;;
+        qemu-system-*) what="$command: apt install qemu-system-arm u-boot-qemu" ;;
         dh) what="$command: apt install debhelper" ;;
         dpkg-buildpackage) what="$command: apt install dpkg-dev" ;;
         lintian) what="$command: apt install lintian" ;;

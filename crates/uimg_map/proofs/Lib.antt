@@ -4,8 +4,6 @@ mod CoverLaws
 mod ArrangeLaws
 mod BarLaws
 mod LineLaws
-mod XmlLaws
-mod PictureLaws
 mod ReservationsLaws
 mod ContentsLaws
 mod TableLaws
