@@ -15,8 +15,9 @@ A wrong body is refused if a clause of its own function is: if what the function
 proved where it returns, by a search or by its written answer; or if a condition with a label is not
 of a call that it makes. A sentinel is refused if all the clauses are that scripts/sentinels.txt
 names with it. One that is refused for anything else is not refused: a loop's invariant, a measure,
-a lemma that no longer fits, an answer that only names what is not there. A wrong body outside of functions may name a lemma there,
-one that states what a table is.
+a lemma that no longer fits, an answer that only names what is not there, or an open goal if the
+function has an answer to a goal that is gone. A wrong body outside of functions may name a lemma
+there, one that states what a table is.
 
 If a check refuses a function without a wrong body, or a lemma, it counts for nothing, and each half
 is tried by itself, down to a single one. A wrong body outside of functions, as in a row of a table,
@@ -62,7 +63,7 @@ ERROR_IN = re.compile(r".*?: error: `([^`]+)`: ")
 # An error for a name alone: a proof names what the wrong body removed, so it says nothing of the
 # contract.
 NAMED = re.compile(r".*: error: .*(has no `|has no field|is not in scope|was not admitted|were not admitted)")
-# An error for an answer to a goal that is not there. It may have another name, and be open for that.
+# An error for an answer to a goal that is not there: it may only have been renamed.
 RENAMED = re.compile(r".*: error: `[^`]+`: `goal\.[^`]+`: module `[^`]+\.Goals` has no `")
 # The goals that no search proves, and the answer that is refused.
 OPEN = re.compile(r"`search` did not prove ((?:`[^`]+`(?:, )?)+)")
@@ -235,13 +236,13 @@ def refused_in(lines, name):
 
 def goals_of(errors, why):
     """Returns the goals that do not hold by the errors in a function's answers and the line about
-    it, without those whose answer only names what is not there. If an answer is to a goal that is not
-    there, a goal that no search proves may be the one that it was for: none of these counts."""
+    it, without those whose answer only names what is not there. If the goal of an answer is not there,
+    it may only have been renamed, so open goals prove nothing."""
     named = {ERROR_IN.match(it)[1] for it in errors if NAMED.match(it) and ERROR_IN.match(it)}
     found = {ERROR_IN.match(it)[1] for it in errors if ERROR_IN.match(it)}
     found.update(REFUSED_ANSWER.findall(why))
-    for it in [] if any(RENAMED.match(it) for it in errors) else OPEN.findall(why):
-        found.update(re.findall("`([^`]+)`", it))
+    if not any(map(RENAMED.match, errors)):
+        found.update(goal for it in OPEN.findall(why) for goal in re.findall("`([^`]+)`", it))
     return found - named
 
 

@@ -1,5 +1,5 @@
 -- The bar of a row.
-use Rattle.std.specs.Prelude.{ℕ, ◌+◌, ◌-◌, ◌*◌, ◌/◌, if◌then◌else◌, min, nat_lt, ◌&&◌, Bool}
+use Rattle.std.specs.Prelude.{ℕ, ◌+◌, ◌*◌, min, nat_lt, ◌&&◌, Bool}
 
 -- Whether cell j of a bar is filled, for a range from an offset up to an end: the range has bytes
 -- inside the file, and some of them are in the cell's part of the file, from size * j / cells up to
@@ -8,11 +8,3 @@ unfoldable pub is_filled : ℕ → ℕ → ℕ → ℕ → ℕ → Bool
 is_filled cells size place end j =
     nat_lt place (min end size)
     && (nat_lt (j * size) (min end size * cells) && nat_lt (place * cells) ((j + 1) * size))
-
--- the first filled cell, and the one after the last; both 0 if none is filled
-abbrev pub first_cell : ℕ → ℕ → ℕ → ℕ → ℕ
-first_cell cells size place end = if nat_lt place (min end size) then place * cells / size else 0
-
-abbrev pub last_cell : ℕ → ℕ → ℕ → ℕ → ℕ
-last_cell cells size place end =
-    if nat_lt place (min end size) then (min end size * cells + (size - 1)) / size else 0

@@ -1,7 +1,7 @@
 //! The bar of a row, in proportion to the file.
 
 ghost use Rattle.std.specs.Prelude.{◌≡◌, ◌<◌, ◌≤◌, ℕ, nat_le, nat_lt, ◌&&◌};
-ghost use Rattle.uimg_map.specs.Bars.{is_filled, first_cell, last_cell};
+ghost use Rattle.uimg_map.specs.Bars.{is_filled};
 
 /// The filled cells of a bar, a range.
 #[derive(Clone, Copy, Debug, PartialEq, Eq)]
@@ -27,10 +27,6 @@ impl Bar {
 #[tactic(auto, unfolding(crate::specs::Bars::is_filled))]
 pub fn bar_of(cells: u32, size: u64, place: u64, end: u64) -> Bar
     ensures inside { (result.from ≤ result.to) × (result.to ≤ cells) }
-    ensures cells { result ≡ record {
-      from = first_cell cells size place end;
-      to = last_cell cells size place end;
-    } }
     ensures filled { (j : ℕ) → j < cells →
         (nat_le result.from j && nat_lt j result.to) ≡ is_filled cells size place end j }
 {

@@ -6,7 +6,6 @@ ghost use Rattle.uimg_base.specs.Device.{RisesIf, SameDevice, IsFresh, asked_mor
 ghost use Rattle.uimg_base.specs.Honest.{HonestSource};
 ghost use Rattle.uimg_base.specs.Named.{SameFiles, Opens, bytes_named};
 ghost use Rattle.uimg_base.specs.Sink.{AppendsAll, AppendsPrefix};
-ghost use Rattle.uimg_base.specs.Writing.{Writes};
 
 use std::alloc::Allocator;
 use std::io::Write;

@@ -16,9 +16,10 @@ use uimg_unpacking::{Ended, MakingWorld, Unpacking, World};
 /// unless memory for its buffer was refused.
 ///
 /// - `told`: over an honest world output, new files and status are those that the definition of
-///   command lines gives for the bytes at the paths, or the status is 3. If it refuses the
-///   arguments, nothing is done or printed.
-/// - `complained`: standard error has nothing, or the line of the fault.
+///   command lines gives for the bytes at the paths, as far as `AnswersLine` says, or the status is 3.
+///   If it refuses the arguments, nothing is done or printed.
+/// - `complained`: over an honest world, at a status other than 3, standard error has nothing, or the
+///   line of the fault, as far as `ComplainsLine` says; of arguments that are refused, over any world.
 /// - `lost`: if `out` is not returned, the status is 3.
 pub fn run_as_uimg<'a, D: MakingWorld<'a>, W: Write + Drop, V: Write>(
     world: &mut D,
@@ -41,14 +42,14 @@ pub fn run_as_uimg<'a, D: MakingWorld<'a>, W: Write + Drop, V: Write>(
 /// Over any source:
 ///
 /// - `within`: only what is at `.uimg-newN` in the folder, and at file names in it, changes.
-/// - `obeys`: files are synced, and existing files replaced, just as it is asked.
+/// - `obeys`: files are synced, and existing files replaced, as requested.
 ///
 /// Over an honest source:
 ///
 /// - `ended`: the end is that of the definition for the image's bytes, unless something failed.
-/// - `fits`: where all is kept, the payloads are no more than the limits.
+/// - `fits`: where all is kept, the payloads are within the limits.
 /// - `filled`: where payloads are kept, the file of each has the name that the definition gives, and
-///   holds exactly its bytes, as far as contracts know what a closed file holds.
+///   holds exactly its bytes, if contracts know what a closed file holds. No two have the same name.
 /// - `asked`: at most the metadata and the length of the image were requested.
 pub fn unpack<W: World, S: Source, O: Write + Drop>(
     world: &mut W,

@@ -15,7 +15,6 @@ ghost use Rattle.uimg_base.specs.Held.{held_bytes};
 ghost use Rattle.uimg_base.specs.Window.{LendsWindow};
 ghost use Rattle.uimg_base.specs.Ranges.{is_read, is_put, Copies};
 ghost use Rattle.uimg_base.specs.Using.{Asks, AsksAll};
-ghost use Rattle.uimg_base.specs.Writing.{Writes};
 
 use std::alloc::{AllocError, Allocator};
 use std::io::Write;

@@ -1,5 +1,5 @@
 -- What is answered of a file by its map.
-use Rattle.std.proofs.Common.{◌≡◌, ℕ, List, [], length, Option, Some, None, Result, Ok, Err, OnOk, ◌⊎◌, inl, inr, ap, subst, ◌∙◌}
+use Rattle.std.proofs.Common.{◌≡◌, ℕ, List, length, Option, Some, None, Result, Ok, Err, OnOk, ◌⊎◌, inl, inr, ap, subst, ◌∙◌}
 use Rattle.std.specs.{Prelude.{◌≢◌, IfOk, IsTrue}, Io.KnownBytes.{Appends, Keeps}}
 use Rattle.uimg_base.specs.{Device.{Device, SameDevice}, Named.FileMap}
 use Rattle.uimg_map.specs.declared.{fault.MapFault.MapFault, map.Map.Map, row.Row.Row}

@@ -5,13 +5,12 @@ use Rattle.std.specs.Borrow.{Bor}
 use Rattle.uimg_base.specs.declared.status.Status.{Status}
 use Rattle.uimg_requests.specs.declared.requests.MakeRequest.{MakeRequest}
 use Rattle.uimg_tool.proofs.DrawingLaws.{writes_as}
-use Rattle.uimg_tool.proofs.WritingLaws.{creates_as}
 use Rattle.uimg_tool.specs.{BesidePaths.{Finishes, incomplete, named, not_named}, Finishing.FinishesBy}
 use Rattle.uimg_tool.specs.OldMakings.{FinishesMade, LendsAt, MakesFor, MakesWithin, Named, beside_it, in_place, no_memory, to_pipe, uncreated}
 use Rattle.uimg_tool.specs.{RequestEnds.{MakeEnds, TreeEnds}, Statuses.end_status}
-use Rattle.uimg_tool.specs.Writings.{CreatesBeside, WritesFor}
+use Rattle.uimg_tool.specs.Writings.{WritesFor}
 use Rattle.uimg_tool.specs.declared.request_fault.RequestFault.{RequestFault}
-use Rattle.uimg_tool.specs.declared.safe_path.{NewBeside.NewBeside, SafePath.SafePath, Writing.Writing}
+use Rattle.uimg_tool.specs.declared.safe_path.{SafePath.SafePath, Writing.Writing}
 use Rattle.uimg_tool.specs.declared.safe_path.Writing.TheVariants as writing
 use Rattle.uimg_unpacking.specs.Deeds.{Answer, Deed, Done, LendsShelf, Removes, Renames, changes}
 use Rattle.uimg_unpacking.specs.Naming.{is_done}
@@ -108,15 +107,3 @@ pub ends_named : {T E : Type 0} (path : SafePath) (end : Result T E) (answer : A
     → Finishes (string_bytes path.new) (string_bytes path.whole) true answer before ended → changes after ≡ changes ended → FinishesBy path (is_ok end) before after
 ends_named path (Ok value) answer before ended after is finishes kept = (answer, ended, finishes, kept)
 ends_named path (Err fault) answer before ended after is finishes kept = absurd (true≢false is)
-
-pub ends_removed : {T E : Type 0} (path : SafePath) (end : Result T E) (answer : Answer) (before ended after : List Deed) → is_err end ≡ true
-    → Finishes (string_bytes path.new) (string_bytes path.whole) false answer before ended → changes after ≡ changes ended → FinishesBy path (is_ok end) before after
-ends_removed path (Ok value) answer before ended after is finishes kept = absurd (true≢false (sym is))
-ends_removed path (Err fault) answer before ended after is finishes kept = (answer, ended, finishes, kept)
-
--- a complete file whose naming was answered has its path
-pub has_name : (path : SafePath) (answer : Answer) (before ended after : List Deed) → Finishes (string_bytes path.new) (string_bytes path.whole) true answer before ended → answer ≡ Done
-    → changes after ≡ changes ended → Named path before after
-has_name path answer before ended after (named complete done is) answered kept = kept ∙ ap changes is
-has_name path answer before ended after (not_named removed complete undone is) answered kept = absurd (true≢false (sym (ap is_done answered) ∙ undone))
-has_name path answer before ended after (incomplete unfinished is) answered kept = absurd (true≢false unfinished)

@@ -1,5 +1,5 @@
 -- What is changed while an image is unpacked.
-use Rattle.std.proofs.Common.{◌≡◌, ◌⊎◌, inl, inr, ℕ, List, [], ◌∷◌, ◌++◌, Bool, true, false, ◌&&◌, refl, ap, ap₂, sym, subst, ◌∙◌, true≢false, arith}
+use Rattle.std.proofs.Common.{◌≡◌, ◌⊎◌, inl, inr, ℕ, List, [], ◌∷◌, ◌++◌, Bool, true, false, ◌&&◌, refl, ap, ap₂, sym, subst, ◌∙◌, arith}
 use mathlib.Core.List.{append_assoc}
 use Rattle.std.proofs.lemmas.List.Folds.{list_all-append}
 use Rattle.uimg_unpacking.proofs.Placing.{no_more, stays_naming}
@@ -9,8 +9,7 @@ use Rattle.std.specs.Prelude.{Option, Some}
 use Rattle.std.specs.Borrow.{Bor}
 use Rattle.uimg_base.specs.Named.{FileMap}
 use Rattle.uimg_cli.specs.declared.command_line.unpack.UnpackRequest.{UnpackRequest}
-use Rattle.uimg_unpacking.specs.Places.{ChangesWithin, Obeys, Terms, may_change, stays_within, terms_of}
-use Rattle.uimg_base.specs.declared.status.Status.TheVariants.{Done, NotRight}
+use Rattle.uimg_unpacking.specs.Places.{ChangesWithin, Obeys, Terms, may_change, terms_of}
 use Rattle.uimg_checks.specs.Answers.{answer_status}
 use Rattle.uimg_checks.specs.declared.answer.Answer.{Answer, TheVariants.{Failed, Refused}}
 use Rattle.uimg_tool.specs.{CheckEnds.AnswersEnding, Unpackings.{HoldsPayloads, IsRight, RightAt, UnpacksRight, unpacking_of}}
@@ -64,10 +63,6 @@ shown (ending.Stopped fault) (Refused stop) is = inl refl
 shown (ending.Troubled trouble) (Failed stop) is = inr refl
 shown (ending.Troubled trouble) (Refused stop) is = inl refl
 shown end answer is = absurd is
-
-pub object_fails : {P Q : Type 0} (end : Ending) (answer : Answer) (status : ℕ) → AnswersEnding end answer → (status ≡ 3) ⊎ ((status ≡ answer_status answer) × P) → status ≡ 0 → Q
-object_fails end answer status is (inl three) zero = failed status (inr three) zero
-object_fails end answer status is (inr told) zero = failed (answer_status answer) (shown end answer is) (sym told.0 ∙ zero)
 
 -- nothing was asked for
 pub nothing_called : (terms : Terms) (old new : List Deed) → new ≡ old → Obeys terms true old new

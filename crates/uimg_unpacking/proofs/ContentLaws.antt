@@ -232,12 +232,6 @@ apart folder made i its begun paths = record {
   old_new = old_apart made i i its its paths paths;
 }
 
--- one name is the other if the paths are the same
-whole_apart : (folder : List ℕ) (a b : Begun) → is_begun_in folder a ≡ true → is_begun_in folder b ≡ true → bytes_eq (string_bytes a.name) (string_bytes b.name) ≡ false → bytes_eq (string_bytes a.whole) (string_bytes b.whole) ≡ false
-whole_apart folder a b p q other = differs (string_bytes a.whole) (string_bytes b.whole) (λ is.
-    never (string_bytes a.name) (string_bytes b.name) other
-    (cancel (folder ++ codes "/") (string_bytes a.name) (string_bytes b.name) (sym (begun_path folder a p) ∙ is ∙ begun_path folder b q)))
-
 -- what is true of each of some files
 pub not_or : (a b : Bool) → not (a || b) ≡ true → (a ≡ false) × (not b ≡ true)
 not_or true b is = absurd (true≢false (sym is))

@@ -1,5 +1,5 @@
 -- What a folder was given, and the names of its files.
-use Rattle.std.proofs.Common.{◌≡◌, ◌∙◌, ◌⊎◌, inl, inr, ℕ, suc, List, [], ◌∷◌, ◌++◌, map, flat_map, length, codes, Bool, true, false, Option, Some, None, is_some, is_none, bytes_eq, ◌||◌, Result, Ok, Err, is_ok, refl, ap, ap₂, sym, subst, true≢false, if◌then◌else◌, arith}
+use Rattle.std.proofs.Common.{◌≡◌, ◌∙◌, inr, ℕ, suc, List, [], ◌∷◌, ◌++◌, map, flat_map, length, codes, Bool, true, false, Option, Some, None, is_some, is_none, bytes_eq, ◌||◌, Result, Ok, Err, is_ok, refl, ap, ap₂, sym, subst, true≢false, if◌then◌else◌, arith}
 use Rattle.std.specs.Bool.{⊤}
 use Rattle.std.specs.Char.{to_ascii_lowercase}
 use Rattle.std.specs.Prelude.{OnOk}
@@ -12,21 +12,21 @@ use Rattle.uimg_fit_checking.specs.declared.checking.Finding.TheVariants as find
 use Rattle.uimg_fit_checking.specs.declared.unpacking.taker.Vouched.{Vouched}
 use Rattle.uimg_unpacking.specs.Deeds.{Deed}
 use Rattle.uimg_unpacking.specs.FileNames.{file_name, is_among}
-use Rattle.uimg_unpacking.specs.Filling.{kept_names, kept_bytes}
-use Rattle.uimg_unpacking.specs.Given.{shown, seen_of, noted_takes, as_take, with_contents, takes_given, MayGive, image_of, names_after, AreNamed, AreWhole}
+use Rattle.uimg_unpacking.specs.Filling.{names_of_kept, kept_bytes}
+use Rattle.uimg_unpacking.specs.Given.{shown, seen_of, noted_takes, as_take, with_contents, MayGive, image_of, names_after, AreNamed, AreWhole}
 use Rattle.uimg_unpacking.specs.Refusals.{last_name}
-use Rattle.uimg_unpacking.specs.Staged.{complete, complete_names, staged, with_name}
+use Rattle.uimg_unpacking.specs.Staged.{complete, complete_names, staged}
 use Rattle.uimg_unpacking.specs.Troubles.{done_in, noted}
 use Rattle.uimg_unpacking.specs.declared.begun.Begun.{Begun}
 use Rattle.uimg_unpacking.specs.declared.trouble.Trouble.{Trouble}
 
 -- the names with one payload more
-kept_more : (names : List (List ℕ)) (takes : List Take) (image bytes : List ℕ) (vouched : Option Vouched) → kept_names names (takes ++ kept image bytes vouched ∷ []) ≡ kept_names names takes ++ file_name (names_after names takes) image ∷ []
+kept_more : (names : List (List ℕ)) (takes : List Take) (image bytes : List ℕ) (vouched : Option Vouched) → names_of_kept names (takes ++ kept image bytes vouched ∷ []) ≡ names_of_kept names takes ++ file_name (names_after names takes) image ∷ []
 kept_more names [] image bytes vouched = refl
 kept_more names (kept other some by ∷ takes) image bytes vouched = ap (λ (l : List (List ℕ)). file_name names other ∷ l) (kept_more (file_name names other ∷ names) takes image bytes vouched)
 kept_more names (refused other why ∷ takes) image bytes vouched = kept_more (file_name names other ∷ names) takes image bytes vouched
 
-refused_more : (names : List (List ℕ)) (takes : List Take) (image : List ℕ) (told : NamedFinding) → kept_names names (takes ++ refused image told ∷ []) ≡ kept_names names takes
+refused_more : (names : List (List ℕ)) (takes : List Take) (image : List ℕ) (told : NamedFinding) → names_of_kept names (takes ++ refused image told ∷ []) ≡ names_of_kept names takes
 refused_more names [] image told = refl
 refused_more names (kept other some by ∷ takes) image told = ap (λ (l : List (List ℕ)). file_name names other ∷ l) (refused_more (file_name names other ∷ names) takes image told)
 refused_more names (refused other why ∷ takes) image told = refused_more (file_name names other ∷ names) takes image told
@@ -202,7 +202,7 @@ not_kept image other bytes told vouched is = absurd (true≢false (sym (ap (λ (
 
 -- Payloads that are shown with these contents are those that were given: the files have their names and hold them.
 pub given_by : (names : List (List ℕ)) (noted : List Take) (contents : List (Option (List ℕ))) (takes : List Take) → length contents ≡ length (kept_bytes noted) → with_contents noted contents ≡ flat_map seen_of takes
-    → (kept_names names noted ≡ kept_names names takes) × (contents ≡ map Some (kept_bytes takes))
+    → (names_of_kept names noted ≡ names_of_kept names takes) × (contents ≡ map Some (kept_bytes takes))
 given_by names [] [] [] same is = (refl, refl)
 given_by names [] [] (one ∷ takes) same is = not_none (shown one) (flat_map seen_of takes) (sym is)
 given_by names [] (one ∷ contents) takes same is = absurd (omega (arith, same))
@@ -213,7 +213,7 @@ given_by names (kept image bytes vouched ∷ noted) (one ∷ contents) (kept oth
     let image-is : image ≡ other = sym (its_image image one) ∙ ap image_of first in
     let one-is : one ≡ Some its = sym (contents_of image one) ∙ ap contents_in first in
     let more = given_by (file_name names image ∷ names) noted contents takes (omega (arith, same)) (ap rests is) in (
-      ap (λ (l : List (List ℕ)). file_name names image ∷ l) more.0 ∙ ap (λ (i : List ℕ). file_name names i ∷ kept_names (file_name names i ∷ names) takes) image-is,
+      ap (λ (l : List (List ℕ)). file_name names image ∷ l) more.0 ∙ ap (λ (i : List ℕ). file_name names i ∷ names_of_kept (file_name names i ∷ names) takes) image-is,
       ap₂ (λ (x : Option (List ℕ)) (xs : List (Option (List ℕ))). x ∷ xs) one-is more.1,
     )
 given_by names (kept image bytes vouched ∷ noted) (one ∷ contents) (refused other told ∷ takes) same is =
@@ -224,7 +224,7 @@ given_by names (refused image why ∷ noted) contents (kept other its by ∷ tak
 given_by names (refused image why ∷ noted) contents (refused other told ∷ takes) same is =
     let first : refused image why ≡ refused other (finding.Weak []) = head_is (refused image why) (refused other (finding.Weak [])) (with_contents noted contents) (flat_map seen_of takes) is in
     let more = given_by (file_name names image ∷ names) noted contents takes same (ap rests is) in
-    (more.0 ∙ ap (λ (i : List ℕ). kept_names (file_name names i ∷ names) takes) (ap image_of first), more.1)
+    (more.0 ∙ ap (λ (i : List ℕ). names_of_kept (file_name names i ∷ names) takes) (ap image_of first), more.1)
 
 -- a file is begun without a trouble
 pub none_kept : {X : Type 0} (r : Result X Trouble) (old new : Option Trouble) → new ≡ noted r old → is_none new ≡ true → (is_ok r ≡ true) × (is_none old ≡ true)

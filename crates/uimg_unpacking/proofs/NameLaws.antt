@@ -1,11 +1,10 @@
 -- The names of files that were given, as a set.
-use Rattle.std.proofs.Common.{◌≡◌, ◌∙◌, ℕ, suc, Bool, true, false, ◌||◌, ◌<◌, ◌+◌, ◌-◌, ◌==◌, ◌&&◌, nat_lt, not, List, [], ◌∷◌, map, length, Vec, is_eq, refl, ap, ap₂, sym, subst, true≢false, if◌then◌else◌, arith}
+use Rattle.std.proofs.Common.{◌≡◌, ◌∙◌, ℕ, suc, Bool, true, false, ◌||◌, ◌<◌, ◌+◌, ◌-◌, ◌==◌, nat_lt, List, [], ◌∷◌, map, length, Vec, is_eq, refl, ap, ap₂, sym, subst, true≢false, if◌then◌else◌, arith}
 use Rattle.std.proofs.lemmas.Bool.{eqb-true, ltb-true, and_parts}
 use Rattle.std.proofs.lemmas.Map.Text.{is_eq-slice_cmp}
 use Rattle.std.proofs.lemmas.Slice.Eq.{bytes_eq-Decides}
 use Rattle.std.proofs.lemmas.Str.{IsUtf8-from_ascii}
 use Rattle.std.proofs.lemmas.Str.Ascii.{IsAscii-cons, IsAscii-nil}
-use Rattle.std.specs.BTreeMap.{is_at}
 use Rattle.std.specs.BTreeSet.{BTreeSet, insert_key}
 use Rattle.std.specs.Char.{to_ascii_lowercase}
 use Rattle.std.specs.Cmp.Lexicographic.{slice_cmp}
@@ -14,8 +13,8 @@ use Rattle.std.specs.Ordering.{match_ordering, nat_cmp}
 use Rattle.std.specs.Prelude.{bytes_eq, IsAscii, IsUtf8, IfOk, MatchOption, Option, Some, None, Result, Ok, Err}
 use Rattle.std.specs.declared.cmp.Ordering.{Ordering}
 use Rattle.std.specs.declared.cmp.Ordering.TheVariants.{Less, Equal, Greater}
-use Rattle.uimg_unpacking.specs.FileNames.{allowed, is_allowed, is_among, is_file_name, image_name, first_free, file_name}
-use Rattle.uimg_unpacking.specs.Names.{is_used, HasNames, Gives}
+use Rattle.uimg_unpacking.specs.FileNames.{allowed, is_allowed, is_among, is_file_name, keeps_name, image_name, first_free, file_name}
+use Rattle.uimg_unpacking.specs.Names.{HasNames, Gives}
 
 or_same : (a b : Bool) → (a || (a || b)) ≡ (a || b)
 or_same true b = refl
@@ -52,10 +51,6 @@ has_more old new k name names more small is all has = λ asked.
     ∙ any_inserted (λ x y. slice_cmp nat_cmp x.items y.items) (λ known. is_eq (slice_cmp nat_cmp small_asked known.items)) (same_key small_asked) k old.keys
     ∙ ap₂ (λ (a b : Bool). a || b) (is_eq-slice_cmp small_asked k.items ∙ ap (bytes_eq small_asked) small) (has asked)
     ∙ ap (λ (ns : List (List ℕ)). is_among ns asked) (sym all)
-
--- the same names
-pub has_same : {Z : Type 0} (old new : BTreeSet (Vec ℕ Z)) (names : List (List ℕ)) → new.keys ≡ old.keys → HasNames old names → HasNames new names
-has_same old new names is has = λ asked. ap (list_any (λ known. is_eq (slice_cmp nat_cmp (map to_ascii_lowercase asked) known.items))) is ∙ has asked
 
 -- a file name is UTF-8, since it has only characters of ASCII
 below : (b : ℕ) (ks : List ℕ) → list_all (λ k. nat_lt k 128) ks ≡ true → list_any (λ k. k == b) ks ≡ true → b < 128
@@ -97,18 +92,18 @@ tried_more names number k most less is =
     ap (λ (n : ℕ). first_free names n (most - (k + 1))) next ∙ sym (free_later names (number + k) (most - k) (most - (k + 1)) (omega (arith, less)) is)
 
 -- the name of a file: that of the image, or of a number
-its_own : (names : List (List ℕ)) (image : List ℕ) → (is_file_name image && not (is_among names image)) ≡ true → image ≡ file_name names image
+its_own : (names : List (List ℕ)) (image : List ℕ) → keeps_name names image ≡ true → image ≡ file_name names image
 unfolding file_name
 its_own names image is = sym (ap (λ (b : Bool). if b then image else first_free names (length names) 100) is)
 
-its_number : (names : List (List ℕ)) (image : List ℕ) → (is_file_name image && not (is_among names image)) ≡ false → first_free names (length names) 100 ≡ file_name names image
+its_number : (names : List (List ℕ)) (image : List ℕ) → keeps_name names image ≡ false → first_free names (length names) 100 ≡ file_name names image
 unfolding file_name
 its_number names image is = sym (ap (λ (b : Bool). if b then image else first_free names (length names) 100) is)
 
-pub gives_own : (names new : List (List ℕ)) (image text : List ℕ) → (is_file_name image && not (is_among names image)) ≡ true → Gives image text names new → Gives (file_name names image) text names new
+pub gives_own : (names new : List (List ℕ)) (image text : List ℕ) → keeps_name names image ≡ true → Gives image text names new → Gives (file_name names image) text names new
 gives_own names new image text is gives = record { wanted_is = gives.wanted_is ∙ its_own names image is; is_name = gives.is_name; is_free = gives.is_free; given = gives.given }
 
-pub gives_number : (names middle new : List (List ℕ)) (image text : List ℕ) → (is_file_name image && not (is_among names image)) ≡ false → middle ≡ names → Gives (first_free middle (length middle) 100) text middle new → Gives (file_name names image) text names new
+pub gives_number : (names middle new : List (List ℕ)) (image text : List ℕ) → keeps_name names image ≡ false → middle ≡ names → Gives (first_free middle (length middle) 100) text middle new → Gives (file_name names image) text names new
 gives_number names middle new image text is same gives =
     let its = subst (λ (ns : List (List ℕ)). Gives (first_free ns (length ns) 100) text ns new) same gives in
     record { wanted_is = its.wanted_is ∙ its_number names image is; is_name = its.is_name; is_free = its.is_free; given = its.given }

@@ -140,10 +140,6 @@ uses_fewer_names used names left others now (last_noted name a b) uses =
       apart = apart_more left others name unlike apart.0;
     })
 
--- names that are used once, as they are told
-pub uses_more : (old new : List ℕ → Bool) (names others : List (List ℕ)) → ((name : List ℕ) → old name ≡ true → new name ≡ true) → uses_names old names others ≡ true → uses_names new names others ≡ true
-uses_more old new names others more is = tell_used new names others (uses_more_names old new names others more (names_used old names others is))
-
 pub uses_next : (old new : List ℕ → Bool) (names others : List (List ℕ)) (name : List ℕ) (is_begun : Bool) (now : List (List ℕ)) → ((x : List ℕ) → old x ≡ true → new x ≡ true) → old name ≡ false → new name ≡ true
     → now ≡ with_name is_begun names name → uses_names old names others ≡ true → uses_names new now others ≡ true
 uses_next old new names others name is_begun now more other used is uses =

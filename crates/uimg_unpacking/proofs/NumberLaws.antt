@@ -28,13 +28,6 @@ no_zero (suc n) small = other (nat_lt 1 (length (decimal (suc n)))) (get_or (dec
 number_told : (n : ℕ) → n < 2 ^ 64 → is_number (decimal n) ≡ true
 number_told n small = ap (λ (b : Bool). not b && list_all is_ascii_digit (decimal n)) (no_zero n small) ∙ all_digits is_ascii_digit refl n
 
--- a name that is none of a part's file
-pub none_of : (name : List ℕ) (number : ℕ) → number ≡ 2 ^ 32 - 1 → ((rest : List ℕ) → name ≡ codes "image-" ++ rest → ⊥) → IsNumberOf name number
-none_of name number last lacks = record {
-  own = λ its small is. absurd (lacks (decimal its) is);
-  other = inr last;
-}
-
 pub none_after : (digits : List ℕ) (number : ℕ) → number ≡ 2 ^ 32 - 1 → is_number digits ≡ false → IsNumberOf (codes "image-" ++ digits) number
 none_after digits number last bad = record {
   own = λ its small is. absurd (true≢false (sym (number_told its (omega (arith, small))) ∙ ap is_number (sym (cancel (codes "image-") digits (decimal its) is)) ∙ bad));

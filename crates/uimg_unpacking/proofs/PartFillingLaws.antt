@@ -103,11 +103,6 @@ held_next is_named parts number size calls files was bytes contents unnamed is a
     subst (λ (b : Bool). held_parts b (parts ++ (number, size) ∷ []) contents ≡ held_parts b parts (staged calls files was) ++ part_if true number bytes) (sym unnamed)
     (ap (parts_by (parts ++ (number, size) ∷ [])) is ∙ parts_more parts (number, size) calls (complete files was) (Some bytes) are)
 
--- before files have their names, no parts are kept
-pub none_kept : (is_named : Bool) (folder other : List ℕ) (before after : List Deed) (parts more : List (ℕ × ℕ)) → is_named ≡ false → kept_parts is_named folder after more ≡ kept_parts is_named other before parts
-none_kept is_named folder other before after parts more unnamed =
-    subst (λ (b : Bool). kept_parts b folder after more ≡ kept_parts b other before parts) (sym unnamed) refl
-
 -- parts whose files got their names are those that were held
 pub parts_named : (folder : Folder) (made : Option (List ℕ)) (files : List Begun) (is_writing is_named : Bool) (parts : List (ℕ × ℕ)) (before after : List Deed) → is_named ≡ false → list_all (is_begun_in folder.path.now) files ≡ true → are_numbered_in made files ≡ true
     → complete_names files is_writing ≡ part_names parts → differ (part_names parts) ≡ true → NamesComplete folder files is_writing true before after
@@ -178,12 +173,6 @@ weak_after : (asked : Unpacking) (image : List ℕ) (checked : Result Bool Fault
 weak_after asked image (Ok right) calls = tt
 weak_after asked image (Err fault) calls = tt
 
-pub weak_fills : (asked : Unpacking) (image : List ℕ) (checked : Result Bool Fault) (end : PartsEnded) (calls : List Deed) → end ≡ end_after checked Weak → FillsKept asked image end calls
-weak_fills asked image checked end calls is = subst (λ (e : PartsEnded). FillsKept asked image e calls) (sym is) (weak_after asked image checked calls)
-
 troubled_after : (asked : Unpacking) (image : List ℕ) (checked : Result Bool Fault) (trouble : Trouble) (calls : List Deed) → FillsKept asked image (end_after checked (Troubled trouble)) calls
 troubled_after asked image (Ok right) trouble calls = tt
 troubled_after asked image (Err fault) trouble calls = tt
-
-pub troubled_fills : (asked : Unpacking) (image : List ℕ) (checked : Result Bool Fault) (trouble : Trouble) (end : PartsEnded) (calls : List Deed) → end ≡ end_after checked (Troubled trouble) → FillsKept asked image end calls
-troubled_fills asked image checked trouble end calls is = subst (λ (e : PartsEnded). FillsKept asked image e calls) (sym is) (troubled_after asked image checked trouble calls)

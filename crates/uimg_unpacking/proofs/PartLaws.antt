@@ -27,12 +27,6 @@ weak_after : (asked : Unpacking) (file : List ℕ) (checked : Result Bool Fault)
 weak_after asked file (Ok right) = tt
 weak_after asked file (Err fault) = tt
 
-pub weak_right : (asked : Unpacking) (file : List ℕ) (checked : Result Bool Fault) (end : PartsEnded) → end ≡ end_after checked Weak → KeepsRight asked file end
-weak_right asked file checked end is = subst (KeepsRight asked file) (sym is) (weak_after asked file checked)
-
 troubled_after : (asked : Unpacking) (file : List ℕ) (checked : Result Bool Fault) (trouble : Trouble) → KeepsRight asked file (end_after checked (Troubled trouble))
 troubled_after asked file (Ok right) trouble = tt
 troubled_after asked file (Err fault) trouble = tt
-
-pub troubled_right : (asked : Unpacking) (file : List ℕ) (checked : Result Bool Fault) (trouble : Trouble) (end : PartsEnded) → end ≡ end_after checked (Troubled trouble) → KeepsRight asked file end
-troubled_right asked file checked trouble end is = subst (KeepsRight asked file) (sym is) (troubled_after asked file checked trouble)

@@ -2,23 +2,20 @@
 use Rattle.std.proofs.Common.{◌≡◌, ℕ, suc, ◌+◌, ◌^◌, ◌<◌, ◌≤◌, List, [], ◌∷◌, ◌++◌, map, length, codes, decimal, string_bytes, bytes_eq, slice_get, ◌-◌, is_none, option_to_list, String, Bool, true, false, ◌||◌, if◌then◌else◌, not, Option, Some, None, refl, ap, ap₂, sym, subst, ◌∙◌, true≢false, arith}
 use Rattle.std.specs.List.{list_all}
 use Rattle.std.specs.Option.{option_map_or}
-use Rattle.std.specs.Io.KnownBytes.{Keeps}
 use Rattle.std.specs.declared.alloc.Global.{Global}
 use Rattle.std.proofs.lemmas.Bool.{and_parts}
 use Rattle.std.proofs.lemmas.List.{append-nil}
 use Rattle.std.proofs.lemmas.List.Folds.{list_all-append}
-use Rattle.uimg_unpacking.specs.Allowing.{Allows, is_the_image, is_looked_at, Refused}
 use Rattle.uimg_unpacking.specs.Clearing.{RemovesEach, RemovesMade, Clears}
 use Rattle.uimg_unpacking.specs.Contents.{held, held_in, is_in, differ}
 use Rattle.uimg_unpacking.specs.Deeds.{Answer, Done, Exists, Failed, Deed, Creates, Closes, Removes, MakesFolder}
 use Rattle.uimg_unpacking.specs.FileNames.{is_file_name}
-use Rattle.uimg_unpacking.specs.Naming.{is_done, RemovesOld, not_forced, nothing_old, removed_old}
+use Rattle.uimg_unpacking.specs.Naming.{RemovesOld, not_forced, nothing_old, removed_old}
 use Rattle.uimg_unpacking.specs.NamingAll.{NamesFiles, SyncsNames, not_needed, waited, NamesAll, all_named, not_named, not_synced, NamesComplete, complete as all_complete, without_last as all_but_last, not_dropped}
 use Rattle.uimg_unpacking.specs.Places.{is_file_of, is_temporary_file, is_begun_in}
 use Rattle.uimg_unpacking.specs.Refusals.{last_name, no_file, dropped}
-use Rattle.uimg_unpacking.specs.Staged.{are_numbered_in, without_last, complete, complete_names, held_new, staged, names_of, with_name, Completes, uses_names, LeavesOthers}
+use Rattle.uimg_unpacking.specs.Staged.{are_numbered_in, without_last, complete, complete_names, held_new, staged, names_of, with_name, uses_names, LeavesOthers}
 use Rattle.uimg_unpacking.specs.declared.begun.Begun.{Begun}
-use Rattle.uimg_unpacking.specs.declared.file_id.FileId.{FileId}
 use Rattle.uimg_unpacking.specs.declared.folder.Folder.{Folder}
 use Rattle.uimg_unpacking.specs.declared.trouble.Trouble.{Trouble}
 use Rattle.uimg_unpacking.proofs.ContentLaws.{HasPaths, Numbered, all_numbered, numbers_told, differs, never, removes_other, creates_other, closes_other, closes_it, temporary_other, two_new, named_all, cancel, not_or}
@@ -298,6 +295,14 @@ hold_named folder made files is_writing others used before seen after all number
     let apart = all_names (λ name. not (is_in name others)) some (complete_all (λ its. not (is_in (string_bytes its.name) others)) files is_writing (names_all (λ name. not (is_in name others)) files uses.apart)) in
     held_by_others at (names_of some) others seen after named apart leaves ∙ complete_hold folder made files is_writing before seen all numbered (complete_unlike files is_writing uses.unlike) names
 
+-- their names are file names, and differ
+pub complete_facts : (folder : List ℕ) (files : List Begun) (is_writing : Bool) (others : List (List ℕ)) (used : List ℕ → Bool) → list_all (is_begun_in folder) files ≡ true → uses_names used (names_of files) others ≡ true
+    → (list_all is_file_name (complete_names files is_writing) ≡ true) × (differ (complete_names files is_writing) ≡ true)
+complete_facts folder files is_writing others used all is = (
+  are_names folder (complete files is_writing) (complete_all (is_begun_in folder) files is_writing all),
+  complete_unlike files is_writing (names_used used (names_of files) others is).unlike,
+)
+
 pub hold_cleared : (folder : List ℕ) (files : List Begun) (is_writing : Bool) (made : Option (List ℕ)) (paths : List (List ℕ)) (before after : List Deed) → list_all (is_begun_in folder) files ≡ true → list_all (is_temporary_file folder) paths ≡ true → Clears made paths before after
     → held_in folder after (complete_names files is_writing) ≡ held_in folder before (complete_names files is_writing)
 hold_cleared folder files is_writing made paths before after begun all clears =
@@ -390,22 +395,6 @@ pushed_at (one ∷ next ∷ files) its =
 
 pub pushed_last : (files now : List Begun) (its : Begun) → now ≡ files ++ its ∷ [] → last_name now ≡ string_bytes its.name
 pushed_last files now its is = ap (λ (fs : List Begun). last_name fs) is ∙ ap (λ (o : Option Begun). option_map_or (λ it. string_bytes it.name) o []) (pushed_at files its)
-
--- what is known stays known
-pub kept_known : (old new : Option (List ℕ)) (bytes : List ℕ) → Keeps old new → old ≡ Some bytes → new ≡ Some bytes
-kept_known old new bytes keeps is = by_new new (subst (λ (o : Option (List ℕ)). Keeps o new) is keeps)
-  where
-    by_new : (o : Option (List ℕ)) → Keeps (Some bytes) o → o ≡ Some bytes
-    by_new None keeps = absurd keeps
-    by_new (Some xs) keeps = ap Some keeps
-
-pub completes_known : (is_done : Bool) (contents known : Option (List ℕ)) (old new : List (Option (List ℕ))) → contents ≡ known → Completes is_done contents old new → Completes is_done known old new
-completes_known is_done contents known old new is told = subst (λ (o : Option (List ℕ)). Completes is_done o old new) is told
-
--- what was seen of a path
-pub allows_held : (image : Option FileId) (is_forced : Bool) (path : List ℕ) (why : Option Refused) (before after : List Deed) → Allows image is_forced path why before after → held after ≡ held before
-allows_held image forced path why before after (is_the_image found e g is) = ap held is
-allows_held image forced path why before after (is_looked_at found kind e g is) = ap held is
 
 pub made_held : (path : List ℕ) (answer : Answer) (before after : List Deed) → after ≡ MakesFolder path answer ∷ before → held after ≡ held before
 made_held path Done before after is = ap held is

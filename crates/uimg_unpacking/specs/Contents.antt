@@ -1,5 +1,5 @@
 -- What files hold by the calls that were made, so far as the calls show it. None: that is not known.
-use Rattle.std.specs.Prelude.{ℕ, List, [], ◌∷◌, ◌++◌, map, codes, bytes_eq, Bool, true, ◌&&◌, not, Option, Some, None, if◌then◌else◌}
+use Rattle.std.specs.Prelude.{ℕ, List, [], ◌∷◌, ◌++◌, map, codes, bytes_eq, Bool, true, ◌&&◌, not, Option, None, if◌then◌else◌}
 use Rattle.std.specs.List.{list_any}
 use Rattle.uimg_unpacking.specs.Deeds.{Done, Deed, Creates, Closes, Links, Renames, Removes, RemovesAll, Overwrites, LendsShelf}
 

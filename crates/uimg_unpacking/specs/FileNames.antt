@@ -27,14 +27,17 @@ image_name number = codes "image-" ++ decimal number
 abbrev pub is_among : List (List ℕ) → List ℕ → Bool
 is_among names name = list_any (λ known. bytes_eq (map to_ascii_lowercase name) (map to_ascii_lowercase known)) names
 
--- The first of so many numbers whose name is free. If none is, there is no name.
+-- the first of so many numbers whose name is free; the empty name if none is
 unfoldable pub first_free : List (List ℕ) → ℕ → ℕ → List ℕ
 first_free names number zero = []
 first_free names number (suc more) =
     if is_among names (image_name number) then first_free names (suc number) more else image_name number
 
--- The name of the file of an image, behind files of these names: that of the image if it is a file name and free, or
--- else that of the file's number, or of the first number after it that is free, of a hundred.
+-- whether the file of an image has its name, after files of these names
+abbrev pub keeps_name : List (List ℕ) → List ℕ → Bool
+keeps_name names image = is_file_name image && not (is_among names image)
+
+-- The name of the file of an image, after files of these names: that of the image if it can be, or else that of the
+-- file's number, or of the next free one. A hundred numbers are tried.
 unfoldable pub file_name : List (List ℕ) → List ℕ → List ℕ
-file_name names image =
-    if is_file_name image && not (is_among names image) then image else first_free names (length names) 100
+file_name names image = if keeps_name names image then image else first_free names (length names) 100

@@ -1,21 +1,22 @@
 -- What the files hold that a FIT image was unpacked to.
 use Rattle.std.specs.Prelude.{◌≡◌, ⊤, ℕ, List, [], ◌∷◌, map, Bool, true, false, Option, Some, None, Result, Ok, Err}
+use Rattle.std.specs.List.{list_all}
 use Rattle.uimg_fit_base.specs.declared.fault.Fault.{Fault}
 use Rattle.uimg_fit_checking.specs.Unpacking.{Take, kept, refused, UnpackOutcome, taken, overlaps, unpack_of}
-use Rattle.uimg_unpacking.specs.Contents.{held_in}
+use Rattle.uimg_unpacking.specs.Contents.{differ, held_in}
 use Rattle.uimg_unpacking.specs.Deeds.{Deed}
 use Rattle.uimg_unpacking.specs.Ends.{asked_name}
-use Rattle.uimg_unpacking.specs.FileNames.{file_name}
+use Rattle.uimg_unpacking.specs.FileNames.{file_name, is_file_name}
 use Rattle.uimg_unpacking.specs.declared.unpacking.Ended.{Ended}
 use Rattle.uimg_unpacking.specs.declared.unpacking.Ended.TheVariants.{Kept, Refused, NoImage, Stopped, Troubled}
 use Rattle.uimg_unpacking.specs.declared.unpacking.Unpacking.{Unpacking}
 
--- the names of the files of payloads that are kept, behind files of some names; a refused one takes a name too
-abbrev pub kept_names : List (List ℕ) → List Take → List (List ℕ)
-kept_names names [] = []
-kept_names names (kept image bytes vouched ∷ takes) =
-    file_name names image ∷ kept_names (file_name names image ∷ names) takes
-kept_names names (refused image told ∷ takes) = kept_names (file_name names image ∷ names) takes
+-- the names of the files of payloads that are kept, after files of some names; a refused one takes a name too
+abbrev pub names_of_kept : List (List ℕ) → List Take → List (List ℕ)
+names_of_kept names [] = []
+names_of_kept names (kept image bytes vouched ∷ takes) =
+    file_name names image ∷ names_of_kept (file_name names image ∷ names) takes
+names_of_kept names (refused image told ∷ takes) = names_of_kept (file_name names image ∷ names) takes
 
 -- their bytes
 abbrev pub kept_bytes : List Take → List (List ℕ)
@@ -41,10 +42,16 @@ are_kept asked NoImage = false
 are_kept asked (Stopped fault) = false
 are_kept asked (Troubled trouble) = false
 
--- By the calls that were made, each file of a folder that has the name of a kept payload holds its bytes.
+-- By the calls that were made, the files of a folder that have the names of the kept payloads hold their bytes. These
+-- names are file names, and differ.
+pub record Holds (folder : List ℕ) (takes : List Take) (calls : List Deed) : Type 0 where
+  pub are_names : list_all is_file_name (names_of_kept [] takes) ≡ true
+  pub apart : differ (names_of_kept [] takes) ≡ true
+  pub hold : held_in folder calls (names_of_kept [] takes) ≡ map Some (kept_bytes takes)
+
 abbrev pub FillsIf : List ℕ → Option (List Take) → List Deed → Type 0
 FillsIf folder None calls = ⊤
-FillsIf folder (Some takes) calls = held_in folder calls (kept_names [] takes) ≡ map Some (kept_bytes takes)
+FillsIf folder (Some takes) calls = Holds folder takes calls
 
 -- At such an end the files of the kept payloads hold their bytes, unless payloads overlap.
 abbrev pub Fills : Unpacking → List ℕ → Ended → List Deed → Type 0

@@ -3,7 +3,7 @@ use Rattle.std.specs.Prelude.{◌≡◌, ◌⊎◌, ℕ, List, [], ◌∷◌, �
 use Rattle.uimg_fit_checking.specs.Unpacking.{Take, kept, refused}
 use Rattle.uimg_fit_checking.specs.declared.checking.Finding.TheVariants as finding
 use Rattle.uimg_unpacking.specs.FileNames.{file_name}
-use Rattle.uimg_unpacking.specs.Filling.{kept_names, kept_bytes}
+use Rattle.uimg_unpacking.specs.Filling.{names_of_kept, kept_bytes}
 use Rattle.uimg_unpacking.specs.Refusals.{last_name}
 use Rattle.uimg_unpacking.specs.Staged.{complete_names}
 use Rattle.uimg_unpacking.specs.declared.begun.Begun.{Begun}
@@ -48,9 +48,9 @@ MayGive true one old new = new ≡ old ++ one ∷ []
 MayGive false one old new = (new ≡ old) ⊎ (new ≡ old ++ one ∷ [])
 
 -- the name that was noted last
-abbrev pub last_noted : List (List ℕ) → List ℕ
-last_noted [] = []
-last_noted (name ∷ names) = name
+abbrev pub newest : List (List ℕ) → List ℕ
+newest [] = []
+newest (name ∷ names) = name
 
 abbrev pub image_of : Take → List ℕ
 image_of (kept image bytes vouched) = image
@@ -64,7 +64,7 @@ names_after names (one ∷ takes) = names_after (file_name names (image_of one) 
 -- After some payloads, these names are given. The complete files have those of the kept payloads, and the file that is
 -- being written has that of the next one, of this image.
 pub record AreNamed (files : List Begun) (is_writing : Bool) (takes : List Take) (names : List (List ℕ)) (image : List ℕ) : Type 0 where
-  pub whole : complete_names files is_writing ≡ kept_names [] takes
+  pub whole : complete_names files is_writing ≡ names_of_kept [] takes
   pub given : names
       ≡ (if is_writing then file_name (names_after [] takes) image ∷ names_after [] takes else names_after [] takes)
   pub next : is_writing ≡ true → last_name files ≡ file_name (names_after [] takes) image

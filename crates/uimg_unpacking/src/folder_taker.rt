@@ -6,7 +6,7 @@ ghost use Rattle.uimg_fit_checking.specs.Unpacking.{as_bytes, kept, refused};
 ghost use Rattle.uimg_fit_checking.specs.declared.checking.Finding.TheVariants as finding;
 ghost use Rattle.uimg_unpacking.specs.Contents.{held_in};
 ghost use Rattle.uimg_unpacking.specs.FileNames.{is_among};
-ghost use Rattle.uimg_unpacking.specs.Given.{AreNamed, AreWhole, MayGive, last_noted, noted_takes, seen_of, takes_given};
+ghost use Rattle.uimg_unpacking.specs.Given.{AreNamed, AreWhole, MayGive, newest, noted_takes, seen_of, takes_given};
 ghost use Rattle.uimg_unpacking.specs.Limiting.{claims_by, exceeded};
 ghost use Rattle.uimg_unpacking.specs.Objects.{told_of, kept_told, refused_told};
 ghost use Rattle.uimg_unpacking.specs.Places.{Obeys, terms_of};
@@ -29,7 +29,7 @@ use std::io::Write;
 use uimg_base::{OpenedNames, PutFault};
 use uimg_fit_checking::{NodeName, Refusal, Taker, Vouched};
 
-/// What is noted of a payload that is kept, and of a refused one.
+// The mark of a payload that is kept, and of a refused one.
 const KEPT: &[u8] = b"kept";
 
 const REFUSED: &[u8] = b"";
@@ -49,15 +49,15 @@ pub(crate) struct FolderTaker<'w, 'a, 'c, W: World, M: Task, O: Write + Drop> {
     // The names of the files that were checked, then of those that were begun: the same ones.
     looked: Names,
     taken: Names,
-    // For contracts alone: the names of the images whose files were begun, and of each payload that
-    // was kept or refused the name of its image and a mark.
+    // For contracts alone: the images for which a shelf was requested.
     begun: OpenedNames,
+    // For contracts alone: of each payload that was kept or refused, its image's name, then a mark.
     given: OpenedNames,
     claims: Claims,
     trouble: Option<Trouble>,
     ghost unnamed: { staging.is_naming ≡ false },
     ghost whole: { AreWhole staging.files.items staging.is_writing (noted_takes given.names) },
-    ghost named: { is_none trouble ≡ true → AreNamed staging.files.items staging.is_writing (noted_takes given.names) taken.named.names (last_noted begun.names) },
+    ghost named: { is_none trouble ≡ true → AreNamed staging.files.items staging.is_writing (noted_takes given.names) taken.named.names (newest begun.names) },
     ghost apart: { is_none trouble ≡ true → uses_names (is_among taken.named.names) (names_of staging.files.items) (names_of staging.outdated.items) ≡ true },
     ghost limits: { (claims.claimed.limits.files, claims.claimed.limits.bytes) ≡ M.limits },
     ghost fits: { is_none trouble ≡ true → is_none (exceeded claims.claimed) ≡ true },
@@ -154,7 +154,7 @@ impl<'w, 'a, 'c, W: World, M: Task, O: Write + Drop> FolderTaker<'w, 'a, 'c, W, 
         file: NewFile<'c, W::File>,
         vouched: Option<Vouched>,
     ) -> Result<(), Trouble>
-        requires { last_noted self.old.begun.names ≡ as_bytes name.now }
+        requires { newest self.old.begun.names ≡ as_bytes name.now }
         ensures folder { self.new.staging.folder ≡ self.old.staging.folder }
         ensures taken { self.new.taken ≡ self.old.taken }
         ensures claims { self.new.claims ≡ self.old.claims }
@@ -202,7 +202,7 @@ impl<'w, 'a, 'c, W: World, M: Task, O: Write + Drop> FolderTaker<'w, 'a, 'c, W, 
     }
 
     fn throw_away(&mut self, name: &NodeName, refusal: Refusal) -> Result<(), Trouble>
-        requires { last_noted self.old.begun.names ≡ as_bytes name.now }
+        requires { newest self.old.begun.names ≡ as_bytes name.now }
         ensures folder { self.new.staging.folder ≡ self.old.staging.folder }
         ensures taken { self.new.taken ≡ self.old.taken }
         ensures claims { self.new.claims ≡ self.old.claims }
@@ -289,7 +289,7 @@ impl<'w, 'a, 'c, W: World, M: Task, O: Write + Drop> Taker for FolderTaker<'w, '
 
     ghost claimed = { λ t. claims_by t.claims.noted.names };
 
-    ghost shelved = { λ t. last_noted t.begun.names };
+    ghost shelved = { λ t. newest t.begun.names };
 
     ghost begun = { λ t. nat_lt 0 (length t.taken.named.names) };
 

@@ -1,9 +1,9 @@
 //! The names of files, each used once.
 
-ghost use Rattle.std.specs.Prelude.{◌≡◌, ◌∷◌, ◌&&◌, [], length, map, not, IfOk, MatchOption, string_bytes, true, false, if◌then◌else◌};
+ghost use Rattle.std.specs.Prelude.{◌≡◌, ◌∷◌, [], length, map, not, IfOk, MatchOption, string_bytes, true, false, if◌then◌else◌};
 ghost use Rattle.std.specs.Char.{to_ascii_lowercase};
 ghost use Rattle.uimg_fit_checking.specs.Unpacking.{as_bytes};
-ghost use Rattle.uimg_unpacking.specs.FileNames.{file_name, first_free, is_among, is_file_name};
+ghost use Rattle.uimg_unpacking.specs.FileNames.{file_name, first_free, is_among, keeps_name};
 ghost use Rattle.uimg_unpacking.specs.Names.{HasNames, Gives};
 
 use crate::file_names::is_file_name;
@@ -61,11 +61,9 @@ impl Names {
     // Returns the name of the image if it is a file name and was not used.
     fn own(&mut self, name: &NodeName) -> Result<Option<String>, AllocError>
         ensures { IfOk result (λ it. MatchOption it
-            ((is_file_name (as_bytes name.now)
-            && not (is_among self.old.named.names (as_bytes name.now))) ≡ false
+            (keeps_name self.old.named.names (as_bytes name.now) ≡ false
             × self.new.named.names ≡ self.old.named.names)
-            (λ text. (is_file_name (as_bytes name.now)
-            && not (is_among self.old.named.names (as_bytes name.now))) ≡ true
+            (λ text. keeps_name self.old.named.names (as_bytes name.now) ≡ true
             × Gives (as_bytes name.now) (string_bytes text)
             self.old.named.names self.new.named.names)) }
     {

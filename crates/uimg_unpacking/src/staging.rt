@@ -311,7 +311,8 @@ impl<'w, 'a, 'c, W: World, M: Task> Staging<'w, 'a, 'c, W, M> {
         }
     }
 
-    /// If the file is outdated, what it was to replace is removed with the names.
+    /// Removes the last file, which gets no name. If it is outdated, what it was to replace is removed
+    /// with the names.
     pub(crate) fn refuse_last(&mut self, is_outdated: bool) -> Result<(), Trouble>
         requires { self.old.is_writing ≡ true }
         ensures folder { self.new.folder ≡ self.old.folder }

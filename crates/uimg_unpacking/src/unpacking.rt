@@ -71,7 +71,8 @@ pub enum Ended {
 ///
 /// A file has the name of its image if that is a file name (`is_file_name`) and no earlier file has
 /// the same name in lower case. Otherwise it is `image-` with its number among the taken payloads,
-/// counted from 0, or with the first free number after it. Nothing is written in these cases:
+/// counted from 0, or with the next free number. A refused payload takes a name and a number too.
+/// Nothing is written in these cases:
 /// - something exists at one of these paths, or, if files are replaced, a folder;
 /// - one of them leads to the image;
 /// - there are more files or bytes than the limits allow.
@@ -81,8 +82,9 @@ pub enum Ended {
 /// `keeps_good` keeps the good ones, and removes what refused ones were to replace.
 ///
 /// Over an honest source it ends as the definition says of the image's bytes (`end_of_file`),
-/// unless a read fails, memory runs out or it returns a trouble. Where files are kept, and
-/// contracts know what new files hold, these are exactly the bytes of the kept payloads, in order.
+/// unless a read fails, memory runs out or it returns a trouble. Where files are kept, the file of
+/// each kept payload has the name that `names_of_kept` gives, and holds exactly its bytes, if
+/// contracts know what new files hold.
 pub fn unpack<W: World, S: Source, O: Write + Drop>(
     world: &mut W,
     asked: &Unpacking<'_>,

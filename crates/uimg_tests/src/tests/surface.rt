@@ -1,5 +1,5 @@
-//! The calls of `uimg_surface`, each tried once, a file for each crate. Faults are matched by all
-//! their names.
+//! The calls of `uimg_surface` on images, each tried once, a file for each crate. Faults are matched
+//! by all their names.
 
 mod base;
 mod blob;

@@ -1,14 +1,18 @@
-use Rattle.std.proofs.Common.{rules, refl, ◌≡◌, ◌∙◌, true, false, ℕ, List, length, is_none, ap, sym, Option}
+use Rattle.std.proofs.Common.{rules, refl, ◌≡◌, ◌∙◌, ℕ, List, [], length, is_none, ap, sym}
+use Rattle.std.specs.List.{list_all}
 use Rattle.std.specs.Option.{option_map}
 use Rattle.uimg_fit_checking.specs.Unpacking.{as_bytes}
 use Rattle.uimg_unpacking.specs.declared.folder.Folder.{Folder}
-use Rattle.uimg_unpacking.specs.{Ends.is_whole, Plan.gives_names, Staged.staged}
+use Rattle.uimg_unpacking.specs.{Ends.is_whole, Plan.gives_names, Staged.{complete_names, names_of, staged}}
 use Rattle.uimg_fit_checking.specs.Claiming.{claims_of}
-use Rattle.uimg_unpacking.specs.Contents.{held_in}
+use Rattle.uimg_unpacking.specs.Contents.{differ, held_in}
+use Rattle.uimg_unpacking.specs.FileNames.{is_among, is_file_name}
+use Rattle.uimg_unpacking.specs.Filling.{names_of_kept}
 use Rattle.uimg_unpacking.specs.Given.{noted_takes, takes_given}
 use Rattle.uimg_unpacking.specs.Limiting.{claims_by}
 use Rattle.uimg_unpacking.proofs.FillingLaws.{fills}
 use Rattle.uimg_unpacking.proofs.GivenLaws.{as_many}
+use Rattle.uimg_unpacking.proofs.StagedLaws.{complete_facts}
 use Rattle.uimg_unpacking.proofs.LimitLaws.{all_claimed, fits_by, fits_for}
 use Rattle.uimg_unpacking.proofs.EndLaws.{ends_by_file, whole_at}
 use Rattle.uimg_unpacking.proofs.Placing.{obeys_naming}
@@ -53,5 +57,13 @@ returns-clause-filled g c = λ honest knows.
     (ap (λ (ns : List (List ℕ)). takes_given ns (staged (g.W.World.trace c.new-taker.result.staging.world.now) c.new-taker.result.staging.files.items c.new-taker.result.staging.is_writing)) c.new-taker.ensures.empty)
     (c.unpack-unpacked.ensures.place ∙ ap (λ (f : Folder). f.path.now) c.new-taker.ensures.folder)
     (c.unpack-unpacked.ensures.told honest knows) refl (as_many before staging.files.items staging.is_writing noted taker.whole) c.how_ended.ensures
-    (λ names none. ap (held_in staging.folder.path.now (g.W.World.trace c.end-world.result.0.now)) (sym (taker.named (c.end-world.ensures.none (ap is_none none))).whole)
-    ∙ c.end-world.ensures.holds (search (rules, names)) none)
+    (λ names none.
+    let no = c.end-world.ensures.none (ap is_none none) in
+    let kept = complete_names staging.files.items staging.is_writing in
+    let named : kept ≡ names_of_kept [] noted = (taker.named no).whole in
+    let facts = complete_facts staging.folder.path.now staging.files.items staging.is_writing (names_of staging.outdated.items) (is_among taker.taken.named.names) staging.files_inside (taker.apart no) in
+    record {
+      are_names = ap (list_all is_file_name) (sym named) ∙ facts.0;
+      apart = ap differ (sym named) ∙ facts.1;
+      hold = ap (held_in staging.folder.path.now (g.W.World.trace c.end-world.result.0.now)) (sym named) ∙ c.end-world.ensures.holds (search (rules, names)) none;
+    })

@@ -1,4 +1,4 @@
-use Rattle.std.proofs.Common.{rules, ◌≡◌, ◌∙◌, sym, subst, ap, map, string_bytes, true, is_none}
+use Rattle.std.proofs.Common.{rules, ◌≡◌, ◌∙◌, subst, map, string_bytes, true, is_none}
 use Rattle.std.specs.List.{list_all}
 use Rattle.std.specs.Option.{option_map}
 use Rattle.uimg_unpacking.specs.{Contents.held_in, FileNames.is_among, Places.is_temporary_file, Staged.{complete_names, staged}, Telling.is_named}

@@ -1,6 +1,6 @@
-use Rattle.std.proofs.Common.{rules, ◌≡◌, ◌∙◌, [], List, None, true, is_ok, ap, ap₂, subst, sym}
+use Rattle.std.proofs.Common.{◌∙◌, List, None, true, is_ok, ap₂, subst, sym}
 use Rattle.uimg_fit_checking.specs.Unpacking.{Take, as_bytes, kept}
-use Rattle.uimg_unpacking.specs.{FileNames.is_among, Given.{AreNamed, AreWhole, MayGive, last_noted, noted_takes, takes_given}, Staged.{names_of, staged, uses_names}}
+use Rattle.uimg_unpacking.specs.{FileNames.is_among, Given.{AreNamed, AreWhole, MayGive, newest, noted_takes, takes_given}, Staged.{names_of, staged, uses_names}}
 use Rattle.uimg_unpacking.proofs.GivenLaws.{as_many, given_kept, kept_named, kept_whole, noted_kept}
 use Rattle.uimg_unpacking.proofs.folder_taker.FolderTaker.finish.Goals as goal
 
@@ -15,8 +15,8 @@ invariant_of-self-2 g c =
     record {
       unnamed = c.complete.ensures.naming ∙ it.unnamed;
       whole = subst (λ (ts : List Take). AreWhole now.files.items now.is_writing ts) (sym noted) (kept_whole old.files.items now.files.items old.is_writing now.is_writing (noted_takes it.given.names) image ok.complete it.whole);
-      named = λ no. subst (λ (ts : List Take). AreNamed now.files.items now.is_writing ts it.taken.named.names (last_noted it.begun.names)) (sym noted)
-          (kept_named old.files.items now.files.items old.is_writing now.is_writing (noted_takes it.given.names) it.taken.named.names (last_noted it.begun.names) image ok.writing.0 ok.writing.1 c.requires ok.complete (it.named no));
+      named = λ no. subst (λ (ts : List Take). AreNamed now.files.items now.is_writing ts it.taken.named.names (newest it.begun.names)) (sym noted)
+          (kept_named old.files.items now.files.items old.is_writing now.is_writing (noted_takes it.given.names) it.taken.named.names (newest it.begun.names) image ok.writing.0 ok.writing.1 c.requires ok.complete (it.named no));
       apart = λ no. ap₂ (λ fs os. uses_names (is_among it.taken.named.names) (names_of fs.items) (names_of os.items)) c.complete.ensures.files c.complete.ensures.outdated ∙ it.apart no;
       limits = it.limits;
       fits = it.fits;

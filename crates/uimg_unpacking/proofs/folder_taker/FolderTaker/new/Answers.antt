@@ -1,5 +1,5 @@
 use Rattle.std.proofs.Common.{◌∙◌, ℕ, List, sym, subst, is_none, ap, ap₂}
-use Rattle.uimg_unpacking.specs.{FileNames.is_among, Given.{AreNamed, AreWhole, last_noted, noted_takes}, Limiting.exceeded, Staged.{names_of, uses_names}}
+use Rattle.uimg_unpacking.specs.{FileNames.is_among, Given.{AreNamed, AreWhole, newest, noted_takes}, Limiting.exceeded, Staged.{names_of, uses_names}}
 use Rattle.uimg_unpacking.specs.declared.begun.Begun.{Begun}
 use Rattle.uimg_unpacking.proofs.{GivenLaws.{none_named, none_whole}, LimitLaws.none_exceeds, NameUses.none_used}
 use Rattle.uimg_unpacking.proofs.folder_taker.FolderTaker.new.Goals as goal
@@ -8,7 +8,7 @@ pub invariant_of-result : goal.invariant_of-result
 invariant_of-result g c =
     let it = c.new.result in
     let names = c.new-4.result.named.names in
-    let image = last_noted c.new-5.result.names in
+    let image = newest c.new-5.result.names in
     let none = c.new.ensures.none in
     record {
       unnamed = c.new.ensures.unnamed;

@@ -1,7 +1,7 @@
-use Rattle.std.proofs.Common.{rules, ◌≡◌, ◌∙◌, [], List, None, true, is_ok, ap, ap₂, subst, sym}
+use Rattle.std.proofs.Common.{rules, ◌≡◌, ◌∙◌, [], List, true, is_ok, ap₂, subst, sym}
 use Rattle.uimg_fit_checking.specs.Unpacking.{Take, as_bytes, refused}
 use Rattle.uimg_fit_checking.specs.declared.checking.Finding.TheVariants as finding
-use Rattle.uimg_unpacking.specs.{FileNames.is_among, Given.{AreNamed, AreWhole, MayGive, last_noted, noted_takes, takes_given}, Staged.{names_of, staged, uses_names}}
+use Rattle.uimg_unpacking.specs.{FileNames.is_among, Given.{AreNamed, AreWhole, MayGive, newest, noted_takes, takes_given}, Staged.{names_of, staged, uses_names}}
 use Rattle.uimg_unpacking.proofs.GivenLaws.{given_refused, noted_refused, refused_named, refused_whole}
 use Rattle.uimg_unpacking.proofs.NameUses.{uses_fewer}
 use Rattle.uimg_unpacking.proofs.folder_taker.FolderTaker.throw_away.Goals as goal
@@ -18,8 +18,8 @@ invariant_of-self g c =
     record {
       unnamed = same.naming ∙ it.unnamed;
       whole = subst (λ (ts : List Take). AreWhole now.files.items now.is_writing ts) (sym noted) (refused_whole old.files.items now.files.items old.is_writing now.is_writing (noted_takes it.given.names) image (finding.Weak []) same.complete it.whole);
-      named = λ no. subst (λ (ts : List Take). AreNamed now.files.items now.is_writing ts it.taken.named.names (last_noted it.begun.names)) (sym noted)
-          (refused_named old.files.items now.files.items old.is_writing now.is_writing (noted_takes it.given.names) it.taken.named.names (last_noted it.begun.names) image (finding.Weak []) writing same.writing c.requires same.complete (it.named no));
+      named = λ no. subst (λ (ts : List Take). AreNamed now.files.items now.is_writing ts it.taken.named.names (newest it.begun.names)) (sym noted)
+          (refused_named old.files.items now.files.items old.is_writing now.is_writing (noted_takes it.given.names) it.taken.named.names (newest it.begun.names) image (finding.Weak []) writing same.writing c.requires same.complete (it.named no));
       apart = λ no. uses_fewer (is_among it.taken.named.names) (names_of old.files.items) (names_of now.files.items) (names_of old.outdated.items) (names_of now.outdated.items) same.names (it.apart no);
       limits = it.limits;
       fits = it.fits;
@@ -37,8 +37,8 @@ invariant_of-self-2 g c =
     record {
       unnamed = same.naming ∙ it.unnamed;
       whole = subst (λ (ts : List Take). AreWhole now.files.items now.is_writing ts) (sym noted) (refused_whole old.files.items now.files.items old.is_writing now.is_writing (noted_takes it.given.names) image (finding.Weak []) same.complete it.whole);
-      named = λ no. subst (λ (ts : List Take). AreNamed now.files.items now.is_writing ts it.taken.named.names (last_noted it.begun.names)) (sym noted)
-          (refused_named old.files.items now.files.items old.is_writing now.is_writing (noted_takes it.given.names) it.taken.named.names (last_noted it.begun.names) image (finding.Weak []) writing same.writing c.requires same.complete (it.named no));
+      named = λ no. subst (λ (ts : List Take). AreNamed now.files.items now.is_writing ts it.taken.named.names (newest it.begun.names)) (sym noted)
+          (refused_named old.files.items now.files.items old.is_writing now.is_writing (noted_takes it.given.names) it.taken.named.names (newest it.begun.names) image (finding.Weak []) writing same.writing c.requires same.complete (it.named no));
       apart = λ no. uses_fewer (is_among it.taken.named.names) (names_of old.files.items) (names_of now.files.items) (names_of old.outdated.items) (names_of now.outdated.items) same.names (it.apart no);
       limits = it.limits;
       fits = it.fits;

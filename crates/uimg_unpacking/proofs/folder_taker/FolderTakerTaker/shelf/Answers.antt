@@ -1,7 +1,7 @@
 use Rattle.std.proofs.Common.{◌≡◌, ◌∙◌, ℕ, List, length, sym, subst, ap, string_bytes, true, is_ok, Vec}
 use Rattle.std.specs.declared.alloc.Global.{Global}
 use Rattle.uimg_fit_checking.specs.Unpacking.{as_bytes}
-use Rattle.uimg_unpacking.specs.{FileNames.is_among, Given.{AreNamed, last_noted, noted_takes}, Staged.{names_of, uses_names}}
+use Rattle.uimg_unpacking.specs.{FileNames.is_among, Given.{AreNamed, newest, noted_takes}, Staged.{names_of, uses_names}}
 use Rattle.uimg_unpacking.specs.declared.begun.Begun.{Begun}
 use Rattle.uimg_unpacking.proofs.GivenLaws.{among_it, among_more, begun_named, none_kept, on_ok}
 use Rattle.uimg_unpacking.proofs.LimitLaws.{fits_kept}
@@ -18,7 +18,7 @@ invariant_of-self g c =
     let new = c.next.new.self.named.names in
     let name = string_bytes c.in-Ok.file in
     let gives = c.in-Ok.ensures in
-    let image : last_noted c.note.new.self.names ≡ as_bytes c.args.name.now = ap last_noted c.note.ensures ∙ c.bytes.ensures in
+    let image : newest c.note.new.self.names ≡ as_bytes c.args.name.now = ap newest c.note.ensures ∙ c.bytes.ensures in
     record {
       unnamed = told.naming ∙ it.unnamed;
       whole = ap (λ (ns : List (List ℕ)). length ns) told.complete ∙ it.whole;
@@ -26,7 +26,7 @@ invariant_of-self g c =
           let ok = none_kept c.begin-begun.result it.trouble c.kept.new.trouble c.kept.ensures.noted none in
           let writing = on_ok _ c.begin-begun.result ok.0 told.writing in
           subst (λ (i : List ℕ). AreNamed now.files.items now.is_writing (noted_takes it.given.names) new i) (sym image)
-          (begun_named old.files.items now.files.items old.is_writing now.is_writing (noted_takes it.given.names) names new (last_noted it.begun.names) (as_bytes c.args.name.now) name writing.0 writing.1 told.complete writing.2 gives.wanted_is gives.given (it.named ok.1));
+          (begun_named old.files.items now.files.items old.is_writing now.is_writing (noted_takes it.given.names) names new (newest it.begun.names) (as_bytes c.args.name.now) name writing.0 writing.1 told.complete writing.2 gives.wanted_is gives.given (it.named ok.1));
       apart = λ none.
           let ok = none_kept c.begin-begun.result it.trouble c.kept.new.trouble c.kept.ensures.noted none in
           subst (λ (o : Vec Begun Global). uses_names (is_among new) (names_of now.files.items) (names_of o.items) ≡ true) (sym told.outdated)

@@ -1,4 +1,3 @@
-use Rattle.std.proofs.Common.{rules, ◌≡◌, subst, false, string_bytes, IfOk, Result, Option}
 use Rattle.uimg_unpacking.proofs.NameLaws.{gives_own, gives_number, some_by, none_by, ok_by}
 use Rattle.uimg_unpacking.proofs.names.Names.next.Goals as goal
 

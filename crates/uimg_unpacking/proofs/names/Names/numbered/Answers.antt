@@ -1,4 +1,4 @@
-use Rattle.std.proofs.Common.{rules, refl, ◌≡◌, ◌∙◌, ◌+◌, length, ap, sym, subst, string_bytes, true, false, arith}
+use Rattle.std.proofs.Common.{rules, refl, ◌≡◌, ◌∙◌, ◌+◌, length, ap, sym, string_bytes, true, false, arith}
 use Rattle.uimg_unpacking.specs.FileNames.{first_free, image_name, is_among, is_file_name}
 use Rattle.uimg_unpacking.proofs.NameLaws.{found_free, tried_more}
 use Rattle.uimg_unpacking.proofs.Placing.{image_name as is_name}

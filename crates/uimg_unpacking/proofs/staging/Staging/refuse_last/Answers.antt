@@ -1,4 +1,4 @@
-use Rattle.std.proofs.Common.{rules, refl, ◌≡◌, ◌∙◌, ◌++◌, ◌∷◌, [], ap, true, is_ok, string_bytes, Vec}
+use Rattle.std.proofs.Common.{rules, ◌≡◌, ◌∙◌, ◌++◌, ◌∷◌, [], ap, true, is_ok, string_bytes, Vec}
 use Rattle.std.specs.declared.alloc.Global.{Global}
 use Rattle.uimg_unpacking.specs.Places.{is_begun_in}
 use Rattle.uimg_unpacking.specs.Staged.{last_gone, last_noted, names_of}
