@@ -281,3 +281,10 @@ not_hash role h = grind arith
 
 pub not_signature : (role : Role) → (role ≡ Signature → ⊥) → false ≡ is_signature_role role
 not_signature role h = grind arith
+
+-- a number by its word
+pub same_number : (a b : Option ℕ) → number_word a ≡ number_word b → a ≡ b
+same_number (Some x) (Some y) h = ap (λ (n : ℕ). (let o : Option ℕ = Some n in o)) (omega (arith, h))
+same_number (Some x) None h = absurd (omega (arith, h))
+same_number None (Some y) h = absurd (omega (arith, h))
+same_number None None h = refl

@@ -16,17 +16,17 @@ const VERSION: u32 = 17;
 
 /// The blocks of a blob, as offsets in bytes from the start of the file.
 #[derive(Clone, Copy, Debug, PartialEq, Eq)]
-pub(crate) struct Extent {
+pub struct Extent {
     /// The size of the blob in bytes.
-    pub(crate) totalsize: u64,
+    pub totalsize: u64,
     /// The offset of the structure block.
-    pub(crate) structure: u64,
+    pub structure: u64,
     /// The end of the structure block.
-    pub(crate) structure_end: u64,
+    pub structure_end: u64,
     /// The offset of the strings block.
-    pub(crate) strings: u64,
+    pub strings: u64,
     /// The size of the strings block in bytes.
-    pub(crate) strings_size: u64,
+    pub strings_size: u64,
 }
 
 #[tactic(auto, unfolding(crate::specs::Blob::blocks))]

@@ -5,7 +5,7 @@ ghost use Rattle.uimg_blob_reading.specs.Labels.{label_of};
 
 /// What a node's name says about its role.
 #[derive(Clone, Copy, Debug, PartialEq, Eq)]
-pub(crate) enum Label {
+pub enum Label {
     Images,
     Configurations,
     /// A name that begins with `hash`.

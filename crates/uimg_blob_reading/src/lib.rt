@@ -27,11 +27,14 @@ mod states;
 mod texts;
 mod tokens;
 
-pub use extent::BLOB_MAGIC;
+pub use extent::{BLOB_MAGIC, Extent};
 pub use fault::{BlobFault, IndexFault};
 pub use indexing::index;
 pub use keys::Key;
+pub use labels::Label;
 pub use nodes::Blob;
 pub use places::PropertyPlace;
-pub use properties::{PropertiesFault, properties_of};
+pub use properties::{PropertiesFault, extent_again, properties_of};
+pub use roles::Role;
 pub use texts::{put_text, short_text};
+pub use tokens::{ReadToken, read_token};

@@ -6,7 +6,7 @@ ghost use Rattle.uimg_blob_reading.specs.{Tokens.Property, Roles.{is_hash_role, 
 ghost use Rattle.uimg_blob_reading.specs.Kept.{span_word, value_word, entry_under};
 ghost use Rattle.uimg_blob_reading.specs.Indexed.{OfRow, WhereIndexed, name_span, property_span, value_span, value_of};
 
-use crate::entries::{END, NAME, PARENT, ROLE, VALUES, role_in};
+use crate::entries::{END, NAME, PARENT, ROLE, VALUES, number_in, role_in};
 use crate::keys::Key;
 use crate::roles::Role;
 use crate::slots::slot_of;
@@ -98,6 +98,22 @@ impl Blob {
     {
         let entry = room.entry(node);
         node_under(room, entry[END] as usize, entry[PARENT])
+    }
+
+    /// Returns what a node is by its place in the tree.
+    pub fn role<A: Allocator>(&self, room: &Room<A>, node: usize) -> Role
+        requires { node < length room.now.entries }
+        ensures { OfRow self.now room.now.entries node (λ row. result ≡ row.role) }
+    {
+        role_in(room.entry(node)[ROLE])
+    }
+
+    /// Returns the number of a node's parent, or `None` of the root.
+    pub fn parent<A: Allocator>(&self, room: &Room<A>, node: usize) -> Option<usize>
+        requires { node < length room.now.entries }
+        ensures { OfRow self.now room.now.entries node (λ row. result ≡ row.parent) }
+    {
+        number_in(room.entry(node)[PARENT])
     }
 
     /// Returns whether a node is a hash node: a child of an image or a configuration whose name

@@ -79,7 +79,12 @@ fn gather<S: Source, A: Allocator>(
     Ok(places)
 }
 
-fn extent_again<S: Source>(source: &mut S, totalsize: u32) -> Result<Extent, PropertiesFault>
+/// Reads the header of an indexed blob again and returns its blocks. It requests 40 bytes.
+///
+/// - `Read`: if and only if the read failed.
+/// - `Changed`: the header is no longer one that `index` takes, or its total size is another; only
+///   if the source does not have the blob that was indexed.
+pub fn extent_again<S: Source>(source: &mut S, totalsize: u32) -> Result<Extent, PropertiesFault>
     ensures uses { Asks 40 (is_unread result) (S.device source.old) (S.device source.new) }
     ensures inside { IfOk result (λ extent. IsInside extent (length (S.device source.old).bytes)) }
     ensures same { IfOk result (λ extent. extent.totalsize ≡ totalsize) }

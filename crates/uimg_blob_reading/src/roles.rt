@@ -2,7 +2,7 @@
 
 /// What a node is by its place in the tree.
 #[derive(Clone, Copy, Debug, PartialEq, Eq)]
-pub(crate) enum Role {
+pub enum Role {
     Root,
     Images,
     Image,

@@ -29,7 +29,7 @@ const FDT_END: u32 = 9;
 
 /// What is read of a token (Devicetree Specification, section 5.4.1).
 #[derive(Clone, Copy, Debug, PartialEq, Eq)]
-pub(crate) enum ReadToken {
+pub enum ReadToken {
     /// FDT_BEGIN_NODE: the length and the label of the node's name.
     BeginNode { length: u32, label: Label },
     /// FDT_BEGIN_NODE whose name is too long or truncated.
@@ -175,15 +175,15 @@ fn read_property<S: Source, A: Allocator>(
     }
 }
 
-// Reads the token at an offset in bytes from the start of the file: its word, at most 256 bytes of
-// a name, and a property's length and name offset, but no value.
-//
-// A token is `Stray` with `Truncated` if the structure block ends inside its word, and with
-// `BadToken` if the word is not a token. Returns `SourceFault` if a read failed. Requests at most
-// 268 bytes, and of an honest source at most the token's cost. What a token names is inside the
-// structure block, whatever the source returns.
+/// Reads the token at an offset in bytes from the start of the file: its word, at most 256 bytes of
+/// a name, and a property's length and name offset, but no value.
+///
+/// A token is `Stray` with `Truncated` if the structure block ends inside its word, and with
+/// `BadToken` if the word is not a token. Returns `SourceFault` if a read failed. Requests at most
+/// 268 bytes, and of an honest source at most the token's cost. What a token names is inside the
+/// structure block, whatever the source returns.
 #[tactic(auto, unfolding(crate::specs::Tokens::token_at))]
-pub(crate) fn read_token<S: Source, A: Allocator>(
+pub fn read_token<S: Source, A: Allocator>(
     source: &mut S,
     room: &mut Room<A>,
     extent: Extent,
