@@ -44,19 +44,19 @@ properties_met file = count_by is_prop (met file)
 abbrev pub nops_met : List ℕ → ℕ
 nops_met file = count_by is_nop (met file)
 
--- the length of a property's value if it is a text, otherwise 0
-abbrev pub text_of : Result Property BlobFault → ℕ
-text_of (Ok p) = if is_text p.name then length p.value else 0
-text_of (Err fault) = 0
+-- the length of a property's value if its name is that of a text, otherwise 0
+abbrev pub text_of : (List ℕ → Bool) → Result Property BlobFault → ℕ
+text_of texts (Ok p) = if texts p.name then length p.value else 0
+text_of texts (Err fault) = 0
 
 -- the length of a token's text
-abbrev pub text_length : Token → ℕ
-text_length (begin_node at name) = 0
-text_length (end_node at) = 0
-text_length (prop at property) = text_of property
-text_length (nop at) = 0
-text_length (last at) = 0
-text_length (stray at fault) = 0
+abbrev pub text_length : (List ℕ → Bool) → Token → ℕ
+text_length texts (begin_node at name) = 0
+text_length texts (end_node at) = 0
+text_length texts (prop at property) = text_of texts property
+text_length texts (nop at) = 0
+text_length texts (last at) = 0
+text_length texts (stray at fault) = 0
 
 -- the tokens before an offset
 unfoldable pub tokens_before : ℕ → List Token → List Token
@@ -69,13 +69,13 @@ sound_in (Ok t) ts = ts
 sound_in (Err e) ts = tokens_before e.1 ts
 
 -- the bytes of all texts that were read without fault
-abbrev pub texts_met : List ℕ → ℕ
-texts_met file = sum_by text_length (sound_in (tree file) (met file))
+abbrev pub texts_met : (List ℕ → Bool) → List ℕ → ℕ
+texts_met texts file = sum_by (text_length texts) (sound_in (tree file) (met file))
 
 -- the most bytes that are requested besides payloads
 abbrev pub meta : List ℕ → ℕ
 meta file =
-    64 + 1024 * (nodes_met file + properties_met file) + 4 * (texts_met file + nops_met file)
+    64 + 1024 * (nodes_met file + properties_met file) + 4 * (texts_met is_text file + nops_met file)
 
 -- the most bytes that indexing a blob requests: its header, a word and at most 256 bytes of a name
 -- for each token, and the words of lengths and ends

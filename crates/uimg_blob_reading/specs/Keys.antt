@@ -1,6 +1,7 @@
 -- The properties to which FIT gives a meaning (Flattened Image Tree format, "Root node", "'/images'
 -- node", "'/configurations' node").
-use Rattle.std.specs.{Prelude.{ℕ, List, [], ◌∷◌, Option, Bool, codes, find}, Borrow.Bor}
+use Rattle.std.specs.Prelude.{ℕ, List, [], ◌∷◌, Option, Bool, true, codes, find, if◌then◌else◌}
+use Rattle.std.specs.Borrow.{Bor}
 use Rattle.std.specs.{List.list_any, Option.option_map, Str.bytes_eq}
 use Rattle.uimg_blob_reading.specs.declared.keys.Key.{Key, TheVariants.{DataPosition, Algo, Value}}
 use Rattle.uimg_blob_reading.specs.declared.keys.Key.TheVariants.{Description, Timestamp, Data}
@@ -71,9 +72,13 @@ abbrev pub text_names : List (List ℕ)
 text_names =
     codes "description" ∷ codes "type" ∷ codes "arch" ∷ codes "os" ∷ codes "compression"
     ∷ codes "algo" ∷ codes "value"
-    ∷ codes "default" ∷ codes "kernel" ∷ codes "ramdisk" ∷ codes "fdt" ∷ codes "loadables"
-    ∷ codes "firmware" ∷ codes "fpga" ∷ codes "key-name-hint" ∷ codes "padding" ∷ []
+    ∷ codes "default" ∷ codes "kernel" ∷ codes "ramdisk" ∷ codes "fdt" ∷ codes "loadables" ∷ []
 
 -- whether a property's name is one of these
 abbrev pub is_text : List ℕ → Bool
 is_text name = list_any (bytes_eq name) text_names
+
+-- whether it is one of these, or of those that are texts in a listing with all names
+abbrev pub is_any_text : List ℕ → Bool
+is_any_text name = if is_text name then true else list_any (bytes_eq name) (
+    codes "firmware" ∷ codes "fpga" ∷ codes "key-name-hint" ∷ codes "padding" ∷ [])

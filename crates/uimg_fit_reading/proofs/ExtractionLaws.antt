@@ -21,6 +21,7 @@ use Rattle.uimg_fit_base.proofs.FileLaws.{images_are}
 use Rattle.uimg_fit_reading.specs.{Nodes.{IsNode, HasImage}, Work.{list_work, extract_work}}
 use Rattle.uimg_fit_reading.specs.PayloadPlaces.{place_of, place_at}
 use Rattle.uimg_fit_reading.specs.Rooms.{InspectsBetween, DeliversBetween}
+use Rattle.uimg_names.specs.declared.naming.Naming.{TheVariants.{Profile}}
 
 -- the payload at the position of an image
 payload_is : (file : List ℕ) (t : Siblings) (position number : ℕ) → tree file ≡ Ok t → (h : HasImage t position number) → payload_at file position ≡ of_images (payload file h.image)
@@ -71,7 +72,7 @@ refusal_told file position (Fit fault) s gives =
 refusal_told file position Read s gives = prefix_none s (extract_of file position).text
 refusal_told file position Put s gives = prefix_none s (extract_of file position).text
 
-pub refusal_ahead : (d m : Device) (h i : Held) (s : Sink) (e : Fault) (text : List ℕ) → InspectsBetween {X = Span} (list_work d.bytes) (Err e) d m h i → IsTrue d.honest → ReadsAhead (list_work d.bytes) d m s s text
+pub refusal_ahead : (d m : Device) (h i : Held) (s : Sink) (e : Fault) (text : List ℕ) → InspectsBetween {X = Span} (list_work Profile d.bytes) (Err e) d m h i → IsTrue d.honest → ReadsAhead (list_work Profile d.bytes) d m s s text
 refusal_ahead d m h i s e text p honest = record { count = 0; first = record { within = omega arith; appended = Appends-none s.contents }; ahead = omega (arith, p.uses.asked honest) }
 
 -- the text of an extraction is the payload that was found
@@ -80,7 +81,7 @@ text_is file position bytes is = ap (λ (r : Result (List ℕ) Fault). (unless_r
 
 -- the copy of a payload stopped
 pub stop_delivers : (position : ℕ) (p : Span) (f : MoveFault) (d m e : Device) (h i j : Held) (s t : Sink)
-    → InspectsBetween {X = Span} (list_work d.bytes) (Ok p) d m h i → p.place + p.length ≤ length d.bytes
+    → InspectsBetween {X = Span} (list_work Profile d.bytes) (Ok p) d m h i → p.place + p.length ≤ length d.bytes
     → (IsTrue d.honest → payload_at d.bytes position ≡ Ok (slice d.bytes p.place p.length))
     → Asks p.length (moves.is_read {X = Unit} (Err f)) m e → j ≡ i → RisesIf (moves.is_put {X = Unit} (Err f)) s.faults t.faults
     → DeliversBetween {X = Status} (extract_work d.bytes position) (Err (of_move f)) d e h j s t
@@ -105,9 +106,9 @@ stop_delivers position p move.Put d m e h i j s t q inside is asks same faults =
   no_making = refl;
 }
 
-pub stop_ahead : (position : ℕ) (p : Span) (d m e : Device) (h i : Held) (s t : Sink) → InspectsBetween {X = Span} (list_work d.bytes) (Ok p) d m h i
+pub stop_ahead : (position : ℕ) (p : Span) (d m e : Device) (h i : Held) (s t : Sink) → InspectsBetween {X = Span} (list_work Profile d.bytes) (Ok p) d m h i
     → (IsTrue d.honest → payload_at d.bytes position ≡ Ok (slice d.bytes p.place p.length))
-    → (IsTrue m.honest → Copies true m e s t (slice m.bytes p.place p.length)) → IsTrue d.honest → ReadsAhead (list_work d.bytes) d e s t (extract_of d.bytes position).text
+    → (IsTrue m.honest → Copies true m e s t (slice m.bytes p.place p.length)) → IsTrue d.honest → ReadsAhead (list_work Profile d.bytes) d e s t (extract_of d.bytes position).text
 stop_ahead position p d m e h i s t q is copied honest =
     let c = copied (subst (λ (b : Bool). IsTrue b) (sym q.uses.same.honest) honest) in
     let same : slice m.bytes p.place p.length ≡ (extract_of d.bytes position).text = ap (λ (w : List ℕ). slice w p.place p.length) q.uses.same.bytes ∙ sym (text_is d.bytes position _ (is honest)) in

@@ -42,12 +42,12 @@ hashed_lines : (name message : List ℕ) (hs : List (NodeOf Spot)) (h : NodeOf S
 hashed_lines name message hs h more are = ap (flat_map (hash_line name message)) are ∙ sym (ap (hash_lines name message) are)
 
 -- what is asked for about a hash node is its allowance
-one_cost : (n : ℕ) (h : NodeOf Spot) → n ≤ 255 → hash_cost n h ≤ node_allowance h
-one_cost n h few = omega (arith, few, one_text h.own (codes "algo") refl)
+one_cost : (n : ℕ) (h : NodeOf Spot) → n ≤ 255 → hash_cost n h ≤ node_allowance Profile h
+one_cost n h few = omega (arith, few, one_text Profile h.own (codes "algo") refl)
 
-all_costs : (n : ℕ) (hs : List (NodeOf Spot)) → n ≤ 255 → sum_by (hash_cost n) hs ≤ sum_by node_allowance hs
+all_costs : (n : ℕ) (hs : List (NodeOf Spot)) → n ≤ 255 → sum_by (hash_cost n) hs ≤ sum_by (node_allowance Profile) hs
 all_costs n [] few = omega arith
-all_costs n (h ∷ hs) few = omega (arith, sum_by-cons (hash_cost n) h hs, sum_by-cons node_allowance h hs, one_cost n h few, all_costs n hs few)
+all_costs n (h ∷ hs) few = omega (arith, sum_by-cons (hash_cost n) h hs, sum_by-cons (node_allowance Profile) h hs, one_cost n h few, all_costs n hs few)
 
 pub some_found : (t : Siblings) (image : NodeOf Spot) (name message : List ℕ) (size n asked new : ℕ) (first : Option ℕ) (result : Result Bool MoveFault) (old now : Sink) → name ≡ image.name → n ≤ 255
     → is_some first ≡ true → HashesAt t first (hashes image) → ReportsHashesBetween name message size n (hashes image) asked new result old now
@@ -57,7 +57,7 @@ some_found t image name message size n asked new (Some first) result old now nam
   right = r.right;
   written = subst (λ (w : List ℕ). Written (is_err result) old now w)
       (ap (λ (m : List ℕ). flat_map (hash_line m message) (hashes image)) named ∙ hashed_lines image.name message (hashes image) at.hash at.more at.are) r.written;
-  paid = omega (arith, r.paid, all_costs n (hashes image) few, hashes_allowed image);
+  paid = omega (arith, r.paid, all_costs n (hashes image) few, hashes_allowed Profile image);
 }
 
 -- the digests that are compared, and the payload's length

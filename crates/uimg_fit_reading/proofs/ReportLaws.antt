@@ -14,6 +14,7 @@ use Rattle.uimg_fit_base.proofs.FileLaws.{images_are}
 use Rattle.uimg_fit_reading.specs.{Allowances.{node_allowance, allowance}, ImageReports.image_work}
 use Rattle.uimg_fit_reading.specs.Work.{hashed_size, all_hashed, verify_work}
 use Rattle.uimg_fit_reading.proofs.{AllowanceLaws.tree-paid, SharesLaws.images_allowed}
+use Rattle.uimg_blob_reading.specs.Keys.{is_text}
 
 -- the report on a file whose images are known
 pub report_is : (file : List ℕ) (r : Result (List (NodeOf Spot)) Fault) → images_of file ≡ r → verify_of file ≡ unless_refused r (report file)
@@ -25,14 +26,14 @@ pub found_told : (file : List ℕ) (t : Siblings) (found : List (NodeOf Spot)) (
 found_told file t found result s u is has tells =
     subst (λ (o : Outcome Fault). Tells (end_of result) o s u) (sym (report_is file (Ok found) (images_are file t (Some found) is has))) tells
 
-parted : (file : List ℕ) (found : List (NodeOf Spot)) → sum_by (image_work file) found ≡ sum_by (λ image. hashed_size Profile image (payload file image)) found + sum_by node_allowance found
+parted : (file : List ℕ) (found : List (NodeOf Spot)) → sum_by (image_work file) found ≡ sum_by (λ image. hashed_size Profile image (payload file image)) found + sum_by (node_allowance Profile) found
 parted file [] = refl
 parted file (n ∷ ns) =
     omega (
       arith,
       sum_by-cons (image_work file) n ns,
       sum_by-cons (λ (image : NodeOf Spot). hashed_size Profile image (payload file image)) n ns,
-      sum_by-cons node_allowance n ns,
+      sum_by-cons (node_allowance Profile) n ns,
       parted file ns,
     )
 
@@ -40,12 +41,12 @@ parted file (n ∷ ns) =
 pub work_within : (file : List ℕ) (t : Siblings) (found : List (NodeOf Spot)) → tree file ≡ Ok t → images (spots t) ≡ Some found
     → index_cost file + sum_by (image_work file) found ≤ verify_work file
 work_within file t found is has =
-    let paid : allowance (spots t) ≤ 760 * nodes_met file + 4 * texts_met file =
-    subst (λ (r : Result Siblings BlobFaultAt). IfOk r (λ (x : Siblings). allowance (spots x) ≤ 760 * nodes_met file + 4 * texts_met file)) is (tree-paid file) in
+    let paid : allowance Profile (spots t) ≤ 760 * nodes_met file + 4 * texts_met is_text file =
+    subst (λ (r : Result Siblings BlobFaultAt). IfOk r (λ (x : Siblings). allowance Profile (spots x) ≤ 760 * nodes_met file + 4 * texts_met is_text file)) is (tree-paid Profile file) in
     omega (
       arith,
       paid,
       parted file found,
-      images_allowed (spots t) found has,
+      images_allowed Profile (spots t) found has,
       ap (all_hashed file) (images_are file t (Some found) is has),
     )

@@ -75,14 +75,14 @@ sums_same naming name own file v same =
     (λ neither. rw (differs, neither) refl))
 
 -- and pays for them
-pub sum_cost : (naming : Naming) (sum : Option Sum) (has_algo : Bool) (own : List (NamedOf Spot)) → sum_by (row_cost own) (sum_rows naming sum has_algo) ≤ 760 + 4 * text_sizes own
+pub sum_cost : (naming : Naming) (sum : Option Sum) (has_algo : Bool) (own : List (NamedOf Spot)) → sum_by (row_cost own) (sum_rows naming sum has_algo) ≤ 760 + 4 * text_sizes naming own
 sum_cost naming None has_algo own = omega arith
-sum_cost Profile (Some Hash) has_algo own = omega (arith, two_texts own (codes "algo") (codes "value") refl refl refl)
+sum_cost Profile (Some Hash) has_algo own = omega (arith, two_texts Profile own (codes "algo") (codes "value") refl refl refl)
 sum_cost Profile (Some Signature) has_algo own = omega arith
-sum_cost All (Some Hash) true own = omega (arith, two_texts own (codes "algo") (codes "value") refl refl refl)
+sum_cost All (Some Hash) true own = omega (arith, two_texts All own (codes "algo") (codes "value") refl refl refl)
 sum_cost All (Some Hash) false own = omega arith
 sum_cost All (Some Signature) true own =
-    omega (arith, two_texts own (codes "algo") (codes "value") refl refl refl, two_texts own (codes "key-name-hint") (codes "padding") refl refl refl)
+    omega (arith, two_texts All own (codes "algo") (codes "value") refl refl refl, two_texts All own (codes "key-name-hint") (codes "padding") refl refl refl)
 sum_cost All (Some Signature) false own = omega arith
 
 -- an image keeps what its rows show
@@ -127,7 +127,7 @@ rows_fail cost text xs i x d m f s n u within p q = record {
 }
 
 -- the rows of an image by the profile ask for its description, and for 144 bytes at most of the rest
-pub image_cost : (own : List (NamedOf Spot)) → 255 + sum_by (row_cost own) profile_image_rows ≤ 748 + 4 * text_sizes own
+pub image_cost : (own : List (NamedOf Spot)) → 255 + sum_by (row_cost own) profile_image_rows ≤ 748 + 4 * text_sizes Profile own
 image_cost own =
     let k1 = name_cost Profile Kind (value_bytes own (codes "type")) in
     let k2 = name_cost Profile Compression (value_bytes own (codes "compression")) in
@@ -135,10 +135,10 @@ image_cost own =
     let k4 = name_cost Profile System (value_bytes own (codes "os")) in
     let k5 = address_cost (value_bytes own (codes "load")) in
     let k6 = address_cost (value_bytes own (codes "entry")) in
-    omega (arith, one_text own (codes "description") refl, k1, k2, k3, k4, k5, k6)
+    omega (arith, one_text Profile own (codes "description") refl, k1, k2, k3, k4, k5, k6)
 
 -- those by the names of image.h, after the type was read
-pub all_image_cost : (kind : Option ℕ) (own : List (NamedOf Spot)) → 287 + sum_by (row_cost own) (all_image_rows kind) ≤ 748 + 4 * text_sizes own
+pub all_image_cost : (kind : Option ℕ) (own : List (NamedOf Spot)) → 287 + sum_by (row_cost own) (all_image_rows kind) ≤ 748 + 4 * text_sizes All own
 all_image_cost kind own =
     let k1 = name_cost All Kind (value_bytes own (codes "type")) in
     let k2 = name_cost All Compression (value_bytes own (codes "compression")) in
@@ -151,7 +151,7 @@ all_image_cost kind own =
     let r3 = only_le (1 ∷ 2 ∷ 3 ∷ 5 ∷ 29 ∷ []) kind load_row own in
     let r4 = only_le (8 ∷ []) kind tree_load_row own in
     let r5 = only_le (1 ∷ 2 ∷ 3 ∷ []) kind entry_row own in
-    omega (arith, one_text own (codes "description") refl, k1, k2, k3, k4, k5, k6, r1, r2, r3, r4, r5)
+    omega (arith, one_text All own (codes "description") refl, k1, k2, k3, k4, k5, k6, r1, r2, r3, r4, r5)
 
 pub keeps_image : (name : List ℕ) (kind : Option ℕ) → list_all (keeps_row in_images name) (all_image_rows kind) ≡ true
 keeps_image name kind =

@@ -15,6 +15,8 @@ use Rattle.uimg_fit_reading.specs.ListingParts.{configurations_allowance, body_a
 use Rattle.uimg_fit_reading.specs.Rows.{length_of_value}
 use Rattle.uimg_fit_reading.proofs.AllowanceLaws.{tree-paid}
 use Rattle.uimg_fit_reading.proofs.SharesLaws.{images_allowed, both_allowed}
+use Rattle.uimg_names.specs.declared.naming.Naming.{Naming}
+use Rattle.uimg_fit_reading.specs.Allowances.{is_text_in}
 
 size_by : (o : Option Spot) → span_size (option_map value_span o) ≡ option_map_or length (option_map (λ s. s.bytes) o) 0
 size_by None = refl
@@ -33,24 +35,24 @@ pub read_size : (file : List ℕ) (own : List (NamedOf Spot)) (key : List ℕ) (
 read_size file own key v inside is = sym (bytes_size file v inside) ∙ ap (λ (o : Option (List ℕ)). option_map_or length o 0) (sym is)
 
 -- the root's texts, images and configurations
-root_texts : (t : NodesOf Spot) → 4 * text_sizes (root_own t) ≤ allowance t
+root_texts : (names : Naming) (t : NodesOf Spot) → 4 * text_sizes names (root_own t) ≤ allowance names t
 unfolding allowance
-root_texts no_node = omega arith
-root_texts (a_node name own below after) = omega arith
+root_texts names no_node = omega arith
+root_texts names (a_node name own below after) = omega arith
 
-by_images : (t : NodesOf Spot) (o : Option (List (NodeOf Spot))) (q : Option (NodeOf Spot)) → images t ≡ o → configurations t ≡ q → text_sizes (root_own t) + body_allowance t o ≤ allowance t
-by_images t None q is other = omega (arith, root_texts t)
-by_images t (Some found) None is other = omega (arith, images_allowed t found is, ap configurations_allowance other)
-by_images t (Some found) (Some c) is other = omega (arith, both_allowed t found c is other, ap configurations_allowance other)
+by_images : (names : Naming) (t : NodesOf Spot) (o : Option (List (NodeOf Spot))) (q : Option (NodeOf Spot)) → images t ≡ o → configurations t ≡ q → text_sizes names (root_own t) + body_allowance names t o ≤ allowance names t
+by_images names t None q is other = omega (arith, root_texts names t)
+by_images names t (Some found) None is other = omega (arith, images_allowed names t found is, ap (configurations_allowance names) other)
+by_images names t (Some found) (Some c) is other = omega (arith, both_allowed names t found c is other, ap (configurations_allowance names) other)
 
-pub body_allowed : (t : NodesOf Spot) → text_sizes (root_own t) + body_allowance t (images t) ≤ allowance t
-body_allowed t = by_images t (images t) (configurations t) refl refl
+pub body_allowed : (names : Naming) (t : NodesOf Spot) → text_sizes names (root_own t) + body_allowance names t (images t) ≤ allowance names t
+body_allowed names t = by_images names t (images t) (configurations t) refl refl
 
-pub root_allowed : (t : NodesOf Spot) → text_sizes (root_own t) ≤ allowance t
-root_allowed t = omega (arith, root_texts t)
+pub root_allowed : (names : Naming) (t : NodesOf Spot) → text_sizes names (root_own t) ≤ allowance names t
+root_allowed names t = omega (arith, root_texts names t)
 
-pub paid : (file : List ℕ) (t : Siblings) → tree file ≡ Ok t → allowance (spots t) ≤ 760 * nodes_met file + 4 * texts_met file
-paid file t is = subst (λ (r : Result Siblings BlobFaultAt). IfOk r (λ t. allowance (spots t) ≤ 760 * nodes_met file + 4 * texts_met file)) is (tree-paid file)
+pub paid : (names : Naming) (file : List ℕ) (t : Siblings) → tree file ≡ Ok t → allowance names (spots t) ≤ 760 * nodes_met file + 4 * texts_met (is_text_in names) file
+paid names file t is = subst (λ (r : Result Siblings BlobFaultAt). IfOk r (λ t. allowance names (spots t) ≤ 760 * nodes_met file + 4 * texts_met (is_text_in names) file)) is (tree-paid names file)
 
 -- a failed read or write has no end
 pub no_end : (r : Result Status Fault) (fault : Fault) (f : MoveFault) → r ≡ Err fault → fault ≡ of_move f → end_of r ≡ None

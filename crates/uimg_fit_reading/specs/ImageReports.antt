@@ -24,7 +24,7 @@ pub record ReportsFoundBetween (image : NodeOf Spot) (message : List ℕ) (size 
   pub right : IfOk result (λ right. right ≡ are_right message (hashes image))
   pub written : Written (is_err result) old now (hash_lines image.name message (hashes image))
   pub paid : new + 12 ≤ asked +
-      ((if are_compared Profile (hashes image) then size else 0) + node_allowance image)
+      ((if are_compared Profile (hashes image) then size else 0) + node_allowance Profile image)
 
 -- The same of the image at a number.
 abbrev pub ReportsFound : {S A : Type 0} → ℕ → Span → Result Bool MoveFault → (S → Device)
@@ -37,7 +37,7 @@ ReportsFound number payload result device fit out =
 
 -- the most bytes requested for an image
 abbrev pub image_work : List ℕ → NodeOf Spot → ℕ
-image_work file image = hashed_size Profile image (payload file image) + node_allowance image
+image_work file image = hashed_size Profile image (payload file image) + node_allowance Profile image
 
 -- An image was reported on.
 pub record ImageDone (file : List ℕ) (image : NodeOf Spot) (asked new : ℕ) (right : Bool)

@@ -5,17 +5,18 @@ use Rattle.uimg_base.specs.Outcome.{End, Outcome, Tells}
 use Rattle.uimg_blob_reading.specs.{Plain.NodesOf, LookUps.{NodeOf, configurations}, Spots.Spot}
 use Rattle.uimg_fit_base.specs.{Faults.end_of, declared.fault.Fault.Fault}
 use Rattle.uimg_fit_reading.specs.{declared.open_fit.OpenFit.OpenFit, Allowances.node_allowance}
+use Rattle.uimg_names.specs.declared.naming.Naming.{Naming}
 
 -- the most bytes requested for the configurations
-abbrev pub configurations_allowance : Option (NodeOf Spot) → ℕ
-configurations_allowance None = 0
-configurations_allowance (Some c) = node_allowance c
+abbrev pub configurations_allowance : Naming → Option (NodeOf Spot) → ℕ
+configurations_allowance names None = 0
+configurations_allowance names (Some c) = node_allowance names c
 
 -- the most bytes requested for images and configurations
-abbrev pub body_allowance : NodesOf Spot → Option (List (NodeOf Spot)) → ℕ
-body_allowance t None = 0
-body_allowance t (Some found) =
-    sum_by node_allowance found + configurations_allowance (configurations t)
+abbrev pub body_allowance : Naming → NodesOf Spot → Option (List (NodeOf Spot)) → ℕ
+body_allowance names t None = 0
+body_allowance names t (Some found) =
+    sum_by (node_allowance names) found + configurations_allowance names (configurations t)
 
 -- At most `most` bytes more were requested, and an outcome was written.
 pub record TellsWithinBetween (e : Option (End Fault)) (most : ℕ) (d f : Device) (s t : Sink)

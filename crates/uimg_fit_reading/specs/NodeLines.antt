@@ -10,11 +10,17 @@ use Rattle.uimg_fit_reading.specs.{declared.listing.titles.Numbered.Numbered, Te
 use Rattle.uimg_fit_reading.specs.{declared.open_fit.OpenFit.OpenFit, Allowances.node_allowance}
 use Rattle.uimg_fit_reading.specs.Listing.{image_lines, configuration_lines, numbered_lines}
 use Rattle.uimg_fit_reading.specs.{Nodes.{OfNode, OfNodes}, OpenFits.{file_of, InFit}}
+use Rattle.uimg_names.specs.declared.naming.Naming.{Naming}
 
 -- the level of the nodes of a kind
 abbrev pub level_of : Listed → Level
 level_of (Image naming time) = in_images
 level_of (Configuration naming) = in_configurations
+
+-- the set of names that it is listed with
+abbrev pub naming_of : Listed → Naming
+naming_of (Image naming time) = naming
+naming_of (Configuration naming) = naming
 
 -- the lines of a node of a kind
 abbrev pub node_lines : List ℕ → Listed → ℕ → NodeOf Spot → List ℕ
@@ -25,7 +31,7 @@ node_lines file (Configuration naming) = configuration_lines naming
 abbrev pub ListsNode : {S A X : Type 0} → Listed → Numbered → Result X MoveFault → (S → Device)
     → Lent (OpenFit S A) → Lent Sink → Type 0
 ListsNode kind at result device fit out =
-    InFit device fit.entry.now OfNode (level_of kind) at.node (λ found. Lists (node_allowance found)
+    InFit device fit.entry.now OfNode (level_of kind) at.node (λ found. Lists (node_allowance (naming_of kind) found)
     result device fit out (node_lines (file_of device fit.entry.now) kind at.number found))
 
 -- The same for the nodes from a number on.
@@ -33,5 +39,5 @@ abbrev pub ListsNodes : {S A X : Type 0} → Listed → Option ℕ → Result X 
     → Lent (OpenFit S A) → Lent Sink → Type 0
 ListsNodes kind first result device fit out =
     InFit device fit.entry.now OfNodes (level_of kind) first (λ found.
-    Lists (sum_by node_allowance found) result device fit out
+    Lists (sum_by (node_allowance (naming_of kind)) found) result device fit out
     (numbered_lines (node_lines (file_of device fit.entry.now) kind) 0 found))

@@ -5,6 +5,7 @@ ghost use Rattle.uimg_base.specs.Honest.{IfHonest};
 ghost use Rattle.uimg_fit_base.specs.Extraction.{payload_at, extract_of};
 ghost use Rattle.uimg_fit_base.specs.Faults.{is_refused, Gives};
 ghost use Rattle.uimg_fit_reading.specs.{Work.{list_work, extract_work}, Values.in_span};
+ghost use Rattle.uimg_names.specs.declared.naming.Naming.TheVariants.{Profile};
 ghost use Rattle.uimg_fit_reading.specs.PayloadPlaces.{place_at};
 ghost use Rattle.uimg_fit_reading.specs.Rooms.{Inspects, Delivers, TellsOf, KeepsAhead};
 
@@ -27,7 +28,7 @@ pub fn locate<S: Source, A: Allocator>(
     source: &mut S,
     room: &mut Room<A>,
 ) -> Result<Span, Fault>
-    ensures inspects { Inspects list_work result S.device source room }
+    ensures inspects { Inspects (list_work Profile) result S.device source room }
     ensures inside { IfOk result (λ p. p.place + p.length ≤ length (S.device source.old).bytes) }
     ensures gives { IfHonest S.device source (λ file.
         Gives (in_span file) result (payload_at file position)) }
@@ -58,7 +59,7 @@ pub fn extract<S: Source, A: Allocator, W: Write>(
 ) -> Result<Status, Fault>
     ensures delivers { Delivers (λ file. extract_work file position) result
         S.device source room out }
-    ensures ahead { KeepsAhead list_work (λ file. extract_of file position) S.device source out }
+    ensures ahead { KeepsAhead (list_work Profile) (λ file. extract_of file position) S.device source out }
     ensures untouched { IsTrue (is_refused result) → out.new ≡ out.old }
     ensures told { TellsOf (λ file. extract_of file position) result S.device source out }
 {

@@ -46,7 +46,7 @@ fn put_configurations<S: Source, A: Allocator, W: Write>(
     requires { InFile (length (file_of S.device fit.old)) fit.old.blob fit.old.room.now.entries }
     ensures leaves { Leaves result S.device fit out }
     ensures told { (t : Siblings) → InFit S.device fit.old Opened t →
-        Lists (configurations_allowance (configurations (spots t))) result S.device fit out
+        Lists (configurations_allowance naming (configurations (spots t))) result S.device fit out
         (configurations_lines naming (configurations (spots t))) }
 {
     let Some(node) = configurations_of(&fit.blob, fit.room) else {
@@ -69,7 +69,7 @@ fn put_body<S: Source, A: Allocator, W: Write>(
     ensures leaves { Leaves result S.device fit out }
     ensures told { (t : Siblings) → InFit S.device fit.old Opened t →
         (found : List (NodeOf Spot)) → AreFrom t in_images first found →
-        Lists (body_allowance (spots t) (Some found)) result S.device fit out
+        Lists (body_allowance naming (spots t) (Some found)) result S.device fit out
         (numbered_lines (image_lines naming (file_of S.device fit.old) time) 0 found
         ++ configurations_lines naming (configurations (spots t))) }
 {
@@ -88,7 +88,7 @@ fn list_body<S: Source, A: Allocator, W: Write>(
     ensures leaves { LeavesOrRefuses result S.device fit out }
     ensures told { (t : Siblings) → InFit S.device fit.old Opened t →
         time ≡ cell (root_own (spots t)) (codes "timestamp") →
-        TellsWithin (body_allowance (spots t) (images (spots t))) result S.device fit out
+        TellsWithin (body_allowance naming (spots t) (images (spots t))) result S.device fit out
         (lists naming (file_of S.device fit.old) (spots t) (images (spots t))) }
 {
     let first = first_image(&fit.blob, fit.room)?;
@@ -112,7 +112,7 @@ pub fn list<S: Source, A: Allocator, W: Write>(
     room: &mut Room<A>,
     out: &mut Out<W>,
 ) -> Result<Status, Fault>
-    ensures delivers { Delivers list_work result S.device source room out }
+    ensures delivers { Delivers (list_work Naming.Profile) result S.device source room out }
     ensures told { TellsOf (list_of Naming.Profile) result S.device source out }
 {
     list_by(source, room, Naming::Profile, out)
@@ -125,7 +125,7 @@ pub fn list_by<S: Source, A: Allocator, W: Write>(
     naming: Naming,
     out: &mut Out<W>,
 ) -> Result<Status, Fault>
-    ensures delivers { Delivers list_work result S.device source room out }
+    ensures delivers { Delivers (list_work naming) result S.device source room out }
     ensures told { TellsOf (list_of naming) result S.device source out }
 {
     let blob = read_tree(source, room)?;

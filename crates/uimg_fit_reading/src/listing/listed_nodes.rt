@@ -53,7 +53,7 @@ fn put_image_rows<S: Source, A: Allocator, W: Write>(
     requires { InFit S.device fit.old HasNode image.node }
     ensures leaves { Leaves result S.device fit out }
     ensures told { InFit S.device fit.old OfNode in_images image.node
-        (λ found. Lists (748 + 4 * text_sizes found.own) result S.device fit out
+        (λ found. Lists (748 + 4 * text_sizes naming found.own) result S.device fit out
         (title (codes " Image ") image.number found.name
         ++ rows_lines facts found.own (image_rows naming found.own))) }
 {
@@ -77,7 +77,7 @@ fn put_known_image<S: Source, A: Allocator, W: Write>(
     requires { InFit S.device fit.old HasNode image.node }
     ensures leaves { Leaves result S.device fit out }
     ensures told { InFit S.device fit.old OfNode in_images image.node (λ found.
-        Lists (748 + 4 * text_sizes found.own + sum_by node_allowance (listed found.below))
+        Lists (748 + 4 * text_sizes naming found.own + sum_by (node_allowance naming) (listed found.below))
         result S.device fit out (title (codes " Image ") image.number found.name
         ++ (rows_lines facts found.own (image_rows naming found.own)
         ++ flat_map (sum_lines naming) (listed found.below)))) }

@@ -40,7 +40,7 @@ fn put_sum<S: Source, A: Allocator, W: Write>(
     requires { InFit S.device fit.old HasNode node }
     ensures leaves { Leaves result S.device fit out }
     ensures told { InFit S.device fit.old OfNode in_image node
-        (λ found. Lists (node_allowance found) result S.device fit out (sum_lines naming found)) }
+        (λ found. Lists (node_allowance naming found) result S.device fit out (sum_lines naming found)) }
 {
     let sum = sum_of(&fit.blob, fit.room, node);
     let algo = value_of(&fit.blob, fit.room, node, Key::Algo);
@@ -57,7 +57,7 @@ pub(crate) fn put_sums<S: Source, A: Allocator, W: Write>(
     requires { InFit S.device fit.old HasNodes first }
     ensures leaves { Leaves result S.device fit out }
     ensures told { InFit S.device fit.old OfNodes in_image first (λ found.
-        Lists (sum_by node_allowance found) result S.device fit out
+        Lists (sum_by (node_allowance naming) found) result S.device fit out
         (flat_map (sum_lines naming) found)) }
 {
     let mut next = first;

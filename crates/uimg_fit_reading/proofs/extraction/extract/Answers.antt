@@ -6,6 +6,7 @@ use Rattle.uimg_fit_reading.specs.{Rooms.DeliversBetween, Work.{list_work, extra
 use Rattle.uimg_fit_reading.proofs.ExtractionLaws.{at_least, refusal_delivers, refusal_told, refusal_ahead, stop_delivers, stop_ahead, stop_told, stop_unrefused}
 use Rattle.uimg_fit_reading.proofs.PassedLaws.{passed_on}
 use Rattle.uimg_fit_reading.proofs.extraction.extract.Goals as goal
+use Rattle.uimg_names.specs.declared.naming.Naming.{TheVariants.{Profile}}
 
 pub returns-in_err-span : goal.returns-in_err-span
 returns-in_err-span g c =
@@ -16,7 +17,7 @@ returns-in_err-span g c =
     let is = passed_on c.from_residual.result e c.from_residual.ensures.1 in
     record {
       delivers = subst (λ (r : Result Status Fault). DeliversBetween (extract_work d.bytes c.args.position) r d m c.args.room.now c.locate.new.room c.args.out.now c.args.out.now) (sym is)
-          (refusal_delivers (list_work d.bytes) (extract_work d.bytes c.args.position) e d m c.args.room.now c.locate.new.room c.args.out.now (at_least (list_work d.bytes) (length o.text)) c.in_err-span.ensures.inspects);
+          (refusal_delivers (list_work Profile d.bytes) (extract_work d.bytes c.args.position) e d m c.args.room.now c.locate.new.room c.args.out.now (at_least (list_work Profile d.bytes) (length o.text)) c.in_err-span.ensures.inspects);
       ahead = refusal_ahead d m c.args.room.now c.locate.new.room c.args.out.now e o.text c.in_err-span.ensures.inspects;
       untouched = λ _. refl;
       told = λ honest. subst (λ (r : Result Status Fault). Tells (end_of r) o c.args.out.now c.args.out.now) (sym is) (refusal_told d.bytes c.args.position e c.args.out.now (c.in_err-span.ensures.gives honest));

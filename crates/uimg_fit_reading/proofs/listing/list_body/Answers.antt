@@ -15,8 +15,8 @@ returns-in_err-put_body-clause-told g c = λ t o time.
     let ends = no_end c.from_residual-in_err-put_body.result p.0 _ p.1 p.2 in
     let h = c.in_ok-first.ensures.told t o.read.indexed in
     let told = c.in_err-put_body.ensures.told t o h.found h.from in
-    subst (λ (e : Option (End Fault)). TellsWithinBetween e (body_allowance (spots t) (images (spots t))) d m c.args.out.now c.put_body.new.out (lists c.args.naming d.bytes (spots t) (images (spots t)))) (sym ends)
-    (subst (λ (o : Option (List (NodeOf Spot))). TellsWithinBetween None (body_allowance (spots t) o) d m c.args.out.now c.put_body.new.out (lists c.args.naming d.bytes (spots t) o)) (sym h.is)
+    subst (λ (e : Option (End Fault)). TellsWithinBetween e (body_allowance c.args.naming (spots t) (images (spots t))) d m c.args.out.now c.put_body.new.out (lists c.args.naming d.bytes (spots t) (images (spots t)))) (sym ends)
+    (subst (λ (o : Option (List (NodeOf Spot))). TellsWithinBetween None (body_allowance c.args.naming (spots t) o) d m c.args.out.now c.put_body.new.out (lists c.args.naming d.bytes (spots t) o)) (sym h.is)
     (record { asked = told.asked; told = subst (λ (w : List ℕ). AppendsPrefix c.args.out.now c.put_body.new.out w) (body_is c.args.naming d.bytes (spots t) c.args.time h.found time) told.written.prefix }))
 
 pub returns-clause-told : goal.returns-clause-told
@@ -25,5 +25,5 @@ returns-clause-told g c = λ t o time.
     let m = g.S.Source.device c.put_body.new.fit.source.now in
     let h = c.in_ok-first.ensures.told t o.read.indexed in
     let told = c.in_ok-put_body.ensures.told t o h.found h.from in
-    subst (λ (o : Option (List (NodeOf Spot))). TellsWithinBetween (Some done) (body_allowance (spots t) o) d m c.args.out.now c.put_body.new.out (lists c.args.naming d.bytes (spots t) o)) (sym h.is)
+    subst (λ (o : Option (List (NodeOf Spot))). TellsWithinBetween (Some done) (body_allowance c.args.naming (spots t) o) d m c.args.out.now c.put_body.new.out (lists c.args.naming d.bytes (spots t) o)) (sym h.is)
     (record { asked = told.asked; told = (refl, subst (λ (w : List ℕ). AppendsAll c.args.out.now c.put_body.new.out w) (body_is c.args.naming d.bytes (spots t) c.args.time h.found time) told.written.all) })

@@ -7,7 +7,7 @@ use Rattle.uimg_fit_base.specs.{declared.fault.Fault.Fault, Faults.end_of}
 use Rattle.uimg_fit_base.specs.Files.{number, bytes_in, number_in, root_own}
 use Rattle.uimg_fit_reading.specs.{Heads.{description_line, created_line}, Nodes.HasTree}
 use Rattle.uimg_fit_reading.specs.{Listing.{lists, list_of, head_lines}, Work.list_work}
-use Rattle.uimg_fit_reading.proofs.{ListingLaws.{head_is, list_is}, SharesLaws.one_text}
+use Rattle.uimg_fit_reading.proofs.{ListingLaws.{head_is, list_is}, SharesLaws.{one_text, always_text}}
 use Rattle.uimg_fit_reading.proofs.TellingLaws.{read_same}
 use Rattle.uimg_fit_reading.proofs.WithinLaws.{no_end, paid, read_size, root_allowed, body_allowed}
 use Rattle.uimg_fit_reading.proofs.listing.list_by.Goals as goal
@@ -25,8 +25,8 @@ returns-in_err-put_head-clause-delivers g c = record {
         let own = root_own (spots t) in
         let text = c.root_value-description.ensures.bytes file t h.read in
         let size = read_size file own (codes "description") c.root_value-description.result (c.root_value-description.ensures.inside (length file) c.in_ok-blob.ensures.inside) text in
-        let few = one_text own (codes "description") refl in
-        omega (arith, c.read_tree.ensures.inspects.uses.asked honest, c.cell.ensures.uses.asked, c.put_head.ensures.uses.asked, size, few, root_allowed (spots t), paid file t h.read.is);
+        let few = one_text c.args.naming own (codes "description") (always_text c.args.naming (codes "description") refl) in
+        omega (arith, c.read_tree.ensures.inspects.uses.asked honest, c.cell.ensures.uses.asked, c.put_head.ensures.uses.asked, size, few, root_allowed c.args.naming (spots t), paid c.args.naming file t h.read.is);
   };
   room = search rules;
   faults = search rules;
@@ -63,14 +63,14 @@ returns-clause-delivers g c = record {
     failures = search rules;
     asked =
         let d = g.S.Source.device c.args.source.now in
-        let paid : IsTrue d.honest → (g.S.Source.device c.list_body.new.fit.source.now).asked ≤ d.asked + list_work d.bytes = λ honest.
+        let paid : IsTrue d.honest → (g.S.Source.device c.list_body.new.fit.source.now).asked ≤ d.asked + list_work c.args.naming d.bytes = λ honest.
         let file = d.bytes in
         let h : HasTree file c.in_ok-blob.blob c.read_tree.new.room.entries = c.in_ok-blob.ensures.gives honest in
         let t = h.nodes in
         let own = root_own (spots t) in
         let text = c.root_value-description.ensures.bytes file t h.read in
         let size = read_size file own (codes "description") c.root_value-description.result (c.root_value-description.ensures.inside (length file) c.in_ok-blob.ensures.inside) text in
-        let few = one_text own (codes "description") refl in
+        let few = one_text c.args.naming own (codes "description") (always_text c.args.naming (codes "description") refl) in
         let first = c.read_tree.ensures.inspects.uses.same in
         let second = c.cell.ensures.uses.same in
         let now = subst (λ (b : Bool). IsTrue b) (sym first.honest) honest in
@@ -84,7 +84,7 @@ returns-clause-delivers g c = record {
         let read = read_same file (g.S.Source.device c.put_head.new.source).bytes c.in_ok-blob.blob _ c.put_head.new.room.entries t after_head (ap (λ (r : Held). r.entries) c.put_head.ensures.room) h.read in
         let e = end_of c.list_body.result in
         let body = c.list_body.ensures.told t (record { honest = honest_last; read = read }) time in
-        omega (arith, c.read_tree.ensures.inspects.uses.asked honest, c.cell.ensures.uses.asked, c.put_head.ensures.uses.asked, body.asked, size, few, body_allowed (spots t), paid file t h.read.is) in
+        omega (arith, c.read_tree.ensures.inspects.uses.asked honest, c.cell.ensures.uses.asked, c.put_head.ensures.uses.asked, body.asked, size, few, body_allowed c.args.naming (spots t), paid c.args.naming file t h.read.is) in
         search rules;
   };
   room = search rules;

@@ -11,7 +11,7 @@ returns-in_err-put_listed_nodes-clause-told g c = λ t o found at.
     let failed = failed_of c.from_residual.result c.from_residual.ensures.0 in
     let d = g.S.Source.device c.args.fit.now.source.now in
     let m = g.S.Source.device c.put_listed_nodes.new.fit.source.now in
-    rw failed (cut_lists (sum_by node_allowance found) (configurations_allowance (configurations (spots t))) d m c.args.out.now c.put_listed_nodes.new.out
+    rw failed (cut_lists (sum_by (node_allowance c.args.naming) found) (configurations_allowance c.args.naming (configurations (spots t))) d m c.args.out.now c.put_listed_nodes.new.out
     (numbered_lines (image_lines c.args.naming d.bytes c.args.time) 0 found) (configurations_lines c.args.naming (configurations (spots t))) (c.in_err-put_listed_nodes.ensures.told t o found at))
 
 pub returns-clause-told : goal.returns-clause-told
@@ -22,7 +22,7 @@ returns-clause-told g c = λ t o found at.
     let e = is_err c.put_configurations.result in
     let here = stays c.put_listed_nodes.ensures.leaves.keeps o in
     let tail = c.put_configurations.ensures.told t here in
-    then_lists e (sum_by node_allowance found) (configurations_allowance (configurations (spots t))) d m f c.args.out.now c.put_listed_nodes.new.out c.put_configurations.new.out
+    then_lists e (sum_by (node_allowance c.args.naming) found) (configurations_allowance c.args.naming (configurations (spots t))) d m f c.args.out.now c.put_listed_nodes.new.out c.put_configurations.new.out
     (numbered_lines (image_lines c.args.naming d.bytes c.args.time) 0 found) (configurations_lines c.args.naming (configurations (spots t))) (c.in_ok-put_listed_nodes.ensures.told t o found at) tail
 
 pub returns-in_err-put_listed_nodes-clause-leaves : goal.returns-in_err-put_listed_nodes-clause-leaves

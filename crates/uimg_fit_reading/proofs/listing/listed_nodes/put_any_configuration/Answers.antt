@@ -10,12 +10,12 @@ use Rattle.uimg_fit_reading.proofs.PassedLaws.{failed_of, leaves_stops, leaves_t
 use Rattle.uimg_fit_reading.proofs.listing.listed_nodes.put_any_configuration.Goals as goal
 
 -- what the rows of a configuration pay
-rows_paid : (found : NodeOf Spot) → 255 + sum_by (row_cost found.own) all_configuration_rows ≤ 760 + 4 * text_sizes found.own
+rows_paid : (found : NodeOf Spot) → 255 + sum_by (row_cost found.own) all_configuration_rows ≤ 760 + 4 * text_sizes All found.own
 rows_paid found =
-    let a = two_texts found.own (codes "description") (codes "kernel") refl refl refl in
-    let b = two_texts found.own (codes "ramdisk") (codes "fdt") refl refl refl in
-    let d = two_texts found.own (codes "firmware") (codes "fpga") refl refl refl in
-    let e = one_text found.own (codes "loadables") refl in
+    let a = two_texts All found.own (codes "description") (codes "kernel") refl refl refl in
+    let b = two_texts All found.own (codes "ramdisk") (codes "fdt") refl refl refl in
+    let d = two_texts All found.own (codes "firmware") (codes "fpga") refl refl refl in
+    let e = one_text All found.own (codes "loadables") refl in
     omega (arith, a, b, d, e)
 
 pub returns-in_err-put_node-clause-told : goal.returns-in_err-put_node-clause-told
@@ -24,9 +24,9 @@ returns-in_err-put_node-clause-told g c = λ t o found n.
     let d = g.S.Source.device c.args.fit.now.source.now in
     let m = g.S.Source.device c.put_node.new.fit.source.now in
     let sums = flat_map (sum_lines All) (listed found.below) in
-    let head = more_lists true _ (760 + 4 * text_sizes found.own) d m c.args.out.now c.put_node.new.out _ (rows_paid found) (c.in_err-put_node.ensures.told t o in_configurations found n refl) in
-    rw failed (more_lists true _ (node_allowance found) d m c.args.out.now c.put_node.new.out _ (omega (arith, children_allowed found))
-    (subst (λ (w : List ℕ). ListsBetween true (760 + 4 * text_sizes found.own + sum_by node_allowance (listed found.below)) d m c.args.out.now c.put_node.new.out w)
+    let head = more_lists true _ (760 + 4 * text_sizes All found.own) d m c.args.out.now c.put_node.new.out _ (rows_paid found) (c.in_err-put_node.ensures.told t o in_configurations found n refl) in
+    rw failed (more_lists true _ (node_allowance All found) d m c.args.out.now c.put_node.new.out _ (omega (arith, children_allowed All found))
+    (subst (λ (w : List ℕ). ListsBetween true (760 + 4 * text_sizes All found.own + sum_by (node_allowance All) (listed found.below)) d m c.args.out.now c.put_node.new.out w)
     (append_assoc (title (codes " Configuration ") c.args.at.number found.name) (rows_lines no_facts found.own all_configuration_rows) sums)
     (cut_lists _ _ _ _ _ _ _ sums head)))
 
@@ -38,10 +38,10 @@ returns-clause-told g c = λ t o found n.
     let e = is_err c.put_sums.result in
     let here = stays c.put_node.ensures.leaves.keeps o in
     let sums = flat_map (sum_lines All) (listed found.below) in
-    let head = more_lists false _ (760 + 4 * text_sizes found.own) d m c.args.out.now c.put_node.new.out _ (rows_paid found) (c.in_ok-put_node.ensures.told t o in_configurations found n refl) in
+    let head = more_lists false _ (760 + 4 * text_sizes All found.own) d m c.args.out.now c.put_node.new.out _ (rows_paid found) (c.in_ok-put_node.ensures.told t o in_configurations found n refl) in
     let tail = c.put_sums.ensures.told t here (listed found.below) (c.child_of-first.ensures.children t here.read.indexed in_configurations found n) in
-    more_lists e _ (node_allowance found) d f c.args.out.now c.put_sums.new.out _ (omega (arith, children_allowed found))
-    (subst (λ (w : List ℕ). ListsBetween e (760 + 4 * text_sizes found.own + sum_by node_allowance (listed found.below)) d f c.args.out.now c.put_sums.new.out w)
+    more_lists e _ (node_allowance All found) d f c.args.out.now c.put_sums.new.out _ (omega (arith, children_allowed All found))
+    (subst (λ (w : List ℕ). ListsBetween e (760 + 4 * text_sizes All found.own + sum_by (node_allowance All) (listed found.below)) d f c.args.out.now c.put_sums.new.out w)
     (append_assoc (title (codes " Configuration ") c.args.at.number found.name) (rows_lines no_facts found.own all_configuration_rows) sums)
     (then_lists e _ _ d m f c.args.out.now c.put_node.new.out c.put_sums.new.out _ _ head tail))
 

@@ -13,7 +13,7 @@ returns-in-Ok-clause-told g c = λ t o found n.
     let told = c.put_known_image.ensures.told t here found n in
     let size = c.size_in-size.ensures ∙ ap size_in (c.in-Ok.ensures.place o.honest t o.read found n) in
     record {
-      asked = omega (arith, told.asked, c.find_place.ensures.uses.asked, children_allowed found);
+      asked = omega (arith, told.asked, c.find_place.ensures.uses.asked, children_allowed c.args.naming found);
       written = subst (λ (o : Option ℕ). Written (is_err c.put_known_image.result) c.args.out.now c.put_known_image.new.out
           (title (codes " Image ") c.args.image.number found.name ++ (rows_lines (record { time = c.args.time; size = o }) found.own (image_rows c.args.naming found.own) ++ flat_map (sum_lines c.args.naming) (listed found.below)))) size told.written;
     }

@@ -14,7 +14,7 @@ pub returns-in-Profile-clause-told : goal.returns-in-Profile-clause-told
 returns-in-Profile-clause-told g c = λ t o found n.
     let d = g.S.Source.device c.args.fit.now.source.now in
     let m = g.S.Source.device c.put_node.new.fit.source.now in
-    subst (λ (s : Naming). ListsBetween (is_err c.put_node.result) (748 + 4 * text_sizes found.own) d m c.args.out.now c.put_node.new.out
+    subst (λ (s : Naming). ListsBetween (is_err c.put_node.result) (748 + 4 * text_sizes s found.own) d m c.args.out.now c.put_node.new.out
     (title (codes " Image ") c.args.image.number found.name ++ rows_lines c.args.facts found.own (image_rows s found.own))) (sym c.in-Profile.is)
     (more_lists _ _ _ d m c.args.out.now c.put_node.new.out _ (image_cost found.own) (c.put_node.ensures.told t o in_images found n refl))
 
@@ -28,6 +28,6 @@ returns-in_ok-kind-in-All-clause-told g c = λ t o found n.
     let known = c.all_image_rows.ensures ∙ ap all_image_rows said in
     let keeps = ap (list_all (keeps_row in_images found.name)) known ∙ keeps_image found.name (kind_of found.own) in
     let told = rw known at (c.put_node-in-All.ensures.told t here in_images found n keeps) in
-    subst (λ (s : Naming). ListsBetween (is_err c.put_node-in-All.result) (748 + 4 * text_sizes found.own) d f c.args.out.now c.put_node-in-All.new.out
+    subst (λ (s : Naming). ListsBetween (is_err c.put_node-in-All.result) (748 + 4 * text_sizes s found.own) d f c.args.out.now c.put_node-in-All.new.out
     (title (codes " Image ") c.args.image.number found.name ++ rows_lines c.args.facts found.own (image_rows s found.own))) (sym c.in-All.is)
     (record { asked = omega (arith, told.asked, c.kind_in.ensures.uses.asked, all_image_cost (kind_of found.own) found.own); written = told.written })

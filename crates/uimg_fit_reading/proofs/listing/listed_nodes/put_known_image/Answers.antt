@@ -13,7 +13,7 @@ returns-in_err-put_image_rows-clause-told g c = λ t o found n.
     let d = g.S.Source.device c.args.fit.now.source.now in
     let m = g.S.Source.device c.put_image_rows.new.fit.source.now in
     let sums = flat_map (sum_lines c.args.naming) (listed found.below) in
-    rw failed (subst (λ (w : List ℕ). ListsBetween true (748 + 4 * text_sizes found.own + sum_by node_allowance (listed found.below)) d m c.args.out.now c.put_image_rows.new.out w)
+    rw failed (subst (λ (w : List ℕ). ListsBetween true (748 + 4 * text_sizes c.args.naming found.own + sum_by (node_allowance c.args.naming) (listed found.below)) d m c.args.out.now c.put_image_rows.new.out w)
     (append_assoc (title (codes " Image ") c.args.image.number found.name) (rows_lines c.args.facts found.own (image_rows c.args.naming found.own)) sums)
     (cut_lists _ _ _ _ _ _ _ sums (c.in_err-put_image_rows.ensures.told t o found n)))
 
@@ -23,7 +23,7 @@ returns-clause-told g c = λ t o found n.
     let f = g.S.Source.device c.put_sums.new.fit.source.now in
     let here = stays c.put_image_rows.ensures.leaves.keeps o in
     let tail = c.put_sums.ensures.told t here (listed found.below) (c.child_of-first.ensures.children t here.read.indexed in_images found n) in
-    subst (λ (w : List ℕ). ListsBetween (is_err c.put_sums.result) (748 + 4 * text_sizes found.own + sum_by node_allowance (listed found.below)) d f c.args.out.now c.put_sums.new.out w)
+    subst (λ (w : List ℕ). ListsBetween (is_err c.put_sums.result) (748 + 4 * text_sizes c.args.naming found.own + sum_by (node_allowance c.args.naming) (listed found.below)) d f c.args.out.now c.put_sums.new.out w)
     (append_assoc (title (codes " Image ") c.args.image.number found.name) (rows_lines c.args.facts found.own (image_rows c.args.naming found.own)) (flat_map (sum_lines c.args.naming) (listed found.below)))
     (then_lists (is_err c.put_sums.result) _ _ _ _ _ _ _ _ _ _ (c.in_ok-put_image_rows.ensures.told t o found n) tail)
 

@@ -17,7 +17,7 @@ returns-in_err-put_sum-clause-told g c = λ t o all at.
     let f = front t in_image c.in-Some.node left.rest (subst (λ (o : Option ℕ). AreFrom t in_image o left.rest) c.in-Some.is left.at) in
     let here = stays c.loop-next.invariant.leaves.keeps o in
     let told = c.in_err-put_sum.ensures.told t here f.image f.node in
-    rw failed (left_fails (AreFrom t in_image) (texts c.args.naming) 0 0 c.loop-next.next _ _ _ _ _ _ all left f.image f.more (sum_lines c.args.naming f.image) f.are refl told)
+    rw failed (left_fails c.args.naming (AreFrom t in_image) (texts c.args.naming) 0 0 c.loop-next.next _ _ _ _ _ _ all left f.image f.more (sum_lines c.args.naming f.image) f.are refl told)
 
 pub loop-next-preserved : goal.loop-next-preserved
 loop-next-preserved g c =
@@ -32,14 +32,14 @@ loop-next-preserved g c =
           let then = stays c.put_sum.ensures.leaves.keeps here in
           let told = c.in_ok-put_sum.ensures.told t here f.image f.node in
           let next = c.next_of-next.ensures.next t then.read.indexed in_image f.image f.more (subst (λ (l : List (NodeOf Spot)). AreFrom t in_image (Some c.in-Some.node) l) f.are begins) in
-          left_more (AreFrom t in_image) (texts c.args.naming) 0 0 c.loop-next.next c.next_of-next.result _ _ _ _ _ _ all left f.image f.more (sum_lines c.args.naming f.image) f.are refl told next;
+          left_more c.args.naming (AreFrom t in_image) (texts c.args.naming) 0 0 c.loop-next.next c.next_of-next.result _ _ _ _ _ _ all left f.image f.more (sum_lines c.args.naming f.image) f.are refl told next;
     }
 
 pub returns-clause-told : goal.returns-clause-told
 returns-clause-told g c = λ t o all at.
     let left = c.loop-next.invariant.left t o all at in
     let ended = none_left t in_image left.rest (subst (λ (o : Option ℕ). AreFrom t in_image o left.rest) c.in_default.is left.at) in
-    left_ends (AreFrom t in_image) (texts c.args.naming) 0 c.loop-next.next _ _ _ _ all left ended refl
+    left_ends c.args.naming (AreFrom t in_image) (texts c.args.naming) 0 c.loop-next.next _ _ _ _ all left ended refl
 
 pub returns-in_err-put_sum-clause-leaves : goal.returns-in_err-put_sum-clause-leaves
 returns-in_err-put_sum-clause-leaves g c =

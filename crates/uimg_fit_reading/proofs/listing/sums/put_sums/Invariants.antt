@@ -14,7 +14,7 @@ invariant-loop-next g l =
       within : IfSome l.next (λ i. i < length l.fit.room.now.entries);
       leaves : LeavesBetween {X = Unit} (Ok tt) device l.fn.fit l.fit l.fn.out l.out;
       left : (t : Siblings) → InFit device l.fn.fit Opened t → (all : List (NodeOf Spot)) → AreFrom t in_image l.fn.first all
-          → Left (AreFrom t in_image) (λ i ns. flat_map (sum_lines l.naming) ns) 0 l.next (device l.fn.fit.source.now) (device l.fit.source.now) l.fn.out l.out all;
+          → Left l.naming (AreFrom t in_image) (λ i ns. flat_map (sum_lines l.naming) ns) 0 l.next (device l.fn.fit.source.now) (device l.fit.source.now) l.fn.out l.out all;
     }
 
 abbrev pub decreases-loop-next : goal.decreases-loop-next
