@@ -19,7 +19,7 @@ use Rattle.uimg_legacy.specs.Extraction as legacy_extraction
 use Rattle.uimg_legacy.specs.Work as legacy
 use Rattle.uimg_engine.specs.{declared.fault.Fault.{Fault, TheVariants.Legacy}, Faults.is_of_making}
 use Rattle.uimg_engine.specs.Faults.{end_of, of_fit, is_read, is_put, is_no_memory, is_refused}
-use Rattle.uimg_names.specs.declared.naming.Naming.{Naming}
+use Rattle.uimg_names.specs.declared.naming.Naming.{Naming, TheVariants.Profile}
 use Rattle.uimg_requests.specs.declared.command.{Action.Action, Command.Command, Form.Form}
 use Rattle.uimg_requests.specs.declared.command.Action.TheVariants as action
 use Rattle.uimg_requests.specs.declared.command.Form.TheVariants as form
@@ -64,24 +64,24 @@ abbrev pub outcome_of : Naming → Command → List ℕ → Outcome Fault
 outcome_of naming command file = outcome_in naming (is_fit command.form file) command.action file
 
 -- the most bytes that the engine of a format requests
-abbrev pub work_in : Bool → Action → List ℕ → ℕ
-work_in true action.List file = fit.list_work file
-work_in true action.Verify file = fit.verify_work file
-work_in true (action.Extract position) file = fit.extract_work file position
-work_in false action.List file = legacy.list_work file
-work_in false action.Verify file = legacy.verify_work file
-work_in false (action.Extract position) file = legacy.extract_work file position
+abbrev pub work_in : Naming → Bool → Action → List ℕ → ℕ
+work_in naming true action.List file = fit.list_work naming file
+work_in naming true action.Verify file = fit.verify_work file
+work_in naming true (action.Extract position) file = fit.extract_work file position
+work_in naming false action.List file = legacy.list_work file
+work_in naming false action.Verify file = legacy.verify_work file
+work_in naming false (action.Extract position) file = legacy.extract_work file position
 
--- The most bytes that a command requests, a listing with any names: the four of the magic number,
--- and those of the format's engine. Without payloads that is `64 + 1024 * (nodes + properties) + 4
--- * (bytes of texts + NOPs)` for a FIT image, each counted as it is met, and `64 + 16 * (sizes +
--- 1)` for a legacy image.
-abbrev pub work : Command → List ℕ → ℕ
-work command file = 4 + work_in (is_fit command.form file) command.action file
+-- The most bytes that a command requests, a listing with the names of a set: the four of the magic
+-- number, and those of the format's engine. Without payloads that is `64 + 1024 * (nodes +
+-- properties) + 4 * (bytes of texts + NOPs)` for a FIT image, each counted as it is met, and
+-- `64 + 16 * (sizes + 1)` for a legacy image.
+abbrev pub work : Naming → Command → List ℕ → ℕ
+work naming command file = 4 + work_in naming (is_fit command.form file) command.action file
 
 -- the most bytes that a listing requests
 abbrev pub listing_work : Form → List ℕ → ℕ
-listing_work form file = work (record { action = action.List; form = form }) file
+listing_work form file = work Profile (record { action = action.List; form = form }) file
 
 -- the most entries of a command's table: one for each node of a FIT image, none for a legacy image
 abbrev pub nodes_in : Bool → List ℕ → ℕ
@@ -181,11 +181,11 @@ TakesTable false source no_memory old new =
 pub record CarriesOutBetween (naming : Naming) (fit : Bool) (what : Action)
     (result : Result Status Fault) (d e : Device) (old new : Held) (s t : Sink) : Type 0 where
   -- the source is unchanged; `Read` is returned exactly if its failures rose
-  pub uses : UsesAtMost (work_in fit what d.bytes) (is_read result) d e
+  pub uses : UsesAtMost (work_in naming fit what d.bytes) (is_read result) d e
   pub room : TakesTable fit d (is_no_memory result) old new
   -- the bytes that an extraction requested
   pub ahead : IsTrue d.honest
-      → ExtractsAheadBetween (work_in fit action.List d.bytes) what
+      → ExtractsAheadBetween (work_in Profile fit action.List d.bytes) what
       (outcome_in naming fit what d.bytes) d e s t
   -- a refused extraction wrote nothing, over any source
   pub untouched : KeepsOutput what (is_refused result) s t
@@ -205,7 +205,7 @@ CarriesOut naming fit what result device source room out = CarriesOutBetween nam
 -- The same for a command, whose format is given or guessed.
 pub record RunsBetween (naming : Naming) (command : Command) (result : Result Status Fault)
     (d e : Device) (old new : Held) (s t : Sink) : Type 0 where
-  pub uses : UsesAtMost (work command d.bytes) (is_read result) d e
+  pub uses : UsesAtMost (work naming command d.bytes) (is_read result) d e
   pub room : TakesNodes d (is_no_memory result) old new
   pub legacy : IsLegacy command.form d → TakesTable false d (is_no_memory result) old new
   pub ahead : IsTrue d.honest

@@ -50,7 +50,7 @@ StandsIn file span = span.place + span.length ≤ length file
 -- nothing.
 pub record LocatesBetween (fit : Bool) (position : ℕ) (result : Result Span Fault) (d e : Device)
     (old new : Held) : Type 0 where
-  pub uses : UsesAtMost (work_in fit action.List d.bytes) (is_read result) d e
+  pub uses : UsesAtMost (work_in Profile fit action.List d.bytes) (is_read result) d e
   pub room : TakesTable fit d (is_no_memory result) old new
   pub no_put : is_put result ≡ false
   pub not_making : is_of_making result ≡ false

@@ -93,7 +93,7 @@ pub fn run<S: Source, A: Allocator, W: Write>(
     ensures no_memory { ExactlyIfRose (is_no_memory result ≡ true)
         room.old.refused room.new.refused }
     ensures not_making { is_of_making result ≡ false }
-    ensures asked { HonestSource S.device source → AsksAtMost (work command.now) S.device source }
+    ensures asked { HonestSource S.device source → AsksAtMost (work Naming.Profile command.now) S.device source }
     ensures ahead { HonestSource S.device source →
         ExtractsAhead Naming.Profile command.now S.device source out }
     ensures untouched { KeepsOutput command.now.action (is_refused result) out.old out.new }

@@ -48,6 +48,8 @@ use Rattle.uimg_fit_reading.proofs.HashReportLaws.{covered_first}
 use Rattle.uimg_fit_reading.proofs.ImageLaws.{front, none_left}
 use Rattle.uimg_fit_reading.proofs.PlanLaws.{if_err}
 use Rattle.uimg_fit_reading.proofs.SharesLaws.{hashes_allowed, images_allowed}
+use Rattle.uimg_names.specs.declared.naming.Naming.{TheVariants.{Profile}}
+use Rattle.uimg_blob_reading.specs.Keys.{is_text}
 
 -- The first hash node that is not right among those that are left is the first of all.
 pub record LeftRight (t : Siblings) (set : AlgoSet) (message : List ℕ) (hs : List (NodeOf Spot)) (asked new : ℕ) (next : Option ℕ) : Type 0 where
@@ -132,12 +134,12 @@ within : (need : Option Algo) (left size : ℕ) (image : NodeOf Spot) (message :
 within need left size image message is few = rw (le-ltb left (hashed_size naming.All image (Ok message)) (omega (arith, is, few))) refl
 
 -- each hash node has its allowance
-pub some_nodes : (hs : List (NodeOf Spot)) → 760 * length hs ≤ sum_by node_allowance hs
+pub some_nodes : (hs : List (NodeOf Spot)) → 760 * length hs ≤ sum_by (node_allowance Profile) hs
 some_nodes [] = omega arith
-some_nodes (h ∷ hs) = omega (arith, sum_by-cons node_allowance h hs, some_nodes hs)
+some_nodes (h ∷ hs) = omega (arith, sum_by-cons (node_allowance Profile) h hs, some_nodes hs)
 
-nodes_paid : (image : NodeOf Spot) → 128 * length (hashes image) + 760 ≤ node_allowance image
-nodes_paid image = omega (arith, some_nodes (hashes image), hashes_allowed image)
+nodes_paid : (image : NodeOf Spot) → 128 * length (hashes image) + 760 ≤ node_allowance Profile image
+nodes_paid image = omega (arith, some_nodes (hashes image), hashes_allowed Profile image)
 
 pub payload_over : (file : List ℕ) (need : Option Algo) (left size : ℕ) (image : NodeOf Spot) (message : List ℕ) (asked new : ℕ) (name : Span) → size ≡ hashed_size naming.All image (Ok message) → left < size
     → slice file name.place name.length ≡ image.name → new ≤ asked + 32 * length (hashes image) → ChecksPayloadBetween file need left image message asked new (Ok (Ended (fit_finding.Overlapping name)))
@@ -244,7 +246,7 @@ pub record LeftChecked (t : Siblings) (file : List ℕ) (need : Option Algo) (fo
   pub rest : List (NodeOf Spot)
   pub from : AreFrom t in_images next rest
   pub same : first_told need file (length file) found ≡ first_told need file left rest
-  pub paid : new + left + sum_by node_allowance rest ≤ asked + length file + sum_by node_allowance found
+  pub paid : new + left + sum_by (node_allowance Profile) rest ≤ asked + length file + sum_by (node_allowance Profile) found
 
 -- an image, and those after it
 told_more : (need : Option Algo) (file : List ℕ) (left : ℕ) (image : NodeOf Spot) (more : List (NodeOf Spot))
@@ -267,7 +269,7 @@ images_more t file need found asked new left next k image more are later rest fo
       same = k.same ∙ ap (first_told need file left) are ∙ told_more need file left image more
           ∙ ap (λ (r : Result (Option NamedFinding) Fault). or_later r (first_told need file (left - hashed_size naming.All image (payload file image)) more)) c.told.0
           ∙ ap (λ (n : ℕ). first_told need file n more) fewer;
-      paid = omega (arith, k.paid, c.paid, ap (sum_by node_allowance) are, sum_by-cons node_allowance image more);
+      paid = omega (arith, k.paid, c.paid, ap (sum_by (node_allowance Profile)) are, sum_by-cons (node_allowance Profile) image more);
     }
 
 pub images_end : (t : Siblings) (file : List ℕ) (need : Option Algo) (found : List (NodeOf Spot)) (asked new left : ℕ) (next : Option ℕ) (k : LeftChecked t file need found asked new left next)
@@ -276,7 +278,7 @@ pub images_end : (t : Siblings) (file : List ℕ) (need : Option Algo) (found : 
 images_end t file need found asked new left next k image more are later ended c = record {
   told = k.same ∙ ap (first_told need file left) are ∙ told_more need file left image more
       ∙ ap (λ (r : Result (Option NamedFinding) Fault). or_later r (first_told need file (left - hashed_size naming.All image (payload file image)) more)) c.told;
-  paid = omega (arith, k.paid, c.paid, ap (sum_by node_allowance) are, sum_by-cons node_allowance image more);
+  paid = omega (arith, k.paid, c.paid, ap (sum_by (node_allowance Profile)) are, sum_by-cons (node_allowance Profile) image more);
 }
 
 -- a fault of an image is that of all
@@ -293,7 +295,7 @@ pub images_cut : (t : Siblings) (file : List ℕ) (need : Option Algo) (found : 
 images_cut t file need found asked new left next k image more are later fault c = record {
   told = fault_gives file left (hashed_size naming.All image (payload file image)) (image_finding need left image (payload file image)) _
       (first_told need file (left - hashed_size naming.All image (payload file image)) more) fault (k.same ∙ ap (first_told need file left) are ∙ told_more need file left image more) c.told;
-  paid = omega (arith, k.paid, c.paid, ap (sum_by node_allowance) are, sum_by-cons node_allowance image more);
+  paid = omega (arith, k.paid, c.paid, ap (sum_by (node_allowance Profile)) are, sum_by-cons (node_allowance Profile) image more);
 }
 
 pub images_done : (t : Siblings) (file : List ℕ) (need : Option Algo) (found : List (NodeOf Spot)) (asked new left : ℕ) (next : Option ℕ) → next ≡ None → LeftChecked t file need found asked new left next
@@ -307,11 +309,11 @@ images_done t file need found asked new left next none k =
 
 -- what is asked for about the images is within the work
 pub check_within : (file : List ℕ) (t : Siblings) (found : List (NodeOf Spot)) → tree file ≡ Ok t → images (spots t) ≡ Some found
-    → index_cost file + length file + sum_by node_allowance found ≤ check_work file
+    → index_cost file + length file + sum_by (node_allowance Profile) found ≤ check_work file
 check_within file t found is has =
-    let paid : allowance (spots t) ≤ 760 * nodes_met file + 4 * texts_met file =
-    subst (λ (r : Result Siblings BlobFaultAt). IfOk r (λ (x : Siblings). allowance (spots x) ≤ 760 * nodes_met file + 4 * texts_met file)) is (tree-paid file) in
-    omega (arith, paid, images_allowed (spots t) found has)
+    let paid : allowance Profile (spots t) ≤ 760 * nodes_met file + 4 * texts_met is_text file =
+    subst (λ (r : Result Siblings BlobFaultAt). IfOk r (λ (x : Siblings). allowance Profile (spots x) ≤ 760 * nodes_met file + 4 * texts_met is_text file)) is (tree-paid Profile file) in
+    omega (arith, paid, images_allowed Profile (spots t) found has)
 
 -- what is found of a file whose images are known
 check_is : (file : List ℕ) (t : Siblings) (need : Option Algo) (found : List (NodeOf Spot)) → tree file ≡ Ok t → images (spots t) ≡ Some found → check_of need file ≡ some_told need file found

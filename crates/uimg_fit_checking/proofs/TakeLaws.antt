@@ -40,6 +40,7 @@ use Rattle.uimg_fit_checking.proofs.CheckLaws.{some_nodes}
 use Rattle.uimg_fit_checking.proofs.ClaimLaws.{fits_first}
 use Rattle.uimg_fit_reading.proofs.ImageLaws.{none_left}
 use Rattle.uimg_fit_reading.proofs.SharesLaws.{hashes_allowed}
+use Rattle.uimg_names.specs.declared.naming.Naming.{TheVariants.{Profile}}
 
 -- what nothing was written before holds what was
 filled : (c : Option (List ℕ)) (bytes : List ℕ) → Appends (Some []) c bytes → c ≡ Some bytes
@@ -115,7 +116,7 @@ pub take_paid : (file : List ℕ) (only : Option (List ℕ)) (image : NodeOf Spo
 take_paid file only image span asked middle new it is inside one two =
     let size : size_if (is_asked only image.name) (payload file image) ≡ length (slice file span.place span.length) =
     ap (λ (b : Bool). size_if b (payload file image)) it ∙ ap (size_if true) is in
-    omega (arith, size, length-slice file span.place span.length inside, one, two, some_nodes (hashes image), hashes_allowed image)
+    omega (arith, size, length-slice file span.place span.length inside, one, two, some_nodes (hashes image), hashes_allowed Profile image)
 
 -- an image, and those after it
 pub takes_more : (need : Option Algo) (only : Option (List ℕ)) (file : List ℕ) (image : NodeOf Spot) (more : List (NodeOf Spot))
@@ -257,6 +258,6 @@ pub pay_done : (t : Siblings) (file : List ℕ) (only : Option (List ℕ)) (foun
 pay_done t file only found asked new next k = omega (arith, k.paid)
 
 -- what the passes over the images may ask for
-pub allowed : (found : List (NodeOf Spot)) → 267 * length found + sum_by take_allowance found ≤ sum_by node_allowance found
+pub allowed : (found : List (NodeOf Spot)) → 267 * length found + sum_by take_allowance found ≤ sum_by (node_allowance Profile) found
 allowed [] = omega arith
-allowed (image ∷ more) = omega (arith, sum_by-cons take_allowance image more, sum_by-cons node_allowance image more, allowed more)
+allowed (image ∷ more) = omega (arith, sum_by-cons take_allowance image more, sum_by-cons (node_allowance Profile) image more, allowed more)

@@ -28,6 +28,7 @@ use Rattle.uimg_fit_reading.specs.Work.{hashed_size}
 use Rattle.uimg_fit_checking.specs.Checks.{NamedFinding, named_finding, EndsInside, wrong_in}
 use Rattle.uimg_fit_checking.specs.Checks.{found_of}
 use Rattle.uimg_fit_checking.specs.Checks.{image_finding, first_told}
+use Rattle.uimg_names.specs.declared.naming.Naming.{TheVariants.{Profile}}
 
 -- the finding about an image with a hash node that is not right
 abbrev pub wrong_told : List ℕ → List ℕ → WrongHash → NamedFinding
@@ -80,7 +81,7 @@ pub record ChecksPayloadBetween (file : List ℕ) (need : Option Algo) (left : �
     : Type 0 where
   pub told : IfOk result
       (IsChecked file left (hashed_size naming.All image (Ok message)) (found_of need left image message))
-  pub paid : new + left_of result + 12 ≤ asked + left + node_allowance image
+  pub paid : new + left_of result + 12 ≤ asked + left + node_allowance Profile image
 
 abbrev pub ChecksPayload : {S : Type 0} → Option Algo → ℕ → NodeOf Spot → Span
     → Result Checked SourceFault → (S → Device) → Lent S → Type 0
@@ -94,7 +95,7 @@ pub record ChecksImageBetween (file : List ℕ) (need : Option Algo) (left : ℕ
     (asked new : ℕ) (result : Result Checked Fault) : Type 0 where
   pub told : TellsChecked file left (hashed_size naming.All image (payload file image))
       (image_finding need left image (payload file image)) result
-  pub paid : new + left_of result ≤ asked + left + node_allowance image
+  pub paid : new + left_of result ≤ asked + left + node_allowance Profile image
 
 abbrev pub ChecksImage : {S : Type 0} → Option Algo → ℕ → NodeOf Spot → Result Checked Fault
     → (S → Device) → Lent S → Type 0
@@ -107,7 +108,7 @@ pub record ChecksImagesBetween (file : List ℕ) (need : Option Algo) (found : L
     (asked new : ℕ) (result : Result (Option (Finding Span)) Fault) : Type 0 where
   pub told : Gives (option_map (named_finding file)) result
       (first_told need file (length file) found)
-  pub paid : new ≤ asked + length file + sum_by node_allowance found
+  pub paid : new ≤ asked + length file + sum_by (node_allowance Profile) found
 
 abbrev pub ChecksImages : {S : Type 0} → Option Algo → List (NodeOf Spot)
     → Result (Option (Finding Span)) Fault → (S → Device) → Lent S → Type 0

@@ -21,10 +21,11 @@ use Rattle.uimg_fit_checking.specs.declared.checking.Finding.TheVariants.{Weak, 
 use Rattle.uimg_fit_checking.specs.declared.checking.Finding.TheVariants.{NoImage}
 use Rattle.uimg_fit_checking.specs.Vouching.{is_vouched}
 use Rattle.uimg_fit_reading.specs.Work.{own_meta, hashed_size}
+use Rattle.uimg_names.specs.declared.naming.Naming.{TheVariants.{Profile}}
 
 -- the most bytes that a check requests: of all payloads together at most the file's length
 abbrev pub check_work : List ℕ → ℕ
-check_work file = own_meta file + length file
+check_work file = own_meta Profile file + length file
 
 -- a finding with the names of nodes
 abbrev pub NamedFinding : Type 0

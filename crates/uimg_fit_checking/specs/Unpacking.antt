@@ -30,6 +30,7 @@ use Rattle.uimg_fit_reading.specs.Work.{own_meta}
 use Rattle.uimg_fit_checking.specs.Checks.{NamedFinding, wrong_in, or_weak}
 use Rattle.uimg_fit_checking.specs.declared.checking.Finding.TheVariants as fit_finding
 use Rattle.uimg_fit_reading.specs.Plans.{with_all}
+use Rattle.uimg_names.specs.declared.naming.Naming.{TheVariants.{Profile}}
 
 -- the bytes of a name
 abbrev pub as_bytes : NodeName → List ℕ
@@ -203,4 +204,4 @@ Gives seen (Overlapping name) old new = new ≡ old
 
 -- the most bytes requested: all taken payloads have at most the file's length together
 abbrev pub unpack_work : List ℕ → ℕ
-unpack_work file = own_meta file + length file
+unpack_work file = own_meta Profile file + length file

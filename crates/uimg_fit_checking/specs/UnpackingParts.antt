@@ -29,6 +29,7 @@ use Rattle.uimg_fit_checking.specs.Claiming as Claiming
 use Rattle.uimg_fit_checking.specs.Claiming.{ClaimsTo, claims}
 use Rattle.uimg_fit_checking.specs.Unpacking.{Take, GivenFirst, overlapping, is_asked, is_kept}
 use Rattle.uimg_fit_checking.specs.Unpacking.{is_any, told_of, as_bytes, take_of}
+use Rattle.uimg_names.specs.declared.naming.Naming.{TheVariants.{Profile}}
 
 -- The refusal of a payload was found, if any; at most 351 bytes were requested for each hash node.
 pub record FindsRefusalBetween (need : Option Algo) (image : NodeOf Spot) (message : List ℕ)
@@ -125,7 +126,7 @@ ClaimsImages only found result device source notes claimed taker =
 
 -- the most bytes requested for an image besides its payload, its name and its span
 abbrev pub take_allowance : NodeOf Spot → ℕ
-take_allowance image = 493 + allowance image.below
+take_allowance image = 493 + allowance Profile image.below
 
 -- What a result says of an image that was taken, or passed over if it is not requested.
 abbrev pub TakesTo : (Take → List Take) → Bool → Take → Result Bool Fault

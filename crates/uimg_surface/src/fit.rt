@@ -36,7 +36,7 @@ pub fn list<S: Source, A: Allocator, W: Write>(
     out: &mut Out<W>,
 ) -> Result<Status, Fault>
     ensures told { TellsOf (list_of Profile) result S.device source out }
-    ensures delivers { Delivers list_work result S.device source room out }
+    ensures delivers { Delivers (list_work Profile) result S.device source room out }
 {
     uimg_fit::list(source, room, out)
 }
@@ -85,7 +85,7 @@ pub fn extract<S: Source, A: Allocator, W: Write>(
     ensures told { TellsOf (λ file. extract_of file position) result S.device source out }
     ensures delivers { Delivers (λ file. extract_work file position) result
         S.device source room out }
-    ensures ahead { KeepsAhead list_work (λ file. extract_of file position) S.device source out }
+    ensures ahead { KeepsAhead (list_work Profile) (λ file. extract_of file position) S.device source out }
     ensures untouched { IsTrue (is_refused result) → out.new ≡ out.old }
 {
     uimg_fit::extract(position, source, room, out)

@@ -53,7 +53,7 @@ pub fn run<S: Source, A: Allocator, W: Write>(
         Meets (outcome_of Profile command.now) result S.device source out }
     ensures prefix { HonestSource S.device source →
         WritesPrefix (outcome_of Profile command.now) S.device source out }
-    ensures asked { HonestSource S.device source → AsksAtMost (work command.now) S.device source }
+    ensures asked { HonestSource S.device source → AsksAtMost (work Profile command.now) S.device source }
     ensures ahead { HonestSource S.device source →
         ExtractsAhead Profile command.now S.device source out }
     ensures peak { HonestSource S.device source →
