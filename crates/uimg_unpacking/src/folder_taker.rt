@@ -1,6 +1,6 @@
 //! Writes payloads to a folder, with a line for each.
 
-ghost use Rattle.std.specs.Prelude.{◌≡◌, ◌++◌, ◌∷◌, ◌&&◌, ◌||◌, ℕ, List, [], Bool, None, Some, IfOk, IsTrue, OnOk, length, nat_lt, not, is_none, is_ok, false, true};
+ghost use Rattle.std.specs.Prelude.{◌≡◌, ◌++◌, ◌&&◌, ◌||◌, ℕ, List, [], Bool, None, Some, IsTrue, OnOk, length, nat_lt, not, is_none, is_ok, false, true};
 ghost use Rattle.std.specs.Io.Buffered.{writer_contents};
 ghost use Rattle.uimg_fit_checking.specs.Unpacking.{as_bytes, kept, refused};
 ghost use Rattle.uimg_fit_checking.specs.declared.checking.Finding.TheVariants as finding;

@@ -36,7 +36,7 @@ pub enum Refusal {
 /// which may come more than once.
 ///
 /// Contracts see an honest taker as the list of what it was given, as far as `seen` shows it. If it
-/// notes claims, they also see the list of these.
+/// notes them, they also see what was claimed, and for which image a shelf was returned last.
 pub trait Taker {
     /// What a payload is written to before anything vouches for it. Only `keep` gives it its name.
     type Shelf: Write + Drop;
@@ -84,9 +84,8 @@ pub trait Taker {
         ensures empty { IsTrue honest → IfOk result (λ shelf. Self.Shelf.contents shelf ≡ Some []) };
 
     /// Takes a payload to keep, with what vouches for it; at a failure it may be kept or not. The
-    /// shelf is the last one that was returned, and was requested by this name. For an honest taker
-    /// the caller has shown that the digest is that of what it holds, whatever source it was read
-    /// from.
+    /// last shelf that was returned was requested by this name. For an honest taker the caller has
+    /// shown that the digest is that of what the shelf holds, whatever source it was read from.
     fn keep(
         &mut self,
         name: &NodeName,
@@ -103,7 +102,7 @@ pub trait Taker {
             AddsIf seen result (takes self.old) (takes self.new)
             (kept (as_bytes name.now) bytes vouched) };
 
-    /// Takes a payload that is not kept, to discard it. The shelf is the last one, as for `keep`.
+    /// Takes a payload that is not kept, to discard it. The last shelf was requested by its name.
     fn refuse(
         &mut self,
         name: &NodeName,
