@@ -1,4 +1,5 @@
-//! Legacy images and their listings.
+//! Legacy images and their listings; RSA keys and signatures.
 
 pub mod legacy;
 pub mod listings;
+pub mod rsa;

@@ -3,5 +3,6 @@
 mod base;
 mod counted;
 mod legacy;
+mod rsa;
 mod sums;
 mod texts;

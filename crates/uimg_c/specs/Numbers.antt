@@ -33,7 +33,9 @@ loosenesses =
     loose.NoDescription ∷ loose.NoTimestamp ∷ loose.UnitAddress ∷ loose.DoubledNode
     ∷ loose.DoubledProperty ∷ loose.IgnoredHash ∷ loose.OddCell ∷ loose.TwoPayloads
     ∷ loose.HalfPlace ∷ loose.UnsoundBlob ∷ loose.Misplaced ∷ loose.EmptyData ∷ loose.UnknownType
-    ∷ loose.UnknownArchitecture ∷ loose.UnknownSystem ∷ loose.UnknownCompression ∷ []
+    ∷ loose.UnknownArchitecture ∷ loose.UnknownSystem ∷ loose.UnknownCompression
+    ∷ loose.Unsigned ∷ loose.UnknownSignature ∷ loose.WeakSignature ∷ loose.SignedStrings
+    ∷ loose.SignedNodes ∷ loose.SignatureLength ∷ loose.SignatureRange ∷ loose.BadSignature ∷ []
 
 -- the fault of a legacy image, of a blob or of a FIT image, or what strictness refuses, with this
 -- number

@@ -20,7 +20,7 @@ use Rattle.uimg_strict.specs.{Headers.loose_legacy, Looseness.{LooseSaid, loosen
 use Rattle.uimg_strict.specs.declared.loose.Looseness.{Looseness}
 use Rattle.uimg_strict.specs.declared.loose.Looseness.TheVariants as loose
 
--- S1 to S16
+-- S1 to S24
 abbrev pub loose_number : Looseness → ℕ
 loose_number loose.NoDescription = 1
 loose_number loose.NoTimestamp = 2
@@ -38,6 +38,14 @@ loose_number loose.UnknownType = 13
 loose_number loose.UnknownArchitecture = 14
 loose_number loose.UnknownSystem = 15
 loose_number loose.UnknownCompression = 16
+loose_number loose.Unsigned = 17
+loose_number loose.UnknownSignature = 18
+loose_number loose.WeakSignature = 19
+loose_number loose.SignedStrings = 20
+loose_number loose.SignedNodes = 21
+loose_number loose.SignatureLength = 22
+loose_number loose.SignatureRange = 23
+loose_number loose.BadSignature = 24
 
 -- what strictness refuses of a FIT image, or of a legacy image, or the fault that it finds
 abbrev pub why_in_fit : Result (Option LooseSaid) FitEngineFault → Result (Option Looseness) Fault

@@ -52,8 +52,8 @@ const FIT_FAULTS: [FitFault; 10] = [
     FitFault::ReadFailed,
 ];
 
-/// S1 to S16.
-const LOOSENESS: [Looseness; 16] = [
+/// S1 to S24.
+const LOOSENESS: [Looseness; 24] = [
     Looseness::NoDescription,
     Looseness::NoTimestamp,
     Looseness::UnitAddress,
@@ -70,6 +70,14 @@ const LOOSENESS: [Looseness; 16] = [
     Looseness::UnknownArchitecture,
     Looseness::UnknownSystem,
     Looseness::UnknownCompression,
+    Looseness::Unsigned,
+    Looseness::UnknownSignature,
+    Looseness::WeakSignature,
+    Looseness::SignedStrings,
+    Looseness::SignedNodes,
+    Looseness::SignatureLength,
+    Looseness::SignatureRange,
+    Looseness::BadSignature,
 ];
 
 pub(crate) fn legacy_of(fault: u32) -> Option<LegacyFault>
@@ -105,10 +113,10 @@ pub(crate) fn fit_of(fault: u32) -> Option<FitFault>
     None
 }
 
-/// The numbers are 1 to 16.
+/// The numbers are 1 to 24.
 pub(crate) fn number_of_loose(why: Looseness) -> u32
     ensures is { result ≡ loose_number why }
-    ensures most { result ≤ 16 }
+    ensures most { result ≤ 24 }
 {
     why as u32 + 1
 }

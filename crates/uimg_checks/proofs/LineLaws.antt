@@ -108,6 +108,14 @@ why_shown loose.UnknownType = refl
 why_shown loose.UnknownArchitecture = refl
 why_shown loose.UnknownSystem = refl
 why_shown loose.UnknownCompression = refl
+why_shown loose.Unsigned = refl
+why_shown loose.UnknownSignature = refl
+why_shown loose.WeakSignature = refl
+why_shown loose.SignedStrings = refl
+why_shown loose.SignedNodes = refl
+why_shown loose.SignatureLength = refl
+why_shown loose.SignatureRange = refl
+why_shown loose.BadSignature = refl
 
 word_shown : (answer : Answer) → is_shown (answer_word answer) ≡ true
 word_shown (Found found unchecked) = found_word_shown found

@@ -2,4 +2,5 @@
 
 mod answers;
 mod fit;
+mod signing;
 mod tree;

@@ -10,6 +10,10 @@ use Rattle.uimg_strict.specs.declared.loose.Looseness.TheVariants.{Misplaced, Em
 use Rattle.uimg_strict.specs.declared.loose.Looseness.TheVariants.{UnknownType, UnknownArchitecture}
 use Rattle.uimg_strict.specs.declared.loose.Looseness.TheVariants.{UnknownSystem}
 use Rattle.uimg_strict.specs.declared.loose.Looseness.TheVariants.{UnknownCompression}
+use Rattle.uimg_strict.specs.declared.loose.Looseness.TheVariants.{Unsigned, UnknownSignature}
+use Rattle.uimg_strict.specs.declared.loose.Looseness.TheVariants.{WeakSignature, SignedStrings}
+use Rattle.uimg_strict.specs.declared.loose.Looseness.TheVariants.{SignedNodes, SignatureLength}
+use Rattle.uimg_strict.specs.declared.loose.Looseness.TheVariants.{SignatureRange, BadSignature}
 
 abbrev pub word_of : Looseness → List ℕ
 word_of NoDescription = codes "no-description"
@@ -28,3 +32,11 @@ word_of UnknownType = codes "unknown-type"
 word_of UnknownArchitecture = codes "unknown-architecture"
 word_of UnknownSystem = codes "unknown-system"
 word_of UnknownCompression = codes "unknown-compression"
+word_of Unsigned = codes "unsigned"
+word_of UnknownSignature = codes "unknown-signature"
+word_of WeakSignature = codes "weak-signature"
+word_of SignedStrings = codes "signed-strings"
+word_of SignedNodes = codes "signed-nodes"
+word_of SignatureLength = codes "signature-length"
+word_of SignatureRange = codes "signature-range"
+word_of BadSignature = codes "bad-signature"

@@ -39,6 +39,23 @@ pub enum Looseness {
     UnknownSystem,
     /// No name in image.h has the code of the compression.
     UnknownCompression,
+    /// A configuration has no signature node.
+    Unsigned,
+    /// A signature node of a configuration has no `algo`, `padding` or `value` that is known.
+    UnknownSignature,
+    /// A configuration is signed by SHA-1.
+    WeakSignature,
+    /// The strings that a signature covers are not the first ones of the strings block.
+    SignedStrings,
+    /// A signature covers more nodes than U-Boot takes, or deeper ones, or too long a value names
+    /// them.
+    SignedNodes,
+    /// The value of a signature has another length than the modulus of the key.
+    SignatureLength,
+    /// The value of a signature is not below the modulus of the key.
+    SignatureRange,
+    /// The value of a signature is not one of the configuration by the key.
+    BadSignature,
 }
 
 /// The reason of a refusal, and the node.
@@ -72,6 +89,14 @@ impl Looseness {
             Looseness::UnknownArchitecture => "unknown-architecture",
             Looseness::UnknownSystem => "unknown-system",
             Looseness::UnknownCompression => "unknown-compression",
+            Looseness::Unsigned => "unsigned",
+            Looseness::UnknownSignature => "unknown-signature",
+            Looseness::WeakSignature => "weak-signature",
+            Looseness::SignedStrings => "signed-strings",
+            Looseness::SignedNodes => "signed-nodes",
+            Looseness::SignatureLength => "signature-length",
+            Looseness::SignatureRange => "signature-range",
+            Looseness::BadSignature => "bad-signature",
         }
     }
 }

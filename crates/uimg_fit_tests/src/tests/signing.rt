@@ -1,0 +1,5 @@
+//! What the signatures of FIT configurations sign.
+
+mod rows;
+mod signed;
+mod trees;

@@ -1,0 +1,2 @@
+pub mod Der
+pub mod Pem

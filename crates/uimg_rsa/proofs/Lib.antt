@@ -1,0 +1,9 @@
+pub mod EncodingLaws
+pub mod Examples
+pub mod HashLaws
+pub mod KeyLaws
+pub mod LimbLaws
+pub mod OctetLaws
+pub mod PssLaws
+pub mod ReducingLaws
+pub mod ValidLaws

@@ -1,0 +1,18 @@
+use Rattle.std.proofs.Common.{◌≡◌, ◌≤◌, ◌+◌, ◌*◌, map, drop, IsTrue}
+use Rattle.uimg_base.specs.Device.{SameDevice}
+use Rattle.uimg_blob_reading.specs.Places.{read_place}
+use Rattle.uimg_signing.specs.Naming.{named, named_at}
+use Rattle.uimg_signing.proofs.naming.named_at.Given as goal
+
+-- what is left says the same
+abbrev pub invariant-loop-place : goal.invariant-loop-place
+invariant-loop-place g l =
+    let device = g.S.Source.device in
+    let d = device l.fn.source in
+    record {
+      same : SameDevice d (device l.source);
+      failures : (device l.source).failures ≡ d.failures;
+      asked : (device l.source).asked ≤ (device l.fn.source).asked + 8447 * l.place-index;
+      room : l.room ≡ l.fn.room;
+      left : IsTrue d.honest → named d.bytes l.wanted (map (read_place d.bytes) (drop l.place-index l.places)) ≡ named_at d.bytes l.wanted l.places;
+    }

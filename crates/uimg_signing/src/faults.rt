@@ -1,0 +1,35 @@
+//! Why a message cannot be computed.
+
+use thiserror::Error;
+
+/// Why a message cannot be computed.
+#[derive(Clone, Copy, Debug, PartialEq, Eq, Error)]
+pub enum SigningFault {
+    /// A read failed.
+    #[error("read failed")]
+    Read,
+    /// Memory was refused.
+    #[error("out of memory")]
+    OutOfMemory,
+    /// The source does not have the blob that was indexed.
+    #[error("changed while it was read")]
+    Changed,
+    /// A value of the configuration has more than 8192 bytes.
+    #[error("a value of the configuration is longer than 8192 bytes")]
+    TooLong,
+    /// The signature covers more than 100 nodes.
+    #[error("the signature covers more than 100 nodes")]
+    TooManyNodes,
+    /// A node is inside 32 others.
+    #[error("nodes are nested more than 32 deep")]
+    TooDeep,
+    /// The value of `hashed-strings` is not two cells.
+    #[error("hashed-strings is not two cells")]
+    BadStrings,
+    /// The first cell of `hashed-strings`, an offset, is not 0.
+    #[error("hashed-strings does not begin at 0")]
+    StringsOffset,
+    /// The strings block has fewer bytes than are signed.
+    #[error("hashed-strings is larger than the strings block")]
+    StringsOutside,
+}

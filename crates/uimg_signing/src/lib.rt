@@ -1,0 +1,31 @@
+//! What the signature of a FIT configuration signs: which nodes it covers, and the message (U-Boot,
+//! `doc/uImage.FIT/signature.rst`, section "Signed Configurations").
+//!
+//! The nodes are computed from the configuration, as U-Boot does since the fix of CVE-2026-46728. The
+//! list in the file, `hashed-nodes`, is never read, since no signature covers it. Nothing here
+//! verifies a signature.
+//!
+//! These lemmas are in `proofs/`:
+//! - `ListedLaws`: a node is listed if and only if its path is.
+//! - `GoingLaws`: the walk over the tokens of a tree meets no token that is not allowed.
+//! - `ShortLaws`: the names of a tree's nodes are short.
+//!
+//! `Examples` has worked cases.
+#![tactic(auto)]
+
+mod faults;
+mod listing;
+mod message;
+mod naming;
+mod properties;
+mod signature;
+mod strings;
+mod texts;
+mod turns;
+mod walking;
+
+pub use faults::SigningFault;
+pub use listing::list_nodes;
+pub use message::feed_message;
+pub use signature::{RsaAlgo, RsaPadding, read_rsa_algo, read_rsa_padding};
+pub use strings::strings_size;

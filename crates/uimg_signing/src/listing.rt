@@ -1,0 +1,284 @@
+//! The nodes that the signature of a configuration covers.
+
+ghost use Rattle.std.specs.Prelude.{◌≡◌, ◌+◌, ◌*◌, ◌<◌, ◌≤◌, ◌++◌, ◌&&◌, List, length, map, take, false, nat_le, if◌then◌else◌, Some, None, IfOk, OnOk};
+ghost use Rattle.std.specs.List.{All};
+ghost use Rattle.uimg_base.specs.{Using.{Asks, Uses}};
+ghost use Rattle.uimg_blob_reading.specs.{Places.read_place, Properties.places_of, Counts.nops_met};
+ghost use Rattle.uimg_signing.specs.{Faults.{is_unread, Refuses}, Texts.is_cipher, Naming.{named, CanBeRead}};
+ghost use Rattle.uimg_signing.specs.declared.faults.SigningFault.TheVariants.{TooManyNodes};
+ghost use Rattle.uimg_signing.specs.Listing.{OfNode, OfNodeRead, OfTable, OfTableRead, OfTreeRead, node_cost, listing_cost, many_refusal, listing_refusal, name_in, is_part_of, is_listed, mark_if, marks_of};
+
+use crate::faults::SigningFault;
+use crate::naming::{has_long, named_at};
+use crate::texts::is_cipher;
+use std::alloc::{Allocator, Global};
+use uimg_base::{Room, Source};
+use uimg_blob_reading::{Blob, PropertiesFault, PropertyPlace, Role, properties_of};
+
+// The most listed nodes, as in U-Boot (IMAGE_MAX_HASHED_NODES).
+const MOST_NODES: usize = 100;
+
+// Reads the name of a node into the start of `to`. Returns its length.
+fn read_name<S: Source, A: Allocator>(
+    source: &mut S,
+    blob: &Blob,
+    room: &Room<A>,
+    node: usize,
+    to: &mut [u8; 256],
+) -> Result<usize, SigningFault>
+    requires node { node < length room.now.entries }
+    requires within { blob.now.totalsize ≤ length (S.device source.old).bytes }
+    ensures uses { Asks 255 (is_unread result) (S.device source.old)
+        (S.device source.new) }
+    ensures short { IfOk result (λ n. n ≤ 255) }
+    ensures refused { OfNodeRead (S.device source.old) blob.now room.now.entries node (λ rows row.
+        Refuses None result) }
+    ensures told { OfNode (S.device source.old) blob.now room.now.entries node (λ rows row.
+        IfOk result (λ n. take n to.new ≡ name_in (S.device source.old).bytes row)) }
+{
+    let span = blob.name(room, node);
+    if span.length > 255 {
+        return Err(SigningFault::Changed);
+    }
+    if span.place > blob.totalsize() as u64 {
+        return Err(SigningFault::Changed);
+    }
+    let length = span.length as usize;
+    if span.place + span.length > blob.totalsize() as u64 {
+        return Err(SigningFault::Changed);
+    }
+    if source.fill_at(span.place, &mut to[..length]).is_err() {
+        return Err(SigningFault::Read);
+    }
+    Ok(length)
+}
+
+// Returns whether the configuration with these properties names an image.
+fn is_named<S: Source, A: Allocator>(
+    source: &mut S,
+    blob: &Blob,
+    room: &mut Room<A>,
+    places: &[PropertyPlace],
+    image: usize,
+) -> Result<bool, SigningFault>
+    requires node { image < length room.old.entries }
+    requires within { blob.now.totalsize ≤ length (S.device source.old).bytes }
+    requires places { All (CanBeRead (length (S.device source.old).bytes)) places.now }
+    ensures uses { Asks (255 + 8447 * length places.now) (is_unread result) (S.device source.old)
+        (S.device source.new) }
+    ensures room { room.new ≡ room.old }
+    ensures refused { OfNodeRead (S.device source.old) blob.now room.old.entries image (λ rows row.
+        Refuses None result) }
+    ensures told { OfNode (S.device source.old) blob.now room.old.entries image (λ rows row.
+        IfOk result (λ it. it ≡ named (S.device source.old).bytes
+        (name_in (S.device source.old).bytes row)
+        (map (read_place (S.device source.old).bytes) places.now))) }
+{
+    let mut name = [0; 256];
+    let length = match read_name(source, blob, room, image, &mut name) {
+        Ok(length) => length,
+        Err(fault) => return Err(fault),
+    };
+    match named_at(source, room, places, &name[..length]) {
+        Ok(it) => Ok(it),
+        Err(_) => Err(SigningFault::Read),
+    }
+}
+
+// Returns whether a node is a child of an image that the configuration names.
+fn is_part<S: Source, A: Allocator>(
+    source: &mut S,
+    blob: &Blob,
+    room: &mut Room<A>,
+    places: &[PropertyPlace],
+    node: usize,
+) -> Result<bool, SigningFault>
+    requires node { node < length room.old.entries }
+    requires within { blob.now.totalsize ≤ length (S.device source.old).bytes }
+    requires places { All (CanBeRead (length (S.device source.old).bytes)) places.now }
+    ensures uses { Asks (255 + 8447 * length places.now) (is_unread result) (S.device source.old)
+        (S.device source.new) }
+    ensures room { room.new ≡ room.old }
+    ensures refused { OfNodeRead (S.device source.old) blob.now room.old.entries node (λ rows row.
+        Refuses None result) }
+    ensures told { OfNode (S.device source.old) blob.now room.old.entries node (λ rows row.
+        IfOk result (λ it. it ≡ is_part_of (S.device source.old).bytes
+        (map (read_place (S.device source.old).bytes) places.now) rows row.parent)) }
+{
+    let Some(parent) = blob.parent(room, node) else {
+        return Ok(false);
+    };
+    if parent >= room.count() {
+        return Err(SigningFault::Changed);
+    }
+    match blob.role(room, parent) {
+        Role::Image => is_named(source, blob, room, places, parent),
+        _ => Ok(false),
+    }
+}
+
+// Returns whether a node is its image's cipher.
+fn is_cipher_node<S: Source, A: Allocator>(
+    source: &mut S,
+    blob: &Blob,
+    room: &mut Room<A>,
+    node: usize,
+) -> Result<bool, SigningFault>
+    requires node { node < length room.old.entries }
+    requires within { blob.now.totalsize ≤ length (S.device source.old).bytes }
+    ensures uses { Asks 255 (is_unread result) (S.device source.old)
+        (S.device source.new) }
+    ensures room { room.new ≡ room.old }
+    ensures refused { OfNodeRead (S.device source.old) blob.now room.old.entries node (λ rows row.
+        Refuses None result) }
+    ensures told { OfNode (S.device source.old) blob.now room.old.entries node (λ rows row.
+        IfOk result (λ it. it ≡ is_cipher (name_in (S.device source.old).bytes row))) }
+{
+    let mut name = [0; 256];
+    let length = match read_name(source, blob, room, node, &mut name) {
+        Ok(length) => length,
+        Err(fault) => return Err(fault),
+    };
+    Ok(is_cipher(&name[..length]))
+}
+
+// Returns whether a node is listed.
+fn is_listed<S: Source, A: Allocator>(
+    source: &mut S,
+    blob: &Blob,
+    room: &mut Room<A>,
+    places: &[PropertyPlace],
+    configuration: usize,
+    node: usize,
+) -> Result<bool, SigningFault>
+    requires node { node < length room.old.entries }
+    requires within { blob.now.totalsize ≤ length (S.device source.old).bytes }
+    requires places { All (CanBeRead (length (S.device source.old).bytes)) places.now }
+    ensures uses { Asks (510 + 8447 * length places.now) (is_unread result) (S.device source.old)
+        (S.device source.new) }
+    ensures room { room.new ≡ room.old }
+    ensures refused { OfNodeRead (S.device source.old) blob.now room.old.entries node (λ rows row.
+        Refuses None result) }
+    ensures told { OfNode (S.device source.old) blob.now room.old.entries node (λ rows row.
+        IfOk result (λ it. it ≡ is_listed (S.device source.old).bytes
+        (map (read_place (S.device source.old).bytes) places.now) rows configuration node row)) }
+{
+    match blob.role(room, node) {
+        Role::Root => Ok(true),
+        Role::Configuration => Ok(node == configuration),
+        Role::Image => is_named(source, blob, room, places, node),
+        Role::Hash => is_part(source, blob, room, places, node),
+        Role::Other => match is_cipher_node(source, blob, room, node) {
+            Ok(true) => is_part(source, blob, room, places, node),
+            Ok(false) => Ok(false),
+            Err(fault) => Err(fault),
+        },
+        _ => Ok(false),
+    }
+}
+
+// Adds a node's offset if it is listed.
+fn add_mark(marks: &mut Vec<u64>, at: u64, is_it: bool) -> Result<(), SigningFault>
+    ensures no_read { is_unread result ≡ false }
+    ensures refused { Refuses (if is_it && nat_le 100 (length marks.old.items) then Some TooManyNodes
+        else None) result }
+    ensures added { OnOk result (marks.new.items ≡ marks.old.items ++ mark_if is_it at) }
+    ensures few { length marks.old.items ≤ 100 → OnOk result (length marks.new.items ≤ 100) }
+{
+    if !is_it {
+        return Ok(());
+    }
+    if marks.len() >= MOST_NODES {
+        return Err(SigningFault::TooManyNodes);
+    }
+    if marks.push(at).is_err() {
+        return Err(SigningFault::OutOfMemory);
+    }
+    Ok(())
+}
+
+// Lists the offsets of the listed nodes, in reading order.
+fn collect<S: Source, A: Allocator>(
+    alloc: Global,
+    source: &mut S,
+    blob: &Blob,
+    room: &mut Room<A>,
+    places: &[PropertyPlace],
+    configuration: usize,
+) -> Result<Vec<u64>, SigningFault>
+    requires within { blob.now.totalsize ≤ length (S.device source.old).bytes }
+    requires places { All (CanBeRead (length (S.device source.old).bytes)) places.now }
+    ensures uses { Asks (length room.old.entries * node_cost (length places.now)) (is_unread result)
+        (S.device source.old) (S.device source.new) }
+    ensures room { room.new ≡ room.old }
+    ensures few { IfOk result (λ marks. length marks.items ≤ 100) }
+    ensures refused { OfTableRead (S.device source.old) blob.now room.old.entries (λ rows.
+        Refuses (many_refusal (marks_of (S.device source.old).bytes
+        (map (read_place (S.device source.old).bytes) places.now) rows configuration)) result) }
+    ensures told { OfTable (S.device source.old) blob.now room.old.entries (λ rows.
+        IfOk result (λ marks. marks.items ≡ marks_of (S.device source.old).bytes
+        (map (read_place (S.device source.old).bytes) places.now) rows configuration)) }
+{
+    let mut marks = Vec::new(alloc);
+    let mut node = 0;
+    let count = room.count();
+    while node < count {
+        let is_it = match is_listed(source, blob, room, places, configuration, node) {
+            Ok(is_it) => is_it,
+            Err(fault) => return Err(fault),
+        };
+        let at = blob.name(room, node).place.saturating_sub(4);
+        match add_mark(&mut marks, at, is_it) {
+            Ok(()) => node += 1,
+            Err(fault) => return Err(fault),
+        }
+    }
+    Ok(marks)
+}
+
+/// Lists the nodes that the signature of a configuration covers, by the offsets of their first
+/// tokens, in reading order: the root, the configuration, each image that it names by a property
+/// other than `description`, `compatible` and `default`, and the hash nodes and `cipher` of such an
+/// image.
+///
+/// Blob and room must be as `index` left them, and the number of the configuration below the count
+/// of entries. At most 100 nodes are listed. Of an honest source it requests at most what
+/// `listing_cost` says. Only the room's window changes.
+///
+/// - `Read`: if and only if a read failed.
+/// - `OutOfMemory`: only if memory for the offsets was refused.
+/// - `TooLong`: if and only if a value of the configuration has more than 8192 bytes.
+/// - `TooManyNodes`: otherwise, if and only if more than 100 nodes are listed.
+/// - `Changed`: only if the source does not have the blob that was indexed.
+pub fn list_nodes<S: Source, A: Allocator>(
+    alloc: Global,
+    source: &mut S,
+    blob: &Blob,
+    room: &mut Room<A>,
+    configuration: usize,
+) -> Result<Vec<u64>, SigningFault>
+    requires node { configuration < length room.old.entries }
+    ensures uses { Uses (is_unread result) (S.device source.old) (S.device source.new) }
+    ensures room { room.new ≡ room.old }
+    ensures few { IfOk result (λ marks. length marks.items ≤ 100) }
+    ensures asked { OfTreeRead (S.device source.old) blob.now room.old.entries configuration
+        (λ rows row. (S.device source.new).asked ≤ (S.device source.old).asked
+        + listing_cost (length rows) (length row.own) (nops_met (S.device source.old).bytes)) }
+    ensures refused { OfTreeRead (S.device source.old) blob.now room.old.entries configuration
+        (λ rows row. Refuses (listing_refusal (places_of row) (marks_of (S.device source.old).bytes
+        (places_of row) rows configuration)) result) }
+    ensures told { OfTreeRead (S.device source.old) blob.now room.old.entries configuration
+        (λ rows row. IfOk result (λ marks. marks.items
+        ≡ marks_of (S.device source.old).bytes (places_of row) rows configuration)) }
+{
+    let places = match properties_of(alloc, source, blob, room, configuration) {
+        Ok(places) => places,
+        Err(PropertiesFault::Read) => return Err(SigningFault::Read),
+        Err(PropertiesFault::OutOfMemory) => return Err(SigningFault::OutOfMemory),
+        Err(PropertiesFault::Changed) => return Err(SigningFault::Changed),
+    };
+    if has_long(&places) {
+        return Err(SigningFault::TooLong);
+    }
+    collect(alloc, source, blob, room, &places, configuration)
+}
