@@ -5,10 +5,12 @@ The packages of an SBOM come from what was linked: the crates that the compiler 
 what it compiled (nm), the files that the linker took (its option -t, twice), and the shared libraries
 that the result needs (readelf -d)."""
 import os
+import platform
 import re
 import subprocess
 import tempfile
 import time
+import urllib.parse
 
 import kit
 
@@ -17,6 +19,7 @@ REQUIRED = {
     "document": ("spdxVersion", "dataLicense", "SPDXID", "name", "documentNamespace", "creationInfo", "packages", "relationships"),
     "creationInfo": ("created", "creators"),
     "packages": ("SPDXID", "name", "downloadLocation"),
+    "externalRefs": ("referenceCategory", "referenceType", "referenceLocator"),
     "relationships": ("spdxElementId", "relationshipType", "relatedSpdxElement"),
 }
 LICENSE = "MIT OR Apache-2.0"
@@ -69,12 +72,13 @@ def taken(trace, dynamic):
 
 
 def owner(path):
-    """Returns the Debian package of a file and its version, or the file's name and no version."""
+    """Returns the Debian package of a file, its version, and its source package; or the file's name
+    alone, if no package has it."""
     for it in (path, path.removeprefix("/usr")):
         name = out("dpkg-query", "-S", it).partition(":")[0]
         if name:
-            return name, out("dpkg-query", "-W", "-f=${Version}\n", name).split("\n")[0]
-    return os.path.basename(path), None
+            return name, *out("dpkg-query", "-W", "-f=${Version} ${source:Package}\n", name).split("\n")[0].split()
+    return os.path.basename(path), None, None
 
 
 def package(kind, name, version=None, **more):
@@ -89,6 +93,15 @@ def port(library):
     (crate, version), whole = ported(library), kit.kit_id().split()[0]
     source = f"A port of the Rust crate {crate} {version}, of {whole}." if version else f"A library of {whole}."
     return package("Port", library, version or whole, sourceInfo=source)
+
+
+def system(name, version, source):
+    """Returns the package of what owner() returns."""
+    if not version:
+        return package("System", name)
+    locator = f"pkg:deb/{platform.freedesktop_os_release()['ID']}/{name}@{urllib.parse.quote(version, safe='')}"
+    reference = {"referenceCategory": "PACKAGE-MANAGER", "referenceType": "purl", "referenceLocator": locator}
+    return package("System", name, version, sourceInfo=f"Of the source package {source}.", externalRefs=[reference])
 
 
 def sbom(title, crate, version, commit, moment, linked):
@@ -111,9 +124,9 @@ def sbom(title, crate, version, commit, moment, linked):
     owners = {}
     for path in sorted(taken(trace, dynamic)):
         owners.setdefault(owner(path), []).append(path)
-    for (name, its), paths in owners.items():
+    for its, paths in owners.items():
         is_shared = all(".so" in os.path.basename(it) for it in paths)
-        add("DYNAMIC_LINK" if is_shared else "STATIC_LINK", package("System", name, its), "Taken: " + ", ".join(paths))
+        add("DYNAMIC_LINK" if is_shared else "STATIC_LINK", system(*its), "Taken: " + ", ".join(paths))
     return {
         "spdxVersion": "SPDX-2.3",
         "dataLicense": "CC0-1.0",
@@ -135,6 +148,7 @@ def wrong(document):
     """Yields what an SBOM lacks of what SPDX 2.3 requires."""
     places = [("document", document), ("creationInfo", document.get("creationInfo", {}))]
     places += [(name, it) for name in ("packages", "relationships") for it in document.get(name, [])]
+    places += [("externalRefs", it) for one in document.get("packages", []) for it in one.get("externalRefs", [])]
     for name, it in places:
         yield from (f"{name} lacks {field}" for field in REQUIRED[name] if not it.get(field))
     ids = [document.get("SPDXID"), *(it.get("SPDXID") for it in document.get("packages", []))]

@@ -62,9 +62,12 @@ def check_wrong():
     for place, fields in facts.REQUIRED.items():
         for field in fields:
             document = made("uimg", "")
-            part = document if place == "document" else document[place]
-            del (part[-1] if isinstance(part, list) else part)[field]
-            case(f"{place} without {field}", list(facts.wrong(document)))
+            last = document["packages"][-1]
+            last["externalRefs"] = [dict.fromkeys(facts.REQUIRED["externalRefs"], "a")]
+            parts = {"document": [document], "creationInfo": [document["creationInfo"]], "externalRefs": last["externalRefs"]}
+            case(f"{place} with {field}", not list(facts.wrong(document)))
+            del (document | parts)[place][-1][field]
+            case(f"{place} without {field}", f"{place} lacks {field}" in facts.wrong(document))
 
 
 def check_linker(compiler):
