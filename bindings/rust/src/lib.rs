@@ -17,7 +17,7 @@
 //! The code behind the calls is proved to return, and to stay within its buffers, for every image,
 //! well formed or not. This crate is tested, not proved.
 #![deny(missing_docs)]
-#![deny(unsafe_op_in_unsafe_fn)]
+#![deny(clippy::undocumented_unsafe_blocks)]
 
 mod ffi;
 
@@ -69,9 +69,9 @@ impl fmt::Display for Error {
                 place,
             } => {
                 let fault = u32::from(letter) << 8 | u32::from(number);
-                let line =
-                    short_text(|text, size| unsafe { ffi::uimg_fault_line(fault, text, size) });
-                out.write_str(&line)?;
+                // SAFETY: the text has the size.
+                let line = |text, size| unsafe { ffi::uimg_fault_line(fault, text, size) };
+                out.write_str(&short_text(line))?;
                 if letter == 'B' {
                     write!(out, " at {place}")?;
                 }
@@ -133,6 +133,7 @@ pub fn check_strict(image: &[u8], need: Need) -> Result<(), Error> {
 /// The checksums of a legacy image are verified; the payload of a FIT is not read, so check it first.
 /// The fault is L8 or F4 if there is no such position.
 pub fn payload_at(image: &[u8], position: u32) -> Result<&[u8], Error> {
+    // SAFETY: the image and the payload are valid for the call, and apart.
     found(image, |payload| unsafe {
         ffi::uimg_payload_at(image.as_ptr(), image.len(), position, payload)
     })
@@ -143,6 +144,7 @@ pub fn payload_at(image: &[u8], position: u32) -> Result<&[u8], Error> {
 /// The fault is F4 if no image has the name, and B2 for a legacy image, whose parts have no names.
 pub fn payload_named(image: &[u8], name: impl AsRef<[u8]>) -> Result<&[u8], Error> {
     let name = name.as_ref();
+    // SAFETY: the image, the name and the payload are valid for the call, the payload apart.
     found(image, |payload| unsafe {
         ffi::uimg_payload_named(
             image.as_ptr(),
@@ -156,6 +158,7 @@ pub fn payload_named(image: &[u8], name: impl AsRef<[u8]>) -> Result<&[u8], Erro
 
 /// Returns the name of the image at a position, counted from 0, in a FIT.
 pub fn payload_name(image: &[u8], position: u32) -> Result<&[u8], Error> {
+    // SAFETY: the image and the name's place are valid for the call, and apart.
     found(image, |name| unsafe {
         ffi::uimg_payload_name(image.as_ptr(), image.len(), position, name)
     })
@@ -164,7 +167,7 @@ pub fn payload_name(image: &[u8], position: u32) -> Result<&[u8], Error> {
 /// Returns the number of images of a FIT, or of parts of a legacy image.
 pub fn payload_count(image: &[u8]) -> Result<usize, Error> {
     let mut count = ffi::Count::default();
-    // The image and the count are valid for the call, and apart.
+    // SAFETY: the image and the count are valid for the call, and apart.
     unsafe { ffi::uimg_payload_count(image.as_ptr(), image.len(), &mut count) };
     done(count.status, count.fault, count.place)?;
     Ok(count.count)
@@ -172,6 +175,7 @@ pub fn payload_count(image: &[u8]) -> Result<usize, Error> {
 
 /// Returns the version of the library, as `0.1.0`.
 pub fn version() -> String {
+    // SAFETY: the text has the size.
     short_text(|text, size| unsafe { ffi::uimg_version(text, size) })
 }
 
@@ -180,7 +184,7 @@ fn report(call: ffi::Reporting, image: &[u8]) -> Report {
     let mut text = vec![0; 4096];
     loop {
         let mut report = ffi::Report::default();
-        // The image, the text and the report are valid for the call, and apart.
+        // SAFETY: the image, the text and the report are valid for the call, and apart.
         unsafe {
             call(
                 image.as_ptr(),
@@ -201,7 +205,7 @@ fn report(call: ffi::Reporting, image: &[u8]) -> Report {
 
 fn check_by(call: ffi::Checking, image: &[u8], need: Need) -> Result<(), Error> {
     let mut report = ffi::Report::default();
-    // The image and the report are valid for the call, and apart.
+    // SAFETY: the image and the report are valid for the call, and apart.
     unsafe { call(image.as_ptr(), image.len(), need as u32, &mut report) };
     done(report.status, report.fault, report.place)
 }
