@@ -7,6 +7,7 @@ that the result needs (readelf -d)."""
 import os
 import platform
 import re
+import shutil
 import subprocess
 import tempfile
 import time
@@ -28,7 +29,9 @@ UNSEEN = "The compiler read it. The compiled code has no symbol of it: it is inl
 
 
 def out(*words):
-    """Returns the output of a command, or nothing if it failed."""
+    """Returns the output of a command, or nothing if it failed or is not installed."""
+    if not shutil.which(words[0]):
+        return ""
     return subprocess.run(words, stdin=subprocess.DEVNULL, stdout=subprocess.PIPE, stderr=subprocess.DEVNULL, text=True).stdout
 
 
