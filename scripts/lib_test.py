@@ -320,10 +320,11 @@ def check_calls():
     for other in (bytearray(image), memoryview(image), numbers, memoryview(numbers)):
         case(f"a payload of a {type(other).__name__}", uimg.payload(other) == b"abc")
     for position in (-1, 2**32):
-        try:
-            case(f"position {position}", uimg.place(image, position) is None)
-        except ValueError:
-            case(f"position {position}", True)
+        for call in (uimg.place, uimg.name):
+            try:
+                case(f"position {position}", call(image, position) is None)
+            except ValueError:
+                case(f"position {position}", True)
 
 
 def statuses(told):

@@ -17,10 +17,10 @@ fn by_pkg_config() -> Option<String> {
 fn main() {
     println!("cargo:rerun-if-env-changed=LIBUIMG_DIR");
     println!("cargo:rerun-if-env-changed=PKG_CONFIG_PATH");
-    let Some(folder) = env::var("LIBUIMG_DIR").ok().or_else(by_pkg_config) else {
+    let folder = env::var("LIBUIMG_DIR").ok().or_else(by_pkg_config).unwrap_or_else(|| {
         eprintln!("libuimg was not found: set LIBUIMG_DIR to its folder, or PKG_CONFIG_PATH to that of libuimg.pc");
-        process::exit(1);
-    };
+        process::exit(1)
+    });
     let archive = Path::new(&folder).join("libuimg.a");
     println!("cargo:rerun-if-changed={}", archive.display());
     println!("cargo:rustc-link-search=native={folder}");
