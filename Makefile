@@ -4,7 +4,7 @@ PREFIX ?= /usr/local
 IMAGE ?= examples/abc-kernel.img
 export RT
 
-.PHONY: all demo try check test gate wrong-bodies definitions contracts lib lib-test json-test farm-test install deb release arm64-test peers boot-test uboot-tests bench clean help
+.PHONY: all demo try check test gate wrong-bodies definitions contracts lib lib-test wheel json-test farm-test install deb release arm64-test peers boot-test uboot-tests bench clean help
 .NOTPARALLEL:
 
 ## make          proves the program and all crates below it, and builds bin/uimg
@@ -74,11 +74,16 @@ lib: lib/libuimg.a
 lib/libuimg.a: $(shell scripts/sources.sh uimg_c) $(wildcard library/* include/*) bin/processor-$(CPU)
 	@scripts/lib.sh
 
-## make lib-test tests the library from C, C++ and Python against the program, and with Go and
-##               valgrind, if they are installed
+## make lib-test tests the library from C and Python against the program; tries the bindings for Rust,
+##               Python, Go and C++, and runs valgrind, if they are installed
 lib-test: lib/libuimg.a bin/uimg
 	@scripts/needs.sh python3 cc
 	@python3 scripts/lib_test.py bin/uimg lib
+
+## make wheel    builds the wheel of bindings/python with the library inside, in lib/; needs no network
+wheel: lib/libuimg.a
+	@scripts/needs.sh python3
+	@LIBUIMG_DIR=lib python3 bindings/python/backend.py lib
 
 ## make json-test   validates `uimg check --json`, `info` and `unpack --json` by docs/*.schema.json, with
 ##               python3-jsonschema

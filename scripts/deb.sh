@@ -8,7 +8,9 @@ program=${1:-bin}/uimg library=${1:-.}/lib architecture=${2:-$(dpkg --print-arch
 room=$(mktemp -d) || exit 1
 trap 'rm -rf "$room"' EXIT
 mkdir -p out "$to" "$room/uimg/bin" && cp "$program" "$room/uimg/bin" && cp -r "$library" "$room/uimg/lib" &&
-    cp -r debian include library docs bench examples completions wrappers scripts ./*.md "$room/uimg" || exit 1
+    cp -r debian include library docs bench bindings examples completions wrappers scripts ./*.md "$room/uimg" || exit 1
+# What cargo and Python leave beside the sources.
+rm -rf "$room"/uimg/bindings/rust/target "$room"/uimg/bindings/rust/Cargo.lock "$room"/uimg/bindings/python/uimg/__pycache__
 log=$PWD/out/deb.log cross=
 test "$architecture" = "$(dpkg --print-architecture)" || cross="-d -a $architecture"
 (cd "$room/uimg" && dpkg-buildpackage -b -us -uc $cross) > "$log" 2>&1 || {

@@ -23,7 +23,7 @@ import sys
 import tempfile
 
 MANUALS = sorted(glob.glob("docs/*.[1-8]"))
-TEXTS = ["README.md", "SECURITY.md", "CHANGELOG.md", "CONTRIBUTING.md", *sorted(glob.glob("docs/*.md")), "bench/TABLE.md"]
+TEXTS = ["README.md", "SECURITY.md", "CHANGELOG.md", "CONTRIBUTING.md", *sorted(glob.glob("docs/*.md")), *sorted(glob.glob("bindings/*/README.md")), "bench/TABLE.md"]
 # Endings of names that are files of this tree.
 FILE = re.compile(r"(?<![\w/.*-])((?:[\w.-]+/)*[\w-]+\.(?:rt|antt|py|sh|t|md|schema\.json|svg|c|h|txt))(?![\w/*])")
 # Files that examples make, and those of U-Boot, Linux and C.
@@ -42,7 +42,7 @@ OTHERS = set(
 )
 # What stands in several places and must have one value: a name, and patterns whose group is the value.
 FIGURES = {
-    "version": (r"uimg[-_](\d+\.\d+\.\d+)[-_.](?:x86|aarch|amd|arm)", r'"uimg (\d+\.\d+\.\d+)"'),
+    "version": (r"uimg[-_](\d+\.\d+\.\d+)[-_.](?:x86|aarch|amd|arm|py3)", r'"uimg (\d+\.\d+\.\d+)"'),
     "logic of the kit": (r"logic `?([0-9a-f]{16})",),
     "lines of definitions for reading and building": (r"definitions: ([\d,]+) lines for listing", r"\| building \| \d+ lines \| \d+ \| (\d+)"),
     "stack of a source of 60 levels, in KiB": (r"60 levels takes? (\d+) KiB", r"60 levels takes? less than (\d+) KiB"),
@@ -103,7 +103,7 @@ def files(_program):
 
 def names(_program):
     """Each name of code in backquotes, as take_some or FitFault, is somewhere in the code."""
-    known, tops = set(NAMES), "crates/**/*.rt crates/**/*.antt scripts/*.* peers/* bench/* library/* include/* cases/*.t docs/*.json Makefile crates.txt"
+    known, tops = set(NAMES), "crates/**/*.rt crates/**/*.antt scripts/*.* peers/* bench/* library/* include/* bindings/**/*.rs bindings/**/*.go bindings/**/*.py cases/*.t docs/*.json Makefile crates.txt"
     for path in (it for top in tops.split() for it in glob.glob(top, recursive=True) if os.path.isfile(it)):
         known.update(re.findall(r"[A-Za-z]\w+", read(path)))
     for path in TEXTS:

@@ -1,10 +1,12 @@
 #!/usr/bin/env python3
 """lib_test.py PROGRAM FOLDER: tests libuimg in FOLDER, as callers in C and Python use it,
 against the program. It compares symbols and headers; the example programs; listings, reports and
-payloads of the example images and of 1000 broken ones; the library over a block; and, if they
-are installed, valgrind and Go. The last line counts."""
+payloads of the example images and of 1000 broken ones; and the library over a block. It builds and
+tries the bindings for Rust, Python, Go and C++ whose tools are installed, and runs valgrind, and
+names what is left out. The last line counts."""
 import array
 import ctypes
+import importlib.util
 import json
 import os
 import re
@@ -28,7 +30,8 @@ LOOSE_SOURCES = [
 ]
 CC = os.environ.get("CC", "cc")
 os.environ["LIBUIMG"] = f"{LIBRARY}/libuimg.so.0"
-sys.path.insert(0, "examples/python")
+os.environ |= {"PYTHONPATH": os.path.abspath("bindings/python"), "PYTHONDONTWRITEBYTECODE": "1"}
+sys.path.insert(0, "bindings/python")
 sys.dont_write_bytecode = True
 import uimg
 
@@ -45,8 +48,15 @@ def case(name, is_right, told=""):
         print(f"{name}: {told or 'not as it should be'}", flush=True)
 
 
-def ran(*words):
-    return subprocess.run(words, capture_output=True)
+def ran(*words, **how):
+    return subprocess.run(words, capture_output=True, **how)
+
+
+def has(tool, what):
+    """Returns whether a tool is installed. If not, it prints what was left out."""
+    if not shutil.which(tool):
+        print(f"{tool} is not installed, so {what} not tried")
+    return shutil.which(tool)
 
 
 def symbols(*words):
@@ -72,13 +82,27 @@ def check_symbols():
     case("libuimg_block.a needs no malloc", set(needed) <= {"memcpy", "memmove", "memset"}, str(needed))
 
 
+# A program of C and of C++.
+CALLER = """#include <uimg.h>
+#include <uimg_block.h>
+
+int main(void)
+{
+    uint8_t text[64] = {0};
+
+    return uimg_fault_line(UIMG_FAULT('L', 8), text, sizeof text) != sizeof "L8 no such part" - 1;
+}
+"""
+
+
 def check_headers():
     for standard, compiler in (("c99", CC), ("c++11", os.environ.get("CXX", "c++"))):
-        if shutil.which(compiler):
-            path = f"{WORK}/header.{'cc' if '++' in standard else 'c'}"
+        if has(compiler, f"a caller in {standard} was"):
+            path = f"{WORK}/caller.{'cc' if '++' in standard else 'c'}"
             with open(path, "w", encoding="ascii") as file:
-                file.write("#include <uimg.h>\n#include <uimg_block.h>\nint main(void) { return 0; }\n")
-            compiled(f"header as {standard}", path, "-pedantic", compiler=compiler, standard=standard)
+                file.write(CALLER)
+            program = compiled(f"caller in {standard}", path, "-pedantic", f"{LIBRARY}/libuimg.a", compiler=compiler, standard=standard)
+            case(f"a caller in {standard}", ran(program).returncode == 0)
 
 
 def by_program(*words):
@@ -296,10 +320,11 @@ def check_calls():
     for other in (bytearray(image), memoryview(image), numbers, memoryview(numbers)):
         case(f"a payload of a {type(other).__name__}", uimg.payload(other) == b"abc")
     for position in (-1, 2**32):
-        try:
-            case(f"position {position}", uimg.place(image, position) is None)
-        except ValueError:
-            case(f"position {position}", True)
+        for call in (uimg.place, uimg.name):
+            try:
+                case(f"position {position}", call(image, position) is None)
+            except ValueError:
+                case(f"position {position}", True)
 
 
 def statuses(told):
@@ -312,7 +337,7 @@ def check_programs(files):
     check_example(compiled("unpack", "examples/c/unpack.c", f"{LIBRARY}/libuimg.a", standard="gnu99"))
     way = f"-Wl,-rpath,{LIBRARY}"
     check_example(compiled("unpack with libuimg.so", "examples/c/unpack.c", f"-L{LIBRARY}", way, "-luimg", standard="gnu99"))
-    check_example(sys.executable, "examples/python/uimg.py")
+    check_example(sys.executable, "examples/python/unpack.py")
     report = compiled("report", "library/report.c", f"{LIBRARY}/libuimg.a")
     block = compiled("report over a block", "-DOVER_A_BLOCK", "library/report.c", f"{LIBRARY}/libuimg_block.a")
     wanted = ran(report, *files)
@@ -324,17 +349,70 @@ def check_programs(files):
         pairs = list(zip(statuses(told), statuses(wanted)))
         is_right = all(one in (other, ("3", "3 0 0 0 0")) for one, other in pairs)
         case(f"a block of {size}", told.returncode == 0 and len(pairs) == len(statuses(wanted)) and is_right)
-    if shutil.which("valgrind"):
+    if has("valgrind", "memory was"):
         told = ran("valgrind", "-q", "--leak-check=full", "--error-exitcode=9", report, *files[:200])
         case("valgrind", told.returncode == 0 and not told.stderr, told.stderr.decode())
-    else:
-        print("valgrind is not installed, so nothing was run under it")
-    if shutil.which("go"):
-        environment = {**os.environ, "CGO_CFLAGS": f"-I{os.getcwd()}/include", "CGO_LDFLAGS": f"-L{LIBRARY} -Wl,-rpath,{LIBRARY}", "GOCACHE": f"{WORK}/go", "GOPATH": f"{WORK}/gopath"}
-        told = subprocess.run(["go", "run", "examples/go/unpack.go", image, "0"], env=environment, capture_output=True)
-        case("unpack.go", (told.returncode, told.stdout) == (0, b"abc"), told.stderr.decode())
-    else:
-        print("Go is not installed, so its example was not run")
+
+
+def check_command(name, *words, **how):
+    """Runs a command that has to succeed."""
+    told = ran(*words, **how)
+    case(name, told.returncode == 0, (told.stdout + told.stderr).decode(errors="replace"))
+
+
+def check_rust(tree):
+    """The tests of the crate, over libuimg.a, and over libuimg.so where a folder has that alone."""
+    if not has("cargo", "the binding for Rust was"):
+        return
+    shared = f"{WORK}/shared"
+    os.mkdir(shared)
+    for name in ("libuimg.so", "libuimg.so.0"):
+        os.symlink(f"{LIBRARY}/libuimg.so.0", f"{shared}/{name}")
+    for folder in (LIBRARY, shared):
+        environment = {**os.environ, "LIBUIMG_DIR": folder, "LD_LIBRARY_PATH": folder}
+        check_command(f"the crate over {folder}", "cargo", "test", "--offline", cwd=f"{tree}/bindings/rust", env=environment)
+
+
+def check_python(tree):
+    """The wheel, twice the same, and as installed in an environment that has no other library."""
+    if sys.version_info < (3, 11) or not importlib.util.find_spec("ensurepip"):
+        print("Python has no tomllib or no ensurepip, so the wheel was not tried")
+        return
+    environment = {**os.environ, "LIBUIMG_DIR": LIBRARY}
+    wheels = []
+    for folder in (f"{WORK}/one", f"{WORK}/two"):
+        os.mkdir(folder)
+        check_command("the wheel", sys.executable, f"{tree}/bindings/python/backend.py", folder, env=environment)
+        wheels += [f"{folder}/{it}" for it in os.listdir(folder)]
+    case("the wheel twice", len(wheels) == 2 and open(wheels[0], "rb").read() == open(wheels[1], "rb").read())
+    case("the version of the wheel", f"/uimg-{uimg.version()}-py3-none-linux_" in wheels[0], wheels[0])
+    for name in ("LIBUIMG", "PYTHONPATH"):
+        del os.environ[name]
+    python = f"{WORK}/venv/bin/python3"
+    check_command("an environment", sys.executable, "-m", "venv", f"{WORK}/venv")
+    check_command("the wheel installs", python, "-m", "pip", "install", "--no-index", wheels[0])
+    check_example(python, "examples/python/unpack.py")
+
+
+def check_go(tree):
+    """The tests of the module, and the example that uses it."""
+    if not has("go", "the binding for Go was"):
+        return
+    flags = {"CGO_CFLAGS": f"-I{os.getcwd()}/include", "CGO_LDFLAGS": f"-L{LIBRARY} -Wl,-rpath,{LIBRARY}"}
+    environment = {**os.environ, **flags, "GOCACHE": f"{WORK}/go", "GOPATH": f"{WORK}/gopath", "GOPROXY": "off"}
+    for verb in ("vet", "test"):
+        check_command(f"go {verb}", "go", verb, "./...", cwd=f"{tree}/bindings/go", env=environment)
+    check_command("unpack.go", "go", "build", "-o", f"{WORK}/unpack-go", ".", cwd=f"{tree}/examples/go", env=environment)
+    check_example(f"{WORK}/unpack-go")
+
+
+def check_bindings():
+    """The bindings, in a copy: cargo writes beside its sources."""
+    for it in ("bindings", "examples"):
+        shutil.copytree(it, f"{WORK}/tree/{it}")
+    check_rust(f"{WORK}/tree")
+    check_go(f"{WORK}/tree")
+    check_python(f"{WORK}/tree")
 
 
 def main():
@@ -353,6 +431,7 @@ def main():
     check_programs(files)
     compare(images)
     check_checks(images)
+    check_bindings()
     print(f"{passed} passed, {len(failed)} failed")
     return 1 if failed else 0
 

@@ -1,6 +1,7 @@
 #!/bin/sh
 # scripts/link.sh ARCHIVE FOLDER [TOOLS]: links Rattle's archive of uimg_c with the memory calls to
 # libuimg.a, libuimg_block.a and libuimg.so.0 in FOLDER. Each exports only the calls of its headers.
+# FOLDER/linked names what the linker took for libuimg.so.0.
 # TOOLS is the prefix of the GNU tools for another machine, as aarch64-linux-gnu-.
 archive=$(realpath "$1") folder=$2 tools=$3
 compiler=${tools:+${tools}gcc}
@@ -15,6 +16,6 @@ for memory in malloc block; do
         "${tools}ar" rcsD "$work/$memory.a" "$work/uimg_$memory.o" || exit 1
 done
 $compiler -shared -o "$work/libuimg.so.0" -Wl,-soname,libuimg.so.0 -Wl,--version-script=library/libuimg.map \
-    -Wl,--whole-archive "$work/malloc.a" -Wl,--no-whole-archive || exit 1
+    -Wl,-t,-t -Wl,--whole-archive "$work/malloc.a" -Wl,--no-whole-archive > "$folder/linked" || exit 1
 mv "$work/malloc.a" "$folder/libuimg.a" && mv "$work/block.a" "$folder/libuimg_block.a" &&
     mv "$work/libuimg.so.0" "$folder/libuimg.so.0" && ln -sf libuimg.so.0 "$folder/libuimg.so"

@@ -2,8 +2,9 @@
 """release.py [--programs | --compile]: makes the files of a release in release/, for x86-64 and
 64-bit ARM: the program, linked statically, with its other names, wrappers, manual pages,
 completions, documents and examples (uimg-VERSION-MACHINE.tar.gz); the library for C
-(libuimg-VERSION-MACHINE.tar.gz); Debian packages of both; PROVED.txt, with the commit, the kit and
-the prover's statement on each crate; SHA256SUMS.
+(libuimg-VERSION-MACHINE.tar.gz); the SBOM of each archive (facts.py); Debian packages of both; the
+wheel for Python; PROVED.txt, with the commit, the kit and the prover's statement on each crate, and the
+same as PROVED.json; SHA256SUMS.
 
 What is proved already is skipped. With --programs it stops once the programs and libraries are in
 out/release. With --compile it makes these over libraries that are there, and takes what the gate
@@ -18,6 +19,7 @@ import glob
 import gzip
 import hashlib
 import io
+import json
 import os
 import re
 import shutil
@@ -25,6 +27,7 @@ import subprocess
 import sys
 import tarfile
 
+import facts
 import kit
 import prove
 
@@ -92,6 +95,7 @@ def version():
 def check_version():
     """Refuses a release if a document has another version than the program."""
     found = {"CHANGELOG.md": r"\n## (\S+) - \d{4}-\d\d-\d\d\n", "debian/changelog": r"^uimg \((.*)\) ", "README.md": r"uimg-([\d.]+)-"}
+    found |= {f"bindings/{it}": r'\nversion = "(.*)"\n' for it in ("rust/Cargo.toml", "python/pyproject.toml")}
     found |= {f"docs/{it}": r'^\.TH .* "uimg (.*)" "' for it in (*MANUALS, *LIBRARY_MANUALS)}
     for path, pattern in found.items():
         with open(path, encoding="utf-8") as file:
@@ -129,10 +133,12 @@ def compile_all(machines):
 
 
 def link(machine):
-    """Links the program statically, and the library, to the machine's folder and its lib/."""
+    """Links the program statically, and the library, to the machine's folder and its lib/. The file
+    `linked` of each names what the linker took."""
     made, compiler = machine.folder, f"{machine.tools}gcc"
-    program = ["-static", "-s", "-Wl,--build-id=none", "-o", f"{made}/uimg", f"{made}/uimg.o", "library/program.c"]
-    run([compiler, *FLAGS, *program])
+    program = ["-static", "-s", "-Wl,--build-id=none,-t,-t", "-o", f"{made}/uimg", f"{made}/uimg.o", "library/program.c"]
+    with open(f"{made}/linked", "w", encoding="utf-8") as linked:
+        linked.write(run([compiler, *FLAGS, *program]))
     run(["scripts/link.sh", f"{made}/libuimg_c.a", f"{made}/lib", machine.tools], env={**os.environ, "CC": "gcc"})
 
 
@@ -169,7 +175,7 @@ def documents(package):
         with open(path, encoding="utf-8") as file:
             for pattern in file.read().split():
                 for it in glob.glob(pattern):
-                    yield from glob.glob(f"{it}/*") if os.path.isdir(it) else [it]
+                    yield from run(["git", "ls-files", it]).split("\n")[:-1] if os.path.isdir(it) else [it]
 
 
 def manuals(pages):
@@ -200,17 +206,35 @@ def library_files(machine):
     return files | papers("libuimg") | {f"share/doc/libuimg/{it}": it for it in documents("libuimg-dev")}
 
 
+def sbom(title, machine, crate, made, commit, time):
+    """Writes the SBOM of the archive `title`, which has the program or library `made`, linked from what
+    a crate was compiled to for a machine."""
+    compiled, _ = kit.Crates().object(crate, machine.folder)
+    with open(f"{os.path.dirname(made)}/linked", encoding="utf-8") as trace:
+        linked = run([f"{machine.tools}nm", compiled]), trace.read(), run([f"{machine.tools}readelf", "-d", made])
+    found = facts.sbom(title, crate, version(), commit, time, linked)
+    lacks = list(facts.wrong(found))
+    if lacks:
+        fail(f"the SBOM of {title}: {lacks[0]}")
+    write_json(f"{title}.spdx.json", found)
+
+
+def write_json(name, value):
+    with open(f"{PACKED}/{name}", "w", encoding="utf-8") as file:
+        file.write(json.dumps(value, indent=1) + "\n")
+
+
 def statements():
-    """Yields a line for each crate: what the prover said of it. A program and the library have
-    one for each machine."""
+    """Yields for each crate its name, and what the prover said of it. A program and the library have
+    one for each machine, whose name is second, else None."""
     crates = kit.Crates()
     below = crates.below("uimg")
     for name in [*below, *(it for it in crates.below("uimg_c") if it not in below)]:
         with open(f"{crates.by_name[name].folder}/out/statement", encoding="utf-8") as file:
-            yield f"{name}: {file.read().strip()}"
+            yield name, None, file.read().strip()
     for machine in MACHINES:
         for name in ("uimg", "uimg_c"):
-            yield f"{name} for {machine.name}: {prove.statement(log_of(name, machine))}"
+            yield name, machine.name, prove.statement(log_of(name, machine))
 
 
 def packages(machine, time):
@@ -249,13 +273,18 @@ def pack(commit, time):
     """Packs what was made, and gives it the place of an earlier release."""
     os.makedirs(PACKED)
     for machine in MACHINES:
-        for what, files in (("uimg", program_files(machine)), ("libuimg", library_files(machine))):
+        program, library = ("uimg", "uimg", program_files(machine)), ("libuimg", "uimg_c", library_files(machine))
+        for (what, crate, files), made in ((program, "uimg"), (library, "lib/libuimg.so.0")):
             top = f"{what}-{version()}-{machine.label}"
             archive(f"{PACKED}/{top}.tar.gz", top, files, time)
+            sbom(top, machine, crate, f"{machine.folder}/{made}", commit, time)
         if not machine.cpu:
             packages(machine, time)
+            run([sys.executable, "bindings/python/backend.py", PACKED], env={**os.environ, "LIBUIMG_DIR": f"{machine.folder}/lib"})
     with open(f"{PACKED}/PROVED.txt", "w", encoding="utf-8") as file:
-        file.write(f"uimg {version()}, commit {commit}\n{kit.kit_id().strip()}\n\n" + "\n".join(statements()) + "\n")
+        lines = [f"{name} for {machine}: {text}" if machine else f"{name}: {text}" for name, machine, text in statements()]
+        file.write(f"uimg {version()}, commit {commit}\n{kit.kit_id().strip()}\n\n" + "\n".join(lines) + "\n")
+    write_json("PROVED.json", facts.proved(version(), commit, kit.kit_id(), statements()))
     sums()
     shutil.rmtree(RELEASE, ignore_errors=True)
     os.makedirs(os.path.dirname(RELEASE) or ".", exist_ok=True)

@@ -3,7 +3,7 @@
 and run, side by side. So is the program, against which the command lines of cases/, README.md,
 docs/GUIDE.md, docs/JSON.md and the manual pages are played; those that set limits which its checks
 exceed are named, and left to the proved program. With it agree_test.py holds the commands together,
-and documents.py the documents.
+and documents.py the documents. facts_test.py tests the SBOM of a release.
 
 It prints a line for each crate of tests and for the command lines, with what failed; then that
 nothing was proved, and last 'N passed, M failed'. The status is 0 if nothing failed."""
@@ -64,6 +64,7 @@ def command_lines():
             ("command lines", ["scripts/play.py", "--tried", program, *PLAYED]),
             ("commands that agree", ["scripts/agree_test.py", program]),
             ("documents", ["scripts/documents.py", program]),
+            ("facts of a release", ["scripts/facts_test.py"]),
         )
         said, passed, failed = [], 0, 0
         for what, words in parts:

@@ -11,17 +11,13 @@ the strength, and U-Boot takes just the bytes that were checked. Without it U-Bo
 which no hash covers, since by libfdt it finds a node kernel@1 by the name kernel, and the first of
 two properties of one name. verify also returns DONE for an image without hashes.
 
-An image is bytes, or anything else with a contiguous buffer. As a program it does the same as
-examples/c/unpack.c: `python3 uimg.py kernel.itb 0 > payload`. LIBUIMG names a library to use in place
-of libuimg.so.0."""
+An image is bytes, or anything else with a contiguous buffer. The library is the one that the
+environment variable LIBUIMG names, else that of the wheel, else libuimg.so.0 of the system."""
 import ctypes
-import mmap
 import os
-import stat
-import sys
 from typing import NamedTuple
 
-DONE, NOT_RIGHT, WRONG_LINE, FAILED = range(4)
+DONE, NOT_RIGHT, NO_MEMORY = 0, 1, 3
 _STRENGTHS = ("crc32", "md5", "sha1", "sha256", "sha384", "sha512")
 
 
@@ -57,7 +53,13 @@ class _Count(ctypes.Structure):
     ]
 
 
-_library = ctypes.CDLL(os.environ.get("LIBUIMG", "libuimg.so.0"))
+def _path():
+    """Returns the path of the library, or its name if the loader has to find it."""
+    own = f"{os.path.dirname(os.path.abspath(__file__))}/libuimg.so.0"
+    return os.environ.get("LIBUIMG") or (own if os.path.isfile(own) else "libuimg.so.0")
+
+
+_library = ctypes.CDLL(_path())
 _bytes, _size = ctypes.POINTER(ctypes.c_uint8), ctypes.c_size_t
 for _name in ("uimg_list", "uimg_verify"):
     getattr(_library, _name).argtypes = [_bytes, _size, _bytes, _size, ctypes.POINTER(_Report)]
@@ -192,14 +194,18 @@ def place(image, which=0):
     pointer, size, _keep = _passed(image)
     found = _Payload()
     if isinstance(which, int):
-        if not 0 <= which < 2**32:
-            raise ValueError("a position is from 0 to 4294967295")
-        _library.uimg_payload_at(pointer, size, which, ctypes.byref(found))
+        _library.uimg_payload_at(pointer, size, _position(which), ctypes.byref(found))
     else:
         name, length, _kept = _passed(which.encode() if isinstance(which, str) else which)
         _library.uimg_payload_named(pointer, size, name, length, ctypes.byref(found))
     _done(found)
     return found.start, found.size
+
+
+def _position(number):
+    if not 0 <= number < 2**32:
+        raise ValueError("a position is from 0 to 4294967295")
+    return number
 
 
 def _done(found):
@@ -221,7 +227,7 @@ def name(image, position):
     """Returns the name of the image at a position of a FIT image, as bytes. Raises Refused."""
     pointer, size, _keep = _passed(image)
     found = _Payload()
-    _library.uimg_payload_name(pointer, size, position, ctypes.byref(found))
+    _library.uimg_payload_name(pointer, size, _position(position), ctypes.byref(found))
     _done(found)
     return bytes(memoryview(image).cast("B")[found.start : found.start + found.size])
 
@@ -233,49 +239,5 @@ def payload(image, which=0):
 
 
 def version():
+    """Returns the version of the library, as "0.1.0"."""
     return _text(_library.uimg_version)
-
-
-def _mapped(path):
-    """Returns a file's bytes, mapped. An empty file cannot be mapped, and a pipe has no known
-    size."""
-    with open(path, "rb") as file:
-        about = os.fstat(file.fileno())
-        if not stat.S_ISREG(about.st_mode):
-            raise OSError(f"{path} is no regular file")
-        return mmap.mmap(file.fileno(), 0, access=mmap.ACCESS_READ) if about.st_size else b""
-
-
-def _unpack(path, position):
-    image = _mapped(path)
-    report = check_strict(image, "sha256")
-    if report.status != DONE:
-        print(f"uimg.py: {report.fault or ('out of memory' if report.status == FAILED else 'not right, or without a strong hash')}", file=sys.stderr)
-        return report.status
-    try:
-        found = payload(image, position)
-    except Refused as fault:
-        print(f"uimg.py: {fault}", file=sys.stderr)
-        return fault.status
-    if sys.stdout is None:
-        raise OSError("standard output is closed")
-    sys.stdout.buffer.write(found)
-    sys.stdout.buffer.flush()
-    return DONE
-
-
-def main(words):
-    if len(words) != 3 or not words[2].isascii() or not words[2].isdigit() or int(words[2]) >= 2**32:
-        print("usage: uimg.py IMAGE POSITION", file=sys.stderr)
-        return WRONG_LINE
-    try:
-        return _unpack(words[1], int(words[2]))
-    except OSError as fault:
-        print(f"uimg.py: {fault}", file=sys.stderr)
-        # Output that could not be written is not tried again at the end.
-        sys.stdout = None
-        return FAILED
-
-
-if __name__ == "__main__":
-    sys.exit(main(sys.argv))

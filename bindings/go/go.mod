@@ -1,0 +1,3 @@
+module uimg
+
+go 1.19
