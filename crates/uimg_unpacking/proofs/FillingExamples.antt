@@ -25,6 +25,6 @@ unfolding file_name first_free
 twice = refl
 
 -- the next free number
-further : names_of_kept [] (kept (codes "image-1") [] None ∷ kept [] [] None ∷ []) ≡ codes "image-1" ∷ image_name 2 ∷ []
-unfolding file_name first_free
+further : names_of_kept [] (kept (codes "image-1") [] None ∷ kept [] [] None ∷ []) ≡ codes "image-1" ∷ first_free (codes "image-1" ∷ []) 1 100 ∷ []
+unfolding file_name
 further = refl
