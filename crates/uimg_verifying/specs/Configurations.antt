@@ -1,0 +1,123 @@
+-- Why a configuration is refused: no signature of it is the key's.
+use Rattle.std.specs.Prelude.{◌≡◌, ℕ, zero, suc, ◌==◌, ◌&&◌, List, [], ◌∷◌, Option, Some, None, Bool, true, false, if◌then◌else◌}
+use Rattle.std.specs.Prelude.{◌+◌, ⊤, Result, Ok, Err}
+use Rattle.std.specs.{List.slice_get, Option.option_map}
+use Rattle.uimg_blob_reading.specs.{Blob.tree, Reading.Fault as BlobFaultAt}
+use Rattle.uimg_blob_reading.specs.declared.roles.Role.{Role}
+use Rattle.uimg_blob_reading.specs.declared.roles.Role.TheVariants as role
+use Rattle.uimg_base.specs.Held.{Held}
+use Rattle.uimg_blob_reading.specs.{Grammar.Siblings, Indexed.IsIndexed, Roles.is_signature_role, Rows.{Row, table}}
+use Rattle.uimg_blob_reading.specs.declared.nodes.Blob.{Blob}
+use Rattle.uimg_fit_base.specs.declared.fault.Fault.{Fault}
+use Rattle.uimg_fit_base.specs.declared.fault.Fault.TheVariants as of
+use Rattle.uimg_signing.specs.Listing.{name_in}
+use Rattle.uimg_blob_reading.specs.Faults.{refuses_memory}
+use Rattle.uimg_fit_checking.specs.declared.surveying.fault.SurveyFault.{SurveyFault}
+use Rattle.uimg_fit_checking.specs.declared.surveying.fault.SurveyFault.TheVariants.{Stopped, OutOfMemory, Changed}
+use Rattle.uimg_strict.specs.{Looseness.LooseSaid, Telling.read_loose}
+use Rattle.uimg_strict.specs.declared.loose.Loose.{Loose}
+use Rattle.uimg_keys.specs.declared.key.PublicKey.{PublicKey}
+use Rattle.uimg_strict.specs.declared.loose.Looseness.{Looseness}
+use Rattle.uimg_strict.specs.declared.loose.Looseness.TheVariants.{SignedNodes, Unsigned}
+use Rattle.uimg_verifying.specs.Signatures.{signature_refusal}
+use Rattle.uimg_verifying.specs.declared.configurations.Judged.{Judged}
+use Rattle.uimg_verifying.specs.declared.configurations.Judged.TheVariants as judged
+use Rattle.uimg_verifying.specs.declared.configurations.Tried.{Tried, TheVariants.{Other, Valid, Refused}}
+
+abbrev pub is_parent : ℕ → Option ℕ → Bool
+is_parent number None = false
+is_parent number (Some parent) = parent == number
+
+-- whether a node is a signature node of the configuration of a number
+abbrev pub is_signature_of : ℕ → Row → Bool
+is_signature_of configuration node =
+    if is_signature_role node.role then is_parent configuration node.parent else false
+
+abbrev pub tried_of : Option Looseness → Tried
+tried_of None = Valid
+tried_of (Some why) = Refused why
+
+-- what a node is as a signature of a configuration
+abbrev pub tried_node : PublicKey → List ℕ → List Row → ℕ → Row → Row → Tried
+tried_node key file rows configuration its node =
+    if is_signature_of configuration node
+    then tried_of (signature_refusal key file rows configuration its node) else Other
+
+-- after one more node: as before, not refused, or refused by this signature, of which so many more
+-- may be tried
+abbrev pub refused_after : Tried → Looseness → ℕ → (Looseness → ℕ → Option Looseness)
+    → Option Looseness
+refused_after Other why left rest = rest why left
+refused_after Valid why zero rest = Some SignedNodes
+refused_after Valid why (suc left) rest = None
+refused_after (Refused found) why zero rest = Some SignedNodes
+refused_after (Refused found) why (suc left) rest = rest found left
+
+-- why a configuration is refused by these nodes and what was found before
+unfoldable pub refused_from : PublicKey → List ℕ → List Row → ℕ → Row → Looseness → ℕ → List Row
+    → Option Looseness
+refused_from key file rows configuration its why left [] = Some why
+refused_from key file rows configuration its why left (node ∷ nodes) =
+    refused_after (tried_node key file rows configuration its node) why left
+    (λ found more. refused_from key file rows configuration its found more nodes)
+
+-- why a configuration is refused, by at most sixteen signatures
+abbrev pub configuration_refusal : PublicKey → List ℕ → List Row → ℕ → Row → Option Looseness
+configuration_refusal key file rows configuration its =
+    refused_from key file rows configuration its Unsigned 16 rows
+
+-- P holds of a node's row in any tree that the entries index.
+abbrev pub OfNode : Blob → Held → ℕ → (Row → Type 0) → Type 0
+OfNode blob room number P = (t : Siblings) → IsIndexed t blob room.entries → (row : Row)
+    → slice_get (table t) number ≡ Some row → P row
+
+abbrev pub is_configuration : Role → Bool
+is_configuration role.Configuration = true
+is_configuration role = false
+
+abbrev pub judged_of : Option Looseness → Judged
+judged_of None = judged.Signed
+judged_of (Some why) = judged.Refused why
+
+-- what a node is as a configuration
+abbrev pub judged_node : PublicKey → List ℕ → List Row → ℕ → Row → Judged
+judged_node key file rows number row =
+    if is_configuration row.role then judged_of (configuration_refusal key file rows number row)
+    else judged.Other
+
+-- after one more node of this name: as before, one configuration at least, or the refused one
+abbrev pub unsigned_after : Judged → Bool → List ℕ → (Bool → Option LooseSaid) → Option LooseSaid
+unsigned_after judged.Other any name rest = rest any
+unsigned_after judged.Signed any name rest = rest true
+unsigned_after (judged.Refused why) any name rest = Some (record { why = why; node = Some name })
+
+-- the first configuration that is refused, among rows that are numbered from i on; or that there is
+-- none at all
+unfoldable pub unsigned_from : PublicKey → List ℕ → List Row → ℕ → Bool → List Row
+    → Option LooseSaid
+unsigned_from key file rows i true [] = None
+unsigned_from key file rows i false [] = Some (record { why = Unsigned; node = None })
+unsigned_from key file rows i any (row ∷ more) =
+    unsigned_after (judged_node key file rows i row) any (name_in file row)
+    (λ found. unsigned_from key file rows (i + 1) found more)
+
+abbrev pub unsigned_in : PublicKey → List ℕ → Result Siblings BlobFaultAt
+    → Result (Option LooseSaid) Fault
+unsigned_in key file (Ok t) = Ok (unsigned_from key file (table t) 0 false (table t))
+unsigned_in key file (Err fault) = Err (of.Blob fault.0 fault.1)
+
+-- the first configuration of a file that is not signed by a key, or the first fault of its blob
+abbrev pub unsigned_of : PublicKey → List ℕ → Result (Option LooseSaid) Fault
+unsigned_of key file = unsigned_in key file (tree file)
+
+-- The result is what the definition says, unless a read failed, memory was refused, or the source is
+-- another one than before.
+abbrev pub TellsUnsigned : PublicKey → List ℕ → Result (Option Loose) SurveyFault → Type 0
+TellsUnsigned key file (Ok found) = unsigned_of key file ≡ Ok (option_map read_loose found)
+TellsUnsigned key file (Err (Stopped (of.Blob fault at))) =
+    refuses_memory fault ≡ false → unsigned_of key file ≡ Err (of.Blob fault at)
+TellsUnsigned key file (Err (Stopped (of.Fit fault))) = ⊥
+TellsUnsigned key file (Err (Stopped of.Read)) = ⊤
+TellsUnsigned key file (Err (Stopped of.Put)) = ⊥
+TellsUnsigned key file (Err OutOfMemory) = ⊤
+TellsUnsigned key file (Err Changed) = ⊤

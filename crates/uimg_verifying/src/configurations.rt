@@ -1,0 +1,271 @@
+//! Whether each configuration is signed.
+
+ghost use Rattle.std.specs.Prelude.{◌≡◌, ◌+◌, ◌<◌, ◌≤◌, List, ℕ, length, IfOk, Some, false};
+ghost use Rattle.std.specs.{List.slice_get, Option.option_map};
+ghost use Rattle.uimg_base.specs.{Honest.{HonestSource, IfHonest}, Using.Uses};
+ghost use Rattle.uimg_blob_reading.specs.{Grammar.Siblings, Rows.{Row, table}};
+ghost use Rattle.uimg_fit_checking.specs.SurveyParts.{IsOwn, is_unread};
+ghost use Rattle.uimg_fit_reading.specs.Nodes.{InFile, Opened};
+ghost use Rattle.uimg_verifying.specs.Configurations.{OfNode, TellsUnsigned, configuration_refusal, is_configuration, is_parent, is_signature_of, judged_node, judged_of, tried_node, tried_of, unsigned_from};
+ghost use Rattle.uimg_signing.specs.Listing.{name_in};
+ghost use Rattle.uimg_strict.specs.Telling.{read_loose};
+ghost use Rattle.uimg_verifying.specs.Signatures.{OfPair};
+
+use crate::signatures::{Signed, signature_refusal};
+use std::alloc::{Allocator, Global};
+use uimg_base::{Room, Source};
+use uimg_blob_reading::{Blob, Role};
+use uimg_fit_checking::{SurveyFault, read_bytes};
+use uimg_fit_reading::read_tree;
+use uimg_keys::PublicKey;
+use uimg_strict::{Loose, Looseness};
+
+/// What a node is as a signature of a configuration.
+#[derive(Clone, Copy)]
+enum Tried {
+    // None of its signature nodes.
+    Other,
+    // A signature by the key.
+    Valid,
+    // A signature that is refused.
+    Refused(Looseness),
+}
+
+/// What a node is as a configuration.
+#[derive(Clone, Copy)]
+enum Judged {
+    // No configuration.
+    Other,
+    // A configuration that the key signs.
+    Signed,
+    // A configuration that is refused.
+    Refused(Looseness),
+}
+
+/// The most signature nodes of a configuration that are tried.
+const MOST: usize = 16;
+
+fn is_parent(parent: Option<usize>, number: usize) -> bool
+    ensures { result ≡ is_parent number parent }
+{
+    match parent {
+        Some(parent) => parent == number,
+        None => false,
+    }
+}
+
+fn is_signature_of<A: Allocator>(blob: &Blob, room: &Room<A>, at: Signed) -> bool
+    requires { at.node < length room.now.entries }
+    ensures { OfNode blob.now room.now at.node
+        (λ row. result ≡ is_signature_of at.configuration row) }
+{
+    match blob.role(room, at.node) {
+        Role::Signature => is_parent(blob.parent(room, at.node), at.configuration),
+        _ => false,
+    }
+}
+
+fn tried_of(refusal: Option<Looseness>) -> Tried
+    ensures { result ≡ tried_of refusal }
+{
+    match refusal {
+        None => Tried::Valid,
+        Some(why) => Tried::Refused(why),
+    }
+}
+
+fn try_node<S: Source, A: Allocator>(
+    alloc: Global,
+    source: &mut S,
+    blob: &Blob,
+    room: &mut Room<A>,
+    key: &PublicKey,
+    at: Signed,
+) -> Result<Tried, SurveyFault>
+    requires configuration { at.configuration < length room.old.entries }
+    requires node { at.node < length room.old.entries }
+    requires file { InFile (length (S.device source.old).bytes) blob.now room.old.entries }
+    ensures uses { Uses (is_unread result) (S.device source.old) (S.device source.new) }
+    ensures room { room.new ≡ room.old }
+    ensures own { IsOwn result }
+    ensures told { OfPair (S.device source.old) blob.now room.old at.configuration at.node
+        (λ file rows its node. IfOk result
+        (λ tried. tried ≡ tried_node key.now file rows at.configuration its node)) }
+{
+    if !is_signature_of(blob, room, at) {
+        return Ok(Tried::Other);
+    }
+    let refusal = signature_refusal(alloc, source, blob, room, key, at)?;
+    Ok(tried_of(refusal))
+}
+
+// Returns why a configuration is refused: by its last signature, if none is the key's.
+fn configuration_refusal<S: Source, A: Allocator>(
+    alloc: Global,
+    source: &mut S,
+    blob: &Blob,
+    room: &mut Room<A>,
+    key: &PublicKey,
+    configuration: usize,
+) -> Result<Option<Looseness>, SurveyFault>
+    requires configuration { configuration < length room.old.entries }
+    requires file { InFile (length (S.device source.old).bytes) blob.now room.old.entries }
+    ensures uses { Uses (is_unread result) (S.device source.old) (S.device source.new) }
+    ensures room { room.new ≡ room.old }
+    ensures own { IsOwn result }
+    ensures told { (t : Siblings) → Opened (S.device source.old) blob.now room.old t →
+        (its : Row) → slice_get (table t) configuration ≡ Some its → IfOk result
+        (λ why. why ≡ configuration_refusal key.now (S.device source.old).bytes (table t)
+        configuration its) }
+{
+    let mut why = Looseness::Unsigned;
+    let mut left = MOST;
+    let mut node = 0;
+    while node < room.count() {
+        let at = Signed {
+            configuration,
+            node,
+        };
+        match try_node(alloc, source, blob, room, key, at)? {
+            Tried::Other => {}
+            Tried::Valid if left > 0 => return Ok(None),
+            Tried::Refused(found) if left > 0 => {
+                why = found;
+                left -= 1;
+            }
+            _ => return Ok(Some(Looseness::SignedNodes)),
+        }
+        node += 1;
+    }
+    Ok(Some(why))
+}
+
+fn is_configuration<A: Allocator>(blob: &Blob, room: &Room<A>, node: usize) -> bool
+    requires { node < length room.now.entries }
+    ensures { OfNode blob.now room.now node (λ row. result ≡ is_configuration row.role) }
+{
+    match blob.role(room, node) {
+        Role::Configuration => true,
+        _ => false,
+    }
+}
+
+fn judged_of(refusal: Option<Looseness>) -> Judged
+    ensures { result ≡ judged_of refusal }
+{
+    match refusal {
+        None => Judged::Signed,
+        Some(why) => Judged::Refused(why),
+    }
+}
+
+fn judge<S: Source, A: Allocator>(
+    alloc: Global,
+    source: &mut S,
+    blob: &Blob,
+    room: &mut Room<A>,
+    key: &PublicKey,
+    node: usize,
+) -> Result<Judged, SurveyFault>
+    requires node { node < length room.old.entries }
+    requires file { InFile (length (S.device source.old).bytes) blob.now room.old.entries }
+    ensures uses { Uses (is_unread result) (S.device source.old) (S.device source.new) }
+    ensures room { room.new ≡ room.old }
+    ensures own { IsOwn result }
+    ensures told { (t : Siblings) → Opened (S.device source.old) blob.now room.old t →
+        (row : Row) → slice_get (table t) node ≡ Some row → IfOk result
+        (λ it. it ≡ judged_node key.now (S.device source.old).bytes (table t) node row) }
+{
+    if !is_configuration(blob, room, node) {
+        return Ok(Judged::Other);
+    }
+    let refusal = configuration_refusal(alloc, source, blob, room, key, node)?;
+    Ok(judged_of(refusal))
+}
+
+// The name of the node is read from the source.
+fn refused<S: Source, A: Allocator>(
+    alloc: Global,
+    source: &mut S,
+    blob: &Blob,
+    room: &Room<A>,
+    node: usize,
+    why: Looseness,
+) -> Result<Loose, SurveyFault>
+    requires node { node < length room.now.entries }
+    requires file { InFile (length (S.device source.old).bytes) blob.now room.now.entries }
+    ensures uses { Uses (is_unread result) (S.device source.old) (S.device source.new) }
+    ensures own { IsOwn result }
+    ensures told { HonestSource S.device source → OfNode blob.now room.now node (λ row. IfOk result
+        (λ loose. read_loose loose ≡ record {
+          why = why;
+          node = Some (name_in (S.device source.old).bytes row);
+        })) }
+{
+    let name = read_bytes(alloc, source, blob.name(room, node))?;
+    Ok(Loose {
+        why,
+        node: Some(name),
+    })
+}
+
+// Returns the first configuration that is refused, or that there is none at all.
+fn first_unsigned<S: Source, A: Allocator>(
+    alloc: Global,
+    source: &mut S,
+    blob: &Blob,
+    room: &mut Room<A>,
+    key: &PublicKey,
+) -> Result<Option<Loose>, SurveyFault>
+    requires { InFile (length (S.device source.old).bytes) blob.now room.old.entries }
+    ensures uses { Uses (is_unread result) (S.device source.old) (S.device source.new) }
+    ensures room { room.new ≡ room.old }
+    ensures own { IsOwn result }
+    ensures told { (t : Siblings) → Opened (S.device source.old) blob.now room.old t → IfOk result
+        (λ found. option_map read_loose found ≡ unsigned_from key.now
+        (S.device source.old).bytes (table t) 0 false (table t)) }
+{
+    let mut has_any = false;
+    let mut node = 0;
+    while node < room.count() {
+        match judge(alloc, source, blob, room, key, node)? {
+            Judged::Other => {}
+            Judged::Signed => has_any = true,
+            Judged::Refused(why) => {
+                let found = refused(alloc, source, blob, room, node, why)?;
+                return Ok(Some(found));
+            }
+        }
+        node += 1;
+    }
+    if has_any {
+        return Ok(None);
+    }
+    let why = Looseness::Unsigned;
+    Ok(Some(Loose { why, node: None }))
+}
+
+/// Returns the first configuration of a FIT image that has no signature by a key, with the word for
+/// its last signature node; or, without its name, that the image has no configuration. At most
+/// sixteen signature nodes of a configuration are tried.
+///
+/// Indexes the blob again. The source is read once for each signature node that is tried, up to the
+/// end of its blob, without payloads. Takes memory for the offsets of at most 100 nodes.
+///
+/// - The faults of the blob.
+/// - `Stopped` with `Read`: if and only if a read failed.
+/// - `OutOfMemory`: memory was refused.
+/// - `Changed`: only if the source does not have the blob that was indexed.
+pub fn find_unsigned<S: Source, A: Allocator>(
+    alloc: Global,
+    key: &PublicKey,
+    source: &mut S,
+    room: &mut Room<A>,
+) -> Result<Option<Loose>, SurveyFault>
+    ensures uses { Uses (is_unread result) (S.device source.old) (S.device source.new) }
+    ensures told { IfHonest S.device source (λ file. TellsUnsigned key.now file result) }
+{
+    let blob = read_tree(source, room)?;
+    let found = first_unsigned(alloc, source, &blob, room, key)?;
+    Ok(found)
+}
