@@ -1,5 +1,5 @@
 -- A public key of RSA in DER (X.690, section 10; RFC 8017, appendix A.1; RFC 5280, section 4.1.2.7).
-use Rattle.std.specs.Prelude.{ℕ, ◌/◌, ◌%◌, ◌<◌, List, [], ◌∷◌, ◌++◌, length, nat_lt, if◌then◌else◌, slice_index, suc, zero}
+use Rattle.std.specs.Prelude.{ℕ, ◌/◌, ◌%◌, List, [], ◌∷◌, ◌++◌, length, nat_lt, if◌then◌else◌, slice_index, suc, zero}
 use Rattle.std.specs.Int.{w64, to_be_bytes}
 
 -- the octets of a length below 65536 (X.690, section 8.1.3)

@@ -1,5 +1,5 @@
 -- Why a configuration is refused, a node at a time.
-use Rattle.std.proofs.Common.{◌≡◌, ◌<◌, ℕ, suc, zero, ◌+◌, ◌-◌, List, [], ◌∷◌, length, drop, Option, Some, None, Bool, true, false, refl, ap, sym, subst, ◌∙◌, arith}
+use Rattle.std.proofs.Common.{◌≡◌, ℕ, suc, ◌+◌, List, [], ◌∷◌, Option, Some, None, Bool, true, false, refl, ap, sym, ◌∙◌}
 use Rattle.uimg_blob_reading.specs.Rows.{Row}
 use Rattle.uimg_keys.specs.declared.key.PublicKey.{PublicKey}
 use Rattle.uimg_strict.specs.declared.loose.Looseness.{Looseness}

@@ -1,5 +1,5 @@
 -- Why a signature is refused, step by step.
-use Rattle.std.proofs.Common.{◌≡◌, ℕ, ◌+◌, ◌-◌, ◌<◌, ◌≤◌, List, ◌++◌, length, take, replicate, Option, Some, None, Result, Ok, Err, IfOk, Bool, true, false, nat_lt, if◌then◌else◌, refl, ap, sym, subst, ◌∙◌, arith}
+use Rattle.std.proofs.Common.{◌≡◌, ℕ, ◌-◌, ◌<◌, ◌≤◌, List, length, take, replicate, Option, Some, None, Result, Ok, Err, IfOk, Bool, true, false, if◌then◌else◌, refl, ap, sym, subst, ◌∙◌, arith}
 use Rattle.std.proofs.lemmas.{Bool.{lt-ltb, le-ltb}, List.{take-append-le, take_all}}
 use Rattle.uimg_texts.specs.Slices.{slice}
 use Rattle.uimg_base.specs.Device.{Device, SameDevice}

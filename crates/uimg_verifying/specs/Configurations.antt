@@ -1,5 +1,5 @@
 -- Why a configuration is refused: no signature of it is the key's.
-use Rattle.std.specs.Prelude.{◌≡◌, ℕ, zero, suc, ◌==◌, ◌&&◌, List, [], ◌∷◌, Option, Some, None, Bool, true, false, if◌then◌else◌}
+use Rattle.std.specs.Prelude.{◌≡◌, ℕ, zero, suc, ◌==◌, List, [], ◌∷◌, Option, Some, None, Bool, true, false, if◌then◌else◌}
 use Rattle.std.specs.Prelude.{◌+◌, ⊤, Result, Ok, Err}
 use Rattle.std.specs.{List.slice_get, Option.option_map}
 use Rattle.uimg_blob_reading.specs.{Blob.tree, Reading.Fault as BlobFaultAt}

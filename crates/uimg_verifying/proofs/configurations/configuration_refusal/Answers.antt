@@ -1,7 +1,7 @@
-use Rattle.std.proofs.Common.{rules, ◌≡◌, ◌∙◌, ◌<◌, ℕ, suc, add-one, ◌+◌, ◌-◌, List, ◌∷◌, drop, length, Option, Some, None, refl, ap, sym, subst, arith}
+use Rattle.std.proofs.Common.{rules, ◌≡◌, ◌∙◌, ℕ, suc, add-one, ◌-◌, List, drop, length, ap, sym, subst, arith}
 use Rattle.std.proofs.Math.ListN.{drop_of_length-le}
 use Rattle.uimg_base.specs.Held.{Held}
-use Rattle.uimg_blob_reading.specs.Rows.{Row, table}
+use Rattle.uimg_blob_reading.specs.Rows.{table}
 use Rattle.uimg_fit_reading.proofs.OpenedLaws.{still}
 use Rattle.uimg_signing.proofs.NamedLaws.{row_of, rows_count}
 use Rattle.uimg_strict.specs.declared.loose.Looseness.{Looseness}

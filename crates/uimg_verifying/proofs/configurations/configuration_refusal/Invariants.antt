@@ -1,4 +1,4 @@
-use Rattle.std.proofs.Common.{◌≡◌, ◌≤◌, ◌-◌, ℕ, length, drop, Some, false}
+use Rattle.std.proofs.Common.{◌≡◌, ◌-◌, length, drop, Some, false}
 use Rattle.std.specs.List.{slice_get}
 use Rattle.uimg_base.specs.Using.{Uses}
 use Rattle.uimg_blob_reading.specs.{Grammar.Siblings, Rows.{Row, table}}

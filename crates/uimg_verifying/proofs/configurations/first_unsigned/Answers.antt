@@ -1,11 +1,11 @@
-use Rattle.std.proofs.Common.{rules, ◌≡◌, ◌∙◌, ◌<◌, ℕ, suc, add-one, ◌+◌, ◌-◌, List, ◌∷◌, Bool, true, false, drop, length, Option, Some, None, IsTrue, refl, ap, sym, subst, arith}
+use Rattle.std.proofs.Common.{rules, ◌≡◌, ◌∙◌, ℕ, suc, ◌+◌, List, Bool, false, drop, length, Some, ap, sym, subst, arith}
 use Rattle.std.proofs.Math.ListN.{drop_of_length-le}
 use Rattle.uimg_base.specs.Held.{Held}
-use Rattle.uimg_blob_reading.specs.{Indexed.IsIndexed, Rows.{Row, table}}
+use Rattle.uimg_blob_reading.specs.{Rows.{table}}
 use Rattle.uimg_fit_reading.proofs.OpenedLaws.{still}
 use Rattle.uimg_signing.specs.Listing.{name_in}
 use Rattle.uimg_signing.proofs.NamedLaws.{row_of, rows_count}
-use Rattle.uimg_strict.specs.{Looseness.LooseSaid, Telling.read_loose}
+use Rattle.uimg_strict.specs.{Telling.read_loose}
 use Rattle.uimg_verifying.specs.Configurations.{judged_node, unsigned_from}
 use Rattle.uimg_verifying.proofs.{ConfigurationLaws.{all_signed, no_configuration, other_more, refused_here, signed_more}, RefusalLaws.over}
 use Rattle.uimg_verifying.proofs.configurations.first_unsigned.Goals as goal

@@ -1,4 +1,4 @@
-use Rattle.std.proofs.Common.{◌≡◌, ◌∙◌, Bool, false, if◌then◌else◌, ap, sym}
+use Rattle.std.proofs.Common.{◌∙◌, Bool, false, if◌then◌else◌, ap, sym}
 use Rattle.uimg_blob_reading.specs.{Indexed.IsRow, Roles.is_signature_role, declared.roles.Role.Role}
 use Rattle.uimg_blob_reading.proofs.LookLaws.{not_signature}
 use Rattle.uimg_verifying.specs.Configurations.{is_parent}

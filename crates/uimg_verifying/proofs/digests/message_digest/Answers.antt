@@ -1,7 +1,6 @@
 use Rattle.std.proofs.Common.{◌∙◌, ap, []}
 use Rattle.uimg_fit_base.specs.{AlgoSets.{chosen, has}, declared.algo_sets.AlgoSet.AlgoSet}
 use Rattle.uimg_fit_base.proofs.AlgoSetLaws.{marked-has}
-use Rattle.uimg_sums.specs.Bundle.{Holds}
 use Rattle.uimg_signing.specs.{Covering.is_marked, Message.message}
 use Rattle.uimg_verifying.proofs.digests.message_digest.Goals as goal
 

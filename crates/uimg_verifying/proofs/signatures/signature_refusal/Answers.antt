@@ -1,13 +1,10 @@
-use Rattle.std.proofs.Common.{◌≡◌, ◌∙◌, ℕ, List, length, Option, Some, None, Ok, Err, refl, sym, subst, ap}
+use Rattle.std.proofs.Common.{◌≡◌, ◌∙◌, ℕ, List, length, Some, None, Ok, Err, refl, sym, ap}
 use Rattle.uimg_blob_reading.specs.{Properties.places_of, Rows.table}
 use Rattle.uimg_fit_reading.proofs.OpenedLaws.{still}
 use Rattle.uimg_signing.specs.Covering.{is_marked}
 use Rattle.uimg_signing.specs.Listing.{listing_refusal, marks_of}
 use Rattle.uimg_signing.specs.{Message.{message, refusal}, Strings.strings_of}
-use Rattle.uimg_signing.specs.declared.faults.SigningFault.{SigningFault}
-use Rattle.uimg_strict.specs.declared.loose.Looseness.{Looseness}
 use Rattle.uimg_verifying.specs.Signatures.{signature_of, value_refusal}
-use Rattle.uimg_verifying.specs.declared.signatures.Signature.{Signature}
 use Rattle.uimg_verifying.proofs.RefusalLaws.{digest_taken, judged, message_stop, nodes_stop, over, stopped, strings_stop, unknown, weak}
 use Rattle.uimg_verifying.proofs.signatures.signature_refusal.Goals as goal
 
