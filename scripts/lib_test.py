@@ -284,7 +284,7 @@ def check_checks(images):
 def check_faults():
     """Each fault has the line of the manual page."""
     page = open("docs/uimg-faults.7", encoding="utf-8").read().replace("\\-", "-")
-    for letter, count in (("L", 10), ("B", 11), ("F", 10), ("S", 16)):
+    for letter, count in (("L", 10), ("B", 11), ("F", 10), ("S", 24)):
         for number in range(count + 2):
             line = uimg._text(uimg._library.uimg_fault_line, ord(letter) * 256 + number)
             is_one = 1 <= number <= count
