@@ -1,2 +1,4 @@
 pub mod Der
 pub mod Pem
+pub mod Trees
+pub mod Keys

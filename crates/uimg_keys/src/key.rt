@@ -3,6 +3,7 @@
 use std::alloc::AllocError;
 use thiserror::Error;
 use uimg_base::SourceFault;
+use uimg_signing::RsaAlgo;
 
 /// A public key of RSA (RFC 8017, section 3.1).
 #[derive(Drop)]
@@ -12,17 +13,29 @@ pub struct PublicKey {
 
     /// The exponent.
     pub exponent: u64,
+
+    /// What the `algo` of a signature must say, if the file says it.
+    pub algo: Option<RsaAlgo>,
 }
 
-/// Why a text has no key.
+/// Why a file has no key.
 #[derive(Clone, Copy, Debug, PartialEq, Eq, Error)]
 pub enum KeyFault {
-    /// The text is not the PEM of a public key of RSA.
-    #[error("not an RSA public key in PEM")]
+    /// The file is neither the PEM of a public key of RSA nor a devicetree.
+    #[error("neither an RSA public key in PEM nor a devicetree blob")]
     NotKey,
 
+    /// A devicetree has no `/signature`, or no key there is required for configurations.
+    #[error("no key in /signature is required for configurations")]
+    NoKey,
+
+    /// A key of a devicetree is required for images: U-Boot wants their signatures, which are not
+    /// checked.
+    #[error("a key in /signature is required for images, whose signatures are not checked")]
+    ImageKey,
+
     /// The size of the modulus is not 2048, 3072 or 4096 bits, or the exponent is even or below 3.
-    #[error("not a key that U-Boot takes: 2048, 3072 or 4096 bits, and an odd exponent above 2")]
+    #[error("not a key that U-Boot takes: 2048, 3072 or 4096 bits, an odd exponent above 2")]
     Unfit,
 
     /// A read failed.

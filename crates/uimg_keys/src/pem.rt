@@ -1,6 +1,6 @@
 //! The key of a PEM text.
 
-ghost use Rattle.std.specs.Prelude.{◌≡◌, ◌≤◌, IfOk, length};
+ghost use Rattle.std.specs.Prelude.{◌≡◌, ◌≤◌, IfOk, None, length};
 ghost use Rattle.std.specs.String.{string_bytes};
 ghost use Rattle.uimg_keys.specs.Pem.{IsPem, begin_of, der_of, end_of, flat, pem_of};
 
@@ -96,7 +96,8 @@ fn number(octets: &[u8]) -> u64 {
 // Takes the modulus and the exponent from where they are in DER.
 fn key_at(alloc: Global, der: &[u8], start: usize) -> Result<PublicKey, KeyFault>
     requires { (9 ≤ start) × (start ≤ 33) }
-    ensures { IfOk result (λ key. length key.modulus.items ≤ 512) }
+    ensures short { IfOk result (λ key. length key.modulus.items ≤ 512) }
+    ensures any { IfOk result (λ key. key.algo ≡ None) }
 {
     let Some(before) = der.get(start - 3..start - 1) else {
         return Err(KeyFault::NotKey);
@@ -114,12 +115,14 @@ fn key_at(alloc: Global, der: &[u8], start: usize) -> Result<PublicKey, KeyFault
     Ok(PublicKey {
         modulus: Vec::from_slice(alloc, modulus)?,
         exponent: number(exponent),
+        algo: None,
     })
 }
 
 // The key of a joined text, if it is the text of a key.
 fn key_in(alloc: Global, text: &[u8], form: Form) -> Result<PublicKey, KeyFault>
-    ensures { IfOk result (λ key. length key.modulus.items ≤ 512) }
+    ensures short { IfOk result (λ key. length key.modulus.items ≤ 512) }
+    ensures any { IfOk result (λ key. key.algo ≡ None) }
 {
     let begin = form.begin().len();
     let end = text.len().saturating_sub(form.end().len());
@@ -140,7 +143,8 @@ fn key_in(alloc: Global, text: &[u8], form: Form) -> Result<PublicKey, KeyFault>
 /// - `NotKey`: it is no such text, or the modulus has more than 4096 bits or fewer than 2041.
 /// - `OutOfMemory`: memory was refused.
 pub fn key_of_pem(alloc: Global, text: &[u8]) -> Result<PublicKey, KeyFault>
-    ensures { IfOk result (λ key. IsPem text.now key.modulus.items key.exponent) }
+    ensures pem { IfOk result (λ key. IsPem text.now key.modulus.items key.exponent) }
+    ensures any { IfOk result (λ key. key.algo ≡ None) }
 {
     let text = flat(alloc, text)?;
     let form = if text.as_slice().starts_with(Form::Rsa.begin().as_bytes()) {

@@ -8,7 +8,7 @@ use Rattle.uimg_blob_reading.specs.{Rows.Row, Plain.NamedOf, Places.{read_place}
 use Rattle.uimg_signing.specs.declared.faults.SigningFault.{SigningFault}
 use Rattle.uimg_signing.specs.declared.faults.SigningFault.TheVariants.{TooLong, TooManyNodes}
 use Rattle.uimg_signing.specs.{Faults.Refuses, Naming.{any_long, any_long_at}}
-use Rattle.uimg_signing.specs.Listing.{is_listed, mark_of, marks_from, many_refusal, listing_refusal}
+use Rattle.uimg_signing.specs.Listing.{is_listed, mark_of, marks_from, many_refusal, nodes_refusal, listing_refusal}
 use Rattle.uimg_signing.proofs.TurnLaws.{le_true, less_true, less_false}
 
 next_cost : (n k : ℕ) → (n + 1) * k ≡ n * k + k
@@ -26,7 +26,7 @@ more_asked a b c n k h more = omega (arith, h, more, next_cost n k)
 pub within_asked : (a b n m k : ℕ) → b ≤ a + n * k → n ≤ m → b ≤ a + m * k
 within_asked a b n m k h le = omega (arith, h, times n m k le)
 
-pub all_paid : (a b c s x y : ℕ) → b ≤ a + s → c ≤ b + x → x ≡ y → c ≤ a + (s + y)
+pub all_paid : (a b c s x y : ℕ) → b ≤ a + s → c ≤ b + (x + x) → x ≡ y → c ≤ a + (s + y + y)
 all_paid a b c s x y first more same = omega (arith, first, more, same)
 
 none_some : {X A : Type 0} (x : X) → (let o : Option X = Some x in o) ≡ None → A
@@ -71,8 +71,8 @@ long_is file (x ∷ xs) = ap (λ (b : Bool). nat_lt 8192 x.value.length || b) (l
 pub long_of : (file : List ℕ) (xs : List PropertyPlace) (own : List (NamedOf Span)) → map (read_place file) xs ≡ own → any_long_at xs ≡ any_long own
 long_of file xs own are = long_is file xs ∙ ap (λ (l : List (NamedOf Span)). any_long l) are
 
-pub long_refusal : (own : List (NamedOf Span)) (marks : List ℕ) (b : Bool) → b ≡ any_long own → listing_refusal own marks ≡ (if b then Some TooLong else many_refusal marks)
-long_refusal own marks b is = ap (λ (x : Bool). (let o : Option SigningFault = if x then Some TooLong else many_refusal marks in o)) (sym is)
+pub long_refusal : (own : List (NamedOf Span)) (marks : List ℕ) (hashed b : Bool) → b ≡ any_long own → listing_refusal own marks hashed ≡ (if b then Some TooLong else nodes_refusal marks hashed)
+long_refusal own marks hashed b is = ap (λ (x : Bool). (let o : Option SigningFault = if x then Some TooLong else nodes_refusal marks hashed in o)) (sym is)
 
 pub count_of : (file : List ℕ) (xs : List PropertyPlace) (row : Row) → map (read_place file) xs ≡ places_of row → length xs ≡ length row.own
 count_of file xs row are = sym (length-map xs (read_place file)) ∙ ap length are ∙ grind (arith, length-map)

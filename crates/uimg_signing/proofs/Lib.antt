@@ -9,6 +9,7 @@ pub mod ParentLaws
 pub mod ListedLaws
 pub mod GoingLaws
 pub mod ShortLaws
+pub mod HashedLaws
 pub mod CostLaws
 pub mod FindLaws
 pub mod Examples

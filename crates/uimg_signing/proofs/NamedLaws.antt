@@ -55,7 +55,7 @@ row_of t blob es n h within = drop_at (table t) n (omega (arith, rows_count t bl
 pub told_as : (r : Result Bool SigningFault) (a b : Bool) → a ≡ b → IfOk r (λ it. it ≡ a) → IfOk r (λ it. it ≡ b)
 told_as r a b same told = subst (λ (x : Bool). IfOk r (λ it. it ≡ x)) same told
 
-not_image : (file : List ℕ) (own : List (NamedOf Span)) (name : List ℕ) (r : Role) → (r ≡ role.Image → ⊥) → false ≡ image_named file own r name
+pub not_image : (file : List ℕ) (own : List (NamedOf Span)) (name : List ℕ) (r : Role) → (r ≡ role.Image → ⊥) → false ≡ image_named file own r name
 not_image file own name role.Root h = refl
 not_image file own name role.Images h = refl
 not_image file own name role.Image h = absurd (h refl)

@@ -13,7 +13,7 @@ use Rattle.uimg_signing.specs.Turning.{coded, Turns, IsShallow}
 use Rattle.uimg_blob_reading.specs.Grammar.{Siblings, root, without_nops}
 use Rattle.uimg_signing.specs.Going.{GoesWell, IsBad, RefusesTurn, RefusesToken}
 use Rattle.uimg_signing.specs.Faults.{is_unread, fault_of, Refuses}
-use Rattle.uimg_signing.specs.declared.faults.SigningFault.TheVariants.{Read, OutOfMemory, Changed, TooLong, TooManyNodes, TooDeep, BadStrings, StringsOffset, StringsOutside}
+use Rattle.uimg_signing.specs.declared.faults.SigningFault.TheVariants.{Read, OutOfMemory, Changed, TooLong, TooManyNodes, Unhashed, TooDeep, BadStrings, StringsOffset, StringsOutside}
 use Rattle.uimg_signing.proofs.GoingLaws.{begins_well, well_after, bad}
 use Rattle.uimg_signing.specs.Walking.{Feeds, signed_at, GoesOn, Passes, SoFar, deep_refusal}
 
@@ -187,6 +187,7 @@ refused_so_far fed listed honest b walk old between s within now t tree TooDeep 
 refused_so_far fed listed honest b walk old between s within now t tree OutOfMemory why result is = absurd why
 refused_so_far fed listed honest b walk old between s within now t tree TooLong why result is = absurd why
 refused_so_far fed listed honest b walk old between s within now t tree TooManyNodes why result is = absurd why
+refused_so_far fed listed honest b walk old between s within now t tree Unhashed why result is = absurd why
 refused_so_far fed listed honest b walk old between s within now t tree BadStrings why result is = absurd why
 refused_so_far fed listed honest b walk old between s within now t tree StringsOffset why result is = absurd why
 refused_so_far fed listed honest b walk old between s within now t tree StringsOutside why result is = absurd why
@@ -199,6 +200,7 @@ turn_token TooDeep b nodes at t why = why
 turn_token OutOfMemory b nodes at t why = absurd why
 turn_token TooLong b nodes at t why = absurd why
 turn_token TooManyNodes b nodes at t why = absurd why
+turn_token Unhashed b nodes at t why = absurd why
 turn_token BadStrings b nodes at t why = absurd why
 turn_token StringsOffset b nodes at t why = absurd why
 turn_token StringsOutside b nodes at t why = absurd why

@@ -3,7 +3,7 @@ use Rattle.std.specs.Prelude.{◌≡◌, Bool, true, false, Option, Some, None, 
 use Rattle.uimg_signing.specs.declared.faults.SigningFault.{SigningFault}
 use Rattle.uimg_signing.specs.declared.faults.SigningFault.TheVariants.{Read, OutOfMemory, Changed}
 use Rattle.uimg_signing.specs.declared.faults.SigningFault.TheVariants.{TooLong, TooDeep}
-use Rattle.uimg_signing.specs.declared.faults.SigningFault.TheVariants.{TooManyNodes}
+use Rattle.uimg_signing.specs.declared.faults.SigningFault.TheVariants.{TooManyNodes, Unhashed}
 use Rattle.uimg_signing.specs.declared.faults.SigningFault.TheVariants.{BadStrings, StringsOffset, StringsOutside}
 
 -- the result is a failed read
@@ -13,6 +13,7 @@ is_unread (Err Read) = true
 is_unread (Err OutOfMemory) = false
 is_unread (Err TooLong) = false
 is_unread (Err TooManyNodes) = false
+is_unread (Err Unhashed) = false
 is_unread (Err Changed) = false
 is_unread (Err TooDeep) = false
 is_unread (Err BadStrings) = false
@@ -26,6 +27,7 @@ is_out_of_memory (Err Read) = false
 is_out_of_memory (Err OutOfMemory) = true
 is_out_of_memory (Err TooLong) = false
 is_out_of_memory (Err TooManyNodes) = false
+is_out_of_memory (Err Unhashed) = false
 is_out_of_memory (Err Changed) = false
 is_out_of_memory (Err TooDeep) = false
 is_out_of_memory (Err BadStrings) = false

@@ -9,6 +9,7 @@ pub mod Naming
 pub mod Strings
 pub mod Signatures
 pub mod Listing
+pub mod Hashed
 pub mod Looking
 pub mod Paths
 pub mod Going

@@ -9,7 +9,7 @@ use Rattle.uimg_blob_reading.specs.{Grammar.Siblings, Blob.tree, Rows.{Row, tabl
 use Rattle.uimg_blob_reading.specs.Indexed.{IsIndexed}
 use Rattle.uimg_signing.specs.{Texts.is_cipher, Naming.{named, any_long}}
 use Rattle.uimg_signing.specs.declared.faults.SigningFault.{SigningFault}
-use Rattle.uimg_signing.specs.declared.faults.SigningFault.TheVariants.{TooLong, TooManyNodes}
+use Rattle.uimg_signing.specs.declared.faults.SigningFault.TheVariants.{TooLong, TooManyNodes, Unhashed}
 
 -- the bytes of a node's name
 abbrev pub name_in : List ℕ → Row → List ℕ
@@ -98,12 +98,17 @@ OfTableRead d blob es P =
 abbrev pub many_refusal : List ℕ → Option SigningFault
 many_refusal marks = if nat_lt 100 (length marks) then Some TooManyNodes else None
 
--- the same of a configuration with these properties: first, a value has more than 8192 bytes
-abbrev pub listing_refusal : List (NamedOf Span) → List ℕ → Option SigningFault
-listing_refusal own marks = if any_long own then Some TooLong else many_refusal marks
+-- the same where an image is named and each that is has a hash node, or not
+abbrev pub nodes_refusal : List ℕ → Bool → Option SigningFault
+nodes_refusal marks hashed =
+    if nat_lt 100 (length marks) then Some TooManyNodes else if hashed then None else Some Unhashed
 
--- the most bytes that are requested to decide whether a node is listed, of a configuration with so
--- many properties: two names of nodes, and each property's name and value
+-- the same of a configuration with these properties: first, a value has more than 8192 bytes
+abbrev pub listing_refusal : List (NamedOf Span) → List ℕ → Bool → Option SigningFault
+listing_refusal own marks hashed = if any_long own then Some TooLong else nodes_refusal marks hashed
+
+-- the most bytes that are requested to decide whether a node is listed, or an image is named, of a
+-- configuration with so many properties: two names of nodes, and each property's name and value
 abbrev pub node_cost : ℕ → ℕ
 node_cost properties = 510 + 8447 * properties
 
@@ -111,3 +116,4 @@ node_cost properties = 510 + 8447 * properties
 abbrev pub listing_cost : ℕ → ℕ → ℕ → ℕ
 listing_cost nodes properties nops =
     44 + 268 * properties + 4 * nops + nodes * node_cost properties
+    + nodes * node_cost properties

@@ -20,6 +20,9 @@ pub enum SigningFault {
     /// The signature covers more than 100 nodes.
     #[error("the signature covers more than 100 nodes")]
     TooManyNodes,
+    /// The configuration names no image, or one that has no hash node.
+    #[error("the configuration names no image, or one without a hash node")]
+    Unhashed,
     /// A node is inside 32 others.
     #[error("nodes are nested more than 32 deep")]
     TooDeep,

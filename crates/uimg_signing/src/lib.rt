@@ -14,6 +14,7 @@
 #![tactic(auto)]
 
 mod faults;
+mod hashed;
 mod listing;
 mod message;
 mod naming;
@@ -27,5 +28,5 @@ mod walking;
 pub use faults::SigningFault;
 pub use listing::list_nodes;
 pub use message::feed_message;
-pub use signature::{RsaAlgo, RsaPadding, read_rsa_algo, read_rsa_padding};
+pub use signature::{RsaAlgo, RsaPadding, read_rsa_algo, read_rsa_padding, rsa_algo};
 pub use strings::strings_size;

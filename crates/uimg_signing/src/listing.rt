@@ -5,10 +5,12 @@ ghost use Rattle.std.specs.List.{All};
 ghost use Rattle.uimg_base.specs.{Using.{Asks, Uses}};
 ghost use Rattle.uimg_blob_reading.specs.{Places.read_place, Properties.places_of, Counts.nops_met};
 ghost use Rattle.uimg_signing.specs.{Faults.{is_unread, Refuses}, Texts.is_cipher, Naming.{named, CanBeRead}};
+ghost use Rattle.uimg_signing.specs.Hashed.{are_hashed};
 ghost use Rattle.uimg_signing.specs.declared.faults.SigningFault.TheVariants.{TooManyNodes};
-ghost use Rattle.uimg_signing.specs.Listing.{OfNode, OfNodeRead, OfTable, OfTableRead, OfTreeRead, node_cost, listing_cost, many_refusal, listing_refusal, name_in, is_part_of, is_listed, mark_if, marks_of};
+ghost use Rattle.uimg_signing.specs.Listing.{OfNode, OfNodeRead, OfTable, OfTableRead, OfTreeRead, node_cost, listing_cost, many_refusal, nodes_refusal, listing_refusal, name_in, is_part_of, is_listed, mark_if, marks_of};
 
 use crate::faults::SigningFault;
+use crate::hashed::are_hashed;
 use crate::naming::{has_long, named_at};
 use crate::texts::is_cipher;
 use std::alloc::{Allocator, Global};
@@ -54,7 +56,7 @@ fn read_name<S: Source, A: Allocator>(
 }
 
 // Returns whether the configuration with these properties names an image.
-fn is_named<S: Source, A: Allocator>(
+pub(crate) fn is_named<S: Source, A: Allocator>(
     source: &mut S,
     blob: &Blob,
     room: &mut Room<A>,
@@ -236,6 +238,42 @@ fn collect<S: Source, A: Allocator>(
     Ok(marks)
 }
 
+// As `collect`, of a configuration that names an image, each with a hash node.
+fn collect_hashed<S: Source, A: Allocator>(
+    alloc: Global,
+    source: &mut S,
+    blob: &Blob,
+    room: &mut Room<A>,
+    places: &[PropertyPlace],
+    configuration: usize,
+) -> Result<Vec<u64>, SigningFault>
+    requires within { blob.now.totalsize ≤ length (S.device source.old).bytes }
+    requires places { All (CanBeRead (length (S.device source.old).bytes)) places.now }
+    ensures uses { Asks (length room.old.entries * node_cost (length places.now)
+        + length room.old.entries * node_cost (length places.now)) (is_unread result)
+        (S.device source.old) (S.device source.new) }
+    ensures room { room.new ≡ room.old }
+    ensures few { IfOk result (λ marks. length marks.items ≤ 100) }
+    ensures refused { OfTableRead (S.device source.old) blob.now room.old.entries (λ rows.
+        Refuses (nodes_refusal (marks_of (S.device source.old).bytes
+        (map (read_place (S.device source.old).bytes) places.now) rows configuration)
+        (are_hashed (S.device source.old).bytes
+        (map (read_place (S.device source.old).bytes) places.now) rows)) result) }
+    ensures told { OfTable (S.device source.old) blob.now room.old.entries (λ rows.
+        IfOk result (λ marks. marks.items ≡ marks_of (S.device source.old).bytes
+        (map (read_place (S.device source.old).bytes) places.now) rows configuration)) }
+{
+    let marks = match collect(alloc, source, blob, room, places, configuration) {
+        Ok(marks) => marks,
+        Err(fault) => return Err(fault),
+    };
+    match are_hashed(source, blob, room, places) {
+        Ok(true) => Ok(marks),
+        Ok(false) => Err(SigningFault::Unhashed),
+        Err(fault) => Err(fault),
+    }
+}
+
 /// Lists the nodes that the signature of a configuration covers, by the offsets of their first
 /// tokens, in reading order: the root, the configuration, each image that it names by a property
 /// other than `description`, `compatible` and `default`, and the hash nodes and `cipher` of such an
@@ -249,6 +287,8 @@ fn collect<S: Source, A: Allocator>(
 /// - `OutOfMemory`: only if memory for the offsets was refused.
 /// - `TooLong`: if and only if a value of the configuration has more than 8192 bytes.
 /// - `TooManyNodes`: otherwise, if and only if more than 100 nodes are listed.
+/// - `Unhashed`: otherwise, if and only if the configuration names no image, or one that has no hash
+///   node.
 /// - `Changed`: only if the source does not have the blob that was indexed.
 pub fn list_nodes<S: Source, A: Allocator>(
     alloc: Global,
@@ -266,7 +306,8 @@ pub fn list_nodes<S: Source, A: Allocator>(
         + listing_cost (length rows) (length row.own) (nops_met (S.device source.old).bytes)) }
     ensures refused { OfTreeRead (S.device source.old) blob.now room.old.entries configuration
         (λ rows row. Refuses (listing_refusal (places_of row) (marks_of (S.device source.old).bytes
-        (places_of row) rows configuration)) result) }
+        (places_of row) rows configuration)
+        (are_hashed (S.device source.old).bytes (places_of row) rows)) result) }
     ensures told { OfTreeRead (S.device source.old) blob.now room.old.entries configuration
         (λ rows row. IfOk result (λ marks. marks.items
         ≡ marks_of (S.device source.old).bytes (places_of row) rows configuration)) }
@@ -280,5 +321,5 @@ pub fn list_nodes<S: Source, A: Allocator>(
     if has_long(&places) {
         return Err(SigningFault::TooLong);
     }
-    collect(alloc, source, blob, room, &places, configuration)
+    collect_hashed(alloc, source, blob, room, &places, configuration)
 }

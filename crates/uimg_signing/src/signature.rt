@@ -25,9 +25,9 @@ pub enum RsaPadding {
     Pss,
 }
 
-// Returns the hash and the key size that a value of `algo` names.
+/// Returns the hash and the key size that a value of `algo` names, with its NUL.
 #[tactic(auto, unfolding(crate::specs::Signatures::rsa_algo))]
-fn rsa_algo(value: &[u8]) -> Option<RsaAlgo>
+pub fn rsa_algo(value: &[u8]) -> Option<RsaAlgo>
     ensures { result ≡ rsa_algo value.now }
 {
     if value == b"sha1,rsa2048\0".as_slice() {

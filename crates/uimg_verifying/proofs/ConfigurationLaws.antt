@@ -1,10 +1,11 @@
 -- Why a configuration is refused, a node at a time.
-use Rattle.std.proofs.Common.{◌≡◌, ℕ, suc, ◌+◌, List, [], ◌∷◌, Option, Some, None, Bool, true, false, refl, ap, sym, ◌∙◌}
+use Rattle.std.proofs.Common.{◌≡◌, ℕ, suc, ◌+◌, List, [], ◌∷◌, Option, Some, None, Bool, true, false, if◌then◌else◌, ◌<◌, length, drop, get_or, refl, ap, sym, ◌∙◌}
+use Rattle.std.proofs.lemmas.List.{drop_more}
 use Rattle.uimg_blob_reading.specs.Rows.{Row}
-use Rattle.uimg_keys.specs.declared.key.PublicKey.{PublicKey}
+use Rattle.uimg_keys.specs.declared.{key.PublicKey.PublicKey, keys.Keys.Keys}
 use Rattle.uimg_strict.specs.declared.loose.Looseness.{Looseness}
 use Rattle.uimg_strict.specs.declared.loose.Looseness.TheVariants.{SignedNodes, Unsigned}
-use Rattle.uimg_verifying.specs.Configurations.{is_configuration, judged_node, refused_after, refused_from, tried_node, unsigned_after, unsigned_from}
+use Rattle.uimg_verifying.specs.Configurations.{is_configuration, configuration_refusal, decides, judged_node, refused_after, refused_by, refused_from, tried_node, unsigned_after, unsigned_from}
 use Rattle.uimg_blob_reading.specs.declared.roles.Role.{Role}
 use Rattle.uimg_blob_reading.specs.declared.roles.Role.TheVariants as role
 use Rattle.uimg_signing.specs.Listing.{name_in}
@@ -55,30 +56,51 @@ not_configuration role.Signature not = refl
 not_configuration role.Configurations not = refl
 not_configuration role.Other not = refl
 
-module _ (key : PublicKey) (file : List ℕ) (rows : List Row) (i : ℕ) (row : Row) (more : List Row) (any : Bool) (found : Judged) (is : found ≡ judged_node key file rows i row) where
-  past : unsigned_after found any (name_in file row) (λ b. unsigned_from key file rows (i + 1) b more) ≡ unsigned_from key file rows i any (row ∷ more)
+-- a key and those after it
+pub key_left : (xs keys : List PublicKey) (i : ℕ) (key : PublicKey) → xs ≡ keys → i < length xs → key ≡ get_or xs i key → drop i keys ≡ key ∷ drop (i + 1) keys
+key_left xs keys i key same within is =
+    ap (λ (l : List PublicKey). drop i l) (sym same) ∙ drop_more xs i key within ∙ ap (λ (k : PublicKey). k ∷ drop (i + 1) xs) (sym is) ∙ ap (λ (l : List PublicKey). key ∷ drop (i + 1) l) same
+
+module _ (is_any : Bool) (key : PublicKey) (keys left : List PublicKey) (file : List ℕ) (rows : List Row) (configuration : ℕ) (its : Row) (found before : Option Looseness) (are : left ≡ key ∷ keys) (is : found ≡ configuration_refusal key file rows configuration its) where
+  of_key : (if decides is_any found then found else refused_by is_any keys file rows configuration its found) ≡ refused_by is_any left file rows configuration its before
+  unfolding refused_by
+  of_key = ap (λ (o : Option Looseness). if decides is_any o then o else refused_by is_any keys file rows configuration its o) is
+      ∙ sym (ap (λ (ks : List PublicKey). refused_by is_any ks file rows configuration its before) are)
+
+  pub key_decides : decides is_any found ≡ true → found ≡ refused_by is_any left file rows configuration its before
+  key_decides so = sym (ap (λ (b : Bool). if b then found else refused_by is_any keys file rows configuration its found) so) ∙ of_key
+
+  pub keys_go_on : decides is_any found ≡ false → refused_by is_any keys file rows configuration its found ≡ refused_by is_any left file rows configuration its before
+  keys_go_on so = sym (ap (λ (b : Bool). if b then found else refused_by is_any keys file rows configuration its found) so) ∙ of_key
+
+pub keys_end : (is_any : Bool) (left : List PublicKey) (file : List ℕ) (rows : List Row) (configuration : ℕ) (its : Row) (found : Option Looseness) → left ≡ [] → found ≡ refused_by is_any left file rows configuration its found
+unfolding refused_by
+keys_end is_any left file rows configuration its found none = sym (ap (λ (ks : List PublicKey). refused_by is_any ks file rows configuration its found) none)
+
+module _ (keys : Keys) (file : List ℕ) (rows : List Row) (i : ℕ) (row : Row) (more : List Row) (any : Bool) (found : Judged) (is : found ≡ judged_node keys file rows i row) where
+  past : unsigned_after found any (name_in file row) (λ b. unsigned_from keys file rows (i + 1) b more) ≡ unsigned_from keys file rows i any (row ∷ more)
   unfolding unsigned_from
   past = by any where
-    by : (b : Bool) → unsigned_after found b (name_in file row) (λ b. unsigned_from key file rows (i + 1) b more) ≡ unsigned_from key file rows i b (row ∷ more)
-    by true = ap (λ (o : Judged). unsigned_after o true (name_in file row) (λ b. unsigned_from key file rows (i + 1) b more)) is
-    by false = ap (λ (o : Judged). unsigned_after o false (name_in file row) (λ b. unsigned_from key file rows (i + 1) b more)) is
+    by : (b : Bool) → unsigned_after found b (name_in file row) (λ b. unsigned_from keys file rows (i + 1) b more) ≡ unsigned_from keys file rows i b (row ∷ more)
+    by true = ap (λ (o : Judged). unsigned_after o true (name_in file row) (λ b. unsigned_from keys file rows (i + 1) b more)) is
+    by false = ap (λ (o : Judged). unsigned_after o false (name_in file row) (λ b. unsigned_from keys file rows (i + 1) b more)) is
 
-  by_judged : (other : Judged) → found ≡ other → unsigned_after other any (name_in file row) (λ b. unsigned_from key file rows (i + 1) b more) ≡ unsigned_from key file rows i any (row ∷ more)
-  by_judged other same = ap (λ (o : Judged). unsigned_after o any (name_in file row) (λ b. unsigned_from key file rows (i + 1) b more)) (sym same) ∙ past
+  by_judged : (other : Judged) → found ≡ other → unsigned_after other any (name_in file row) (λ b. unsigned_from keys file rows (i + 1) b more) ≡ unsigned_from keys file rows i any (row ∷ more)
+  by_judged other same = ap (λ (o : Judged). unsigned_after o any (name_in file row) (λ b. unsigned_from keys file rows (i + 1) b more)) (sym same) ∙ past
 
-  pub other_more : found ≡ judged.Other → unsigned_from key file rows (i + 1) any more ≡ unsigned_from key file rows i any (row ∷ more)
+  pub other_more : found ≡ judged.Other → unsigned_from keys file rows (i + 1) any more ≡ unsigned_from keys file rows i any (row ∷ more)
   other_more same = by_judged judged.Other same
 
-  pub signed_more : found ≡ judged.Signed → unsigned_from key file rows (i + 1) true more ≡ unsigned_from key file rows i any (row ∷ more)
+  pub signed_more : found ≡ judged.Signed → unsigned_from keys file rows (i + 1) true more ≡ unsigned_from keys file rows i any (row ∷ more)
   signed_more same = by_judged judged.Signed same
 
-  pub refused_here : (why : Looseness) → found ≡ judged.Refused why → (said : LooseSaid) → said ≡ record { why = why; node = Some (name_in file row) } → Some said ≡ unsigned_from key file rows i any (row ∷ more)
+  pub refused_here : (why : Looseness) → found ≡ judged.Refused why → (said : LooseSaid) → said ≡ record { why = why; node = Some (name_in file row) } → Some said ≡ unsigned_from keys file rows i any (row ∷ more)
   refused_here why same said what = ap (λ (x : LooseSaid). let o : Option LooseSaid = Some x in o) what ∙ by_judged (judged.Refused why) same
 
-pub all_signed : (key : PublicKey) (file : List ℕ) (rows : List Row) (i : ℕ) (any : Bool) (nodes : List Row) → nodes ≡ [] → any ≡ true → None ≡ unsigned_from key file rows i any nodes
+pub all_signed : (keys : Keys) (file : List ℕ) (rows : List Row) (i : ℕ) (any : Bool) (nodes : List Row) → nodes ≡ [] → any ≡ true → None ≡ unsigned_from keys file rows i any nodes
 unfolding unsigned_from
-all_signed key file rows i any nodes none has = rw (none, has) refl
+all_signed keys file rows i any nodes none has = rw (none, has) refl
 
-pub no_configuration : (key : PublicKey) (file : List ℕ) (rows : List Row) (i : ℕ) (any : Bool) (nodes : List Row) → nodes ≡ [] → any ≡ false → Some (record { why = Unsigned; node = None }) ≡ unsigned_from key file rows i any nodes
+pub no_configuration : (keys : Keys) (file : List ℕ) (rows : List Row) (i : ℕ) (any : Bool) (nodes : List Row) → nodes ≡ [] → any ≡ false → Some (record { why = Unsigned; node = None }) ≡ unsigned_from keys file rows i any nodes
 unfolding unsigned_from
-no_configuration key file rows i any nodes none has = rw (none, has) refl
+no_configuration keys file rows i any nodes none has = rw (none, has) refl

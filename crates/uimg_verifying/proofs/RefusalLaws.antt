@@ -7,6 +7,7 @@ use Rattle.uimg_blob_reading.specs.{Properties.places_of, Rows.Row}
 use Rattle.uimg_fit_checking.specs.declared.surveying.fault.SurveyFault.{SurveyFault}
 use Rattle.uimg_keys.specs.declared.key.PublicKey.{PublicKey}
 use Rattle.uimg_signing.specs.{Covering.is_marked, Faults.{is_unread, is_out_of_memory}, Listing.{listing_refusal, marks_of}}
+use Rattle.uimg_signing.specs.Hashed.{are_hashed}
 use Rattle.uimg_signing.specs.{Message.{message, refusal}, Strings.strings_of}
 use Rattle.uimg_signing.specs.declared.faults.SigningFault.{SigningFault}
 use Rattle.uimg_signing.specs.declared.faults.SigningFault.TheVariants as signing
@@ -45,44 +46,45 @@ stopped X P signing.OutOfMemory result expected stops refuses is = rw stops tt
 stopped X P signing.TooLong result expected stops refuses is = rw stops (is (refuses refl refl))
 stopped X P signing.Changed result expected stops refuses is = rw stops (is (refuses refl refl))
 stopped X P signing.TooManyNodes result expected stops refuses is = rw stops (is (refuses refl refl))
+stopped X P signing.Unhashed result expected stops refuses is = rw stops (is (refuses refl refl))
 stopped X P signing.TooDeep result expected stops refuses is = rw stops (is (refuses refl refl))
 stopped X P signing.BadStrings result expected stops refuses is = rw stops (is (refuses refl refl))
 stopped X P signing.StringsOffset result expected stops refuses is = rw stops (is (refuses refl refl))
 stopped X P signing.StringsOutside result expected stops refuses is = rw stops (is (refuses refl refl))
 
 module _ (key : PublicKey) (file : List ℕ) (rows : List Row) (configuration : ℕ) (its node : Row) where
-  said : (found : Option Signature) → found ≡ signature_of (length key.modulus.items) file node → said_refusal key file rows configuration its node found ≡ signature_refusal key file rows configuration its node
+  said : (found : Option Signature) → found ≡ signature_of key file node → said_refusal key file rows configuration its node found ≡ signature_refusal key file rows configuration its node
   unfolding signature_refusal
   said found is = ap (said_refusal key file rows configuration its node) is
 
-  pub unknown : None ≡ signature_of (length key.modulus.items) file node → Some loose.UnknownSignature ≡ signature_refusal key file rows configuration its node
+  pub unknown : None ≡ signature_of key file node → Some loose.UnknownSignature ≡ signature_refusal key file rows configuration its node
   unknown is = said None is
 
-  module _ (it : Signature) (is : Some it ≡ signature_of (length key.modulus.items) file node) where
+  module _ (it : Signature) (is : Some it ≡ signature_of key file node) where
     pub weak : is_weak it.algo ≡ true → Some loose.WeakSignature ≡ signature_refusal key file rows configuration its node
-    weak found = sym (ap (λ (b : Bool). if b then Some loose.WeakSignature else fault_or (listing_refusal (places_of its) (marks_of file (places_of its) rows configuration)) (message_refusal key file it (marks_of file (places_of its) rows configuration) (strings_of file (places_of node)))) found) ∙ said (Some it) is
+    weak found = sym (ap (λ (b : Bool). if b then Some loose.WeakSignature else fault_or (listing_refusal (places_of its) (marks_of file (places_of its) rows configuration) (are_hashed file (places_of its) rows)) (message_refusal key file it (marks_of file (places_of its) rows configuration) (strings_of file (places_of node)))) found) ∙ said (Some it) is
 
-    strong : is_weak it.algo ≡ false → fault_or (listing_refusal (places_of its) (marks_of file (places_of its) rows configuration)) (message_refusal key file it (marks_of file (places_of its) rows configuration) (strings_of file (places_of node))) ≡ signature_refusal key file rows configuration its node
-    strong found = sym (ap (λ (b : Bool). if b then Some loose.WeakSignature else fault_or (listing_refusal (places_of its) (marks_of file (places_of its) rows configuration)) (message_refusal key file it (marks_of file (places_of its) rows configuration) (strings_of file (places_of node)))) found) ∙ said (Some it) is
+    strong : is_weak it.algo ≡ false → fault_or (listing_refusal (places_of its) (marks_of file (places_of its) rows configuration) (are_hashed file (places_of its) rows)) (message_refusal key file it (marks_of file (places_of its) rows configuration) (strings_of file (places_of node))) ≡ signature_refusal key file rows configuration its node
+    strong found = sym (ap (λ (b : Bool). if b then Some loose.WeakSignature else fault_or (listing_refusal (places_of its) (marks_of file (places_of its) rows configuration) (are_hashed file (places_of its) rows)) (message_refusal key file it (marks_of file (places_of its) rows configuration) (strings_of file (places_of node)))) found) ∙ said (Some it) is
 
-    pub nodes_stop : is_weak it.algo ≡ false → (fault : SigningFault) → Some fault ≡ listing_refusal (places_of its) (marks_of file (places_of its) rows configuration) → Some (why_of fault) ≡ signature_refusal key file rows configuration its node
+    pub nodes_stop : is_weak it.algo ≡ false → (fault : SigningFault) → Some fault ≡ listing_refusal (places_of its) (marks_of file (places_of its) rows configuration) (are_hashed file (places_of its) rows) → Some (why_of fault) ≡ signature_refusal key file rows configuration its node
     nodes_stop found fault stops = ap (λ (o : Option SigningFault). fault_or o (message_refusal key file it (marks_of file (places_of its) rows configuration) (strings_of file (places_of node)))) stops ∙ strong found
 
-    listed : is_weak it.algo ≡ false → None ≡ listing_refusal (places_of its) (marks_of file (places_of its) rows configuration) → message_refusal key file it (marks_of file (places_of its) rows configuration) (strings_of file (places_of node)) ≡ signature_refusal key file rows configuration its node
+    listed : is_weak it.algo ≡ false → None ≡ listing_refusal (places_of its) (marks_of file (places_of its) rows configuration) (are_hashed file (places_of its) rows) → message_refusal key file it (marks_of file (places_of its) rows configuration) (strings_of file (places_of node)) ≡ signature_refusal key file rows configuration its node
     listed found none = ap (λ (o : Option SigningFault). fault_or o (message_refusal key file it (marks_of file (places_of its) rows configuration) (strings_of file (places_of node)))) none ∙ strong found
 
-    pub strings_stop : is_weak it.algo ≡ false → None ≡ listing_refusal (places_of its) (marks_of file (places_of its) rows configuration) → (fault : SigningFault) → Err fault ≡ strings_of file (places_of node) → Some (why_of fault) ≡ signature_refusal key file rows configuration its node
+    pub strings_stop : is_weak it.algo ≡ false → None ≡ listing_refusal (places_of its) (marks_of file (places_of its) rows configuration) (are_hashed file (places_of its) rows) → (fault : SigningFault) → Err fault ≡ strings_of file (places_of node) → Some (why_of fault) ≡ signature_refusal key file rows configuration its node
     strings_stop found none fault stops = ap (message_refusal key file it (marks_of file (places_of its) rows configuration)) stops ∙ listed found none
 
-    read : is_weak it.algo ≡ false → None ≡ listing_refusal (places_of its) (marks_of file (places_of its) rows configuration) → (strings : ℕ) → Ok strings ≡ strings_of file (places_of node)
+    read : is_weak it.algo ≡ false → None ≡ listing_refusal (places_of its) (marks_of file (places_of its) rows configuration) (are_hashed file (places_of its) rows) → (strings : ℕ) → Ok strings ≡ strings_of file (places_of node)
         → fault_or (refusal file strings) (value_refusal key file it (message (is_marked (marks_of file (places_of its) rows configuration)) file strings)) ≡ signature_refusal key file rows configuration its node
     read found none strings are = ap (message_refusal key file it (marks_of file (places_of its) rows configuration)) are ∙ listed found none
 
-    pub message_stop : is_weak it.algo ≡ false → None ≡ listing_refusal (places_of its) (marks_of file (places_of its) rows configuration) → (strings : ℕ) → Ok strings ≡ strings_of file (places_of node)
+    pub message_stop : is_weak it.algo ≡ false → None ≡ listing_refusal (places_of its) (marks_of file (places_of its) rows configuration) (are_hashed file (places_of its) rows) → (strings : ℕ) → Ok strings ≡ strings_of file (places_of node)
         → (fault : SigningFault) → Some fault ≡ refusal file strings → Some (why_of fault) ≡ signature_refusal key file rows configuration its node
     message_stop found none strings are fault stops = ap (λ (o : Option SigningFault). fault_or o (value_refusal key file it (message (is_marked (marks_of file (places_of its) rows configuration)) file strings))) stops ∙ read found none strings are
 
-    pub judged : is_weak it.algo ≡ false → None ≡ listing_refusal (places_of its) (marks_of file (places_of its) rows configuration) → (strings : ℕ) → Ok strings ≡ strings_of file (places_of node)
+    pub judged : is_weak it.algo ≡ false → None ≡ listing_refusal (places_of its) (marks_of file (places_of its) rows configuration) (are_hashed file (places_of its) rows) → (strings : ℕ) → Ok strings ≡ strings_of file (places_of node)
         → None ≡ refusal file strings → (marks : List ℕ) → marks ≡ marks_of file (places_of its) rows configuration → (why : Option Looseness) → why ≡ value_refusal key file it (message (is_marked marks) file strings)
         → why ≡ signature_refusal key file rows configuration its node
     judged found none strings are fine marks listed_are why is_why =

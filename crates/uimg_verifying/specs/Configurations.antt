@@ -1,6 +1,7 @@
--- Why a configuration is refused: no signature of it is the key's.
-use Rattle.std.specs.Prelude.{◌≡◌, ℕ, zero, suc, ◌==◌, List, [], ◌∷◌, Option, Some, None, Bool, true, false, if◌then◌else◌}
-use Rattle.std.specs.Prelude.{◌+◌, ⊤, Result, Ok, Err}
+-- Why a configuration is refused: no signature of it is a required key's.
+use Rattle.std.specs.Prelude.{◌≡◌, ℕ, zero, suc, ◌==◌, List, [], ◌∷◌, Option, Some, None, is_some, is_none, Bool, true, false, if◌then◌else◌}
+use Rattle.std.specs.Prelude.{◌+◌, ⊤, Result, Ok, Err, nat_lt}
+use Rattle.uimg_texts.specs.Numbers.{be32}
 use Rattle.std.specs.{List.slice_get, Option.option_map}
 use Rattle.uimg_blob_reading.specs.{Blob.tree, Reading.Fault as BlobFaultAt}
 use Rattle.uimg_blob_reading.specs.declared.roles.Role.{Role}
@@ -17,6 +18,7 @@ use Rattle.uimg_fit_checking.specs.declared.surveying.fault.SurveyFault.TheVaria
 use Rattle.uimg_strict.specs.{Looseness.LooseSaid, Telling.read_loose}
 use Rattle.uimg_strict.specs.declared.loose.Loose.{Loose}
 use Rattle.uimg_keys.specs.declared.key.PublicKey.{PublicKey}
+use Rattle.uimg_keys.specs.declared.keys.Keys.{Keys}
 use Rattle.uimg_strict.specs.declared.loose.Looseness.{Looseness}
 use Rattle.uimg_strict.specs.declared.loose.Looseness.TheVariants.{SignedNodes, Unsigned}
 use Rattle.uimg_verifying.specs.Signatures.{signature_refusal}
@@ -75,14 +77,36 @@ abbrev pub is_configuration : Role → Bool
 is_configuration role.Configuration = true
 is_configuration role = false
 
+-- what a key says of a configuration decides: if one key is enough, that it signs it, else that it
+-- does not
+abbrev pub decides : Bool → Option Looseness → Bool
+decides true found = is_none found
+decides false found = is_some found
+
+-- why a configuration is refused by these keys and what was found before
+unfoldable pub refused_by : Bool → List PublicKey → List ℕ → List Row → ℕ → Row → Option Looseness
+    → Option Looseness
+refused_by is_any [] file rows configuration its found = found
+refused_by is_any (key ∷ keys) file rows configuration its found =
+    if decides is_any (configuration_refusal key file rows configuration its)
+    then configuration_refusal key file rows configuration its
+    else refused_by is_any keys file rows configuration its
+    (configuration_refusal key file rows configuration its)
+
+-- why a configuration is refused: by the first key that did not sign it; or, if one is enough, by
+-- the last if none did (U-Boot's fit_config_verify_required_keys); without a key it is unsigned
+abbrev pub keys_refusal : Keys → List ℕ → List Row → ℕ → Row → Option Looseness
+keys_refusal keys file rows configuration its =
+    refused_by keys.is_any keys.keys.items file rows configuration its (Some Unsigned)
+
 abbrev pub judged_of : Option Looseness → Judged
 judged_of None = judged.Signed
 judged_of (Some why) = judged.Refused why
 
 -- what a node is as a configuration
-abbrev pub judged_node : PublicKey → List ℕ → List Row → ℕ → Row → Judged
-judged_node key file rows number row =
-    if is_configuration row.role then judged_of (configuration_refusal key file rows number row)
+abbrev pub judged_node : Keys → List ℕ → List Row → ℕ → Row → Judged
+judged_node keys file rows number row =
+    if is_configuration row.role then judged_of (keys_refusal keys file rows number row)
     else judged.Other
 
 -- after one more node of this name: as before, one configuration at least, or the refused one
@@ -93,31 +117,36 @@ unsigned_after (judged.Refused why) any name rest = Some (record { why = why; no
 
 -- the first configuration that is refused, among rows that are numbered from i on; or that there is
 -- none at all
-unfoldable pub unsigned_from : PublicKey → List ℕ → List Row → ℕ → Bool → List Row
-    → Option LooseSaid
-unsigned_from key file rows i true [] = None
-unsigned_from key file rows i false [] = Some (record { why = Unsigned; node = None })
-unsigned_from key file rows i any (row ∷ more) =
-    unsigned_after (judged_node key file rows i row) any (name_in file row)
-    (λ found. unsigned_from key file rows (i + 1) found more)
+unfoldable pub unsigned_from : Keys → List ℕ → List Row → ℕ → Bool → List Row → Option LooseSaid
+unsigned_from keys file rows i true [] = None
+unsigned_from keys file rows i false [] = Some (record { why = Unsigned; node = None })
+unsigned_from keys file rows i any (row ∷ more) =
+    unsigned_after (judged_node keys file rows i row) any (name_in file row)
+    (λ found. unsigned_from keys file rows (i + 1) found more)
 
-abbrev pub unsigned_in : PublicKey → List ℕ → Result Siblings BlobFaultAt
+-- the same of a blob of so many bytes; of more than 256 MiB U-Boot verifies no signature
+abbrev pub unsigned_within : Keys → List ℕ → List Row → ℕ → Option LooseSaid
+unsigned_within keys file rows size =
+    if nat_lt 268435456 size then Some (record { why = SignedNodes; node = None })
+    else unsigned_from keys file rows 0 false rows
+
+abbrev pub unsigned_in : Keys → List ℕ → Result Siblings BlobFaultAt
     → Result (Option LooseSaid) Fault
-unsigned_in key file (Ok t) = Ok (unsigned_from key file (table t) 0 false (table t))
-unsigned_in key file (Err fault) = Err (of.Blob fault.0 fault.1)
+unsigned_in keys file (Ok t) = Ok (unsigned_within keys file (table t) (be32 file 4))
+unsigned_in keys file (Err fault) = Err (of.Blob fault.0 fault.1)
 
--- the first configuration of a file that is not signed by a key, or the first fault of its blob
-abbrev pub unsigned_of : PublicKey → List ℕ → Result (Option LooseSaid) Fault
-unsigned_of key file = unsigned_in key file (tree file)
+-- the first configuration of a file that is not signed by the keys, or the first fault of its blob
+unfoldable pub unsigned_of : Keys → List ℕ → Result (Option LooseSaid) Fault
+unsigned_of keys file = unsigned_in keys file (tree file)
 
 -- The result is what the definition says, unless a read failed, memory was refused, or the source is
 -- another one than before.
-abbrev pub TellsUnsigned : PublicKey → List ℕ → Result (Option Loose) SurveyFault → Type 0
-TellsUnsigned key file (Ok found) = unsigned_of key file ≡ Ok (option_map read_loose found)
-TellsUnsigned key file (Err (Stopped (of.Blob fault at))) =
-    refuses_memory fault ≡ false → unsigned_of key file ≡ Err (of.Blob fault at)
-TellsUnsigned key file (Err (Stopped (of.Fit fault))) = ⊥
-TellsUnsigned key file (Err (Stopped of.Read)) = ⊤
-TellsUnsigned key file (Err (Stopped of.Put)) = ⊥
-TellsUnsigned key file (Err OutOfMemory) = ⊤
-TellsUnsigned key file (Err Changed) = ⊤
+abbrev pub TellsUnsigned : Keys → List ℕ → Result (Option Loose) SurveyFault → Type 0
+TellsUnsigned keys file (Ok found) = unsigned_of keys file ≡ Ok (option_map read_loose found)
+TellsUnsigned keys file (Err (Stopped (of.Blob fault at))) =
+    refuses_memory fault ≡ false → unsigned_of keys file ≡ Err (of.Blob fault at)
+TellsUnsigned keys file (Err (Stopped (of.Fit fault))) = ⊥
+TellsUnsigned keys file (Err (Stopped of.Read)) = ⊤
+TellsUnsigned keys file (Err (Stopped of.Put)) = ⊥
+TellsUnsigned keys file (Err OutOfMemory) = ⊤
+TellsUnsigned keys file (Err Changed) = ⊤

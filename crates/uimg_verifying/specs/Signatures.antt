@@ -1,7 +1,7 @@
 -- Why a signature of a configuration is refused (U-Boot 2023.01+dfsg-2+deb12u3:
 -- fit_config_check_sig and fit_image_setup_verify in boot/image-fit-sig.c, lib/rsa/rsa-verify.c).
 use Rattle.std.specs.Prelude.{◌≡◌, ⊤, ℕ, ◌==◌, ◌/◌, List, Option, Some, None, Result, Ok, Err, Bool, true, false, length, nat_lt, if◌then◌else◌}
-use Rattle.std.specs.{List.slice_get, Option.option_map}
+use Rattle.std.specs.{List.slice_get, Option.option_map, Str.bytes_eq}
 use Rattle.uimg_texts.specs.Slices.{slice}
 use Rattle.uimg_base.specs.{Device.Device, Held.Held, declared.spans.Span.Span}
 use Rattle.uimg_blob_reading.specs.{Grammar.Siblings, declared.nodes.Blob.Blob}
@@ -17,6 +17,7 @@ use Rattle.uimg_rsa.specs.{Pkcs1.pkcs1_verdict, Pss.pss_verdict}
 use Rattle.uimg_rsa.specs.declared.refusal.Refusal.{Refusal}
 use Rattle.uimg_rsa.specs.declared.refusal.Refusal.TheVariants as rsa
 use Rattle.uimg_signing.specs.{Covering.is_marked, Listing.{listing_refusal, marks_of}}
+use Rattle.uimg_signing.specs.Hashed.{are_hashed}
 use Rattle.uimg_signing.specs.{Message.{message, refusal}, Strings.strings_of}
 use Rattle.uimg_signing.specs.Signatures.{rsa_algo_at, rsa_padding_at}
 use Rattle.uimg_signing.specs.declared.signature.RsaAlgo.{RsaAlgo}
@@ -25,7 +26,7 @@ use Rattle.uimg_signing.specs.declared.faults.SigningFault.{SigningFault}
 use Rattle.uimg_signing.specs.declared.faults.SigningFault.TheVariants as signing
 use Rattle.uimg_strict.specs.declared.loose.Looseness.{Looseness}
 use Rattle.uimg_strict.specs.declared.loose.Looseness.TheVariants as loose
-use Rattle.uimg_sums.specs.{Algorithms.digest_by, declared.algo.Algo.Algo}
+use Rattle.uimg_sums.specs.{Algorithms.{algo_name, digest_by}, declared.algo.Algo.Algo}
 use Rattle.uimg_sums.specs.declared.algo.Algo.TheVariants.{Sha1}
 use Rattle.uimg_verifying.specs.declared.signatures.Signature.{Signature}
 
@@ -34,26 +35,38 @@ abbrev pub algo_at : List ℕ → Option Span → Option RsaAlgo
 algo_at file None = None
 algo_at file (Some s) = rsa_algo_at file s
 
--- the signature by its algorithm for a modulus of so many octets, its padding and its value
-abbrev pub signature_with : ℕ → Option RsaAlgo → Option RsaPadding → Option Span → Option Signature
-signature_with size (Some algo) (Some padding) (Some value) =
-    if algo.bits / 8 == size
+-- a key's file names this hash function, or none
+abbrev pub is_sum : Option RsaAlgo → Algo → Bool
+is_sum None sum = true
+is_sum (Some named) sum = bytes_eq (algo_name named.sum) (algo_name sum)
+
+-- a signature by the key may have this algorithm
+abbrev pub takes : PublicKey → RsaAlgo → Bool
+takes key algo =
+    if algo.bits / 8 == length key.modulus.items then is_sum key.algo algo.sum else false
+
+-- the signature by its algorithm, its padding and its value
+abbrev pub signature_with : PublicKey → Option RsaAlgo → Option RsaPadding → Option Span
+    → Option Signature
+signature_with key (Some algo) (Some padding) (Some value) =
+    if takes key algo
     then Some (record { algo = algo.sum; padding = padding; value = value }) else None
-signature_with size algo padding value = None
+signature_with key algo padding value = None
 
 -- the span of a node's value
 abbrev pub span_of : Row → key.the_data → Option Span
 span_of row name = option_map value_span (value_of row name)
 
 -- what a signature node says
-abbrev pub signature_of : ℕ → List ℕ → Row → Option Signature
-signature_of size file row = signature_with size (algo_at file (span_of row key.Algo))
+abbrev pub signature_of : PublicKey → List ℕ → Row → Option Signature
+signature_of it file row = signature_with it (algo_at file (span_of row key.Algo))
     (rsa_padding_at file (span_of row key.Padding)) (span_of row key.Value)
 
 -- the word for a fault of what a signature covers
 abbrev pub why_of : SigningFault → Looseness
 why_of signing.TooLong = loose.SignedNodes
 why_of signing.TooManyNodes = loose.SignedNodes
+why_of signing.Unhashed = loose.SignedNodes
 why_of signing.TooDeep = loose.SignedNodes
 why_of signing.BadStrings = loose.SignedStrings
 why_of signing.StringsOffset = loose.SignedStrings
@@ -104,14 +117,15 @@ abbrev pub said_refusal : PublicKey → List ℕ → List Row → ℕ → Row �
 said_refusal key file rows configuration its node None = Some loose.UnknownSignature
 said_refusal key file rows configuration its node (Some it) =
     if is_weak it.algo then Some loose.WeakSignature
-    else fault_or (listing_refusal (places_of its) (marks_of file (places_of its) rows configuration))
+    else fault_or (listing_refusal (places_of its) (marks_of file (places_of its) rows configuration)
+    (are_hashed file (places_of its) rows))
     (message_refusal key file it (marks_of file (places_of its) rows configuration)
     (strings_of file (places_of node)))
 
 -- why the signature of a node is refused, of the configuration of a number and a row
 unfoldable pub signature_refusal : PublicKey → List ℕ → List Row → ℕ → Row → Row → Option Looseness
 signature_refusal key file rows configuration its node = said_refusal key file rows configuration its
-    node (signature_of (length key.modulus.items) file node)
+    node (signature_of key file node)
 
 -- P holds of the rows of two nodes in the tree of an honest device's bytes, if that was indexed.
 abbrev pub OfPair : Device → Blob → Held → ℕ → ℕ

@@ -3,12 +3,13 @@
 ghost use Rattle.std.specs.Prelude.{◌≡◌, ◌+◌, ◌<◌, ◌≤◌, List, ℕ, length, IfOk, Some, false};
 ghost use Rattle.std.specs.{List.slice_get, Option.option_map};
 ghost use Rattle.uimg_base.specs.{Honest.{HonestSource, IfHonest}, Using.Uses};
-ghost use Rattle.uimg_blob_reading.specs.{Grammar.Siblings, Rows.{Row, table}};
-ghost use Rattle.uimg_fit_checking.specs.SurveyParts.{IsOwn, is_unread};
+ghost use Rattle.uimg_blob_reading.specs.{Grammar.Siblings, Indexed.TakesNodes, Rows.{Row, table}};
+ghost use Rattle.uimg_fit_checking.specs.SurveyParts.{IsOwn, is_unread, lacks_room};
 ghost use Rattle.uimg_fit_reading.specs.Nodes.{InFile, Opened};
-ghost use Rattle.uimg_verifying.specs.Configurations.{OfNode, TellsUnsigned, configuration_refusal, is_configuration, is_parent, is_signature_of, judged_node, judged_of, tried_node, tried_of, unsigned_from};
+ghost use Rattle.uimg_verifying.specs.Configurations.{OfNode, TellsUnsigned, configuration_refusal, decides, is_configuration, is_parent, is_signature_of, judged_node, judged_of, keys_refusal, tried_node, tried_of, unsigned_from, unsigned_within};
 ghost use Rattle.uimg_signing.specs.Listing.{name_in};
 ghost use Rattle.uimg_strict.specs.Telling.{read_loose};
+ghost use Rattle.uimg_texts.specs.Numbers.{be32};
 ghost use Rattle.uimg_verifying.specs.Signatures.{OfPair};
 
 use crate::signatures::{Signed, signature_refusal};
@@ -17,8 +18,11 @@ use uimg_base::{Room, Source};
 use uimg_blob_reading::{Blob, Role};
 use uimg_fit_checking::{SurveyFault, read_bytes};
 use uimg_fit_reading::read_tree;
-use uimg_keys::PublicKey;
+use uimg_keys::{Keys, PublicKey};
 use uimg_strict::{Loose, Looseness};
+
+/// The largest blob whose signatures U-Boot verifies (FIT_SIGNATURE_MAX_SIZE).
+const LARGEST: u32 = 0x1000_0000;
 
 /// What a node is as a signature of a configuration.
 #[derive(Clone, Copy)]
@@ -36,7 +40,7 @@ enum Tried {
 enum Judged {
     // No configuration.
     Other,
-    // A configuration that the key signs.
+    // A configuration that the keys sign.
     Signed,
     // A configuration that is refused.
     Refused(Looseness),
@@ -140,6 +144,45 @@ fn configuration_refusal<S: Source, A: Allocator>(
     Ok(Some(why))
 }
 
+// Returns whether what a key says of a configuration decides.
+fn decides(is_any: bool, found: Option<Looseness>) -> bool
+    ensures { result ≡ decides is_any found }
+{
+    if is_any {
+        found.is_none()
+    } else {
+        found.is_some()
+    }
+}
+
+// Returns why a configuration is refused by the keys that must sign it.
+fn keys_refusal<S: Source, A: Allocator>(
+    alloc: Global,
+    source: &mut S,
+    blob: &Blob,
+    room: &mut Room<A>,
+    keys: &Keys,
+    configuration: usize,
+) -> Result<Option<Looseness>, SurveyFault>
+    requires configuration { configuration < length room.old.entries }
+    requires file { InFile (length (S.device source.old).bytes) blob.now room.old.entries }
+    ensures uses { Uses (is_unread result) (S.device source.old) (S.device source.new) }
+    ensures room { room.new ≡ room.old }
+    ensures own { IsOwn result }
+    ensures told { (t : Siblings) → Opened (S.device source.old) blob.now room.old t →
+        (its : Row) → slice_get (table t) configuration ≡ Some its → IfOk result
+        (λ why. why ≡ keys_refusal keys.now (S.device source.old).bytes (table t) configuration its) }
+{
+    let mut found = Some(Looseness::Unsigned);
+    for key in keys.keys.as_slice() {
+        found = configuration_refusal(alloc, source, blob, room, key, configuration)?;
+        if decides(keys.is_any, found) {
+            return Ok(found);
+        }
+    }
+    Ok(found)
+}
+
 fn is_configuration<A: Allocator>(blob: &Blob, room: &Room<A>, node: usize) -> bool
     requires { node < length room.now.entries }
     ensures { OfNode blob.now room.now node (λ row. result ≡ is_configuration row.role) }
@@ -164,7 +207,7 @@ fn judge<S: Source, A: Allocator>(
     source: &mut S,
     blob: &Blob,
     room: &mut Room<A>,
-    key: &PublicKey,
+    keys: &Keys,
     node: usize,
 ) -> Result<Judged, SurveyFault>
     requires node { node < length room.old.entries }
@@ -174,12 +217,12 @@ fn judge<S: Source, A: Allocator>(
     ensures own { IsOwn result }
     ensures told { (t : Siblings) → Opened (S.device source.old) blob.now room.old t →
         (row : Row) → slice_get (table t) node ≡ Some row → IfOk result
-        (λ it. it ≡ judged_node key.now (S.device source.old).bytes (table t) node row) }
+        (λ it. it ≡ judged_node keys.now (S.device source.old).bytes (table t) node row) }
 {
     if !is_configuration(blob, room, node) {
         return Ok(Judged::Other);
     }
-    let refusal = configuration_refusal(alloc, source, blob, room, key, node)?;
+    let refusal = keys_refusal(alloc, source, blob, room, keys, node)?;
     Ok(judged_of(refusal))
 }
 
@@ -215,20 +258,20 @@ fn first_unsigned<S: Source, A: Allocator>(
     source: &mut S,
     blob: &Blob,
     room: &mut Room<A>,
-    key: &PublicKey,
+    keys: &Keys,
 ) -> Result<Option<Loose>, SurveyFault>
     requires { InFile (length (S.device source.old).bytes) blob.now room.old.entries }
     ensures uses { Uses (is_unread result) (S.device source.old) (S.device source.new) }
     ensures room { room.new ≡ room.old }
     ensures own { IsOwn result }
     ensures told { (t : Siblings) → Opened (S.device source.old) blob.now room.old t → IfOk result
-        (λ found. option_map read_loose found ≡ unsigned_from key.now
+        (λ found. option_map read_loose found ≡ unsigned_from keys.now
         (S.device source.old).bytes (table t) 0 false (table t)) }
 {
     let mut has_any = false;
     let mut node = 0;
     while node < room.count() {
-        match judge(alloc, source, blob, room, key, node)? {
+        match judge(alloc, source, blob, room, keys, node)? {
             Judged::Other => {}
             Judged::Signed => has_any = true,
             Judged::Refused(why) => {
@@ -245,27 +288,53 @@ fn first_unsigned<S: Source, A: Allocator>(
     Ok(Some(Loose { why, node: None }))
 }
 
-/// Returns the first configuration of a FIT image that has no signature by a key, with the word for
-/// its last signature node; or, without its name, that the image has no configuration. At most
-/// sixteen signature nodes of a configuration are tried.
+// Of a larger blob U-Boot verifies no signature.
+fn unsigned_within<S: Source, A: Allocator>(
+    alloc: Global,
+    source: &mut S,
+    blob: &Blob,
+    room: &mut Room<A>,
+    keys: &Keys,
+) -> Result<Option<Loose>, SurveyFault>
+    requires { InFile (length (S.device source.old).bytes) blob.now room.old.entries }
+    ensures uses { Uses (is_unread result) (S.device source.old) (S.device source.new) }
+    ensures room { room.new ≡ room.old }
+    ensures own { IsOwn result }
+    ensures told { (t : Siblings) → Opened (S.device source.old) blob.now room.old t → IfOk result
+        (λ found. option_map read_loose found ≡ unsigned_within keys.now
+        (S.device source.old).bytes (table t) (be32 (S.device source.old).bytes 4)) }
+{
+    if blob.totalsize() > LARGEST {
+        let why = Looseness::SignedNodes;
+        return Ok(Some(Loose { why, node: None }));
+    }
+    first_unsigned(alloc, source, blob, room, keys)
+}
+
+/// Returns the first configuration of a FIT image that is not signed by the keys: by each of them, or
+/// by one if one is enough. With it comes the word for its last signature node by the first key that
+/// did not sign it, or by the last key if none of them did. Without a name: the image has no
+/// configuration. At most sixteen signature nodes of a configuration are tried for each key.
 ///
-/// Indexes the blob again. The source is read once for each signature node that is tried, up to the
-/// end of its blob, without payloads. Takes memory for the offsets of at most 100 nodes.
+/// Indexes the blob again. The source is read once for each signature node and key that are tried, up
+/// to the end of its blob, without payloads. Takes memory for the offsets of at most 100 nodes.
 ///
 /// - The faults of the blob.
 /// - `Stopped` with `Read`: if and only if a read failed.
 /// - `OutOfMemory`: memory was refused.
 /// - `Changed`: only if the source does not have the blob that was indexed.
+#[tactic(auto, unfolding(crate::specs::Configurations::unsigned_of))]
 pub fn find_unsigned<S: Source, A: Allocator>(
     alloc: Global,
-    key: &PublicKey,
+    keys: &Keys,
     source: &mut S,
     room: &mut Room<A>,
 ) -> Result<Option<Loose>, SurveyFault>
     ensures uses { Uses (is_unread result) (S.device source.old) (S.device source.new) }
-    ensures told { IfHonest S.device source (λ file. TellsUnsigned key.now file result) }
+    ensures room { TakesNodes (S.device source.old) (lacks_room result) room.old room.new }
+    ensures told { IfHonest S.device source (λ file. TellsUnsigned keys.now file result) }
 {
     let blob = read_tree(source, room)?;
-    let found = first_unsigned(alloc, source, &blob, room, key)?;
+    let found = unsigned_within(alloc, source, &blob, room, keys)?;
     Ok(found)
 }

@@ -15,9 +15,10 @@ fn why_of(fault: SigningFault) -> Looseness
     ensures { result ≡ why_of fault }
 {
     match fault {
-        SigningFault::TooLong | SigningFault::TooManyNodes | SigningFault::TooDeep => {
-            Looseness::SignedNodes
-        }
+        SigningFault::TooLong
+        | SigningFault::TooManyNodes
+        | SigningFault::Unhashed
+        | SigningFault::TooDeep => Looseness::SignedNodes,
         SigningFault::BadStrings | SigningFault::StringsOffset | SigningFault::StringsOutside => {
             Looseness::SignedStrings
         }

@@ -7,7 +7,7 @@ ghost use Rattle.uimg_fit_checking.specs.SurveyParts.{IsOwn, is_unread};
 ghost use Rattle.uimg_fit_reading.specs.Nodes.{InFile};
 ghost use Rattle.uimg_signing.specs.Listing.{OfTreeRead};
 ghost use Rattle.uimg_sums.specs.Algorithms.{digest_by, digest_size};
-ghost use Rattle.uimg_verifying.specs.Signatures.{OfPair, is_weak, signature_of, signature_refusal, value_refusal, verdict, why_judged};
+ghost use Rattle.uimg_verifying.specs.Signatures.{OfPair, is_sum, is_weak, signature_of, signature_refusal, takes, value_refusal, verdict, why_judged};
 
 use crate::digests::message_digest;
 use crate::refusals::{stop, why_judged};
@@ -17,7 +17,9 @@ use uimg_blob_reading::{Blob, Key};
 use uimg_fit_checking::SurveyFault;
 use uimg_keys::PublicKey;
 use uimg_rsa::{Refusal, verify_pkcs1, verify_pss};
-use uimg_signing::{RsaPadding, list_nodes, read_rsa_algo, read_rsa_padding, strings_size};
+use uimg_signing::{
+    RsaAlgo, RsaPadding, list_nodes, read_rsa_algo, read_rsa_padding, strings_size,
+};
 use uimg_strict::Looseness;
 use uimg_sums::Algo;
 
@@ -42,13 +44,31 @@ pub(crate) struct Signed {
     pub(crate) node: usize,
 }
 
-// What a signature node says, by a key of so many octets; `None` if that is not known.
+fn is_sum(named: Option<RsaAlgo>, sum: Algo) -> bool
+    ensures { result ≡ is_sum named sum }
+{
+    match named {
+        Some(named) => named.sum.name().as_bytes() == sum.name().as_bytes(),
+        None => true,
+    }
+}
+
+fn takes(key: &PublicKey, algo: RsaAlgo) -> bool
+    ensures { result ≡ takes key.now algo }
+{
+    if algo.bits as usize / 8 != key.modulus.as_slice().len() {
+        return false;
+    }
+    is_sum(key.algo, algo.sum)
+}
+
+// What a signature node says; `None` if that is not known, or not of the key.
 fn read_signature<S: Source, A: Allocator>(
     source: &mut S,
     blob: &Blob,
     room: &Room<A>,
     node: usize,
-    size: usize,
+    key: &PublicKey,
 ) -> Result<Option<Signature>, SourceFault>
     requires node { node < length room.now.entries }
     requires file { InFile (length (S.device source.old).bytes) blob.now room.now.entries }
@@ -56,7 +76,7 @@ fn read_signature<S: Source, A: Allocator>(
     ensures inside { IfOk result (λ found. IfSome found (λ it.
         it.value.place + it.value.length ≤ length (S.device source.old).bytes)) }
     ensures told { OfTreeRead (S.device source.old) blob.now room.now.entries node (λ rows row.
-        IfOk result (λ found. found ≡ signature_of size (S.device source.old).bytes row)) }
+        IfOk result (λ found. found ≡ signature_of key.now (S.device source.old).bytes row)) }
 {
     let Some(named) = blob.value(room, node, Key::Algo) else {
         return Ok(None);
@@ -70,7 +90,7 @@ fn read_signature<S: Source, A: Allocator>(
     let Some(value) = blob.value(room, node, Key::Value) else {
         return Ok(None);
     };
-    if algo.bits as usize / 8 != size {
+    if !takes(key, algo) {
         return Ok(None);
     }
     let algo = algo.sum;
@@ -142,8 +162,7 @@ pub(crate) fn signature_refusal<S: Source, A: Allocator>(
         (λ file rows its node. IfOk result
         (λ why. why ≡ signature_refusal key.now file rows at.configuration its node)) }
 {
-    let size = key.modulus.as_slice().len();
-    let Some(it) = read_signature(source, blob, room, at.node, size)? else {
+    let Some(it) = read_signature(source, blob, room, at.node, key)? else {
         return Ok(Some(Looseness::UnknownSignature));
     };
     if is_weak(it.algo) {

@@ -1,6 +1,8 @@
 //! What the signatures of FIT configurations sign, and whether they are a key's.
 
+mod key_trees;
 mod keys;
+mod required;
 mod rows;
 mod signed;
 mod trees;

@@ -1,7 +1,7 @@
 //! Messages of signatures, and why there is none.
 
 use super::signed::{HASHED_STRINGS, SIGNATURES, SIGNED};
-use super::trees::TREES;
+use super::trees::{BARE, TREES, UNNAMED};
 use std::alloc::{AllocError, Global};
 use uimg_base::{MemSource, Room};
 use uimg_blob_reading::{Blob, Key, index};
@@ -128,6 +128,14 @@ fn small_trees(rt: HostRuntime) {
         let found = digest_of(rt.alloc(), file, &marks, *strings);
         assert!(rt; is_digest(found, digest), "tree {row}");
     }
+}
+
+#[test]
+fn images_without_hash_nodes(rt: HostRuntime) {
+    assert!(rt; marks_of(rt.alloc(), &UNNAMED, 0) == Err(SigningFault::Unhashed));
+    assert!(rt; marks_of(rt.alloc(), &BARE, 0) == Err(SigningFault::Unhashed));
+    assert!(rt; listed(rt.alloc(), 0) == Err(SigningFault::Unhashed));
+    assert!(rt; listed(rt.alloc(), 1) == Ok(4));
 }
 
 #[test]

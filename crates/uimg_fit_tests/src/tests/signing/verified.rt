@@ -5,14 +5,31 @@ use super::signed::SIGNED;
 use std::alloc::Global;
 use uimg_base::{MemSource, Room};
 use uimg_fit_checking::SurveyFault;
-use uimg_keys::{KeyFault, PublicKey, key_of_pem, read_key};
+use uimg_keys::{KeyFault, Keys, key_of_pem, read_keys};
 use uimg_strict::{Loose, Looseness};
 use uimg_verifying::find_unsigned;
 
 type Refused<'a> = (Looseness, Option<&'a [u8]>);
 
-fn found_by(alloc: Global, key: &PublicKey, file: &[u8]) -> Result<Option<Loose>, SurveyFault> {
-    find_unsigned(alloc, key, &mut MemSource::new(file), &mut Room::new(alloc))
+fn found_by(alloc: Global, keys: &Keys, file: &[u8]) -> Result<Option<Loose>, SurveyFault> {
+    find_unsigned(
+        alloc,
+        keys,
+        &mut MemSource::new(file),
+        &mut Room::new(alloc),
+    )
+}
+
+// Returns the keys of these texts.
+fn keys_of(alloc: Global, texts: &[&str], is_any: bool) -> Result<Keys, KeyFault> {
+    let mut keys = Vec::new(alloc);
+    for text in texts {
+        let key = key_of_pem(alloc, text.as_bytes())?;
+        if keys.push(key).is_err() {
+            return Err(KeyFault::OutOfMemory);
+        }
+    }
+    Ok(Keys { keys, is_any })
 }
 
 fn is_found(found: Result<Option<Loose>, SurveyFault>, wanted: Option<Refused<'_>>) -> bool {
@@ -64,15 +81,15 @@ const CHANGED: [(usize, u8, Option<Refused<'static>>); 14] = [
 
 #[test]
 fn by_the_key(rt: HostRuntime) {
-    let Ok(key) = key_of_pem(rt.alloc(), DEV.as_bytes()) else {
+    let Ok(keys) = read_keys(rt.alloc(), &mut MemSource::new(DEV.as_bytes())) else {
         panic!(rt; "no key");
     };
-    assert!(rt; is_found(found_by(rt.alloc(), &key, &SIGNED), None));
+    assert!(rt; is_found(found_by(rt.alloc(), &keys, &SIGNED), None));
     for (at, byte, wanted) in CHANGED {
         let mut file = SIGNED;
         file[at] = byte;
         assert!(rt;
-            is_found(found_by(rt.alloc(), &key, &file), wanted),
+            is_found(found_by(rt.alloc(), &keys, &file), wanted),
             "offset {at}"
         );
     }
@@ -84,11 +101,36 @@ fn by_other_keys(rt: HostRuntime) {
         (OTHER, Looseness::BadSignature),
         (LARGE, Looseness::UnknownSignature),
     ] {
-        let Ok(key) = key_of_pem(rt.alloc(), text.as_bytes()) else {
+        let Ok(keys) = keys_of(rt.alloc(), &[text], false) else {
             panic!(rt; "no key");
         };
-        let found = found_by(rt.alloc(), &key, &SIGNED);
+        let found = found_by(rt.alloc(), &keys, &SIGNED);
         assert!(rt; is_found(found, Some((why, Some(b"conf".as_slice())))));
+    }
+}
+
+// The keys, whether one is enough, and why the first configuration is refused.
+const POLICIES: [(&[&str], bool, Option<Looseness>); 9] = [
+    (&[DEV, OTHER], false, Some(Looseness::BadSignature)),
+    (&[OTHER, DEV], false, Some(Looseness::BadSignature)),
+    (&[DEV, LARGE], false, Some(Looseness::UnknownSignature)),
+    (&[DEV, DEV], false, None),
+    (&[DEV, OTHER], true, None),
+    (&[OTHER, DEV], true, None),
+    (&[OTHER, LARGE], true, Some(Looseness::UnknownSignature)),
+    (&[], false, Some(Looseness::Unsigned)),
+    (&[], true, Some(Looseness::Unsigned)),
+];
+
+#[test]
+fn by_several_keys(rt: HostRuntime) {
+    for (row, (texts, is_any, why)) in POLICIES.iter().enumerate() {
+        let Ok(keys) = keys_of(rt.alloc(), texts, *is_any) else {
+            panic!(rt; "no key");
+        };
+        let found = found_by(rt.alloc(), &keys, &SIGNED);
+        let wanted = why.map(|why| (why, Some(b"conf".as_slice())));
+        assert!(rt; is_found(found, wanted), "row {row}");
     }
 }
 
@@ -97,9 +139,11 @@ fn two_forms_of_a_key(rt: HostRuntime) {
     let Ok(key) = key_of_pem(rt.alloc(), DEV.as_bytes()) else {
         panic!(rt; "no key");
     };
-    let Ok(same) = read_key(rt.alloc(), &mut MemSource::new(DEV_RSA.as_bytes())) else {
+    let Ok(keys) = read_keys(rt.alloc(), &mut MemSource::new(DEV_RSA.as_bytes())) else {
         panic!(rt; "no key");
     };
+    assert!(rt; (keys.keys.len(), keys.is_any) == (1, false));
+    let same = &keys.keys[0];
     assert!(rt; key.modulus.len() == 256);
     assert!(rt; key.modulus.as_slice() == same.modulus.as_slice());
     assert!(rt; (key.exponent, same.exponent) == (65537, 65537));
