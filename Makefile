@@ -4,7 +4,7 @@ PREFIX ?= /usr/local
 IMAGE ?= examples/abc-kernel.img
 export RT
 
-.PHONY: all demo try check test gate wrong-bodies definitions contracts lib lib-test wheel json-test farm-test install deb release arm64-test peers boot-test uboot-tests bench clean help
+.PHONY: all demo try check test gate wrong-bodies definitions contracts lib lib-test wheel json-test farm-test install deb release arm64-test peers boot-test uboot-tests signatures bench clean help
 .NOTPARALLEL:
 
 ## make          proves the program and all crates below it, and builds bin/uimg
@@ -145,6 +145,12 @@ boot-test: bin/uimg
 uboot-tests: bin/uimg
 	@scripts/needs.sh python3
 	python3 peers/uboot_tests.py bin/uimg out/uboot
+
+## make signatures   compares `check --key` with U-Boot's fit_check_sign on signed, attacked and mutated
+##               images; fetches and compiles it from Debian's source package, in out/uboot
+signatures: bin/uimg
+	@scripts/needs.sh python3
+	@python3 peers/signatures.py bin/uimg out/uboot
 
 ## make bench    times the program of release/, or else bin/uimg, beside mkimage and dumpimage, and
 ##               writes bench/TABLE.md and bench/chart.svg

@@ -1,5 +1,6 @@
 #!/usr/bin/env python3
-"""bench.py [PROGRAM]: times uimg beside mkimage and dumpimage, and prints bench/TABLE.md.
+"""bench.py [PROGRAM]: times uimg beside mkimage, dumpimage and, if `make signatures` built it,
+fit_check_sign, and prints bench/TABLE.md.
 
 PROGRAM is by default that of the archive for this machine in release/, or else bin/uimg. The
 commands of a row take turns, RUNS times each. The table has the median of their times, and the peak
@@ -22,6 +23,7 @@ import zlib
 import fits
 import released
 import shapes
+import signed_fits
 
 RUNS = int(os.environ.get("BENCH_RUNS", "5"))
 # The bytes of a payload, and the number of images that are checked.
@@ -65,7 +67,7 @@ def make_image(payload, image):
 def seconds(command):
     """Returns the wall time of a command in seconds."""
     begin = time.monotonic()
-    status = subprocess.run(command, stdout=subprocess.DEVNULL).returncode
+    status = subprocess.run(command, stdout=subprocess.DEVNULL, stderr=subprocess.DEVNULL).returncode
     spent = time.monotonic() - begin
     if status > any(it in command for it in FINDS):
         sys.exit(f"bench: {' '.join(command)} failed")
@@ -75,7 +77,7 @@ def seconds(command):
 def peak_memory(command):
     """Returns the peak resident memory of a command in KiB, in a run of its own."""
     peak = 0
-    child = subprocess.Popen(command, stdout=subprocess.DEVNULL)
+    child = subprocess.Popen(command, stdout=subprocess.DEVNULL, stderr=subprocess.DEVNULL)
     while child.poll() is None:
         with open(f"/proc/{child.pid}/status", encoding="ascii") as status:
             for line in status:
@@ -194,6 +196,10 @@ def main():
         os.remove(payload)
         print_row(check_row(uimg, folder))
         print("\n`dumpimage -l` compares the checksums of a legacy image, and no hash of a FIT image.")
+        print("\nSigned FIT images, each configuration checked by its key, beside U-Boot's tool:")
+        print_heading("Task", "peer")
+        for row in signed_fits.rows(Row, uimg, folder):
+            print_row(row)
         print("\nFiles that are made to cost much, each beside an ordinary file of the same length:")
         print_heading("Task", "beside")
         for row in shape_rows(uimg, folder):
