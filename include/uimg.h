@@ -6,16 +6,16 @@
    bytes, or UIMG_NO_MEMORY. Only tested: that UIMG_NO_MEMORY comes only if memory was refused, and the memory calls
    in C (library/).
 
-   No call checks signatures or the hash nodes of configurations: right hashes say that the image is undamaged, not who
-   made it.
+   Only uimg_check_signed checks signatures, those of configurations: right hashes say that the image is undamaged, not
+   who made it. No call checks the hash nodes of configurations.
 
    On x86-64 the library needs a processor of the level x86-64-v2 (SSE4.2), and uses the SSE registers.
 
    The caller must ensure:
    - No pointer is null, even for a size of 0, and each points to as many bytes as its size says.
-   - The text buffer and the report or payload overlap neither each other nor the image, and are initialized (by
-     calloc or = {0}). During the call nobody else writes the image (or writes or truncates a mapped file), and
-     nobody else reads or writes the rest.
+   - The text buffer and the report or payload overlap neither each other nor the image, name or keys, and are
+     initialized (by calloc or = {0}). During the call nobody else writes the image, name or keys (or writes or
+     truncates a mapped file), and nobody else reads or writes the rest.
    - Calls may run in several threads at once, each on its own memory. No call is made from a signal handler. */
 #ifndef UIMG_H
 #define UIMG_H
@@ -32,22 +32,24 @@ enum uimg_status {
     UIMG_DONE = 0,      /* success; of a verification: every hash that the image has is right */
     UIMG_NOT_RIGHT = 1, /* a checksum or hash is wrong, missing or too weak, payloads overlap, or there is no image;
                            if fault is not 0, it is the reason */
+    UIMG_BAD_KEYS = 2,  /* of uimg_check_signed: the keys are refused, and nothing is known of the image */
     UIMG_NO_MEMORY = 3  /* memory was refused: nothing is known of the image, and no text was written */
 };
 
 /* The code of a fault: UIMG_FAULT('L', 8) is L8, no such part; 0 is no fault. The letter is L for legacy images, B
-   for the blob of a FIT image, F for the images in it, and S for what only uimg_check_strict refuses. */
+   for the blob of a FIT image, F for the images in it, and S for what only uimg_check_strict and uimg_check_signed
+   refuse. */
 #define UIMG_FAULT(letter, number) ((uint32_t)(letter) * 256u + (uint32_t)(number))
 
 /* The result of a listing, a verification or a check. */
 typedef struct uimg_report {
-    uint32_t status; /* UIMG_DONE, UIMG_NOT_RIGHT or UIMG_NO_MEMORY */
+    uint32_t status; /* UIMG_DONE, UIMG_NOT_RIGHT, UIMG_BAD_KEYS or UIMG_NO_MEMORY */
     uint32_t fault;  /* why the image is refused, or 0 */
     uint64_t place;  /* offset in the image of a fault with the letter B, else 0 */
     size_t needed;   /* full length of the text in bytes */
     size_t written;  /* bytes written to the buffer: the smaller of needed and the buffer's size */
     uint64_t peak;   /* peak bytes of the table of a FIT image's nodes, plus 8192 for a window on the stack: at most
-                        8192 plus 128 per node, without the text. 0 if memory was refused */
+                        8192 plus 128 per node, without the text. 0 if memory or the keys were refused */
 } uimg_report;
 
 /* The location of a payload: image[start] to image[start + size - 1], always inside the image. */
@@ -113,6 +115,28 @@ uint32_t uimg_check(const uint8_t *image, size_t image_size, uint32_t need, uimg
    check that the images that a configuration names exist. Takes memory for the names in one node, which peak does not
    count. */
 uint32_t uimg_check_strict(const uint8_t *image, size_t image_size, uint32_t need, uimg_report *report);
+
+/* Checks an image as uimg_check_strict does and, if that finds all right, whether each configuration of the FIT is
+   signed, as U-Boot 2023.01 verifies it. `keys` is one of
+   - the text of a public key in PEM with nothing before or after it, as `openssl rsa -pubout` writes it,
+   - a control devicetree of U-Boot, as `mkimage -K` completes it, of at most 1 MiB. Its keys are the nodes in
+     /signature whose property `required` is "conf". Each of them must have signed each configuration, or one of them,
+     if the property `required-mode` of /signature is "any".
+   A key is RSA of 2048, 3072 or 4096 bits, with an odd exponent above 2.
+
+   Returns report->status, which is
+   - UIMG_DONE only if uimg_check_strict returns it, the FIT has a configuration, and each configuration has a signature
+     by the keys over SHA-256, SHA-384 or SHA-512,
+   - UIMG_NOT_RIGHT with a fault from S17 to S24, whose line has the reason, as "S24 bad-signature", if a configuration
+     has none, or the FIT no configuration; with S17 for a legacy image, which has no signatures,
+   - UIMG_BAD_KEYS if `keys` is neither, or has no such key, whatever the image is,
+   - else that of uimg_check_strict.
+
+   A signature covers the root, the configuration, and the images that it names, with their hash nodes. An image that no
+   configuration names is not signed. Takes memory for the keys and for the nodes that a signature covers, too, which
+   peak does not count. */
+uint32_t uimg_check_signed(const uint8_t *image, size_t image_size, const uint8_t *keys, size_t keys_size,
+                           uint32_t need, uimg_report *report);
 
 /* Locates the part of a legacy image, or the payload of an image in a FIT, by its position, counted from 0. The
    checksums of a legacy image are verified; the payload of a FIT is not read, so check it first.

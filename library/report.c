@@ -11,6 +11,18 @@
 
 enum { ROOM = 1 << 16, POSITIONS = 4 };
 
+/* The key of examples/dev.pem. */
+static const char KEY[] =
+    "-----BEGIN PUBLIC KEY-----\n"
+    "MIIBIjANBgkqhkiG9w0BAQEFAAOCAQ8AMIIBCgKCAQEAqFQqYJ0EzXQygAmlfveH\n"
+    "pULbnA1d7LSapIESJDc5lJfFiB5u1MlQ+zqlEPf3PAIraHgQ/I45/N+D3U1RNKe1\n"
+    "SyepfIZjYgm34rGo/EScmyV8vL9Bz1EtZmr12R1+TV5WShH/u1BYcX/QzWSfm4Wy\n"
+    "KcnnDbzx7z+S78T6x1eHWIdgnqlEJkkFq6ENWE2STDjDkUFCo8ES7A8cIFYY9IIn\n"
+    "WwmiFb8jsxJrRPFzOD4PtfdOl7c8dyJVLvTXseBIZ08fXvEKJabmf7WXP/2UHlAl\n"
+    "VBUWexNfe5sh2GHT0A2g91Dd697fUd7Z1jibTsIgrPBD6QrLoUtFj7G9kSLQaOez\n"
+    "6QIDAQAB\n"
+    "-----END PUBLIC KEY-----\n";
+
 typedef uint32_t command(const uint8_t *, size_t, uint8_t *, size_t, uimg_report *);
 
 static size_t block_size = 1 << 20;
@@ -70,6 +82,21 @@ static void tell_check(const char *name, check *run, const uint8_t *image, size_
     printf("%s%u: %u %u %u %llu %zu %zu\n", name, need, status, report.status, report.fault,
            (unsigned long long)report.place, report.needed, report.written);
     look_at_peak(status, report.peak, size);
+}
+
+static void tell_signed(const uint8_t *image, size_t size)
+{
+    uint8_t *key = exactly(sizeof KEY - 1);
+    uimg_report report = {0};
+    uint32_t status;
+
+    memcpy(key, KEY, sizeof KEY - 1);
+    prepare();
+    status = uimg_check_signed(image, size, key, sizeof KEY - 1, UIMG_SHA256, &report);
+    printf("signed: %u %u %u %llu %zu %zu\n", status, report.status, report.fault, (unsigned long long)report.place,
+           report.needed, report.written);
+    look_at_peak(status, report.peak, size);
+    free(key);
 }
 
 static void tell_payload(const uint8_t *image, size_t size, uint32_t position)
@@ -137,6 +164,7 @@ static void report(const char *path)
         tell_check("check", uimg_check, image, (size_t)size, need);
         tell_check("strict", uimg_check_strict, image, (size_t)size, need);
     }
+    tell_signed(image, (size_t)size);
     for (uint32_t position = 0; position < POSITIONS; position++)
         tell_payload(image, (size_t)size, position);
     tell_named(image, (size_t)size, "kernel");

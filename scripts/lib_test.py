@@ -1,9 +1,9 @@
 #!/usr/bin/env python3
 """lib_test.py PROGRAM FOLDER: tests libuimg in FOLDER, as callers in C and Python use it,
 against the program. It compares symbols and headers; the example programs; listings, reports and
-payloads of the example images and of 1000 broken ones; and the library over a block. It builds and
-tries the bindings for Rust, Python, Go and C++ whose tools are installed, and runs valgrind, and
-names what is left out. The last line counts."""
+payloads of the example images and of 1000 broken ones; checks of images that mkimage signs; and the
+library over a block. It builds and tries the bindings for Rust, Python, Go and C++ whose tools are
+installed, and runs valgrind, and names what is left out. The last line counts."""
 import array
 import ctypes
 import importlib.util
@@ -244,14 +244,15 @@ def checked(image, need, *options):
 NOT_LOOKED_AT = "missing"
 # The lines of what strictness refuses, by their words: each has the number of its place here.
 LOOSE = """no-description no-timestamp unit-address doubled-node doubled-property ignored-hash odd-cell two-payloads half-place
-unsound-blob misplaced empty-data unknown-type unknown-architecture unknown-system unknown-compression""".split()
+unsound-blob misplaced empty-data unknown-type unknown-architecture unknown-system unknown-compression unsigned
+unknown-signature weak-signature signed-strings signed-nodes signature-length signature-range bad-signature""".split()
 
 
 def strictly(told):
     """Returns the status and the line that the library's strict check has to return, where the
     program's says this."""
     if told["verdict"] in LOOSE:
-        return 1, f"S{LOOSE.index(told['verdict']) + 1} {told['verdict']}"
+        return loose(told["verdict"])
     return (0, "") if told["verdict"] == NOT_LOOKED_AT else (told["status"], told.get("message", ""))
 
 
@@ -266,6 +267,7 @@ def made(source):
 def check_checks(images):
     """A check succeeds if the report does and each image has a hash of the strength, and ends as
     the program's, on images of each type."""
+    key = read("examples/dev.pem")
     sources = [ONE % "", ONE % IMAGE % (1, ""), ONE % (IMAGE % (1, HASHED % "sha256") + IMAGE % (2, ""))]
     sources += [ONE % (IMAGE % (1, HASHED % "sha512") + IMAGE % (2, HASHED % algo)) for algo in STRENGTHS]
     of_each = [made(it) for it in [*sources, *LOOSE_SOURCES]]
@@ -279,6 +281,115 @@ def check_checks(images):
             case(f"as the program checks image {number} for {need}", (found.status, found.fault) == (told["status"], told.get("message", "")), str(found))
         found, wanted = uimg.check_strict(it, "crc32"), strictly(checked(it, "crc32", "--strict"))
         case(f"as the program checks image {number} strictly", (found.status, found.fault) == wanted, f"{found} and {wanted}")
+        # None of them has a signature.
+        check_signed(f"of image {number}", it, key, found.status or uimg.NOT_RIGHT, found.fault if found.status else "S17 unsigned", "crc32")
+
+
+def read(path):
+    with open(path, "rb") as file:
+        return file.read()
+
+
+def check_signed(name, image, keys, status, fault, need="sha256"):
+    """Compares a check of signatures with a status and the line of a fault."""
+    found = uimg.check_signed(image, keys, need)
+    is_right = (found.status, found.fault, found.text) == (status, fault, b"")
+    case(f"a check of signatures, {name}", is_right, f"{found} and {status} {fault}")
+
+
+def loose(word):
+    """Returns the status and the line of what strictness refuses."""
+    return uimg.NOT_RIGHT, f"S{LOOSE.index(word) + 1} {word}"
+
+
+def check_signatures():
+    """The image of examples/ by its key, changed, and by a changed key."""
+    image, key = read("examples/signed.itb"), read("examples/dev.pem")
+    done, wrong, refused = (uimg.DONE, ""), (uimg.NOT_RIGHT, ""), (uimg.BAD_KEYS, "")
+    check_signed("by the key", image, key, *done)
+    check_signed("with other ends of lines", image, key.replace(b"\n", b"\r\n"), *done)
+    check_signed("of bytes after the blob", image + b"abc", bytearray(key), *done)
+    check_signed("for a stronger hash", image, key, *wrong, "sha512")
+    check_signed("of a changed payload", image.replace(b"abc\0", b"abd\0"), key, *wrong)
+    for name, old, new, word in (
+        ("description", b"c\0\0\0\0\0\0\x03", b"x\0\0\0\0\0\0\x03", "bad-signature"),
+        ("value", b"\x45\x4b\x81\xc4", b"\x45\x4b\x81\xc5", "bad-signature"),
+        ("largest value", b"\x45\x4b\x81\xc4", b"\xff\x4b\x81\xc4", "signature-range"),
+        ("algorithm", b"sha256,rsa2048", b"sha255,rsa2048", "unknown-signature"),
+        ("size of the key", b"sha256,rsa2048", b"sha256,rsa4096", "unknown-signature"),
+        ("longer algorithm", b"sha256,rsa2048\0\0", b"sha1,rsa2048\0\0\0\0", "unknown-signature"),
+        ("name of the signature", b"signature-1\0", b"Signature-1\0", "unsigned"),
+        ("name of the configurations", b"configurations\0", b"Configurations\0", "unsigned"),
+    ):
+        changed = image.replace(old, new)
+        case(f"a changed {name}", len(changed) == len(image) and changed != image)
+        check_signed(f"of a changed {name}", changed, key, *loose(word))
+    check_signed("of an unsigned image", read("examples/kernel.itb"), key, *loose("unsigned"))
+    check_signed("of a legacy image", read("examples/abc-kernel.img"), key, *loose("unsigned"), "crc32")
+    for name, other in (("no bytes", b""), ("a front", key[:-30]), ("an end", key[1:]), ("bytes after it", key + b" "),
+                        ("two keys", key * 2), ("an image", image), ("10000 bytes", key + b"\n" * 10000)):  # fmt: skip
+        for it in (image, b"", read("examples/abc-kernel.img")):
+            check_signed(f"by {name}", it, other, *refused)
+
+
+SIGNED_SOURCE = """/dts-v1/; / { description = "d"; images { k { description = "k"; type = "firmware"; arch = "arm64";
+compression = "none"; data = "abc"; hash-1 { algo = "sha256"; }; }; }; configurations { default = "c"; c {
+firmware = "k"; signature-1 { algo = "%s"; padding = "%s"; key-name-hint = "%s"; sign-images = "firmware"; }; }; }; };"""
+
+
+def public_key(name, *words):
+    """Makes a key and its certificate. Returns the public key."""
+    key = f"{WORK}/keys/{name}.key"
+    ran("openssl", "genpkey", "-out", key, "-algorithm", *words)
+    ran("openssl", "req", "-batch", "-new", "-x509", "-key", key, "-out", f"{WORK}/keys/{name}.crt")
+    return ran("openssl", "pkey", "-in", key, "-pubout").stdout
+
+
+def signed_by_mkimage(algo, padding, name, *options):
+    with open(f"{WORK}/s.its", "w", encoding="ascii") as file:
+        file.write(SIGNED_SOURCE % (algo, padding, name))
+    made = ran("mkimage", "-f", f"{WORK}/s.its", "-k", f"{WORK}/keys", *options, f"{WORK}/s.itb")
+    case(f"mkimage signs by {algo} and {padding}", made.returncode == 0, made.stderr.decode())
+    return read(f"{WORK}/s.itb")
+
+
+def check_peer_signatures():
+    """Images that mkimage signs with keys of OpenSSL."""
+    if not (has("mkimage", "signed images were") and has("openssl", "signed images were")):
+        return
+    os.mkdir(f"{WORK}/keys")
+    keys = {bits: public_key(f"of{bits}", "RSA", "-pkeyopt", f"rsa_keygen_bits:{bits}") for bits in (1024, 2048, 3072, 4096)}
+    curve = public_key("curve", "EC", "-pkeyopt", "ec_paramgen_curve:P-256")
+    for bits in (2048, 3072, 4096):
+        for algo, padding in ((algo, padding) for algo in ("sha1", "sha256", "sha384", "sha512") for padding in ("pkcs-1.5", "pss")):
+            image = signed_by_mkimage(f"{algo},rsa{bits}", padding, f"of{bits}")
+            for other, key in keys.items():
+                wanted = (uimg.BAD_KEYS, "") if other == 1024 else loose("unknown-signature")
+                if other == bits:
+                    wanted = loose("weak-signature") if algo == "sha1" else (uimg.DONE, "")
+                check_signed(f"{algo},rsa{bits} {padding} by {other}", image, key, *wanted)
+            check_signed("by a curve", image, curve, uimg.BAD_KEYS, "")
+    rsa = subprocess.run(["openssl", "rsa", "-pubin", "-RSAPublicKey_out"], input=keys[4096], capture_output=True).stdout
+    check_signed("by an RSAPublicKey", image, rsa, uimg.DONE, "")
+    if has("dtc", "control devicetrees were"):
+        check_control_trees()
+
+
+def check_control_trees():
+    """Keys that mkimage writes to a devicetree."""
+    tree = f"{WORK}/control.dtb"
+    for options, status in (([], uimg.BAD_KEYS), (["-r"], uimg.DONE)):
+        subprocess.run(["dtc", "-q", "-o", tree], input=b"/dts-v1/; / { };", check=True)
+        check_signed("by a devicetree without keys", read("examples/signed.itb"), read(tree), uimg.BAD_KEYS, "")
+        image = signed_by_mkimage("sha256,rsa2048", "pkcs-1.5", "of2048", "-K", tree, *options)
+        check_signed(f"by a devicetree and {options}", image, read(tree), status, "")
+    check_signed("by the key of another", read("examples/signed.itb"), read(tree), *loose("bad-signature"))
+    larger = signed_by_mkimage("sha256,rsa4096", "pss", "of4096", "-K", tree, "-r")
+    for it in (image, larger):
+        check_signed("by one of two keys", it, read(tree), *loose("unknown-signature"))
+    subprocess.run(["fdtput", "-ts", tree, "/signature", "required-mode", "any"], check=True)
+    for it in (image, larger):
+        check_signed("by any of two keys", it, read(tree), uimg.DONE, "")
 
 
 def check_faults():
@@ -293,11 +404,16 @@ def check_faults():
 
 
 def check_example(*words):
-    """An example program unpacks and refuses, and reports a wrong command line and a failed
-    write by its status."""
-    image = "examples/kernel.itb"
+    """An example program unpacks and refuses, also by a key, and reports a wrong command line and
+    a failed write by its status."""
+    image, key = "examples/kernel.itb", "examples/dev.pem"
     told = ran(*words, image, "0")
     case(f"{words[-1]} unpacks", (told.returncode, told.stdout) == (0, b"abc"), str(told))
+    for path, by, status, line in (
+        ("examples/signed.itb", key, 0, b""), (image, key, 1, b"S17 unsigned"), (image, image, 2, b"no keys"), (image, f"{WORK}/none", 3, b""),
+    ):  # fmt: skip
+        told = ran(*words, path, "0", by)
+        case(f"{words[-1]} of {path} by {by}", (told.returncode, told.stdout) == (status, b"" if status else b"abc") and line in told.stderr, str(told))
     told = ran(*words, image, "1")
     case(f"{words[-1]} refuses", (told.returncode, told.stdout) == (1, b"") and b"F4 no such image" in told.stderr, str(told))
     made(ONE % IMAGE % (1, ""))
@@ -341,7 +457,7 @@ def check_programs(files):
     report = compiled("report", "library/report.c", f"{LIBRARY}/libuimg.a")
     block = compiled("report over a block", "-DOVER_A_BLOCK", "library/report.c", f"{LIBRARY}/libuimg_block.a")
     wanted = ran(report, *files)
-    case("a report on each image", wanted.returncode == 0 and wanted.stdout != b"", str(wanted.returncode))
+    case("a report on each image", wanted.returncode == 0 and wanted.stdout.count(b"\nsigned: 0 0 0 0 0 0\n") == 1, str(wanted.returncode))
     case("the same over a block", ran(block, *files).stdout == wanted.stdout)
     for size in (0, 10, 64, 512, 2048):
         told = ran(block, "-b", str(size), *files)
@@ -428,7 +544,9 @@ def main():
     check_names()
     check_counts()
     check_calls()
-    check_programs(files)
+    check_signatures()
+    check_peer_signatures()
+    check_programs(["examples/signed.itb", *files])
     compare(images)
     check_checks(images)
     check_bindings()

@@ -6,8 +6,8 @@
 // others, which no hash covers, since by libfdt it finds a node kernel@1 by the name kernel, and the
 // first of two properties of one name. Verify also succeeds for an image without hashes.
 //
-// No call checks signatures or the hash nodes of configurations: right hashes say that the image is
-// undamaged, not who made it.
+// Right hashes say that the image is undamaged, not who made it: that needs keys, and CheckSigned. No call
+// checks the hash nodes of configurations.
 package uimg
 
 /*
@@ -37,8 +37,8 @@ const (
 )
 
 // Fault is the error of an image that is refused, or of a payload that was not found. The letter is L for
-// legacy images, B for the blob of a FIT image, F for the images in it, and S for what only CheckStrict
-// refuses. uimg-faults(7) explains each.
+// legacy images, B for the blob of a FIT image, F for the images in it, and S for what only CheckStrict and
+// CheckSigned refuse. uimg-faults(7) explains each.
 type Fault struct {
 	Letter byte
 	Number uint8
@@ -59,6 +59,8 @@ var (
 	// ErrNotRight is returned if a hash is wrong, missing or too weak, if payloads overlap, or if a FIT has
 	// no image.
 	ErrNotRight = errors.New("not right, or without a strong hash")
+	// ErrBadKeys is returned by CheckSigned if the keys are refused: nothing is known of the image.
+	ErrBadKeys = errors.New("no keys that U-Boot takes")
 	// ErrNoMemory is returned if memory was refused: nothing is known of the image.
 	ErrNoMemory = errors.New("out of memory")
 )
@@ -95,6 +97,19 @@ func Check(image []byte, need Need) error {
 func CheckStrict(image []byte, need Need) error {
 	var report C.uimg_report
 	C.uimg_check_strict(pointer(image), C.size_t(len(image)), C.uint32_t(need), &report)
+	return done(report.status, report.fault, report.place)
+}
+
+// CheckSigned checks an image as CheckStrict does and, if that finds all right, whether each configuration of
+// the FIT is signed, as U-Boot 2023.01 verifies it. The keys are the text of a public key in PEM with nothing
+// before or after it, as openssl rsa -pubout writes it, or a control devicetree of U-Boot, as mkimage -K
+// completes it. The keys of a devicetree are the nodes in /signature whose required is conf: each of them must
+// have signed each configuration, or one of them if required-mode is any. A key is RSA of 2048, 3072 or 4096
+// bits, with an odd exponent above 2. The error is ErrBadKeys if there is no such key, and a Fault from S17 to
+// S24 if a configuration is not signed, S17 for a legacy image.
+func CheckSigned(image, keys []byte, need Need) error {
+	var report C.uimg_report
+	C.uimg_check_signed(pointer(image), C.size_t(len(image)), pointer(keys), C.size_t(len(keys)), C.uint32_t(need), &report)
 	return done(report.status, report.fault, report.place)
 }
 
@@ -170,6 +185,8 @@ func done(status, fault C.uint32_t, place C.uint64_t) error {
 	switch {
 	case status == C.UIMG_DONE:
 		return nil
+	case status == C.UIMG_BAD_KEYS:
+		return ErrBadKeys
 	case status == C.UIMG_NO_MEMORY:
 		return ErrNoMemory
 	case fault == 0:

@@ -55,6 +55,33 @@ func TestChecks(t *testing.T) {
 	}
 }
 
+// other is a public key of 2048 bits, by OpenSSL 3.0, which has signed nothing here.
+const other = `-----BEGIN PUBLIC KEY-----
+MIIBIjANBgkqhkiG9w0BAQEFAAOCAQ8AMIIBCgKCAQEAxFKhn/DXFaEXihRGcgrr
+1K0rfarUvKg8vtVPUYG9JqqgPc4AKRxIyumfQfcAG7EKrtyQl4AdOmvFLK5nrKKh
+KLO924XwezCR4gm4hwOOhPK1kDpfyA1rDhlzvvdG/VOE84fqcqJatE0j2soyv6HO
+DtNjz21DKsQ/5tkMgZGLypNcGfnvmMV3uCsIqhKr0USk07Y5xf+F4TRMRONNaAPw
+ymMZzqfR83fDP0tOEOE8IdpFXQkXiYe1TbK8IQg3sdMOZlGi+b6mi6npObjyDIk+
+dBVjBO9B51V9jNb1px8GSweM4MtFvrRViFNBctMFUVbmq3CGGihqGEKcg/OBZ6tP
+/QIDAQAB
+-----END PUBLIC KEY-----
+`
+
+func TestSignatures(t *testing.T) {
+	image, keys := example(t, "signed.itb"), example(t, "dev.pem")
+	legacy := example(t, "abc-kernel.img")
+	unsigned, bad := Fault{'S', 17, 0}, Fault{'S', 24, 0}
+	require(t, CheckSigned(image, keys, SHA256), nil)
+	require(t, CheckSigned(image, keys, SHA512), ErrNotRight)
+	require(t, CheckSigned(image, []byte(other), SHA256), bad)
+	require(t, CheckSigned(image, keys[1:], SHA256), ErrBadKeys)
+	require(t, CheckSigned(image, nil, SHA256), ErrBadKeys)
+	require(t, CheckSigned(example(t, "kernel.itb"), keys, SHA256), unsigned)
+	require(t, CheckSigned(legacy, keys, CRC32), unsigned)
+	require(t, CheckSigned(legacy, nil, CRC32), ErrBadKeys)
+	require(t, CheckSigned(changed(t), keys, CRC32), ErrNotRight)
+}
+
 func TestPayloads(t *testing.T) {
 	image, three := example(t, "kernel.itb"), example(t, "three-part.img")
 	count, err := PayloadCount(image)

@@ -1,6 +1,7 @@
 """unpack.py: checks an image, and writes the payload at a position to standard output, like
-examples/c/unpack.c: `python3 unpack.py kernel.itb 0 > payload`. It needs the package of
-bindings/python, installed or named by PYTHONPATH."""
+examples/c/unpack.c: `python3 unpack.py kernel.itb 0 > payload`, or by keys `python3 unpack.py
+signed.itb 0 dev.pem > payload`. It needs the package of bindings/python, installed or named by
+PYTHONPATH."""
 import mmap
 import os
 import stat
@@ -9,6 +10,11 @@ import sys
 import uimg
 
 WRONG_LINE, FAILED = 2, 3
+REASONS = {
+    uimg.NOT_RIGHT: "not right, or without a strong hash",
+    uimg.BAD_KEYS: "no keys that U-Boot takes",
+    uimg.NO_MEMORY: "out of memory",
+}
 
 
 def mapped(path):
@@ -25,12 +31,11 @@ def tell(text):
     print(f"unpack.py: {text}", file=sys.stderr)
 
 
-def unpack(path, position):
+def unpack(path, position, *keys):
     image = mapped(path)
-    report = uimg.check_strict(image, "sha256")
+    report = uimg.check_signed(image, mapped(*keys)) if keys else uimg.check_strict(image)
     if report.status != uimg.DONE:
-        reason = "out of memory" if report.status == uimg.NO_MEMORY else "not right, or without a strong hash"
-        tell(report.fault or reason)
+        tell(report.fault or REASONS[report.status])
         return report.status
     try:
         payload = uimg.payload(image, position)
@@ -45,11 +50,11 @@ def unpack(path, position):
 
 
 def main(words):
-    if len(words) != 3 or not words[2].isascii() or not words[2].isdigit() or int(words[2]) >= 2**32:
-        print("usage: unpack.py IMAGE POSITION", file=sys.stderr)
+    if len(words) not in (3, 4) or not words[2].isascii() or not words[2].isdigit() or int(words[2]) >= 2**32:
+        print("usage: unpack.py IMAGE POSITION [KEYS]", file=sys.stderr)
         return WRONG_LINE
     try:
-        return unpack(words[1], int(words[2]))
+        return unpack(words[1], int(words[2]), *words[3:])
     except OSError as fault:
         tell(fault)
         # Output that could not be written is not tried again at the end.

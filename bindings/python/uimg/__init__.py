@@ -9,7 +9,8 @@
 check_strict is the check for an image that U-Boot is to boot: each image in it has a right hash of
 the strength, and U-Boot takes just the bytes that were checked. Without it U-Boot may take others,
 which no hash covers, since by libfdt it finds a node kernel@1 by the name kernel, and the first of
-two properties of one name. verify also returns DONE for an image without hashes.
+two properties of one name. verify also returns DONE for an image without hashes. check_signed also
+requires that each configuration is signed by given keys.
 
 An image is bytes, or anything else with a contiguous buffer. The library is the one that the
 environment variable LIBUIMG names, else that of the wheel, else libuimg.so.0 of the system."""
@@ -17,7 +18,7 @@ import ctypes
 import os
 from typing import NamedTuple
 
-DONE, NOT_RIGHT, NO_MEMORY = 0, 1, 3
+DONE, NOT_RIGHT, BAD_KEYS, NO_MEMORY = 0, 1, 2, 3
 _STRENGTHS = ("crc32", "md5", "sha1", "sha256", "sha384", "sha512")
 
 
@@ -65,6 +66,7 @@ for _name in ("uimg_list", "uimg_verify"):
     getattr(_library, _name).argtypes = [_bytes, _size, _bytes, _size, ctypes.POINTER(_Report)]
 for _name in ("uimg_check", "uimg_check_strict"):
     getattr(_library, _name).argtypes = [_bytes, _size, ctypes.c_uint32, ctypes.POINTER(_Report)]
+_library.uimg_check_signed.argtypes = [_bytes, _size, _bytes, _size, ctypes.c_uint32, ctypes.POINTER(_Report)]
 for _name in ("uimg_payload_at", "uimg_payload_name"):
     getattr(_library, _name).argtypes = [_bytes, _size, ctypes.c_uint32, ctypes.POINTER(_Payload)]
 _library.uimg_payload_count.argtypes = [_bytes, _size, ctypes.POINTER(_Count)]
@@ -181,10 +183,20 @@ def check_strict(image, need="sha256"):
     return _check(_library.uimg_check_strict, image, need)
 
 
-def _check(call, image, need):
+def check_signed(image, keys, need="sha256"):
+    """Checks an image, as check_strict does: DONE only if each configuration is signed, too. The
+    keys are bytes, or another buffer, of a public key in PEM with nothing before or after it, or of
+    a control devicetree of U-Boot: of this each key in /signature whose required is conf must have
+    signed, or one of them if required-mode is any. A key is RSA of 2048, 3072 or 4096 bits. For
+    anything else the status is BAD_KEYS."""
+    pointer, size, _kept = _passed(keys)
+    return _check(_library.uimg_check_signed, image, need, pointer, size)
+
+
+def _check(call, image, need, *keys):
     pointer, size, _keep = _passed(image)
     report = _Report()
-    call(pointer, size, _STRENGTHS.index(need) + 1, ctypes.byref(report))
+    call(pointer, size, *keys, _STRENGTHS.index(need) + 1, ctypes.byref(report))
     return Report(report.status, _line(report), b"", report.peak)
 
 

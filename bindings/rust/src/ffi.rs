@@ -2,6 +2,7 @@
 //! say, none null, those that are written to apart from the others.
 
 pub const DONE: u32 = 0;
+pub const BAD_KEYS: u32 = 2;
 pub const NO_MEMORY: u32 = 3;
 
 #[repr(C)]
@@ -58,6 +59,14 @@ extern "C" {
     pub fn uimg_check_strict(
         image: *const u8,
         image_size: usize,
+        need: u32,
+        report: *mut Report,
+    ) -> u32;
+    pub fn uimg_check_signed(
+        image: *const u8,
+        image_size: usize,
+        keys: *const u8,
+        keys_size: usize,
         need: u32,
         report: *mut Report,
     ) -> u32;

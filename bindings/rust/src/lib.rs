@@ -11,8 +11,9 @@
 //! # }
 //! ```
 //!
-//! [`check_strict`] is the check for an image that U-Boot is to boot. No call checks signatures or
-//! the hash nodes of configurations: right hashes say that the image is undamaged, not who made it.
+//! [`check_strict`] is the check for an image that U-Boot is to boot. Right hashes say that the image
+//! is undamaged, not who made it: that needs keys, and [`check_signed`]. No call checks the hash nodes
+//! of configurations.
 //!
 //! The code behind the calls is proved to return, and to stay within its buffers, for every image,
 //! well formed or not. This crate is tested, not proved.
@@ -47,7 +48,7 @@ pub enum Error {
     /// The image is refused, or has no such payload.
     Fault {
         /// The fault's letter: L for legacy images, B for the blob of a FIT image, F for the images in
-        /// it, S for what only [`check_strict`] refuses.
+        /// it, S for what only [`check_strict`] and [`check_signed`] refuse.
         letter: char,
         /// The fault's number, as 8 in L8. uimg-faults(7) explains each.
         number: u8,
@@ -56,6 +57,8 @@ pub enum Error {
     },
     /// A hash is wrong, missing or too weak, payloads overlap, or a FIT has no image.
     NotRight,
+    /// The keys of [`check_signed`] are refused: nothing is known of the image.
+    BadKeys,
     /// Memory was refused: nothing is known of the image.
     NoMemory,
 }
@@ -78,6 +81,7 @@ impl fmt::Display for Error {
                 Ok(())
             }
             Error::NotRight => out.write_str("not right, or without a strong hash"),
+            Error::BadKeys => out.write_str("no keys that U-Boot takes"),
             Error::NoMemory => out.write_str("out of memory"),
         }
     }
@@ -125,6 +129,32 @@ pub fn check(image: &[u8], need: Need) -> Result<(), Error> {
 /// finds exactly the images that were checked, each with the payload whose hashes are right.
 pub fn check_strict(image: &[u8], need: Need) -> Result<(), Error> {
     check_by(ffi::uimg_check_strict, image, need)
+}
+
+/// Checks an image as [`check_strict`] does and, if that finds all right, whether each configuration of
+/// the FIT is signed, as U-Boot 2023.01 verifies it.
+///
+/// `keys` is the text of a public key in PEM with nothing before or after it, as `openssl rsa -pubout`
+/// writes it, or a control devicetree of U-Boot, as `mkimage -K` completes it. The keys of a devicetree
+/// are the nodes in `/signature` whose `required` is `conf`: each of them must have signed each
+/// configuration, or one of them if `required-mode` is `any`. A key is RSA of 2048, 3072 or 4096 bits,
+/// with an odd exponent above 2. The error is [`Error::BadKeys`] if there is no such key. The fault is
+/// one of S17 to S24 if a configuration is not signed, and S17 for a legacy image.
+pub fn check_signed(image: &[u8], keys: impl AsRef<[u8]>, need: Need) -> Result<(), Error> {
+    let keys = keys.as_ref();
+    let mut report = ffi::Report::default();
+    // SAFETY: the image, the keys and the report are valid for the call, the report apart.
+    unsafe {
+        ffi::uimg_check_signed(
+            image.as_ptr(),
+            image.len(),
+            keys.as_ptr(),
+            keys.len(),
+            need as u32,
+            &mut report,
+        )
+    };
+    done(report.status, report.fault, report.place)
 }
 
 /// Returns the part of a legacy image, or the payload of an image in a FIT, at a position, counted
@@ -222,6 +252,7 @@ fn done(status: u32, fault: u32, place: u64) -> Result<(), Error> {
     let [_, _, letter, number] = fault.to_be_bytes();
     match status {
         ffi::DONE => Ok(()),
+        ffi::BAD_KEYS => Err(Error::BadKeys),
         ffi::NO_MEMORY => Err(Error::NoMemory),
         _ if fault == 0 => Err(Error::NotRight),
         _ => Err(Error::Fault {

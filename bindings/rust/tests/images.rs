@@ -50,6 +50,46 @@ fn checks() {
     }
 }
 
+/// A public key of 2048 bits, by OpenSSL 3.0, which has signed nothing here.
+const OTHER: &str = "\
+-----BEGIN PUBLIC KEY-----\n\
+MIIBIjANBgkqhkiG9w0BAQEFAAOCAQ8AMIIBCgKCAQEAxFKhn/DXFaEXihRGcgrr\n\
+1K0rfarUvKg8vtVPUYG9JqqgPc4AKRxIyumfQfcAG7EKrtyQl4AdOmvFLK5nrKKh\n\
+KLO924XwezCR4gm4hwOOhPK1kDpfyA1rDhlzvvdG/VOE84fqcqJatE0j2soyv6HO\n\
+DtNjz21DKsQ/5tkMgZGLypNcGfnvmMV3uCsIqhKr0USk07Y5xf+F4TRMRONNaAPw\n\
+ymMZzqfR83fDP0tOEOE8IdpFXQkXiYe1TbK8IQg3sdMOZlGi+b6mi6npObjyDIk+\n\
+dBVjBO9B51V9jNb1px8GSweM4MtFvrRViFNBctMFUVbmq3CGGihqGEKcg/OBZ6tP\n\
+/QIDAQAB\n\
+-----END PUBLIC KEY-----\n\
+";
+
+fn unsigned(number: u8) -> Result<(), Error> {
+    Err(Error::Fault {
+        letter: 'S',
+        number,
+        place: 0,
+    })
+}
+
+#[test]
+fn checks_signatures() {
+    let (image, keys) = (example("signed.itb"), example("dev.pem"));
+    let legacy = example("abc-kernel.img");
+    assert_eq!(uimg::check_signed(&image, &keys, Need::Sha256), Ok(()));
+    for (image, keys, need, wanted) in [
+        (&image, &keys[..], Need::Sha512, Err(Error::NotRight)),
+        (&image, OTHER.as_bytes(), Need::Sha256, unsigned(24)),
+        (&image, &keys[1..], Need::Sha256, Err(Error::BadKeys)),
+        (&image, b"", Need::Sha256, Err(Error::BadKeys)),
+        (&example("kernel.itb"), &keys, Need::Sha256, unsigned(17)),
+        (&legacy, &keys, Need::Crc32, unsigned(17)),
+        (&legacy, b"", Need::Crc32, Err(Error::BadKeys)),
+        (&changed(), &keys, Need::Crc32, Err(Error::NotRight)),
+    ] {
+        assert_eq!(uimg::check_signed(image, keys, need), wanted);
+    }
+}
+
 #[test]
 fn finds_payloads() {
     let image = example("kernel.itb");

@@ -1,2 +1,3 @@
 pub mod StrictLaws
+pub mod SignedLaws
 pub mod FindLaws

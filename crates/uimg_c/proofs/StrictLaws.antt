@@ -18,7 +18,7 @@ use Rattle.uimg_c.specs.{Codes.code_of_fault, Strict.{strict_code, strictly, cod
 use Rattle.uimg_checks.specs.Finding as checks
 
 -- the status in some numbers; 9 if there are none
-status_in : Option Code → ℕ
+unfoldable pub status_in : Option Code → ℕ
 status_in None = 9
 status_in (Some code) = code.status
 
@@ -44,7 +44,7 @@ fault_not_done of.Read is = omega (arith, is)
 fault_not_done of.Put is = omega (arith, is)
 
 -- strictness refuses nothing
-none_loose : (r : Result (Option LooseSaid) FitEngineFault) → status_in (code_of_loose (why_in_fit r)) ≡ 0 → r ≡ Ok None
+pub none_loose : (r : Result (Option LooseSaid) FitEngineFault) → status_in (code_of_loose (why_in_fit r)) ≡ 0 → r ≡ Ok None
 unfolding status_in
 none_loose (Ok None) is = refl
 none_loose (Ok (Some said)) is = absurd (omega (arith, is))
@@ -61,7 +61,7 @@ read_by need image (Ok (Overlapping node)) right is = absurd (omega (arith, is))
 read_by need image (Ok NoImage) right is = absurd (omega (arith, is))
 read_by need image (Err fault) right is = absurd (fault_not_done fault is)
 
-by_need : (need : Option Algo) (image : List ℕ) → status_in (strict_code need image) ≡ 0 → is_fit form.Guess image ≡ true → ReadAsChecked image
+pub by_need : (need : Option Algo) (image : List ℕ) → status_in (strict_code need image) ≡ 0 → is_fit form.Guess image ≡ true → ReadAsChecked image
 unfolding status_in
 by_need None image is fit = absurd (omega (arith, is))
 by_need (Some need) image is fit = read_by need image (check_of (Some need) image) refl (subst (λ (b : Bool). status_in (strictly image (checks.check_of b (Some need) image)) ≡ 0) fit is)

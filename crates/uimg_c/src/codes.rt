@@ -15,6 +15,9 @@ pub(crate) const DONE: u32 = 0;
 /// A checksum is not right, or the image is refused.
 pub(crate) const NOT_RIGHT: u32 = 1;
 
+/// The keys are refused.
+pub(crate) const BAD_KEYS: u32 = 2;
+
 /// Memory was refused.
 pub(crate) const NO_MEMORY: u32 = 3;
 

@@ -1,11 +1,11 @@
 //! The functions for callers in C.
 //!
-//! Each returns the status that it reports. Unless that is 3, status, fault, place, text and
-//! payload are those of the outcome. Output is truncated to the caller's memory. With status 3
+//! Each returns the status that it reports. Unless that is 2 or 3, status, fault, place, text and
+//! payload are those of the outcome. Output is truncated to the caller's memory. With status 2 or 3
 //! nothing is written, and a report says nothing. A payload or a name ends inside the image, and
 //! has no bytes if none was found. The reported memory is at most 8192 bytes and 128 for each node.
 //! Tests show that it is not less than what was taken, other than by a strict check, which takes
-//! memory for the names in one node, too.
+//! memory for the names in one node, too, and by a check of signatures, which takes some for keys.
 
 ghost use Rattle.std.specs.Prelude.{◌≡◌, ◌≢◌, ◌≤◌, true, false, Ok};
 ghost use Rattle.uimg_requests.specs.declared.command.Action.TheVariants as action;
@@ -16,6 +16,7 @@ ghost use Rattle.uimg_fit_checking.specs.Named.{name_at, payload_named, place_na
 ghost use Rattle.uimg_c.specs.Answers.{ReportsCheck, ReportsCount, HasBytes, FindsNamed, Located, ReportsOn, no_report, outcome_by, span_in, table_most};
 ghost use Rattle.uimg_c.specs.{Lines.{PutsLine, line_of}, Numbers.IsNoFault};
 ghost use Rattle.uimg_c.specs.Strict.{ReportsStrict};
+ghost use Rattle.uimg_c.specs.Signed.{IsSigned, ReportsSigned, no_keys};
 ghost use Rattle.uimg_uboot.specs.Readings.{ReadAsChecked};
 
 use crate::checks::check;
@@ -25,6 +26,7 @@ use crate::fronts::copy_front;
 use crate::payloads::{payload_at, payload_name, payload_named};
 use crate::reports::{UimgCount, UimgPayload, UimgReport};
 use crate::running::report_on;
+use crate::signed_checks::check_signatures;
 use crate::strict_checks::check_strictly;
 use std::alloc::Global;
 use uimg_requests::{Action, Command, Form, VERSION};
@@ -94,6 +96,28 @@ pub extern "C" fn uimg_check_strict(
     ensures nothing { result ≡ 3 → report.new ≡ no_report }
 {
     check_strictly(alloc, image, need, report)
+}
+
+/// Checks an image as `uimg_check_strict` does. If all is right, it also refuses a FIT image of which
+/// a configuration is not signed by the keys of `keys`, the contents of a file of keys, and any
+/// legacy image. The status is 2 if `keys` has no keys, or keys that U-Boot does not take.
+#[unsafe(no_mangle)]
+pub extern "C" fn uimg_check_signed(
+    alloc: Global,
+    image: &[u8],
+    keys: &[u8],
+    need: u32,
+    report: &mut UimgReport,
+) -> u32
+    ensures told { result ≢ 3 → result ≢ 2 → ReportsSigned need keys.now image.now report.new }
+    ensures signed { result ≡ 0 → IsSigned keys.now image.now }
+    ensures read { result ≡ 0 → ReadAsChecked image.now }
+    ensures status { result ≡ report.new.status }
+    ensures peak { report.new.peak ≤ table_most form.Guess image.now }
+    ensures nothing { result ≡ 3 → report.new ≡ no_report }
+    ensures no_keys { result ≡ 2 → report.new ≡ no_keys }
+{
+    check_signatures(alloc, image, keys, need, report)
 }
 
 /// Finds the part of a legacy image, or the payload of a FIT image's image, at a position, counted

@@ -15,4 +15,5 @@ mod payloads;
 mod peaks;
 mod reports;
 mod running;
+mod signed_checks;
 mod strict_checks;

@@ -4,7 +4,7 @@
 #[repr(C)]
 #[derive(Drop)]
 pub struct UimgReport {
-    /// How the command ended: 0 done, 1 not right or refused, 3 out of memory.
+    /// How the command ended: 0 done, 1 not right or refused, 2 keys refused, 3 out of memory.
     pub status: u32,
 
     /// The fault's letter, as its ASCII code times 256, plus its number; 0 without a fault.

@@ -7,8 +7,8 @@ ghost use Rattle.uimg_requests.specs.declared.command.Form.TheVariants as form;
 ghost use Rattle.uimg_engine.specs.Headline.{is_fit, nodes_in};
 ghost use Rattle.uimg_uboot.specs.Readings.{ReadAsChecked};
 ghost use Rattle.uimg_c.specs.Answers.{no_report, table_most};
-ghost use Rattle.uimg_c.specs.Codes.{refusal};
-ghost use Rattle.uimg_c.specs.Strict.{ReportsStrict, code_of_loose, loose_number, strict_code_for};
+ghost use Rattle.uimg_c.specs.Codes.{refusal, strength};
+ghost use Rattle.uimg_c.specs.Strict.{ReportsStrict, code_of_loose, loose_number, strict_code, strict_code_for};
 ghost use Rattle.uimg_c.specs.Strict.{why_in_fit, why_in_legacy};
 ghost use Rattle.uimg_strict.specs.{Headers.loose_legacy, Looseness.looseness_of};
 ghost use Rattle.uimg_blob_reading.specs.Counts.{nodes_met};
@@ -24,8 +24,8 @@ use uimg_engine::Fault;
 use uimg_fit_checking::{Finding, SurveyFault};
 use uimg_strict::{Looseness, find_loose, find_loose_header};
 
-// The letter is S, the number 1 to 16.
-fn loose_code(why: Looseness) -> Code
+/// The letter is S, the number 1 to 24.
+pub(crate) fn loose_code(why: Looseness) -> Code
     ensures { result ≡ refusal 83 (loose_number why) 0 }
 {
     Code {
@@ -61,7 +61,7 @@ fn loose_legacy(image: &[u8]) -> Option<Code>
 }
 
 // Returns `None` if memory was refused.
-fn strict_code<A: Allocator>(
+fn strict_code_for<A: Allocator>(
     alloc: Global,
     need: Algo,
     image: &[u8],
@@ -80,6 +80,24 @@ fn strict_code<A: Allocator>(
     }
 }
 
+/// `need` is the number of the needed strength. Returns `None` if memory was refused.
+pub(crate) fn strict_code<A: Allocator>(
+    alloc: Global,
+    need: u32,
+    image: &[u8],
+    room: &mut Room<A>,
+) -> Option<Code>
+    ensures peak { room.new.peak ≤ max room.old.peak
+        (held_bytes (nodes_in (is_fit form.Guess image.now) image.now)) }
+    ensures known { IfSome result (λ code. code.status ≤ 1) }
+    ensures told { IfSome result (λ code. strict_code (strength need) image.now ≡ Some code) }
+{
+    match strength(need) {
+        Some(algo) => strict_code_for(alloc, algo, image, room),
+        None => answer_code(Ok(Status::NotRight)),
+    }
+}
+
 /// `need` is the number of the needed strength.
 pub(crate) fn check_strictly(alloc: Global, image: &[u8], need: u32, report: &mut UimgReport) -> u32
     ensures told { result ≢ 3 → ReportsStrict need image.now report.new }
@@ -89,10 +107,7 @@ pub(crate) fn check_strictly(alloc: Global, image: &[u8], need: u32, report: &mu
     ensures peak { report.new.peak ≤ table_most form.Guess image.now }
 {
     let mut room = Room::new(alloc);
-    let code = match strength(need) {
-        Some(algo) => strict_code(alloc, algo, image, &mut room),
-        None => answer_code(Ok(Status::NotRight)),
-    };
+    let code = strict_code(alloc, need, image, &mut room);
     *report = report_of(code, peak_of(&room));
     report.status
 }
