@@ -33,7 +33,7 @@ _uimg() {
             case "$previous" in
                 --need) COMPREPLY=($(compgen -W 'crc32 md5 sha1 sha256 sha384 sha512' -- "$current")); return ;;
             esac
-            test "${current#-}" = "$current" || { COMPREPLY=($(compgen -W '--need --strict --files-from -0 --json --quiet --allow-empty -h --help' -- "$current")); return; }
+            test "${current#-}" = "$current" || { COMPREPLY=($(compgen -W '--need --strict --key --files-from -0 --json --quiet --allow-empty -h --help' -- "$current")); return; }
             ;;
         unpack)
             case "$previous" in

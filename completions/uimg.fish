@@ -27,6 +27,7 @@ complete -c uimg -n '__fish_seen_subcommand_from verify' -s h -l help -d 'Print 
 complete -c uimg -n __fish_use_subcommand -f -a check -d 'Check many images, and print a line for each'
 complete -c uimg -n '__fish_seen_subcommand_from check' -l need -x -a 'crc32 md5 sha1 sha256 sha384 sha512' -d 'Require a hash by this algorithm or a stronger one'
 complete -c uimg -n '__fish_seen_subcommand_from check' -l strict -d 'Require hashes, images for all names, and a tree that U-Boot reads alike'
+complete -c uimg -n '__fish_seen_subcommand_from check' -l key -r -d 'Require each configuration to be signed by the key in this file'
 complete -c uimg -n '__fish_seen_subcommand_from check' -l files-from -r -d 'Also check the images whose paths are in this file, one a line'
 complete -c uimg -n '__fish_seen_subcommand_from check' -s 0 -d 'Paths in that file end with NUL, not with a newline'
 complete -c uimg -n '__fish_seen_subcommand_from check' -l json -d 'Print a JSON object for each image'

@@ -32,6 +32,8 @@ import fits  # noqa: E402
 
 # The commands that print JSON, each with a schema in docs/.
 COMMANDS = ("check", "info", "unpack")
+# The key of examples/signed.itb.
+KEY = os.path.join(TOP, "examples/dev.pem")
 # How many FIT images are made.
 BUILT = 200
 ALGOS = ["crc16-ccitt", "crc32", "md5", "sha1", "sha256", "sha384", "sha512"]
@@ -197,6 +199,7 @@ def text_of(told):
         if told.get("unchecked"):
             counts.append((told["unchecked"], "node of configurations unchecked", "nodes of configurations unchecked"))
         rest = ", ".join(f"{count} {one if count == 1 else many}" for count, one, many in counts)
+        rest += ", all configurations signed" if "configurations" in told else ""
     elif "checksums" in told:
         rest = f"{told['checksums']} checksums"
     elif "image" in told:
@@ -230,6 +233,7 @@ def judge(line, text, path, validator, options):
     if "offset" in told:
         assert told["message"].endswith(f" at {told['offset']}"), "the offset is not that of the line"
     assert ("unchecked" in told) == ("images" in told and "--strict" in options), "a count lacks, or is too much"
+    assert ("configurations" in told) == ("images" in told and "--key" in options), "signatures lack, or are too much"
     if "unchecked" in told:
         assert told["unchecked"] == unchecked_of(path), f"{unchecked_of(path)} nodes are not checked"
     return told
@@ -524,7 +528,7 @@ def main():
         failures += 1
     with tempfile.TemporaryDirectory() as folder:
         paths = listed() + made(folder)
-        for options in ([], ["--need", "crc32"], ["--need", "sha256"], ["--strict"]):
+        for options in ([], ["--need", "crc32"], ["--need", "sha256"], ["--strict"], ["--key", KEY]):
             failed, some = try_all(program, paths, validator, options)
             failures, told = failures + failed, told + some
         failed, facts = try_facts(program, [path for path in paths if path], of_facts)

@@ -3,3 +3,5 @@ mod ObjectLaws
 mod Examples
 pub mod PieceLaws
 pub mod MissingLaws
+pub mod StrictLaws
+pub mod VerdictLaws

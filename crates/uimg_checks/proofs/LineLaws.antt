@@ -8,6 +8,7 @@ use Rattle.uimg_fit_base.specs.declared.verdicts.Verdict.{Verdict}
 use Rattle.uimg_fit_base.specs.declared.verdicts.Verdict.TheVariants as told
 use Rattle.uimg_fit_base.specs.Report.{word_text}
 use Rattle.uimg_checks.specs.declared.answer.Answer.{Answer}
+use Rattle.uimg_checks.specs.declared.answer.Configurations.{Configurations, TheVariants.{Signed, Unchecked}}
 use Rattle.uimg_fit_checking.specs.declared.checking.Finding.{Finding}
 use Rattle.uimg_fit_checking.specs.declared.checking.Finding.TheVariants.{Right, Unhashed, Wrong, Weak, Overlapping, NoImage}
 use Rattle.uimg_checks.specs.declared.answer.Answer.TheVariants.{Found, Missing, Loose, Refused, Failed}
@@ -17,7 +18,7 @@ use Rattle.uimg_strict.specs.declared.loose.Looseness.{Looseness}
 use Rattle.uimg_strict.specs.declared.loose.Looseness.TheVariants as loose
 use Rattle.uimg_strict.specs.Words.{word_of}
 use Rattle.uimg_checks.specs.Answers.{finding_word, found_word, answer_word}
-use Rattle.uimg_checks.specs.Lines.{nodes_text, some_unchecked, unchecked_text, spaced_name, named_if, finding_details, found_details, details_of, answer_line, own_text}
+use Rattle.uimg_checks.specs.Lines.{nodes_text, some_unchecked, configurations_if, spaced_name, named_if, finding_details, found_details, details_of, answer_line, own_text}
 
 one_of : (b : Bool) (x y : List ℕ) → is_shown x ≡ true → is_shown y ≡ true → is_shown (if b then x else y) ≡ true
 one_of true x y p q = p
@@ -32,9 +33,10 @@ some_shown : (n : ℕ) → is_shown (some_unchecked n) ≡ true
 unfolding some_unchecked
 some_shown n = one_of (n == 0) [] (nodes_text n) refl (nodes_shown n)
 
-unchecked_shown : (unchecked : Option ℕ) → is_shown (unchecked_text unchecked) ≡ true
-unchecked_shown None = refl
-unchecked_shown (Some n) = some_shown n
+configurations_shown : (it : Option Configurations) → is_shown (configurations_if it) ≡ true
+configurations_shown None = refl
+configurations_shown (Some (Unchecked n)) = some_shown n
+configurations_shown (Some Signed) = refl
 
 named_shown : (name : List ℕ) → is_shown (spaced_name name) ≡ true
 named_shown name = joined (codes " ") (printed true name) refl (shown true name)
@@ -43,27 +45,27 @@ named_if_shown : (name : Option (Bor (List ℕ))) → is_shown (named_if name) �
 named_if_shown None = refl
 named_if_shown (Some name) = named_shown name.now
 
-finding_shown : (finding : Finding (Bor (List ℕ))) (unchecked : Option ℕ) → is_shown (finding_details finding unchecked) ≡ true
-finding_shown (Right images hashes) unchecked =
+finding_shown : (finding : Finding (Bor (List ℕ))) (it : Option Configurations) → is_shown (finding_details finding it) ≡ true
+finding_shown (Right images hashes) it =
     let payloads = counted images (codes "payload") (codes "payloads") in
     let nodes = counted hashes (codes "hash") (codes "hashes") in
     let first = joined (codes " ") payloads refl (counted_shown images (codes "payload") (codes "payloads") refl refl) in
     let second = joined (codes " " ++ payloads ++ codes ", ") nodes (joined (codes " " ++ payloads) (codes ", ") first refl) (counted_shown hashes (codes "hash") (codes "hashes") refl refl) in
-    joined (codes " " ++ payloads ++ codes ", " ++ nodes) (unchecked_text unchecked) second (unchecked_shown unchecked)
-finding_shown (Unhashed image) unchecked = named_shown image.now
-finding_shown (Wrong image hash verdict) unchecked = joined (spaced_name image.now) (spaced_name hash.now) (named_shown image.now) (named_shown hash.now)
-finding_shown (Weak image) unchecked = named_shown image.now
-finding_shown (Overlapping image) unchecked = named_shown image.now
-finding_shown NoImage unchecked = refl
+    joined (codes " " ++ payloads ++ codes ", " ++ nodes) (configurations_if it) second (configurations_shown it)
+finding_shown (Unhashed image) it = named_shown image.now
+finding_shown (Wrong image hash verdict) it = joined (spaced_name image.now) (spaced_name hash.now) (named_shown image.now) (named_shown hash.now)
+finding_shown (Weak image) it = named_shown image.now
+finding_shown (Overlapping image) it = named_shown image.now
+finding_shown NoImage it = refl
 
-found_shown : (found : Checked (Bor (List ℕ))) (unchecked : Option ℕ) → is_shown (found_details found unchecked) ≡ true
-found_shown (checked.Fit finding) unchecked = finding_shown finding unchecked
-found_shown checked.Right unchecked = refl
-found_shown checked.Damaged unchecked = refl
-found_shown checked.Weak unchecked = refl
+found_shown : (found : Checked (Bor (List ℕ))) (it : Option Configurations) → is_shown (found_details found it) ≡ true
+found_shown (checked.Fit finding) it = finding_shown finding it
+found_shown checked.Right it = refl
+found_shown checked.Damaged it = refl
+found_shown checked.Weak it = refl
 
 details_shown : (answer : Answer) → is_shown (own_text answer) ≡ true → is_shown (details_of answer) ≡ true
-details_shown (Found found unchecked) own = found_shown found unchecked
+details_shown (Found found it) own = found_shown found it
 details_shown (Missing configuration property name) own =
     let giver = joined (named_if configuration) (codes " ") (named_if_shown configuration) refl in
     joined (named_if configuration ++ codes " " ++ property.now) (spaced_name name.now) (joined (named_if configuration ++ codes " ") property.now giver own) (named_shown name.now)
@@ -118,7 +120,7 @@ why_shown loose.SignatureRange = refl
 why_shown loose.BadSignature = refl
 
 word_shown : (answer : Answer) → is_shown (answer_word answer) ≡ true
-word_shown (Found found unchecked) = found_word_shown found
+word_shown (Found found it) = found_word_shown found
 word_shown (Missing configuration property name) = refl
 word_shown (Loose format why place) = why_shown why
 word_shown (Refused stop) = refl

@@ -4,6 +4,7 @@ use Rattle.std.specs.Borrow.{Bor}
 use Rattle.uimg_printing.specs.Members.{Member, string_member, number_member, number_if, text_members}
 use Rattle.uimg_printing.proofs.SoundLaws.{Sound, AreSound, append_sound, number_sound, number_if_sound, string_sound, text_sound}
 use Rattle.uimg_checks.specs.declared.answer.Answer.{Answer}
+use Rattle.uimg_checks.specs.declared.answer.Configurations.{Configurations, TheVariants.{Signed, Unchecked}}
 use Rattle.uimg_fit_checking.specs.declared.checking.Finding.{Finding}
 use Rattle.uimg_fit_checking.specs.declared.checking.Finding.TheVariants.{Right, Unhashed, Wrong, Weak, Overlapping, NoImage}
 use Rattle.uimg_checks.specs.declared.answer.Answer.TheVariants.{Found, Missing, Loose, Refused, Failed}
@@ -12,7 +13,7 @@ use Rattle.uimg_checks.specs.declared.finding.Checked.TheVariants as checked
 use Rattle.uimg_checks.specs.declared.answer.Format.{Format}
 use Rattle.uimg_checks.specs.declared.answer.Stop.{Stop}
 use Rattle.uimg_checks.specs.Answers.{answer_status, answer_word}
-use Rattle.uimg_checks.specs.Objects.{format_name, format_if, string_if, name_if, format_of, stop_members, about_fit, about_found, about, first_members, check_json}
+use Rattle.uimg_checks.specs.Objects.{format_name, format_if, string_if, name_if, format_of, stop_members, configurations_if, about_fit, about_found, about, first_members, check_json}
 
 format_sound : (format : Option Format) → AreSound 0 (format_if format)
 format_sound None = tt
@@ -33,26 +34,31 @@ stop_sound stop =
     append_sound 0 (string_if (codes "fault") stop.code) (message ++ offset) (string_if_sound (codes "fault") stop.code)
     (append_sound 0 message offset (string_sound 0 (codes "message") stop.message.now) (number_if_sound 0 (codes "offset") stop.offset))
 
-fit_sound : (finding : Finding (Bor (List ℕ))) (unchecked : Option ℕ) → AreSound 0 (about_fit finding unchecked)
-fit_sound (Right images hashes) unchecked =
-    append_sound 0 (number_member (codes "images") images) (number_member (codes "hashes") hashes ++ number_if (codes "unchecked") unchecked)
-    (number_sound 0 (codes "images") images)
-    (append_sound 0 (number_member (codes "hashes") hashes) (number_if (codes "unchecked") unchecked) (number_sound 0 (codes "hashes") hashes) (number_if_sound 0 (codes "unchecked") unchecked))
-fit_sound (Unhashed image) unchecked = text_sound 0 (codes "image") image.now
-fit_sound (Wrong image hash word) unchecked =
-    append_sound 0 (text_members (codes "image") image.now) (text_members (codes "hash") hash.now) (text_sound 0 (codes "image") image.now) (text_sound 0 (codes "hash") hash.now)
-fit_sound (Weak image) unchecked = text_sound 0 (codes "image") image.now
-fit_sound (Overlapping image) unchecked = text_sound 0 (codes "image") image.now
-fit_sound NoImage unchecked = tt
+configurations_sound : (it : Option Configurations) → AreSound 0 (configurations_if it)
+configurations_sound None = tt
+configurations_sound (Some (Unchecked n)) = number_sound 0 (codes "unchecked") n
+configurations_sound (Some Signed) = string_sound 0 (codes "configurations") (codes "signed")
 
-found_sound : (found : Checked (Bor (List ℕ))) (unchecked : Option ℕ) → AreSound 0 (about_found found unchecked)
-found_sound (checked.Fit finding) unchecked = fit_sound finding unchecked
-found_sound checked.Right unchecked = number_sound 0 (codes "checksums") 2
-found_sound checked.Damaged unchecked = tt
-found_sound checked.Weak unchecked = string_sound 0 (codes "algo") (codes "crc32")
+fit_sound : (finding : Finding (Bor (List ℕ))) (it : Option Configurations) → AreSound 0 (about_fit finding it)
+fit_sound (Right images hashes) it =
+    append_sound 0 (number_member (codes "images") images) (number_member (codes "hashes") hashes ++ configurations_if it)
+    (number_sound 0 (codes "images") images)
+    (append_sound 0 (number_member (codes "hashes") hashes) (configurations_if it) (number_sound 0 (codes "hashes") hashes) (configurations_sound it))
+fit_sound (Unhashed image) it = text_sound 0 (codes "image") image.now
+fit_sound (Wrong image hash word) it =
+    append_sound 0 (text_members (codes "image") image.now) (text_members (codes "hash") hash.now) (text_sound 0 (codes "image") image.now) (text_sound 0 (codes "hash") hash.now)
+fit_sound (Weak image) it = text_sound 0 (codes "image") image.now
+fit_sound (Overlapping image) it = text_sound 0 (codes "image") image.now
+fit_sound NoImage it = tt
+
+found_sound : (found : Checked (Bor (List ℕ))) (it : Option Configurations) → AreSound 0 (about_found found it)
+found_sound (checked.Fit finding) it = fit_sound finding it
+found_sound checked.Right it = number_sound 0 (codes "checksums") 2
+found_sound checked.Damaged it = tt
+found_sound checked.Weak it = string_sound 0 (codes "algo") (codes "crc32")
 
 about_sound : (answer : Answer) → AreSound 0 (about answer)
-about_sound (Found found unchecked) = found_sound found unchecked
+about_sound (Found found it) = found_sound found it
 about_sound (Missing configuration property name) =
     let names : List Member = text_members (codes "name") name.now in
     append_sound 0 (name_if (codes "configuration") configuration) (string_member (codes "property") property.now ++ names) (name_if_sound (codes "configuration") configuration)

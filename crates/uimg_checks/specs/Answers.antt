@@ -18,7 +18,7 @@ exit_status Done = 0
 exit_status NotRight = 1
 
 abbrev pub answer_status : Answer → ℕ
-answer_status (Found found unchecked) = exit_status (of.status_of found)
+answer_status (Found found configurations) = exit_status (of.status_of found)
 answer_status (Missing configuration property name) = 1
 answer_status (Loose format why place) = 1
 answer_status (Refused stop) = 1
@@ -39,7 +39,7 @@ found_word checked.Damaged = codes "bad"
 found_word checked.Weak = codes "weak"
 
 abbrev pub answer_word : Answer → List ℕ
-answer_word (Found found unchecked) = found_word found
+answer_word (Found found configurations) = found_word found
 answer_word (Missing configuration property name) = codes "missing"
 answer_word (Loose format why place) = strict.word_of why
 answer_word (Refused stop) = codes "refused"

@@ -8,3 +8,7 @@ pub mod ReferenceNames
 pub mod Properties
 pub mod References
 pub mod ReferenceWork
+pub mod CheckEnds
+pub mod FaultStatuses
+pub mod StrictEnds
+pub mod Verdicts

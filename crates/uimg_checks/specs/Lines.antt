@@ -9,6 +9,7 @@ use Rattle.uimg_fit_checking.specs.declared.checking.Finding.TheVariants as fit_
 use Rattle.uimg_checks.specs.declared.answer.Answer.{Answer}
 use Rattle.uimg_checks.specs.declared.answer.Answer.TheVariants.{Found, Missing, Loose, Refused}
 use Rattle.uimg_checks.specs.declared.answer.Answer.TheVariants.{Failed}
+use Rattle.uimg_checks.specs.declared.answer.Configurations.{Configurations, TheVariants.{Signed, Unchecked}}
 use Rattle.uimg_checks.specs.declared.finding.Checked.{Checked}
 use Rattle.uimg_checks.specs.declared.finding.Checked.TheVariants as checked
 use Rattle.uimg_checks.specs.Answers.{answer_word}
@@ -21,9 +22,13 @@ nodes_text n =
 unfoldable pub some_unchecked : ℕ → List ℕ
 some_unchecked n = if n == 0 then [] else nodes_text n
 
-abbrev pub unchecked_text : Option ℕ → List ℕ
-unchecked_text None = []
-unchecked_text (Some n) = some_unchecked n
+abbrev pub configurations_text : Configurations → List ℕ
+configurations_text (Unchecked n) = some_unchecked n
+configurations_text Signed = codes ", all configurations signed"
+
+abbrev pub configurations_if : Option Configurations → List ℕ
+configurations_if None = []
+configurations_if (Some it) = configurations_text it
 
 -- a name after a space, as one word
 abbrev pub spaced_name : List ℕ → List ℕ
@@ -34,28 +39,28 @@ named_if None = []
 named_if (Some name) = spaced_name name.now
 
 -- the details of a finding about a FIT image
-abbrev pub finding_details : Finding (Bor (List ℕ)) → Option ℕ → List ℕ
-finding_details (fit_finding.Right images nodes) unchecked =
+abbrev pub finding_details : Finding (Bor (List ℕ)) → Option Configurations → List ℕ
+finding_details (fit_finding.Right images nodes) configurations =
     codes " " ++ counted images (codes "payload") (codes "payloads") ++ codes ", "
     ++ counted nodes (codes "hash") (codes "hashes")
-    ++ unchecked_text unchecked
-finding_details (fit_finding.Unhashed image) unchecked = spaced_name image.now
-finding_details (fit_finding.Wrong image hash word) unchecked =
+    ++ configurations_if configurations
+finding_details (fit_finding.Unhashed image) configurations = spaced_name image.now
+finding_details (fit_finding.Wrong image hash word) configurations =
     spaced_name image.now ++ spaced_name hash.now
-finding_details (fit_finding.Weak image) unchecked = spaced_name image.now
-finding_details (fit_finding.Overlapping image) unchecked = spaced_name image.now
-finding_details fit_finding.NoImage unchecked = []
+finding_details (fit_finding.Weak image) configurations = spaced_name image.now
+finding_details (fit_finding.Overlapping image) configurations = spaced_name image.now
+finding_details fit_finding.NoImage configurations = []
 
 -- the details of a finding
-abbrev pub found_details : Checked (Bor (List ℕ)) → Option ℕ → List ℕ
-found_details (checked.Fit finding) unchecked = finding_details finding unchecked
-found_details checked.Right unchecked = codes " 2 checksums"
-found_details checked.Damaged unchecked = codes " checksum"
-found_details checked.Weak unchecked = codes " crc32"
+abbrev pub found_details : Checked (Bor (List ℕ)) → Option Configurations → List ℕ
+found_details (checked.Fit finding) configurations = finding_details finding configurations
+found_details checked.Right configurations = codes " 2 checksums"
+found_details checked.Damaged configurations = codes " checksum"
+found_details checked.Weak configurations = codes " crc32"
 
 -- the details after the word
 abbrev pub details_of : Answer → List ℕ
-details_of (Found found unchecked) = found_details found unchecked
+details_of (Found found configurations) = found_details found configurations
 details_of (Missing configuration property name) =
     named_if configuration ++ codes " " ++ property.now ++ spaced_name name.now
 details_of (Loose format why place) = named_if place
@@ -69,7 +74,7 @@ answer_line path answer =
 
 -- the text of a fault, or a property's name, if there is one
 abbrev pub own_text : Answer → List ℕ
-own_text (Found found unchecked) = []
+own_text (Found found configurations) = []
 own_text (Missing configuration property name) = property.now
 own_text (Loose format why place) = []
 own_text (Refused stop) = stop.message.now

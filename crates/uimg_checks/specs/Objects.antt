@@ -9,6 +9,7 @@ use Rattle.uimg_fit_checking.specs.declared.checking.Finding.TheVariants as fit_
 use Rattle.uimg_checks.specs.declared.answer.Answer.{Answer}
 use Rattle.uimg_checks.specs.declared.answer.Answer.TheVariants.{Found, Missing, Loose, Refused}
 use Rattle.uimg_checks.specs.declared.answer.Answer.TheVariants.{Failed}
+use Rattle.uimg_checks.specs.declared.answer.Configurations.{Configurations, TheVariants.{Signed, Unchecked}}
 use Rattle.uimg_checks.specs.declared.finding.Checked.{Checked}
 use Rattle.uimg_checks.specs.declared.finding.Checked.TheVariants as checked
 use Rattle.uimg_checks.specs.declared.answer.Format.{Format}
@@ -42,7 +43,7 @@ found_format checked.Weak = Legacy
 
 -- the format of the image, if it is known
 abbrev pub format_of : Answer → Option Format
-format_of (Found found unchecked) = Some (found_format found)
+format_of (Found found configurations) = Some (found_format found)
 format_of (Missing configuration property name) = Some Fit
 format_of (Loose format why place) = Some format
 format_of (Refused stop) = stop.format
@@ -55,28 +56,37 @@ stop_members stop =
     ++ (string_member (codes "message") stop.message.now
     ++ number_if (codes "offset") stop.offset)
 
+-- the members about the configurations of a FIT image
+abbrev pub about_configurations : Configurations → List Member
+about_configurations (Unchecked n) = number_member (codes "unchecked") n
+about_configurations Signed = string_member (codes "configurations") (codes "signed")
+
+abbrev pub configurations_if : Option Configurations → List Member
+configurations_if None = []
+configurations_if (Some it) = about_configurations it
+
 -- the members about a FIT image
-abbrev pub about_fit : Finding (Bor (List ℕ)) → Option ℕ → List Member
-about_fit (fit_finding.Right images nodes) unchecked =
+abbrev pub about_fit : Finding (Bor (List ℕ)) → Option Configurations → List Member
+about_fit (fit_finding.Right images nodes) configurations =
     number_member (codes "images") images
-    ++ (number_member (codes "hashes") nodes ++ number_if (codes "unchecked") unchecked)
-about_fit (fit_finding.Unhashed image) unchecked = text_members (codes "image") image.now
-about_fit (fit_finding.Wrong image hash word) unchecked =
+    ++ (number_member (codes "hashes") nodes ++ configurations_if configurations)
+about_fit (fit_finding.Unhashed image) configurations = text_members (codes "image") image.now
+about_fit (fit_finding.Wrong image hash word) configurations =
     text_members (codes "image") image.now ++ text_members (codes "hash") hash.now
-about_fit (fit_finding.Weak image) unchecked = text_members (codes "image") image.now
-about_fit (fit_finding.Overlapping image) unchecked = text_members (codes "image") image.now
-about_fit fit_finding.NoImage unchecked = []
+about_fit (fit_finding.Weak image) configurations = text_members (codes "image") image.now
+about_fit (fit_finding.Overlapping image) configurations = text_members (codes "image") image.now
+about_fit fit_finding.NoImage configurations = []
 
 -- the members about a finding
-abbrev pub about_found : Checked (Bor (List ℕ)) → Option ℕ → List Member
-about_found (checked.Fit finding) unchecked = about_fit finding unchecked
-about_found checked.Right unchecked = number_member (codes "checksums") 2
-about_found checked.Damaged unchecked = []
-about_found checked.Weak unchecked = string_member (codes "algo") (codes "crc32")
+abbrev pub about_found : Checked (Bor (List ℕ)) → Option Configurations → List Member
+about_found (checked.Fit finding) configurations = about_fit finding configurations
+about_found checked.Right configurations = number_member (codes "checksums") 2
+about_found checked.Damaged configurations = []
+about_found checked.Weak configurations = string_member (codes "algo") (codes "crc32")
 
 -- the members after the format
 abbrev pub about : Answer → List Member
-about (Found found unchecked) = about_found found unchecked
+about (Found found configurations) = about_found found configurations
 about (Missing configuration property name) =
     name_if (codes "configuration") configuration
     ++ (string_member (codes "property") property.now ++ text_members (codes "name") name.now)

@@ -31,12 +31,20 @@ pub struct Stop<'a> {
     pub offset: Option<u64>,
 }
 
+/// What a strict check says of the configurations of a FIT image whose hashes are right.
+#[derive(Clone, Copy, Debug, PartialEq, Eq)]
+pub enum Configurations {
+    /// They have so many nodes, as hash nodes and signatures, which are not checked.
+    Unchecked(u64),
+    /// Each is signed by the keys of the check.
+    Signed,
+}
+
 /// The result of a check. Names are those of nodes, without their NULs.
 #[derive(Clone, Copy, Debug, PartialEq, Eq)]
 pub enum Answer<'a> {
-    /// The finding about the image. A strict check of a FIT image whose hashes are right adds the
-    /// number of nodes of the configurations, which are not checked.
-    Found(Checked<&'a [u8]>, Option<u64>),
+    /// The finding about the image; what a strict check of a FIT image whose hashes are right adds.
+    Found(Checked<&'a [u8]>, Option<Configurations>),
 
     /// A name has no image or configuration.
     Missing {

@@ -4,14 +4,20 @@
 
 mod answer;
 mod counting;
+mod ends;
 mod finding;
+mod judging;
 mod line;
 mod object;
 mod references;
+mod statuses;
 
-pub use answer::{Answer, Format, Stop};
+pub use answer::{Answer, Configurations, Format, Stop};
 pub use counting::count_in_memory;
+pub use ends::{CHANGED, NOT_UTF8, Names, answer_of_fault, answer_of_line};
 pub use finding::{Checked, check};
+pub use judging::{Terms, answer_of_source};
 pub use line::{Line, line_text};
 pub use object::object_text;
 pub use references::{Missing, Reference, find_missing};
+pub use statuses::status_of_fault;

@@ -4,9 +4,9 @@ ghost use Rattle.std.specs.Prelude.{◌≡◌, ◌++◌, Some, codes, true, IfOk
 ghost use Rattle.std.specs.String.{string_bytes};
 ghost use Rattle.uimg_printing.specs.Printing.{is_shown};
 ghost use Rattle.std.specs.Fmt.{WritesOnOk};
-ghost use Rattle.uimg_checks.specs.Lines.{unchecked_text, nodes_text, some_unchecked, spaced_name, named_if, finding_details, found_details, details_of, answer_line, own_text};
+ghost use Rattle.uimg_checks.specs.Lines.{configurations_if, configurations_text, nodes_text, some_unchecked, spaced_name, named_if, finding_details, found_details, details_of, answer_line, own_text};
 
-use crate::answer::Answer;
+use crate::answer::{Answer, Configurations};
 use crate::finding::Checked;
 use std::alloc::{AllocError, Global};
 use std::fmt;
@@ -39,7 +39,7 @@ fn put_details<W: Write>(answer: &Answer<'_>, f: &mut Formatter<W>) -> fmt::Resu
     ensures { WritesOnOk W.Write.write_str_gives f.old result (details_of answer.now) f.new }
 {
     match *answer {
-        Answer::Found(found, unchecked) => put_found(found, unchecked, f),
+        Answer::Found(found, configurations) => put_found(found, configurations, f),
         Answer::Missing {
             configuration,
             property,
@@ -52,14 +52,14 @@ fn put_details<W: Write>(answer: &Answer<'_>, f: &mut Formatter<W>) -> fmt::Resu
 
 fn put_found<W: Write>(
     found: Checked<&[u8]>,
-    unchecked: Option<u64>,
+    configurations: Option<Configurations>,
     f: &mut Formatter<W>,
 ) -> fmt::Result
     ensures { WritesOnOk W.Write.write_str_gives f.old result
-        (found_details found.entry unchecked) f.new }
+        (found_details found.entry configurations) f.new }
 {
     match found {
-        Checked::Fit(finding) => put_finding(finding, unchecked, f),
+        Checked::Fit(finding) => put_finding(finding, configurations, f),
         Checked::Right => f.write_str(" 2 checksums"),
         Checked::Damaged => f.write_str(" checksum"),
         Checked::Weak => f.write_str(" crc32"),
@@ -68,14 +68,16 @@ fn put_found<W: Write>(
 
 fn put_finding<W: Write>(
     finding: Finding<&[u8]>,
-    unchecked: Option<u64>,
+    configurations: Option<Configurations>,
     f: &mut Formatter<W>,
 ) -> fmt::Result
     ensures { WritesOnOk W.Write.write_str_gives f.old result
-        (finding_details finding.entry unchecked) f.new }
+        (finding_details finding.entry configurations) f.new }
 {
     match finding {
-        Finding::Right { images, hashes } => put_counts(images as u64, hashes as u64, unchecked, f),
+        Finding::Right { images, hashes } => {
+            put_counts(images as u64, hashes as u64, configurations, f)
+        }
         Finding::Unhashed(image) | Finding::Weak(image) | Finding::Overlapping(image) => {
             put_named(image, f)
         }
@@ -90,11 +92,11 @@ fn put_finding<W: Write>(
 fn put_counts<W: Write>(
     images: u64,
     hashes: u64,
-    unchecked: Option<u64>,
+    configurations: Option<Configurations>,
     f: &mut Formatter<W>,
 ) -> fmt::Result
     ensures { WritesOnOk W.Write.write_str_gives f.old result
-        (finding_details (Finding.Right images hashes) unchecked) f.new }
+        (finding_details (Finding.Right images hashes) configurations) f.new }
 {
     let payloads = Counted {
         count: images,
@@ -107,9 +109,18 @@ fn put_counts<W: Write>(
         many: "hashes",
     };
     write!(f, " {payloads}, {nodes}")?;
-    match unchecked {
-        Some(count) => put_unchecked(count, f),
+    match configurations {
+        Some(it) => put_configurations(it, f),
         None => Ok(()),
+    }
+}
+
+fn put_configurations<W: Write>(it: Configurations, f: &mut Formatter<W>) -> fmt::Result
+    ensures { WritesOnOk W.Write.write_str_gives f.old result (configurations_text it) f.new }
+{
+    match it {
+        Configurations::Unchecked(count) => put_unchecked(count, f),
+        Configurations::Signed => f.write_str(", all configurations signed"),
     }
 }
 

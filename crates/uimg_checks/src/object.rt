@@ -8,9 +8,9 @@ ghost use Rattle.json.specs.Tree.{json_tokens};
 ghost use Rattle.uimg_printing.specs.Members.{tokens_of, string_member, text_members};
 ghost use Rattle.uimg_printing.specs.Objects.{is_one_line};
 ghost use Rattle.uimg_printing.specs.Steps.{Appends};
-ghost use Rattle.uimg_checks.specs.Objects.{format_name, format_if, string_if, name_if, found_format, format_of, stop_members, about_fit, about_found, about, first_members, check_json};
+ghost use Rattle.uimg_checks.specs.Objects.{format_name, format_if, string_if, name_if, found_format, format_of, stop_members, about_configurations, configurations_if, about_fit, about_found, about, first_members, check_json};
 
-use crate::answer::{Answer, Format, Stop};
+use crate::answer::{Answer, Configurations, Format, Stop};
 use crate::finding::Checked;
 use json::Writer;
 use std::alloc::{AllocError, Global};
@@ -93,15 +93,36 @@ fn put_counts(
     writer: &mut Writer,
     images: u64,
     hashes: u64,
-    unchecked: Option<u64>,
+    configurations: Option<Configurations>,
 ) -> Result<(), AllocError>
     ensures { Appends result writer.old writer.new
-        (tokens_of (about_fit (Finding.Right images hashes) unchecked)) }
+        (tokens_of (about_fit (Finding.Right images hashes) configurations)) }
 {
     put_number(writer, "images", images)?;
     put_number(writer, "hashes", hashes)?;
-    put_number_if(writer, "unchecked", unchecked)?;
+    put_configurations_if(writer, configurations)?;
     Ok(())
+}
+
+fn put_configurations_if(
+    writer: &mut Writer,
+    configurations: Option<Configurations>,
+) -> Result<(), AllocError>
+    ensures { Appends result writer.old writer.new (tokens_of (configurations_if configurations)) }
+{
+    match configurations {
+        Some(it) => put_configurations(writer, it),
+        None => Ok(()),
+    }
+}
+
+fn put_configurations(writer: &mut Writer, it: Configurations) -> Result<(), AllocError>
+    ensures { Appends result writer.old writer.new (tokens_of (about_configurations it)) }
+{
+    match it {
+        Configurations::Unchecked(count) => put_number(writer, "unchecked", count),
+        Configurations::Signed => put_string(writer, "configurations", "signed"),
+    }
 }
 
 fn put_missing(
@@ -139,13 +160,13 @@ fn put_fit(
     alloc: Global,
     writer: &mut Writer,
     finding: Finding<&[u8]>,
-    unchecked: Option<u64>,
+    configurations: Option<Configurations>,
 ) -> Result<(), AllocError>
-    ensures { Appends result writer.old writer.new (tokens_of (about_fit finding.entry unchecked)) }
+    ensures { Appends result writer.old writer.new (tokens_of (about_fit finding.entry configurations)) }
 {
     match finding {
         Finding::Right { images, hashes } => {
-            put_counts(writer, images as u64, hashes as u64, unchecked)
+            put_counts(writer, images as u64, hashes as u64, configurations)
         }
         Finding::Unhashed(image) | Finding::Weak(image) | Finding::Overlapping(image) => {
             put_text(alloc, writer, "image", image)
@@ -159,12 +180,12 @@ fn put_found(
     alloc: Global,
     writer: &mut Writer,
     found: Checked<&[u8]>,
-    unchecked: Option<u64>,
+    configurations: Option<Configurations>,
 ) -> Result<(), AllocError>
-    ensures { Appends result writer.old writer.new (tokens_of (about_found found.entry unchecked)) }
+    ensures { Appends result writer.old writer.new (tokens_of (about_found found.entry configurations)) }
 {
     match found {
-        Checked::Fit(finding) => put_fit(alloc, writer, finding, unchecked),
+        Checked::Fit(finding) => put_fit(alloc, writer, finding, configurations),
         Checked::Right => put_number(writer, "checksums", 2),
         Checked::Damaged => Ok(()),
         Checked::Weak => put_string(writer, "algo", "crc32"),
@@ -175,7 +196,7 @@ fn put_about(alloc: Global, writer: &mut Writer, answer: &Answer<'_>) -> Result<
     ensures { Appends result writer.old writer.new (tokens_of (about answer.now)) }
 {
     match *answer {
-        Answer::Found(found, unchecked) => put_found(alloc, writer, found, unchecked),
+        Answer::Found(found, configurations) => { put_found(alloc, writer, found, configurations) },
         Answer::Missing {
             configuration,
             property,

@@ -110,7 +110,7 @@ a_blob_of_data = refl
 -- ---- the other commands
 
 a_check : asked (codes "check" ∷ codes "--strict" ∷ codes "a.itb" ∷ codes "--json" ∷ codes "b.itb" ∷ [])
-    ≡ Ok (checks (record { need = Some Crc32; is_strict = true; images = codes "a.itb" ∷ codes "b.itb" ∷ []; files_from = None; has_nuls = false; as_json = true; is_quiet = false; allows_none = false })) ∷ []
+    ≡ Ok (checks (record { need = Some Crc32; is_strict = true; key = None; images = codes "a.itb" ∷ codes "b.itb" ∷ []; files_from = None; has_nuls = false; as_json = true; is_quiet = false; allows_none = false })) ∷ []
 unfolding clap_on_literals uimg_on_literals
 a_check = refl
 
@@ -166,12 +166,12 @@ unfolding clap_on_literals uimg_on_literals
 any_listed_image image = refl
 
 any_checked_images : (one two : Text) → asked (codes "check" ∷ codes "--quiet" ∷ codes "--" ∷ one ∷ two ∷ [])
-    ≡ Ok (checks (record { need = None; is_strict = false; images = one ∷ two ∷ []; files_from = None; has_nuls = false; as_json = false; is_quiet = true; allows_none = false })) ∷ []
+    ≡ Ok (checks (record { need = None; is_strict = false; key = None; images = one ∷ two ∷ []; files_from = None; has_nuls = false; as_json = false; is_quiet = true; allows_none = false })) ∷ []
 unfolding clap_on_literals uimg_on_literals
 any_checked_images one two = refl
 
 any_list_of_images : (file : Text) → asked (codes "check" ∷ (codes "--files-from=" ++ file) ∷ [])
-    ≡ Ok (checks (record { need = None; is_strict = false; images = []; files_from = Some file; has_nuls = false; as_json = false; is_quiet = false; allows_none = false })) ∷ []
+    ≡ Ok (checks (record { need = None; is_strict = false; key = None; images = []; files_from = Some file; has_nuls = false; as_json = false; is_quiet = false; allows_none = false })) ∷ []
 unfolding clap_on_literals uimg_on_literals
 any_list_of_images file = refl
 

@@ -1,5 +1,5 @@
 -- The arguments of `check`.
-use Rattle.std.specs.Prelude.{Bool, true, ◌&&◌, List, [], ◌∷◌, Option, Some, None, Result, Ok, Err, codes, if◌then◌else◌, is_none, option_map}
+use Rattle.std.specs.Prelude.{Bool, true, ◌&&◌, ◌||◌, List, [], ◌∷◌, Option, Some, None, Result, Ok, Err, codes, if◌then◌else◌, is_none, is_some, option_map}
 use Rattle.clap.specs.Lexer.{usize_max}
 use Rattle.clap.specs.Simple.{App, new_app, new_rule}
 use Rattle.clap.specs.Walk.{Row, Rule, Text, first_of, is_empty, texts}
@@ -19,12 +19,13 @@ images_rule = record (new_rule (codes "image")) {
   range = Some (record { start_inclusive = 0; end_inclusive = usize_max });
 }
 
--- check [--need ALGO] [--strict] [--files-from FILE] [-0] [--json] [--quiet] [--allow-empty]
--- [IMAGE ..]
+-- check [--need ALGO] [--strict] [--key FILE] [--files-from FILE] [-0] [--json] [--quiet]
+-- [--allow-empty] [IMAGE ..]
 unfoldable pub check : App
 check = with_rules (
     long_rule (codes "need")
     ∷ switch_rule (codes "strict")
+    ∷ long_rule (codes "key")
     ∷ long_rule (codes "files-from")
     ∷ flag_rule (codes "nuls") 48
     ∷ switch_rule (codes "json")
@@ -36,6 +37,7 @@ check = with_rules (
 pub record Checking : Type 0 where
   pub need : Option Algo
   pub is_strict : Bool
+  pub key : Option Text
   pub images : List Text
   pub files_from : Option Text
   pub has_nuls : Bool
@@ -47,6 +49,7 @@ abbrev pub checking_of : CheckRequest → Checking
 checking_of request = record {
   need = request.need;
   is_strict = request.is_strict;
+  key = option_map (λ path. path.now) request.key;
   images = texts request.images.items;
   files_from = option_map (λ path. path.now) request.files_from;
   has_nuls = request.has_nuls;
@@ -60,10 +63,15 @@ abbrev pub least_need : Bool → Option Algo → Option Algo
 least_need true None = Some Crc32
 least_need is_strict need = need
 
+-- whether a check is strict: if it is to be, or if there are keys
+abbrev pub is_to_be_strict : List Row → Bool
+is_to_be_strict rows = is_set (codes "strict") rows || is_some (first_of (codes "key") rows)
+
 abbrev pub checking_by : List Row → Option Algo → Checking
 checking_by rows need = record {
-  need = least_need (is_set (codes "strict") rows) need;
-  is_strict = is_set (codes "strict") rows;
+  need = least_need (is_to_be_strict rows) need;
+  is_strict = is_to_be_strict rows;
+  key = first_of (codes "key") rows;
   images = texts_given (codes "image") rows;
   files_from = first_of (codes "files-from") rows;
   has_nuls = is_set (codes "nuls") rows;

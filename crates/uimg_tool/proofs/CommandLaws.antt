@@ -5,7 +5,8 @@ use Rattle.uimg_cli.specs.declared.command_line.Asked.{Asked}
 use Rattle.uimg_cli.specs.declared.command_line.Asked.TheVariants.{One, Check, Unpack, Map, Info}
 use Rattle.uimg_cli.specs.declared.command_line.Request.{Request}
 use Rattle.uimg_cli.specs.declared.command_line.Request.TheVariants as asked
-use Rattle.uimg_tool.specs.{Answering.IsAnswer, Checking.nothing_told, Checks.{AnswersAll, Told}}
+use Rattle.uimg_cli.specs.declared.command_line.check.CheckRequest.{CheckRequest}
+use Rattle.uimg_tool.specs.{Answering.IsAnswer, Checking.{AnswersRequest, keys_read, nothing_told}, Checks.{AnswersAll, Told}}
 use Rattle.uimg_tool.specs.{Facts.IsFactsAnswer, Makings.AnswersMade, MapAnswers.IsMapAnswer, Running.{AnswersRun, outcome_on, outcome_status, printed}}
 use Rattle.uimg_requests.specs.declared.requests.RunRequest.{RunRequest}
 use Rattle.std.specs.Borrow.{Bor}
@@ -46,11 +47,17 @@ one contents device identities (asked.Run it) files status old x y asked_before 
 one contents device identities (asked.Make it) files status old x y asked_before asked_after same answers = unless status (λ (z : Option (List ℕ)). AnswersMade device identities it files status old z) x y same answers
 one contents device identities (asked.Show text) files status old x y asked_before asked_after same answers = answers
 
+check : (it : CheckRequest) (files : FileMap) (status : ℕ) (before x y : Option (List ℕ)) (asked_before asked_after : List Deed) → (status ≢ 3 → x ≡ y) → AnswersRequest files it status before x asked_before asked_after
+    → AnswersRequest files it status before y asked_before asked_after
+check it files status before x y asked_before asked_after same (inl failed) = inl failed
+check it files status before x y asked_before asked_after same (inr told) =
+    inr (told.0, told.1, told.2, told.3, unless status (λ (z : Option (List ℕ)). (last : Told) × AnswersAll files told.0 (nothing_told before (keys_read it.key asked_before)) last × (last.text ≡ z) × (last.trace ≡ asked_after) × (status ≡ (if last.has_checked || told.0.request.now.allows_none then last.greatest else 2))) x y same told.4)
+
 asked_emptied : {F K : Type 0} (contents : F → Option (List ℕ)) (device : K → Device) (identities : List ℕ → Option FileId) (it : Asked) (files : FileMap) (status : ℕ) (before x y : Option (List ℕ)) (asked_before asked_after : List Deed) (left : List ℕ) → Flushes it status left → (left ≡ [] → x ≡ y)
     → AnswersAsked contents device identities it files status before x asked_before asked_after → AnswersAsked contents device identities it files status before y asked_before asked_after
 asked_emptied contents device identities (One it) files status before x y asked_before asked_after left flushed same answers = one contents device identities it files status before x y asked_before asked_after (λ fine. same (flushed fine)) answers
 asked_emptied contents device identities (Check it) files status before x y asked_before asked_after left flushed same answers =
-    unless status (λ (z : Option (List ℕ)). (last : Told) × AnswersAll files it (nothing_told before asked_before) last × (last.text ≡ z) × (last.trace ≡ asked_after) × (status ≡ (if last.has_checked || it.allows_none then last.greatest else 2))) x y (λ fine. same (flushed fine)) answers
+    check it files status before x y asked_before asked_after (λ fine. same (flushed fine)) answers
 asked_emptied contents device identities (Unpack it) files status before x y asked_before asked_after left flushed same answers = answers
 asked_emptied contents device identities (Map it) files status before x y asked_before asked_after left flushed same answers = λ none.
     unless status (λ (z : Option (List ℕ)). (file : List ℕ) × (files.bytes it.image.now ≡ Some file) × IsMapAnswer file status before z) x y (λ fine. same (flushed none fine)) (answers none)

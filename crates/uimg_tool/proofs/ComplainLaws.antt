@@ -7,7 +7,8 @@ use Rattle.uimg_engine.specs.Faults.{end_of}
 use Rattle.uimg_engine.specs.declared.fault.Fault.{Fault}
 use Rattle.uimg_requests.specs.declared.requests.RunRequest.{RunRequest}
 use Rattle.uimg_tool.specs.{Complaining.{ComplainsNot, ComplainsRun}, Complaints.ComplainsBetween, Extracting.ExtractsAt, FaultTexts.{told_of_end, told_of_outcome}}
-use Rattle.uimg_tool.specs.{MadeEnds.end_printed, RequestEnds.{RunEnds, ShowEnds}, Running.{TellsAt, meant_end, outcome_on}, Statuses.{end_status, fault_status}}
+use Rattle.uimg_checks.specs.FaultStatuses.{fault_status}
+use Rattle.uimg_tool.specs.{MadeEnds.end_printed, RequestEnds.{RunEnds, ShowEnds}, Running.{TellsAt, meant_end, outcome_on}, Statuses.end_status}
 use Rattle.uimg_tool.specs.declared.complaints.Complaints.{Complaints}
 use Rattle.uimg_tool.specs.declared.request_fault.RequestFault.{RequestFault}
 use Rattle.uimg_tool.specs.declared.request_fault.RequestFault.TheVariants as request

@@ -13,7 +13,8 @@ use Rattle.uimg_requests.specs.declared.requests.RunRequest.{RunRequest}
 use Rattle.uimg_tool.proofs.OldAnswerLaws.{kept}
 use Rattle.uimg_tool.proofs.RunLaws.{means}
 use Rattle.uimg_tool.specs.{Extracting.{AnswersExtraction, AnswersOldExtraction, ExtractsAt, ExtractsTo, IfSame, IsSame}, MadeEnds.end_printed, RequestEnds.RunEnds}
-use Rattle.uimg_tool.specs.{Running.{IntoEnds, outcome_on, outcome_status}, Statuses.{end_status, fault_status}}
+use Rattle.uimg_checks.specs.FaultStatuses.{fault_status}
+use Rattle.uimg_tool.specs.{Running.{IntoEnds, outcome_on, outcome_status}, Statuses.end_status}
 use Rattle.uimg_tool.specs.Writings.{LeadsInPlace, WritesFor}
 use Rattle.uimg_tool.specs.declared.safe_path.Writing.{Writing}
 use Rattle.uimg_tool.specs.declared.safe_path.Writing.TheVariants as writing

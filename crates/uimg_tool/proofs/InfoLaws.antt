@@ -26,7 +26,8 @@ use Rattle.uimg_checks.specs.declared.answer.{Format.Format, Stop.Stop}
 use Rattle.uimg_checks.specs.declared.answer.Answer.{Answer}
 use Rattle.uimg_checks.specs.declared.answer.Answer.TheVariants as answer
 use Rattle.uimg_printing.specs.Members.{Member, object_of, number_if, number_member, string_member, text_members}
-use Rattle.uimg_tool.specs.{Answering.AnswersBy, CheckEnds.{AnswersFault, AnswersLine, TellsFault, format_of, told_name}, JsonLines.shown_line, Statuses.fault_status}
+use Rattle.uimg_checks.specs.{CheckEnds.{AnswersFault, AnswersLine, TellsFault, format_of, told_name}, FaultStatuses.fault_status}
+use Rattle.uimg_tool.specs.{Answering.AnswersBy, JsonLines.shown_line}
 use Rattle.uimg_tool.specs.{InfoEnds.{stop_of_parts, stop_of_survey}, declared.info_program.Stop.Stop as NoFacts}
 use Rattle.uimg_tool.specs.declared.info_program.Stop.TheVariants as stop
 use Rattle.uimg_tool.specs.Facts.{GivesFacts, IsFactsAnswer, IsObjectOf, IsTextOf, StopsBy, TellsFacts, code_member, facts_in, facts_of, facts_with, fault_as, legacy_facts, refusal_json}

@@ -18,9 +18,7 @@ pub mod PathLaws
 pub mod RunLaws
 pub mod SearchedLaws
 pub mod StatusLaws
-pub mod StrictLaws
 pub mod TreeLaws
 pub mod UnpackLaws
 pub mod UnpackTells
-pub mod VerdictLaws
 pub mod WritingLaws

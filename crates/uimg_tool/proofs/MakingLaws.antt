@@ -17,7 +17,8 @@ use Rattle.uimg_requests.specs.declared.make_command.MakeCommand.TheVariants.{Pa
 use Rattle.uimg_requests.specs.declared.requests.MakeRequest.{MakeRequest}
 use Rattle.uimg_tool.specs.{Complaining.ComplainsMake, Complaints.ComplainsBetween, FaultTexts.told_of_end}
 use Rattle.uimg_tool.specs.declared.complaints.Complaints.{Complaints}
-use Rattle.uimg_tool.specs.{MadeEnds.end_printed, RequestEnds.{AsMade, StoppedAs}, Statuses.{end_status, fault_status, fit_status, request_status, source_status}}
+use Rattle.uimg_checks.specs.FaultStatuses.{fault_status, fit_status, source_status}
+use Rattle.uimg_tool.specs.{MadeEnds.end_printed, RequestEnds.{AsMade, StoppedAs}, Statuses.{end_status, request_status}}
 use Rattle.uimg_tool.specs.{LeavingOut.leads_to, Makings.{AnswersMaking, IsMadeStatus, MakesAt, MakesRequested, OpensRequested, TellsMaking, files_of, made_status, opens_outfile}}
 use Rattle.uimg_tool.specs.declared.request_fault.RequestFault.{RequestFault}
 use Rattle.uimg_tool.specs.declared.request_fault.RequestFault.TheVariants as request

@@ -9,7 +9,8 @@ use Rattle.uimg_engine.specs.Faults.{end_of, unless_memory}
 use Rattle.uimg_engine.specs.declared.fault.Fault.{Fault}
 use Rattle.uimg_engine.specs.declared.fault.Fault.TheVariants as engine
 use Rattle.uimg_requests.specs.declared.requests.RunRequest.{RunRequest}
-use Rattle.uimg_tool.specs.{MadeEnds.end_printed, RequestEnds.RunEnds, Statuses.{end_status, fault_status}}
+use Rattle.uimg_checks.specs.FaultStatuses.{fault_status}
+use Rattle.uimg_tool.specs.{MadeEnds.end_printed, RequestEnds.RunEnds, Statuses.end_status}
 use Rattle.uimg_tool.specs.Running.{AnswersRun, TellsAt, outcome_on, outcome_status, printed}
 use Rattle.uimg_tool.specs.declared.request_fault.RequestFault.{RequestFault}
 use Rattle.uimg_tool.specs.declared.request_fault.RequestFault.TheVariants as request

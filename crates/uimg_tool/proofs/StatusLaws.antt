@@ -9,7 +9,8 @@ use Rattle.uimg_engine.specs.declared.fault.Fault.TheVariants as engine
 use Rattle.uimg_fit_base.specs.declared.fault.FitFault.{FitFault}
 use Rattle.uimg_fit_base.specs.declared.fault.FitFault.TheVariants as fit
 use Rattle.uimg_its.specs.Answers.{is_outside_text}
-use Rattle.uimg_tool.specs.{MadeEnds.end_printed, Statuses.{end_status, fault_status, fit_status, request_status}}
+use Rattle.uimg_checks.specs.FaultStatuses.{fault_status, fit_status}
+use Rattle.uimg_tool.specs.{MadeEnds.end_printed, Statuses.{end_status, request_status}}
 use Rattle.uimg_tool.specs.declared.request_fault.RequestFault.{RequestFault}
 use Rattle.uimg_tool.specs.declared.request_fault.RequestFault.TheVariants as request
 

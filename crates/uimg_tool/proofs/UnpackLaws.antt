@@ -12,7 +12,7 @@ use Rattle.uimg_cli.specs.declared.command_line.unpack.UnpackRequest.{UnpackRequ
 use Rattle.uimg_unpacking.specs.Places.{ChangesWithin, Obeys, Terms, may_change, terms_of}
 use Rattle.uimg_checks.specs.Answers.{answer_status}
 use Rattle.uimg_checks.specs.declared.answer.Answer.{Answer, TheVariants.{Failed, Refused}}
-use Rattle.uimg_tool.specs.{CheckEnds.AnswersEnding, Unpackings.{HoldsPayloads, IsRight, RightAt, UnpacksRight, unpacking_of}}
+use Rattle.uimg_tool.specs.{UnpackEnds.AnswersEnding, Unpackings.{HoldsPayloads, IsRight, RightAt, UnpacksRight, unpacking_of}}
 use Rattle.uimg_tool.specs.declared.unpack_answers.Ending.{Ending}
 use Rattle.uimg_tool.specs.declared.unpack_answers.Ending.TheVariants as ending
 

@@ -11,7 +11,8 @@ use Rattle.uimg_engine.specs.{Faults.of_fit, FaultTexts.{code_of, text_of}}
 use Rattle.uimg_engine.specs.declared.fault.Fault.{Fault, TheVariants.Legacy}
 use Rattle.uimg_checks.specs.Objects.{format_if}
 use Rattle.uimg_printing.specs.Members.{Member, object_of, number_if, number_member, string_member, text_members}
-use Rattle.uimg_tool.specs.{CheckEnds.{format_of, offset_of}, JsonLines.shown_line, Statuses.fault_status}
+use Rattle.uimg_checks.specs.{CheckEnds.{format_of, offset_of}, FaultStatuses.fault_status}
+use Rattle.uimg_tool.specs.JsonLines.{shown_line}
 use Rattle.uimg_tool.specs.declared.info_program.Stop.{Stop as NoFacts}
 use Rattle.uimg_tool.specs.declared.info_program.Stop.TheVariants as stop
 

@@ -2,7 +2,6 @@ pub mod AnswerTexts
 pub mod Answering
 pub mod BesidePaths
 pub mod Bodies
-pub mod CheckEnds
 pub mod Checking
 pub mod Checks
 pub mod Commands
@@ -33,12 +32,10 @@ pub mod Running
 pub mod SearchedNames
 pub mod SourceStatuses
 pub mod Statuses
-pub mod StrictEnds
 pub mod TreeSizes
 pub mod TreesMade
 pub mod UnpackComplaints
 pub mod UnpackEnds
 pub mod Unpackings
-pub mod Verdicts
 pub mod WordAnswers
 pub mod Writings

@@ -6,7 +6,8 @@ use Rattle.uimg_base.specs.declared.status.Status.{Status}
 use Rattle.uimg_engine.specs.{Commands.MakesCommandBetween, OpenedFiles.OpensCommand}
 use Rattle.uimg_engine.specs.declared.fault.Fault.{Fault}
 use Rattle.uimg_requests.specs.declared.requests.MakeRequest.{MakeRequest}
-use Rattle.uimg_tool.specs.{FaultTexts.{told_of_end, told_of_made}, LeavingOut.{in_folder, leads_to}, Statuses.{end_status, fault_status}}
+use Rattle.uimg_checks.specs.FaultStatuses.{fault_status}
+use Rattle.uimg_tool.specs.{FaultTexts.{told_of_end, told_of_made}, LeavingOut.{in_folder, leads_to}, Statuses.end_status}
 use Rattle.uimg_tool.specs.declared.request_fault.RequestFault.{RequestFault, TheVariants.WritesWhatIsRead}
 use Rattle.uimg_unpacking.specs.declared.file_id.FileId.{FileId}
 

@@ -7,7 +7,8 @@ use Rattle.uimg_engine.specs.{Faults.{end_of, is_of_making}, Headline.outcome_of
 use Rattle.uimg_engine.specs.declared.fault.Fault.{Fault}
 use Rattle.uimg_engine.specs.declared.fault.Fault.TheVariants as engine
 use Rattle.uimg_requests.specs.declared.requests.RunRequest.{RunRequest}
-use Rattle.uimg_tool.specs.{Answering.AnswersAs, Statuses.fault_status}
+use Rattle.uimg_checks.specs.FaultStatuses.{fault_status}
+use Rattle.uimg_tool.specs.Answering.{AnswersAs}
 use Rattle.uimg_tool.specs.declared.request_fault.RequestFault.{RequestFault}
 use Rattle.uimg_tool.specs.declared.request_fault.RequestFault.TheVariants as request
 use Rattle.uimg_unpacking.specs.Allowing.{is_image}

@@ -6,7 +6,7 @@ use Rattle.uimg_dts.specs.declared.fault.Refusal.TheVariants as refusal
 use Rattle.uimg_engine.specs.Faults.{of_fit}
 use Rattle.uimg_fit_updating.specs.declared.fault.UpdateFault.{UpdateFault}
 use Rattle.uimg_fit_updating.specs.declared.fault.UpdateFault.TheVariants as update
-use Rattle.uimg_tool.specs.Statuses.{fault_status}
+use Rattle.uimg_checks.specs.FaultStatuses.{fault_status}
 
 -- A source is refused, unless the reason is outside its text: memory or a file.
 abbrev pub refused_status : DtsKind → ℕ

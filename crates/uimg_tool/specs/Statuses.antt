@@ -3,13 +3,7 @@
 -- read, a write or memory failed.
 use Rattle.std.specs.Prelude.{⊤, ℕ, ◌≤◌, Option, Some, None, Result, Ok, Err, Bool, true, false, if◌then◌else◌}
 use Rattle.uimg_base.specs.declared.status.Status.{Status, TheVariants.{Done, NotRight}}
-use Rattle.uimg_blob_reading.specs.Faults.{refuses_memory}
-use Rattle.uimg_fit_base.specs.declared.fault.FitFault.{FitFault}
-use Rattle.uimg_fit_base.specs.declared.fault.FitFault.TheVariants as fit
-use Rattle.uimg_its.specs.Answers.{is_outside_text}
-use Rattle.uimg_its.specs.declared.fault.FaultKind.{FaultKind}
-use Rattle.uimg_engine.specs.declared.fault.Fault.{Fault}
-use Rattle.uimg_engine.specs.declared.fault.Fault.TheVariants as engine
+use Rattle.uimg_checks.specs.FaultStatuses.{fault_status}
 use Rattle.uimg_cli.specs.declared.command_line.words_fault.WordsFault.{WordsFault}
 use Rattle.uimg_cli.specs.declared.command_line.words_fault.WordsFault.TheVariants as words
 use Rattle.uimg_compat.specs.declared.fault.OldFault.{OldFault}
@@ -19,25 +13,6 @@ use Rattle.uimg_unpacking.specs.declared.trouble.Trouble.TheVariants as trouble
 use Rattle.uimg_tool.specs.declared.check_program.Stop.{Stop}
 use Rattle.uimg_tool.specs.declared.request_fault.RequestFault.{RequestFault}
 use Rattle.uimg_tool.specs.declared.request_fault.RequestFault.TheVariants as request
-
--- A FIT image or its tree is refused, unless memory or a file of a payload failed.
-abbrev pub fit_status : FitFault → ℕ
-fit_status fit.OutOfMemory = 3
-fit_status fit.NoFile = 3
-fit_status fit.ReadFailed = 3
-fit_status fault = 1
-
--- A source is refused, unless the reason is outside its text: memory or a file.
-abbrev pub source_status : FaultKind → ℕ
-source_status kind = if is_outside_text kind then 3 else 1
-
--- a command that stopped
-abbrev pub fault_status : Fault → ℕ
-fault_status (engine.Legacy fault) = 1
-fault_status (engine.Blob fault offset) = if refuses_memory fault then 3 else 1
-fault_status (engine.Fit fault) = fit_status fault
-fault_status (engine.Its fault) = source_status fault.kind
-fault_status fault = 3
 
 -- a request that was not carried out
 abbrev pub request_status : RequestFault → ℕ

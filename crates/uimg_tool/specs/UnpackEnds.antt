@@ -1,5 +1,11 @@
 -- How the unpacking of either format ends for the program.
+use Rattle.std.specs.Prelude.{◌≡◌, ◌==◌, None, false}
 use Rattle.uimg_base.specs.declared.status.Status.TheVariants.{Done, NotRight}
+use Rattle.uimg_checks.specs.CheckEnds.{AnswersFault, AnswersLine}
+use Rattle.uimg_checks.specs.declared.answer.Answer.{Answer, TheVariants.{Found}}
+use Rattle.uimg_checks.specs.declared.finding.Checked.TheVariants as checked
+use Rattle.uimg_fit_checking.specs.declared.checking.Finding.TheVariants as finding
+use Rattle.uimg_tool.specs.Statuses.{trouble_status}
 use Rattle.uimg_engine.specs.Faults.{of_fit, of_legacy}
 use Rattle.uimg_unpacking.specs.declared.unpacking.Ended.{Ended}
 use Rattle.uimg_unpacking.specs.declared.unpacking.Ended.TheVariants as fit
@@ -22,3 +28,12 @@ end_of_parts legacy.Kept = ending.Told Done
 end_of_parts legacy.Weak = ending.Weak
 end_of_parts (legacy.Stopped fault) = ending.Stopped (of_legacy fault)
 end_of_parts (legacy.Troubled trouble) = ending.Troubled trouble
+
+-- what is answered where the end of an unpacking is told by no line
+abbrev pub AnswersEnding : Ending → Answer → Type 0
+AnswersEnding (ending.Told status) answer = AnswersLine false answer
+AnswersEnding ending.Unread answer = AnswersLine false answer
+AnswersEnding ending.Weak answer = answer ≡ Found checked.Weak None
+AnswersEnding ending.NoImage answer = answer ≡ Found (checked.Fit finding.NoImage) None
+AnswersEnding (ending.Stopped fault) answer = AnswersFault fault answer
+AnswersEnding (ending.Troubled trouble) answer = AnswersLine (trouble_status trouble == 1) answer

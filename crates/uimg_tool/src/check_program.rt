@@ -4,20 +4,20 @@ ghost use Rattle.std.specs.Prelude.{◌≡◌, ◌≢◌, ◌≤◌, ◌+◌, �
 ghost use Rattle.std.specs.Io.{Buffered.{writer_buffer, writer_contents}, KnownBytes.Appends};
 ghost use Rattle.uimg_base.specs.Named.{SameFiles};
 ghost use Rattle.uimg_checks.specs.Answers.{answer_status};
-ghost use Rattle.uimg_tool.specs.{AnswerTexts.{answer_text, object_line, text_line}, Checking.AnswersRequest, Checks.{names_end, names_path}, Complaining.ComplainsCheck, Complaints.{Complains, Ends}, FaultTexts.told_of_greatest, Statuses.{Grows, checked_status}};
+ghost use Rattle.uimg_tool.specs.{AnswerTexts.{answer_text, object_line, text_line}, Checking.{AnswersKeyed, AnswersRequest}, Checks.{names_end, names_path}, Complaining.ComplainsCheck, Complaints.{Complains, Ends}, FaultTexts.told_of_greatest, Statuses.{Grows, checked_status}};
 ghost use Rattle.uimg_unpacking.specs.Deeds.{changes};
 
-use crate::check_answers::{NOT_UTF8, Names, answer_of_unread};
+use crate::check_keys::{Keyed, keys_of};
 use crate::complaints::Complaints;
 use crate::json_lines::put_json;
 use crate::path_list::paths_in;
 use crate::request_fault::{DONE, FAILED, RequestFault, WRONG_LINE};
-use crate::strict_answers::answer_of_source;
+use crate::unread::answer_of_unread;
 use std::alloc::{AllocError, Global};
 use std::io;
 use std::io::{BufWriter, ErrorKind, Write};
 use uimg_base::Room;
-use uimg_checks::{Answer, line_text, object_text};
+use uimg_checks::{Answer, NOT_UTF8, Names, Terms, answer_of_source, line_text, object_text};
 use uimg_cli::{CheckRequest, WordsFault};
 use uimg_printing::Printed;
 use uimg_unpacking::World;
@@ -29,9 +29,9 @@ const STANDARD_INPUT: &str = "/dev/stdin";
 /// `out`, even after one that is not right. Changes no file. Returns `out` and the greatest status.
 /// Without an image the status is that of a wrong command line, unless none is allowed.
 ///
-/// A file of names that cannot be read, a line that cannot be written and refused memory end the
-/// check with a line on standard error. A closed `out` ends it without one, as failed, because not
-/// all images were checked.
+/// A file of keys or of names that cannot be read, a line that cannot be written and refused memory
+/// end the check with a line on standard error. A closed `out` ends it without one, as failed, because
+/// not all images were checked.
 pub(crate) fn check_images<D: World, W: Write + Drop, V: Write>(
     world: &mut D,
     request: &CheckRequest<'_>,
@@ -48,20 +48,48 @@ pub(crate) fn check_images<D: World, W: Write + Drop, V: Write>(
     ensures changes { changes (D.trace world.new) ≡ changes (D.trace world.old) }
     ensures line { ComplainsCheck V.contents result.0 complaints.old complaints.new }
 {
+    let keys = match keys_of(world, request.key, complaints) {
+        Ok(keys) => keys,
+        Err(status) => return (status, out),
+    };
+    let terms = Terms {
+        need: request.need,
+        is_strict: request.is_strict,
+        keys,
+    };
+    check_by(world, &Keyed { request, terms }, out, complaints)
+}
+
+fn check_by<D: World, W: Write + Drop, V: Write>(
+    world: &mut D,
+    asked: &Keyed<'_, '_>,
+    out: BufWriter<W, Global>,
+    complaints: &mut Complaints<'_, V>,
+) -> (u8, BufWriter<W, Global>)
+    requires { writer_buffer out ≡ [] }
+    ensures ends { Ends result.0 complaints.old.count complaints.new.count }
+    ensures flushed { result.0 ≢ 3 → writer_buffer result.1 ≡ [] }
+    ensures told { AnswersKeyed (D.map world.old) asked.now result.0
+        (writer_contents W.contents out) (writer_contents W.contents result.1)
+        (D.trace world.old) (D.trace world.new) }
+    ensures same { SameFiles (D.map world.old) (D.map world.new) }
+    ensures changes { changes (D.trace world.new) ≡ changes (D.trace world.old) }
+    ensures line { ComplainsCheck V.contents result.0 complaints.old complaints.new }
+{
     let mut checks = Checks {
         room: Room::new(world.alloc()),
         out,
         greatest: DONE,
         has_checked: false,
     };
-    let ended = checks.check_all(world, request);
+    let ended = checks.check_all(world, asked);
     let Checks {
         room: _room,
         out,
         greatest,
         has_checked,
     } = checks;
-    let found = found(greatest, has_checked, request.allows_none);
+    let found = found(greatest, has_checked, asked.request.allows_none);
     (tell_ended(ended, found, complaints), out)
 }
 
@@ -141,10 +169,10 @@ impl<W: Write + Drop> Checks<W> {
     fn check_all<'b, D: World>(
         &mut self,
         world: &mut D,
-        request: &CheckRequest<'b>,
+        asked: &Keyed<'_, 'b>,
     ) -> Result<(), Stop<'b>>
         ensures grows { Grows self.old.greatest self.new.greatest }
-        ensures told { OnOk result (AnswersAll (D.map world.old) request.now
+        ensures told { OnOk result (AnswersAll (D.map world.old) asked.now
             (told W.contents self.old (D.trace world.old))
             (told W.contents self.new (D.trace world.new))) }
         ensures same { SameFiles (D.map world.old) (D.map world.new) }
@@ -152,11 +180,11 @@ impl<W: Write + Drop> Checks<W> {
         ensures flushed { writer_buffer self.old.out ≡ [] →
             OnOk result (writer_buffer self.new.out ≡ []) }
     {
-        for path in &request.images {
-            self.check(world, request, path.as_bytes())?;
+        for path in &asked.request.images {
+            self.check(world, asked, path.as_bytes())?;
         }
-        match request.files_from {
-            Some(path) => self.check_named(world, request, path),
+        match asked.request.files_from {
+            Some(path) => self.check_named(world, asked, path),
             None => Ok(()),
         }
     }
@@ -164,11 +192,11 @@ impl<W: Write + Drop> Checks<W> {
     fn check_named<'b, D: World>(
         &mut self,
         world: &mut D,
-        request: &CheckRequest<'b>,
+        asked: &Keyed<'_, 'b>,
         path: &'b str,
     ) -> Result<(), Stop<'b>>
         ensures grows { Grows self.old.greatest self.new.greatest }
-        ensures told { OnOk result (AnswersNamed (D.map world.old) request.now path.entry.now
+        ensures told { OnOk result (AnswersNamed (D.map world.old) asked.now path.entry.now
             (told W.contents self.old (D.trace world.old))
             (told W.contents self.new (D.trace world.new))) }
         ensures same { SameFiles (D.map world.old) (D.map world.new) }
@@ -180,12 +208,12 @@ impl<W: Write + Drop> Checks<W> {
             Ok(file) => file,
             Err(error) => return Err(Stop::NoNames(path, error)),
         };
-        let Ok(names) = paths_in(world.alloc(), file, names_end(request)) else {
+        let Ok(names) = paths_in(world.alloc(), file, names_end(asked)) else {
             return Err(Stop::NoMemory);
         };
         for name in names {
             match name {
-                Ok(name) => self.check_unless_empty(world, request, name.as_slice())?,
+                Ok(name) => self.check_unless_empty(world, asked, name.as_slice())?,
                 Err(error) => return Err(stop_of_names(error, path)),
             }
         }
@@ -196,11 +224,11 @@ impl<W: Write + Drop> Checks<W> {
     fn check_unless_empty<'b, D: World>(
         &mut self,
         world: &mut D,
-        request: &CheckRequest<'b>,
+        asked: &Keyed<'_, 'b>,
         path: &[u8],
     ) -> Result<(), Stop<'b>>
         ensures grows { Grows self.old.greatest self.new.greatest }
-        ensures told { OnOk result (AnswersUnlessEmpty (D.map world.old) request.now path.now
+        ensures told { OnOk result (AnswersUnlessEmpty (D.map world.old) asked.now path.now
             (told W.contents self.old (D.trace world.old))
             (told W.contents self.new (D.trace world.new))) }
         ensures same { SameFiles (D.map world.old) (D.map world.new) }
@@ -211,17 +239,17 @@ impl<W: Write + Drop> Checks<W> {
         if path.is_empty() {
             return Ok(());
         }
-        self.check(world, request, path)
+        self.check(world, asked, path)
     }
 
     fn check<'b, D: World>(
         &mut self,
         world: &mut D,
-        request: &CheckRequest<'b>,
+        asked: &Keyed<'_, 'b>,
         path: &[u8],
     ) -> Result<(), Stop<'b>>
         ensures grows { Grows self.old.greatest self.new.greatest }
-        ensures told { OnOk result (Answers (D.map world.old) request.now path.now
+        ensures told { OnOk result (Answers (D.map world.old) asked.now path.now
             (told W.contents self.old (D.trace world.old))
             (told W.contents self.new (D.trace world.new))) }
         ensures same { SameFiles (D.map world.old) (D.map world.new) }
@@ -230,12 +258,18 @@ impl<W: Write + Drop> Checks<W> {
             OnOk result (writer_buffer self.new.out ≡ []) }
     {
         let mut names = Names::new(world.alloc());
-        let answer = self.answer(world, request, path, &mut names);
+        let answer = self.answer(world, asked, path, &mut names);
         self.note(&answer);
-        if request.is_quiet && answer.word() == "ok" {
+        if asked.request.is_quiet && answer.word() == "ok" {
             return Ok(());
         }
-        put_answer(world.alloc(), request.as_json, path, &answer, &mut self.out)?;
+        put_answer(
+            world.alloc(),
+            asked.request.as_json,
+            path,
+            &answer,
+            &mut self.out,
+        )?;
         Ok(())
     }
 
@@ -249,45 +283,51 @@ impl<W: Write + Drop> Checks<W> {
     }
 
     // The path may have any bytes.
-    #[tactic(auto, using(crate::proofs::VerdictLaws::failed_file))]
+    #[tactic(auto, using(crate::proofs::CheckLaws::failed_file))]
     fn answer<'n, D: World>(
         &mut self,
         world: &mut D,
-        request: &CheckRequest<'_>,
+        asked: &Keyed<'_, '_>,
         path: &[u8],
         names: &'n mut Names,
     ) -> Answer<'n>
         ensures greatest { self.new.greatest ≡ self.old.greatest }
         ensures out { self.new.out ≡ self.old.out }
-        ensures file { AnswersFile (D.map world.old) request.now path.now result }
+        ensures file { AnswersFile (D.map world.old) asked.now path.now result }
         ensures looked { LooksAt path.now (D.trace world.old) (D.trace world.new) }
         ensures same { SameFiles (D.map world.old) (D.map world.new) }
         ensures changes { changes (D.trace world.new) ≡ changes (D.trace world.old) }
     {
         match str::from_utf8(path) {
-            Ok(path) => self.answer_text(world, request, path, names),
+            Ok(path) => self.answer_text(world, asked, path, names),
             Err(_) => NOT_UTF8,
         }
     }
 
-    #[tactic(auto, using(crate::proofs::VerdictLaws::file_answered, crate::proofs::VerdictLaws::failed_file))]
+    #[tactic(auto, using(crate::proofs::CheckLaws::file_answered, crate::proofs::CheckLaws::failed_file))]
     fn answer_text<'n, D: World>(
         &mut self,
         world: &mut D,
-        request: &CheckRequest<'_>,
+        asked: &Keyed<'_, '_>,
         path: &str,
         names: &'n mut Names,
     ) -> Answer<'n>
         ensures greatest { self.new.greatest ≡ self.old.greatest }
         ensures out { self.new.out ≡ self.old.out }
-        ensures file { AnswersFile (D.map world.old) request.now path.now result }
+        ensures file { AnswersFile (D.map world.old) asked.now path.now result }
         ensures looked { LooksAt path.now (D.trace world.old) (D.trace world.new) }
         ensures same { SameFiles (D.map world.old) (D.map world.new) }
         ensures changes { changes (D.trace world.new) ≡ changes (D.trace world.old) }
     {
         match world.open(path) {
             Ok(mut source) => {
-                answer_of_source(world.alloc(), request, &mut source, &mut self.room, names)
+                answer_of_source(
+                    world.alloc(),
+                    &asked.terms,
+                    &mut source,
+                    &mut self.room,
+                    names,
+                )
             }
             Err(_) => answer_of_unread(world, path, names),
         }
@@ -301,10 +341,10 @@ fn names_path(path: &str) -> &str
     if path == "-" { STANDARD_INPUT } else { path }
 }
 
-fn names_end(request: &CheckRequest<'_>) -> u8
-    ensures { result ≡ names_end request.now }
+fn names_end(asked: &Keyed<'_, '_>) -> u8
+    ensures { result ≡ names_end asked.now }
 {
-    if request.has_nuls { 0 } else { b'\n' }
+    if asked.request.has_nuls { 0 } else { b'\n' }
 }
 
 // Writes the line of a result, and flushes it.

@@ -3,6 +3,7 @@
 ghost use Rattle.std.specs.{Prelude.{◌≡◌, ◌∷◌, ◌+◌, ◌-◌, ◌^◌, ◌≤◌, None, Some, codes, false, min}, IoError.error_kind};
 ghost use Rattle.uimg_tool.specs.Complaints.{AddsText, Complains, is_closed_pipe};
 ghost use Rattle.uimg_unpacking.specs.Deeds.{Deed};
+ghost use Rattle.uimg_base.specs.Named.{SameFiles};
 
 use crate::request_fault::{FAILED, RequestFault};
 use std::fmt::Display;
@@ -77,6 +78,7 @@ impl<'a, V: Write> Complaints<'a, V> {
         ensures once { self.new.count ≤ self.old.count + 1 }
         ensures line { Complains V.contents (Some None) self }
         ensures asked { D.trace world.new ≡ Deed.Explains path.now ∷ D.trace world.old }
+        ensures same { SameFiles (D.map world.old) (D.map world.new) }
     {
         let reason = world.reason_unread(path);
         let path = Printed(path.as_bytes());

@@ -9,15 +9,15 @@ ghost use Rattle.uimg_tool.specs.{Answering.AnswersBy, Complaining.ComplainsNot,
 ghost use Rattle.uimg_tool.specs.Facts.{GivesFacts, IsFactsAnswer, IsObjectOf, IsTextOf, TellsFacts, facts_of, fault_as, legacy_facts};
 ghost use Rattle.uimg_unpacking.specs.Deeds.{Deed, changes};
 
-use crate::check_answers::{CHANGED, Names, answer_of_fault, answer_of_unread};
 use crate::complaints::Complaints;
 use crate::json_lines::put_json;
 use crate::request_fault::DONE;
+use crate::unread::answer_of_unread;
 use std::alloc::{AllocError, Global};
 use std::io;
 use std::io::{BufWriter, Write};
 use uimg_base::{Room, Source};
-use uimg_checks::{Answer, object_text};
+use uimg_checks::{Answer, CHANGED, Names, answer_of_fault, object_text};
 use uimg_cli::InfoRequest;
 use uimg_engine::{Fault, Form, is_fit};
 use uimg_fit_checking::SurveyFault;

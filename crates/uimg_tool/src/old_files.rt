@@ -10,7 +10,7 @@ ghost use Rattle.uimg_unpacking.specs.Deeds.{Deed, changes};
 
 use crate::complaints::Complaints;
 use crate::making::make_command;
-use crate::request_fault::{DONE, FAILED, REFUSED, RequestFault, status_of, status_of_fault};
+use crate::request_fault::{DONE, FAILED, REFUSED, RequestFault, status_of};
 use crate::requests::{Made, extract_to, run_command};
 use crate::safe_path::{SafePath, Writing};
 use crate::writing::writing_of;
@@ -18,6 +18,7 @@ use std::alloc::Global;
 use std::io;
 use std::io::{BufWriter, Write};
 use uimg_base::{Out, Source, SourceFault, Status};
+use uimg_checks::status_of_fault;
 use uimg_compat::OldFault;
 use uimg_engine::Fault;
 use uimg_fit_base::FitFault;

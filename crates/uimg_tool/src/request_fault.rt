@@ -1,15 +1,13 @@
 //! Why a request was not carried out, and the exit status of that.
 
 ghost use Rattle.std.specs.Prelude.{◌≡◌};
-ghost use Rattle.uimg_tool.specs.{FaultTexts.request_text, Statuses.{fault_status, fit_status, request_status, source_status}};
+ghost use Rattle.uimg_tool.specs.{FaultTexts.request_text, Statuses.request_status};
 
 use std::error::Error;
 use std::fmt::{Display, Formatter, Write};
 use std::{fmt, io};
-use uimg_blob_reading::BlobFault;
+use uimg_checks::status_of_fault;
 use uimg_engine::Fault;
-use uimg_fit_base::FitFault;
-use uimg_its::FaultKind;
 use uimg_printing::Printed;
 
 /// All is done.
@@ -98,40 +96,5 @@ pub(crate) fn status_of(fault: &RequestFault<'_>) -> u8
         RequestFault::NoRoom(_) => REFUSED,
         RequestFault::Stopped(fault) => status_of_fault(*fault),
         _ => FAILED,
-    }
-}
-
-pub(crate) fn status_of_fault(fault: Fault) -> u8
-    ensures { result ≡ fault_status fault }
-{
-    match fault {
-        Fault::Legacy(_) => REFUSED,
-        Fault::Blob(BlobFault::OutOfMemory, _) => FAILED,
-        Fault::Blob(_, _) => REFUSED,
-        Fault::Fit(fault) => status_of_fit(fault),
-        Fault::Its(fault) => status_of_source(fault.kind),
-        _ => FAILED,
-    }
-}
-
-fn status_of_fit(fault: FitFault) -> u8
-    ensures { result ≡ fit_status fault }
-{
-    match fault {
-        FitFault::OutOfMemory => FAILED,
-        FitFault::NoFile => FAILED,
-        FitFault::ReadFailed => FAILED,
-        _ => REFUSED,
-    }
-}
-
-fn status_of_source(kind: FaultKind) -> u8
-    ensures { result ≡ source_status kind }
-{
-    match kind {
-        FaultKind::NoFile => FAILED,
-        FaultKind::ReadFailed => FAILED,
-        FaultKind::OutOfMemory => FAILED,
-        _ => REFUSED,
     }
 }

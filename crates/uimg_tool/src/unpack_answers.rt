@@ -1,13 +1,13 @@
 //! Turns the end of an unpacking into the result that a check would have.
 
 ghost use Rattle.std.specs.Prelude.{◌≡◌};
-ghost use Rattle.uimg_tool.specs.{Statuses.trouble_status, CheckEnds.AnswersEnding};
+ghost use Rattle.uimg_tool.specs.{Statuses.trouble_status, UnpackEnds.AnswersEnding};
 ghost use Rattle.uimg_unpacking.specs.Deeds.{changes};
 
-use crate::check_answers::{Names, answer_of_fault, answer_of_line, answer_of_unread};
 use crate::request_fault::{FAILED, REFUSED, WRONG_LINE};
+use crate::unread::answer_of_unread;
 use uimg_base::Status;
-use uimg_checks::{Answer, Checked};
+use uimg_checks::{Answer, Checked, Names, answer_of_fault, answer_of_line};
 use uimg_engine::Fault;
 use uimg_fit_checking::Finding;
 use uimg_unpacking::{Ended, PartsEnded, Trouble, World};

@@ -7,7 +7,6 @@ ghost use Rattle.uimg_tool.specs.UnpackComplaints.{ComplainsImage, ComplainsUnpa
 ghost use Rattle.uimg_tool.specs.Unpackings.{AnswersUnpacking, HoldsPayloads, IsRight, RightAt, unpacking_of};
 ghost use Rattle.uimg_unpacking.specs.{Deeds.changes, Places.{ChangesWithin, Obeys, terms_of}};
 
-use crate::check_answers::Names;
 use crate::complaints::Complaints;
 use crate::info_program::put_object;
 use crate::json_lines::JsonOut;
@@ -16,7 +15,7 @@ use crate::unpack_answers::{Ending, answer_of_ending, status_of_trouble};
 use std::alloc::Global;
 use std::io::{BufWriter, Write};
 use uimg_base::{Source, Status};
-use uimg_checks::object_text;
+use uimg_checks::{Names, object_text};
 use uimg_cli::UnpackRequest;
 use uimg_engine::{Fault, Form, is_fit};
 use uimg_printing::Printed;

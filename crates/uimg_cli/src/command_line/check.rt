@@ -27,6 +27,9 @@ pub struct CheckRequest<'a> {
     /// Whether each image needs a hash, and each name in a configuration its image.
     pub is_strict: bool,
 
+    /// The path of a file with keys, by which each configuration must be signed.
+    pub key: Option<&'a str>,
+
     /// The paths of the images.
     pub images: Vec<&'a str>,
 
@@ -53,6 +56,8 @@ const NEED: &str = "Require a hash by this algorithm or a stronger one";
 
 const STRICT: &str = "Require hashes, images for all names, and a tree that U-Boot reads alike";
 
+const KEY: &str = "Require each configuration to be signed by the key in this file";
+
 const JSON: &str = "Print a JSON object for each image";
 
 const QUIET: &str = "Print no line for images that are ok";
@@ -70,6 +75,7 @@ pub(super) fn command<'a>(alloc: Global) -> Result<clap::Command<'a>, AllocError
     let command = titled(alloc, "check", ABOUT, CHECK_NOTES);
     let command = with_long(command, alloc, "need", "algo", NEED)?;
     let command = with_switch(command, alloc, "strict", STRICT)?;
+    let command = with_long(command, alloc, "key", "file", KEY)?;
     let command = with_long(command, alloc, "files-from", "file", FILES_FROM)?;
     let command = with_flag(command, alloc, "nuls", '0', NULS)?;
     let command = with_switch(command, alloc, "json", JSON)?;
@@ -114,10 +120,12 @@ fn request_with<'a>(
     if images.as_slice().is_empty() & is_missing(files_from) {
         return Err(WordsFault::NoImages);
     }
-    let is_strict = is_set(matches, "strict");
+    let key = text_of(matches, "key");
+    let is_strict = is_set(matches, "strict") || !is_missing(key);
     Ok(CheckRequest {
         need: least_need(is_strict, need),
         is_strict,
+        key,
         images,
         files_from,
         has_nuls: is_set(matches, "nuls"),

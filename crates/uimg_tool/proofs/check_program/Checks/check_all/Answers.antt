@@ -6,12 +6,12 @@ pub returns-in-Some-clause-told : goal.returns-in-Some-clause-told
 returns-in-Some-clause-told g c =
     let items = c.deref-path-items.result.now in
     let i = c.loop-path.path-index in
-    let each = each_left _ c.args.request.now items i _ _ c.deref-path-items.ensures.value (drop_of_length-le items {i = i} c.loop-path-test.false) c.loop-path.invariant.4 in
-    on_ok c.check_named.result (λ names. all_named _ _ c.args.request.now c.in-Some.path _ _ _ c.loop-path.invariant.2 c.in-Some.is each names) c.check_named.ensures.told
+    let each = each_left _ c.args.asked.now items i _ _ c.deref-path-items.ensures.value (drop_of_length-le items {i = i} c.loop-path-test.false) c.loop-path.invariant.4 in
+    on_ok c.check_named.result (λ names. all_named _ _ c.args.asked.now c.in-Some.path _ _ _ c.loop-path.invariant.2 c.in-Some.is each names) c.check_named.ensures.told
 
 pub returns-in-None-clause-told : goal.returns-in-None-clause-told
 returns-in-None-clause-told g c =
     let items = c.deref-path-items.result.now in
     let i = c.loop-path.path-index in
-    let each = each_left _ c.args.request.now items i _ _ c.deref-path-items.ensures.value (drop_of_length-le items {i = i} c.loop-path-test.false) c.loop-path.invariant.4 in
-    all_given _ c.args.request.now _ _ c.in-None.is each
+    let each = each_left _ c.args.asked.now items i _ _ c.deref-path-items.ensures.value (drop_of_length-le items {i = i} c.loop-path-test.false) c.loop-path.invariant.4 in
+    all_given _ c.args.asked.now _ _ c.in-None.is each

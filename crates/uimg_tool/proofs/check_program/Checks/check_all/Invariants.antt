@@ -13,5 +13,5 @@ invariant-loop-path g l =
     × (writer_buffer l.fn.self.out ≡ [] → writer_buffer l.self.out ≡ [])
     × SameFiles (g.D.World.map l.fn.world) (g.D.World.map l.world)
     × (changes (g.D.World.trace l.world) ≡ changes (g.D.World.trace l.fn.world))
-    × ((last : Told) → AnswersEach (g.D.World.map l.fn.world) l.request (map (λ path. path.now) (drop l.path-index l.path-items)) (told g.W.Write.contents l.self (g.D.World.trace l.world)) last
-    → AnswersEach (g.D.World.map l.fn.world) l.request (map (λ path. path.now) l.path-items) (told g.W.Write.contents l.fn.self (g.D.World.trace l.fn.world)) last)
+    × ((last : Told) → AnswersEach (g.D.World.map l.fn.world) l.asked (map (λ path. path.now) (drop l.path-index l.path-items)) (told g.W.Write.contents l.self (g.D.World.trace l.world)) last
+    → AnswersEach (g.D.World.map l.fn.world) l.asked (map (λ path. path.now) l.path-items) (told g.W.Write.contents l.fn.self (g.D.World.trace l.fn.world)) last)

@@ -22,11 +22,11 @@ loop-name-preserved g c =
         _,
         all_names _ before.7.0 before.7.1,
         left_next _ _ _ _ _ before.7.0 _ c.in-Ok-name.name before.6 c.in-Ok-name.is steps.2 before.7.2,
-        each_item _ _ c.args.request.now c.as_slice.result.now c.in-Ok-name.name.items before.7.0 _ _ _ c.as_slice.ensures.value before.4 before.7.3 c.in_ok-check_unless_empty-in-Ok-name.ensures.told,
+        each_item _ _ c.args.asked.now c.as_slice.result.now c.in-Ok-name.name.items before.7.0 _ _ _ c.as_slice.ensures.value before.4 before.7.3 c.in_ok-check_unless_empty-in-Ok-name.ensures.told,
       ),
     )
 
 pub returns-clause-told : goal.returns-clause-told
 returns-clause-told g c =
     let last = c.loop-name.invariant.7 in
-    (last.0, are_names _ c.args.request.now c.args.path.now (names_end c.args.request.now) _ _ last.0 refl (search rules) last.1 last.2 c.in-None.ensures.steps.2, last.3)
+    (last.0, are_names _ c.args.asked.now c.args.path.now (names_end c.args.asked.now) _ _ last.0 refl (search rules) last.1 last.2 c.in-None.ensures.steps.2, last.3)

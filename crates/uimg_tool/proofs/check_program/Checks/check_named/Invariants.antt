@@ -20,7 +20,7 @@ invariant-loop-name g l =
     × (writer_buffer l.fn.self.out ≡ [] → writer_buffer l.self.out ≡ [])
     × SameFiles files (g.D.World.map l.world)
     × (changes (g.D.World.trace l.world) ≡ changes (g.D.World.trace l.fn.world))
-    × (split_byte l.name-iterator ≡ names_end l.request)
-    × ((names : List (List ℕ)) × (list_all is_name names ≡ true) × Left (names_end l.request) whole known names
-    × AnswersEach files l.request names (after_names l.fn.path (told g.W.Write.contents l.fn.self (g.D.World.trace l.fn.world)))
+    × (split_byte l.name-iterator ≡ names_end l.asked)
+    × ((names : List (List ℕ)) × (list_all is_name names ≡ true) × Left (names_end l.asked) whole known names
+    × AnswersEach files l.asked names (after_names l.fn.path (told g.W.Write.contents l.fn.self (g.D.World.trace l.fn.world)))
     (told g.W.Write.contents l.self (g.D.World.trace l.world)))

@@ -3,6 +3,7 @@ use Rattle.std.specs.Prelude.{ℕ, min, ◌-◌, ◌^◌, List, [], ◌∷◌, c
 use Rattle.std.specs.{List.sum_by, Option.option_map}
 use Rattle.uimg_checks.specs.Finding.{check_of}
 use Rattle.uimg_checks.specs.References.{MissingSaid, missing_in}
+use Rattle.uimg_checks.specs.declared.answer.Configurations.{Configurations, TheVariants.{Signed, Unchecked}}
 use Rattle.uimg_checks.specs.declared.answer.Format.{Format}
 use Rattle.uimg_checks.specs.declared.answer.Format.TheVariants as format
 use Rattle.uimg_checks.specs.declared.finding.Checked.{Checked}
@@ -18,12 +19,14 @@ use Rattle.uimg_legacy.specs.declared.fault.LegacyFault.{LegacyFault}
 use Rattle.uimg_requests.specs.declared.command.Form.TheVariants as form
 use Rattle.uimg_strict.specs.{Headers.loose_legacy, Looseness.{LooseSaid, looseness_of}}
 use Rattle.uimg_strict.specs.declared.loose.Looseness.{Looseness}
-use Rattle.uimg_cli.specs.declared.command_line.check.CheckRequest.{CheckRequest}
+use Rattle.uimg_keys.specs.declared.keys.Keys.{Keys}
+use Rattle.uimg_strict.specs.declared.loose.Looseness.TheVariants.{Unsigned}
+use Rattle.uimg_checks.specs.declared.judging.Terms.{Terms}
+use Rattle.uimg_verifying.specs.Configurations.{unsigned_of}
 
--- A finding, with the number of the nodes of configurations if a strict check counted them; a name
--- without a node; what strictness refuses, and the node; or the fault that refuses the file.
+-- A finding, with what a strict check says of the configurations; a name without a node; what strictness refuses, and the node; or the fault that refuses the file.
 pub data Verdict : Type 0 where
-  Finds : Checked (List ℕ) → Option ℕ → Verdict
+  Finds : Checked (List ℕ) → Option Configurations → Verdict
   Lacks : MissingSaid → Verdict
   Loosens : Format → Looseness → Option (List ℕ) → Verdict
   Refuses : Fault → Verdict
@@ -45,27 +48,41 @@ abbrev pub lacks_or : Option MissingSaid → Verdict → Verdict
 lacks_or (Some said) later = Lacks said
 lacks_or None later = later
 
--- a FIT image's names, or else the finding with the number of nodes
-abbrev pub facts_verdict : Checked (List ℕ) → Result Said FitEngineFault → Verdict
-facts_verdict found (Ok said) =
-    lacks_or (missing_in said) (Finds found (Some (node_count said.configurations)))
-facts_verdict found (Err fault) = Refuses (of_fit fault)
-
 -- what strictness refuses, or else what comes later
 abbrev pub loose_or : Result (Option LooseSaid) FitEngineFault → Verdict → Verdict
 loose_or (Ok (Some said)) later = loosens said
 loose_or (Ok None) later = later
 loose_or (Err fault) later = Refuses (of_fit fault)
 
+-- a signature of each configuration by the keys, if there are keys; or else the finding with the
+-- number of nodes
+abbrev pub signed_verdict : Option Keys → List ℕ → Checked (List ℕ) → ℕ → Verdict
+signed_verdict None file found nodes = Finds found (Some (Unchecked nodes))
+signed_verdict (Some keys) file found nodes =
+    loose_or (unsigned_of keys file) (Finds found (Some Signed))
+
+-- a FIT image's names, and then its signatures
+abbrev pub facts_verdict : Option Keys → List ℕ → Checked (List ℕ) → Result Said FitEngineFault
+    → Verdict
+facts_verdict keys file found (Ok said) =
+    lacks_or (missing_in said) (signed_verdict keys file found (node_count said.configurations))
+facts_verdict keys file found (Err fault) = Refuses (of_fit fault)
+
 -- a strict check of a FIT image with this finding
-abbrev pub fit_verdict : List ℕ → Checked (List ℕ) → Verdict
-fit_verdict file found = loose_or (looseness_of file) (facts_verdict found (survey_of file))
+abbrev pub fit_verdict : Option Keys → List ℕ → Checked (List ℕ) → Verdict
+fit_verdict keys file found =
+    loose_or (looseness_of file) (facts_verdict keys file found (survey_of file))
+
+-- A legacy image has no signature.
+abbrev pub unsigned_or : Option Keys → Verdict → Verdict
+unsigned_or None later = later
+unsigned_or (Some keys) later = Loosens format.Legacy Unsigned None
 
 -- a strict check of a legacy image whose checksums are right
-abbrev pub header_verdict : Result (Option Looseness) LegacyFault → Verdict
-header_verdict (Ok (Some why)) = Loosens format.Legacy why None
-header_verdict (Ok None) = Finds checked.Right None
-header_verdict (Err fault) = Refuses (engine.Legacy fault)
+abbrev pub header_verdict : Option Keys → Result (Option Looseness) LegacyFault → Verdict
+header_verdict keys (Ok (Some why)) = Loosens format.Legacy why None
+header_verdict keys (Ok None) = unsigned_or keys (Finds checked.Right None)
+header_verdict keys (Err fault) = Refuses (engine.Legacy fault)
 
 -- whether all hash nodes are right, and each image has one
 abbrev pub is_right : {N : Type 0} → Finding N → Bool
@@ -73,20 +90,19 @@ is_right (fit.Right images nodes) = true
 is_right other = false
 
 -- a strict check looks further only if all hashes or checksums are right
-abbrev pub strict_verdict : List ℕ → Checked (List ℕ) → Verdict
-strict_verdict file (checked.Fit finding) =
-    if is_right finding then fit_verdict file (checked.Fit finding)
+abbrev pub strict_verdict : Option Keys → List ℕ → Checked (List ℕ) → Verdict
+strict_verdict keys file (checked.Fit finding) =
+    if is_right finding then fit_verdict keys file (checked.Fit finding)
     else Finds (checked.Fit finding) None
-strict_verdict file checked.Right = header_verdict (loose_legacy file)
-strict_verdict file other = Finds other None
+strict_verdict keys file checked.Right = header_verdict keys (loose_legacy file)
+strict_verdict keys file other = Finds other None
 
 -- the verdict by what is found
-abbrev pub verdict_by : Bool → List ℕ → Result (Checked (List ℕ)) Fault → Verdict
-verdict_by is_strict file (Ok found) =
-    if is_strict then strict_verdict file found else Finds found None
-verdict_by is_strict file (Err fault) = Refuses fault
+abbrev pub verdict_by : Terms → List ℕ → Result (Checked (List ℕ)) Fault → Verdict
+verdict_by terms file (Ok found) =
+    if terms.is_strict then strict_verdict terms.keys file found else Finds found None
+verdict_by terms file (Err fault) = Refuses fault
 
--- the verdict of a requested check about a file, whose first bytes decide the format
-abbrev pub verdict_of : CheckRequest → List ℕ → Verdict
-verdict_of asked file =
-    verdict_by asked.is_strict file (check_of (is_fit form.Guess file) asked.need file)
+-- the verdict of a check about a file, whose first bytes decide the format
+abbrev pub verdict_of : Terms → List ℕ → Verdict
+verdict_of terms file = verdict_by terms file (check_of (is_fit form.Guess file) terms.need file)

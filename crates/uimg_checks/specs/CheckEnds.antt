@@ -17,10 +17,8 @@ use Rattle.uimg_fit_checking.specs.declared.checking.Finding.TheVariants as fit
 use Rattle.uimg_engine.specs.FaultTexts.{code_of, text_of}
 use Rattle.uimg_engine.specs.declared.fault.Fault.{Fault}
 use Rattle.uimg_engine.specs.declared.fault.Fault.TheVariants as engine
-use Rattle.uimg_tool.specs.declared.unpack_answers.Ending.{Ending}
-use Rattle.uimg_tool.specs.declared.unpack_answers.Ending.TheVariants as ending
-use Rattle.uimg_tool.specs.Statuses.{fault_status, trouble_status}
-use Rattle.uimg_tool.specs.Verdicts.{Verdict, Finds, Lacks, Loosens, Refuses}
+use Rattle.uimg_checks.specs.FaultStatuses.{fault_status}
+use Rattle.uimg_checks.specs.Verdicts.{Verdict, Finds, Lacks, Loosens, Refuses}
 
 -- the format of the image, if a fault shows it
 abbrev pub format_of : Fault → Option Format
@@ -60,47 +58,11 @@ AnswersFault fault (Refused stop) = TellsFault fault 1 stop
 AnswersFault fault (Failed stop) = TellsFault fault 3 stop ⊎ TellsNoMemory stop
 AnswersFault fault answer = ⊥
 
--- a finding without its names
-abbrev pub nameless_fit : {N : Type 0} → Finding N → Finding ⊤
-nameless_fit (fit.Right images hashes) = fit.Right images hashes
-nameless_fit (fit.Unhashed image) = fit.Unhashed tt
-nameless_fit (fit.Wrong image hash word) = fit.Wrong tt tt word
-nameless_fit (fit.Weak image) = fit.Weak tt
-nameless_fit (fit.Overlapping image) = fit.Overlapping tt
-nameless_fit fit.NoImage = fit.NoImage
-
-abbrev pub nameless : {N : Type 0} → Checked N → Checked ⊤
-nameless (checked.Fit finding) = checked.Fit (nameless_fit finding)
-nameless checked.Right = checked.Right
-nameless checked.Damaged = checked.Damaged
-nameless checked.Weak = checked.Weak
-
--- A finding is answered as it is, unless its names cannot be read.
-abbrev pub AnswersFound : Checked Span → Option ℕ → Answer → Type 0
-AnswersFound found unchecked (Found told more) =
-    (nameless told ≡ nameless found) × (more ≡ unchecked)
-AnswersFound found unchecked (Failed stop) = AnswersFault engine.Read (Failed stop)
-AnswersFound found unchecked answer = ⊥
-
--- a check that is not strict: what is found, or the fault
-abbrev pub AnswersEnd : Result (Checked Span) Fault → Answer → Type 0
-AnswersEnd (Ok found) answer = AnswersFound found None answer
-AnswersEnd (Err fault) answer = AnswersFault fault answer
-
 -- A line without a code is answered as a refusal only if it is one.
 abbrev pub AnswersLine : Bool → Answer → Type 0
 AnswersLine is_refused (Refused stop) = IsTrue is_refused
 AnswersLine is_refused (Failed stop) = ⊤
 AnswersLine is_refused answer = ⊥
-
--- what is answered where the end of an unpacking is told by no line
-abbrev pub AnswersEnding : Ending → Answer → Type 0
-AnswersEnding (ending.Told status) answer = AnswersLine false answer
-AnswersEnding ending.Unread answer = AnswersLine false answer
-AnswersEnding ending.Weak answer = answer ≡ Found checked.Weak None
-AnswersEnding ending.NoImage answer = answer ≡ Found (checked.Fit fit.NoImage) None
-AnswersEnding (ending.Stopped fault) answer = AnswersFault fault answer
-AnswersEnding (ending.Troubled trouble) answer = AnswersLine (trouble_status trouble == 1) answer
 
 -- the names of a finding
 abbrev pub fit_names : Finding (Bor (List ℕ)) → Finding (List ℕ)
@@ -130,8 +92,8 @@ kept_names images hashes fit.NoImage = fit.NoImage
 
 -- The answer is this verdict.
 abbrev pub IsVerdict : Answer → Verdict → Type 0
-IsVerdict (Found told more) (Finds found unchecked) =
-    (names_in told ≡ found) × (more ≡ unchecked)
+IsVerdict (Found told more) (Finds found configurations) =
+    (names_in told ≡ found) × (more ≡ configurations)
 IsVerdict (Found told more) other = ⊥
 IsVerdict (answer.Missing configuration property name) (Lacks said) =
     (told_name configuration ≡ said.configuration)
@@ -152,13 +114,3 @@ Shows (answer.Missing configuration property name) verdict =
     IsVerdict (answer.Missing configuration property name) verdict
 Shows (answer.Loose shown told name) verdict = IsVerdict (answer.Loose shown told name) verdict
 Shows (Refused stop) verdict = IsVerdict (Refused stop) verdict
-
--- A missing name is answered with its property. If a configuration gives it, a name of that is
--- answered, too, unless that cannot be read.
-abbrev pub AnswersMissing : Missing → Answer → Type 0
-AnswersMissing found (answer.Missing configuration property name) =
-    (is_some configuration ≡ is_some found.configuration)
-    × (property.now ≡ property_name found.reference) × (name.now ≡ found.name.items)
-AnswersMissing found (Failed stop) =
-    (is_some found.configuration ≡ true) × AnswersFault engine.Read (Failed stop)
-AnswersMissing found other = ⊥

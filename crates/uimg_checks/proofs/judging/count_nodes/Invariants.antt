@@ -1,5 +1,5 @@
 use Rattle.std.proofs.Common.{◌≡◌, ◌-◌, ◌^◌, length, min, take, sum_by}
-use Rattle.uimg_tool.proofs.strict_answers.count_nodes.Given as goal
+use Rattle.uimg_checks.proofs.judging.count_nodes.Given as goal
 
 -- the nodes of the configurations so far
 abbrev pub invariant-loop-configuration : goal.invariant-loop-configuration

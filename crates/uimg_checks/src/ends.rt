@@ -1,31 +1,29 @@
-//! Turns the end of a check into its result.
+//! Turns the end of a check into its answer.
 
-ghost use Rattle.std.specs.Prelude.{◌≡◌, ◌∷◌, None, false, true, take, min, IfSome};
-ghost use Rattle.uimg_base.specs.{Device.SameDevice, Honest.IfHonest, Named.SameFiles};
+ghost use Rattle.std.specs.Prelude.{◌≡◌, None, true, take, min, IfSome};
+ghost use Rattle.uimg_base.specs.{Device.SameDevice, Honest.IfHonest};
 ghost use Rattle.uimg_checks.specs.{Finding.found_at, ReferenceNames.name_in_span, References.read_missing};
 ghost use Rattle.uimg_fit_checking.specs.Checks.{named_finding};
 ghost use Rattle.uimg_strict.specs.Telling.{read_loose};
-ghost use Rattle.uimg_tool.specs.CheckEnds.{AnswersFault, AnswersFound, AnswersLine, AnswersMissing, IsVerdict, Shows, fit_names, format_of, kept_names, nameless_fit, offset_of};
-ghost use Rattle.uimg_tool.specs.Verdicts.{Finds, Lacks, loosens};
-ghost use Rattle.uimg_unpacking.specs.Deeds.{Deed};
+ghost use Rattle.uimg_checks.specs.CheckEnds.{AnswersFault, AnswersLine, IsVerdict, Shows, fit_names, format_of, kept_names, offset_of};
+ghost use Rattle.uimg_checks.specs.Verdicts.{Finds, Lacks, loosens};
 
-use crate::request_fault::{REFUSED, status_of_fault};
+use crate::answer::{Answer, Configurations, Format, Stop};
+use crate::finding::Checked;
+use crate::references::Missing;
+use crate::statuses::{REFUSED, status_of_fault};
 use std::alloc::Global;
 use std::fmt::Display;
-use std::io;
-use thiserror::Error;
 use uimg_base::{Source, Span};
-use uimg_checks::{Answer, Checked, Format, Missing, Stop};
 use uimg_engine::Fault;
 use uimg_fit_checking::Finding;
 use uimg_strict::{Loose, Looseness};
-use uimg_unpacking::World;
 
 /// The longest name of a node, in bytes.
 const NAME_LEN: usize = 255;
 
 /// The path is not UTF-8, so no file was opened.
-pub(crate) const NOT_UTF8: Answer<'static> = Answer::Failed(Stop {
+pub const NOT_UTF8: Answer<'static> = Answer::Failed(Stop {
     message: "cannot read: the path is not UTF-8",
     code: None,
     format: None,
@@ -33,7 +31,7 @@ pub(crate) const NOT_UTF8: Answer<'static> = Answer::Failed(Stop {
 });
 
 /// The file has another blob when it is read again.
-pub(crate) const CHANGED: Answer<'static> = Answer::Failed(Stop {
+pub const CHANGED: Answer<'static> = Answer::Failed(Stop {
     message: "changed while it was read",
     code: None,
     format: None,
@@ -48,9 +46,9 @@ const NO_MEMORY: Answer<'static> = Answer::Failed(Stop {
     offset: None,
 });
 
-/// The names in a result, and the line of a fault.
+/// The names in an answer, and the line of a fault.
 #[derive(Drop)]
-pub(crate) struct Names {
+pub struct Names {
     alloc: Global,
     image: [u8; NAME_LEN],
     hash: [u8; NAME_LEN],
@@ -59,7 +57,8 @@ pub(crate) struct Names {
 }
 
 impl Names {
-    pub(crate) fn new(alloc: Global) -> Names {
+    /// Has no name yet.
+    pub fn new(alloc: Global) -> Names {
         Names {
             alloc,
             image: [0; NAME_LEN],
@@ -70,29 +69,9 @@ impl Names {
     }
 }
 
-pub(crate) fn answer_of_unread<'a, D: World>(
-    world: &mut D,
-    path: &str,
-    names: &'a mut Names,
-) -> Answer<'a>
-    ensures answers { AnswersLine false result }
-    ensures same { SameFiles (D.map world.old) (D.map world.new) }
-    ensures asked { D.trace world.new ≡ Deed.Explains path.now ∷ D.trace world.old }
-{
-    match world.reason_unread(path) {
-        Some(reason) => answer_of_line(&Unread(reason), false, names),
-        None => answer_of_line(&"cannot read: it can be opened now", false, names),
-    }
-}
-
-// Why a file could not be opened.
-#[derive(Debug, Drop, Error)]
-#[error("cannot read: {0}")]
-struct Unread(io::Error);
-
-/// A line without a code means that the image is refused, or else that a read, a write or the like
-/// failed.
-pub(crate) fn answer_of_line<'a, D: Display>(
+/// Answers by a line without a code: that the image is refused, or else that a read, a write or the
+/// like failed. It says so, too, if memory for the line is refused.
+pub fn answer_of_line<'a, D: Display>(
     line: &D,
     is_refused: bool,
     names: &'a mut Names,
@@ -116,51 +95,47 @@ pub(crate) fn answer_of_line<'a, D: Display>(
     }
 }
 
-/// Without a count of the nodes of configurations none is reported. The names are read from the
-/// source; if a read fails, that is the result.
+/// The names are read from the source; if a read fails, that is the result.
 pub(crate) fn answer_of_found<'a, S: Source>(
     found: Checked<Span>,
-    unchecked: Option<u64>,
+    configurations: Option<Configurations>,
     source: &mut S,
     names: &'a mut Names,
 ) -> Answer<'a>
-    ensures any { AnswersFound found unchecked result }
-    ensures shows { IfHonest S.device source
-        (λ file. Shows result (Finds (found_at file found) unchecked)) }
+    ensures { IfHonest S.device source
+        (λ file. Shows result (Finds (found_at file found) configurations)) }
 {
     match found {
-        Checked::Fit(finding) => answer_of_finding(finding, unchecked, source, names),
-        Checked::Right => Answer::Found(Checked::Right, unchecked),
-        Checked::Damaged => Answer::Found(Checked::Damaged, unchecked),
-        Checked::Weak => Answer::Found(Checked::Weak, unchecked),
+        Checked::Fit(finding) => answer_of_finding(finding, configurations, source, names),
+        Checked::Right => Answer::Found(Checked::Right, configurations),
+        Checked::Damaged => Answer::Found(Checked::Damaged, configurations),
+        Checked::Weak => Answer::Found(Checked::Weak, configurations),
     }
 }
 
-#[tactic(auto, using(crate::proofs::VerdictLaws::unread_found, crate::proofs::VerdictLaws::unread_shows))]
+#[tactic(auto, using(crate::proofs::VerdictLaws::unread_shows))]
 pub(crate) fn answer_of_finding<'a, S: Source>(
     finding: Finding<Span>,
-    unchecked: Option<u64>,
+    configurations: Option<Configurations>,
     source: &mut S,
     names: &'a mut Names,
 ) -> Answer<'a>
-    ensures any { AnswersFound (Checked.Fit finding) unchecked result }
-    ensures shows { IfHonest S.device source
-        (λ file. Shows result (Finds (Checked.Fit (named_finding file finding)) unchecked)) }
+    ensures { IfHonest S.device source
+        (λ file. Shows result (Finds (Checked.Fit (named_finding file finding)) configurations)) }
 {
     if !read_names(finding, source, names) {
         return answer_of_fault(Fault::Read, names);
     }
-    Answer::Found(Checked::Fit(named(finding, names)), unchecked)
+    Answer::Found(Checked::Fit(named(finding, names)), configurations)
 }
 
-#[tactic(auto, using(crate::proofs::VerdictLaws::unread_missing))]
+#[tactic(auto, using(crate::proofs::VerdictLaws::unread_shows))]
 pub(crate) fn answer_of_missing<'a, S: Source>(
     missing: Missing,
     source: &mut S,
     names: &'a mut Names,
 ) -> Answer<'a>
-    ensures any { AnswersMissing missing result }
-    ensures shows { IfHonest S.device source
+    ensures { IfHonest S.device source
         (λ file. Shows result (Lacks (read_missing file missing))) }
 {
     let Missing {
@@ -217,7 +192,10 @@ pub(crate) fn answer_of_header<'a>(why: Looseness) -> Answer<'a>
     }
 }
 
-pub(crate) fn answer_of_fault<'a>(fault: Fault, names: &'a mut Names) -> Answer<'a>
+/// Answers by a fault, with its line, its code, and the format and the offset if it has them: that the
+/// image is refused, if the fault's exit status is 1, or else that the check failed. It failed, too, if
+/// memory for the line is refused.
+pub fn answer_of_fault<'a>(fault: Fault, names: &'a mut Names) -> Answer<'a>
     ensures { AnswersFault fault result }
 {
     let Ok(message) = format!(in names.alloc; "{fault}") else {
@@ -278,8 +256,7 @@ fn read_names<S: Source>(finding: Finding<Span>, source: &mut S, names: &mut Nam
 }
 
 fn named<'a>(finding: Finding<Span>, names: &'a Names) -> Finding<&'a [u8]>
-    ensures any { nameless_fit result ≡ nameless_fit finding }
-    ensures names { fit_names result ≡ kept_names names.now.image names.now.hash finding }
+    ensures { fit_names result ≡ kept_names names.now.image names.now.hash finding }
 {
     match finding {
         Finding::Right { images, hashes } => Finding::Right { images, hashes },
