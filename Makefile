@@ -13,15 +13,16 @@ all: bin/uimg
 
 # The processor that programs and libraries are compiled for, by default that of the last build, and
 # x86-64-v2 at first. CPU=x86-64-v3 sums faster.
-CPU ?= $(patsubst bin/processor-%,%,$(wildcard bin/processor-*))
+CPU ?= $(filter-out default,$(patsubst bin/processor-%,%,$(wildcard bin/processor-*)))
 export CPU
+PROCESSOR = bin/processor-$(or $(CPU),default)
 # For a release, only the one of the command line or the environment counts.
 ASKED = $(if $(filter file,$(origin CPU)),,$(CPU))
 
-bin/processor-$(CPU):
+$(PROCESSOR):
 	@mkdir -p bin && rm -f bin/processor-* && touch $@
 
-bin/uimg: $(shell scripts/sources.sh uimg) bin/processor-$(CPU)
+bin/uimg: $(shell scripts/sources.sh uimg) $(PROCESSOR)
 	@scripts/build.sh uimg
 
 bin/uimg_peers: $(shell scripts/sources.sh uimg_peers)
@@ -71,7 +72,7 @@ contracts:
 lib: lib/libuimg.a
 	@echo "lib/ is up to date"
 
-lib/libuimg.a: $(shell scripts/sources.sh uimg_c) $(wildcard library/* include/*) bin/processor-$(CPU)
+lib/libuimg.a: $(shell scripts/sources.sh uimg_c) $(wildcard library/* include/*) $(PROCESSOR)
 	@scripts/lib.sh
 
 ## make lib-test tests the library from C and Python against the program; tries the bindings for Rust,

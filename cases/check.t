@@ -506,6 +506,23 @@ libfdt's fdt_check_full refuses a block that begins in the header, a reservation
   k.itb: unsound-blob
   [1]
 
+libfdt looks for the root at the start of the structure block alone, not behind FDT_NOP:
+
+  $ fit "a { data = \"abc\"; $hash };" && python3 - <<'END' && strict
+  > import struct
+  > image = bytearray(open("k.itb", "rb").read())
+  > fields = list(struct.unpack(">10I", image[:40]))
+  > image[fields[2]:fields[2]] = b"\0\0\0\4"
+  > # the sizes of the blob and of the structure block, and the offset of the strings behind it
+  > for field in (1, 9, 3):
+  >     fields[field] += 4
+  > image[:40] = struct.pack(">10I", *fields)
+  > open("k.itb", "wb").write(image)
+  > END
+  k.itb: ok 1 payload, 1 hash
+  k.itb: unsound-blob
+  [1]
+
 A legacy image needs data, codes of image.h, and parts that end in the data. `header AT BYTE` changes a byte of a header:
 
   $ header() {

@@ -183,7 +183,8 @@ Helps
     unsigned unknown-signature weak-signature signed-strings signed-nodes
     signature-length signature-range bad-signature
                  With --key: this configuration is not signed by the key; or the
-                 FIT has none, or the image is a legacy image
+                 FIT has none, or U-Boot verifies no signature of it, or the image
+                 is a legacy image
     overlapping  With this image, the payloads to hash are longer than the file
     refused      The image is refused, with this fault
     failed       The file cannot be opened, a read failed, or memory ran out

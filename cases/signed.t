@@ -35,6 +35,27 @@ A payload, properties and a signature node that were changed:
   changed.itb: unknown-signature board-1
   [1]
 
+FDT_NOP between the end of the root and FDT_END, which no signature covers, and which U-Boot refuses:
+
+  $ python3 - <<'END' && uimg check --strict nop.itb && uimg check --key dev.pem nop.itb
+  > import struct
+  > image = bytearray(open("signed.itb", "rb").read())
+  > fields = list(struct.unpack(">10I", image[:40]))
+  > end = fields[2] + fields[9] - 4
+  > image[end:end] = b"\0\0\0\4"
+  > # the sizes of the blob and of the structure block, and the offset of the strings behind it
+  > for field in (1, 9, 3):
+  >     fields[field] += 4
+  > image[:40] = struct.pack(">10I", *fields)
+  > open("nop.itb", "wb").write(image)
+  > END
+  nop.itb: ok 2 payloads, 2 hashes, 2 nodes of configurations unchecked
+  nop.itb: signed-nodes
+  [1]
+  $ uimg check --json --key dev.pem nop.itb
+  {"path":"nop.itb","status":1,"verdict":"signed-nodes","format":"fit"}
+  [1]
+
 Images without a signature:
 
   $ printf abc > abc.bin && SOURCE_DATE_EPOCH=0 uimg mkimage -d abc.bin kernel.img > listing
@@ -78,7 +99,7 @@ No key is required for configurations, or one is required for images; or a value
   uimg: image.dtb: a key in /signature is required for images, whose signatures are not checked
   [3]
   $ LC_ALL=C sed 's/n0-inverse/no-inverse/' control.dtb > odd.dtb && uimg check --key odd.dtb signed.itb
-  uimg: odd.dtb: not a key that U-Boot takes: 2048, 3072 or 4096 bits, an odd exponent above 2
+  uimg: odd.dtb: a key in /signature lacks a property, or has a wrong one
   [3]
   $ head -c 400 control.dtb > cut.dtb && uimg check --key cut.dtb signed.itb
   uimg: cut.dtb: neither an RSA public key in PEM nor a devicetree blob
@@ -88,3 +109,46 @@ No key is required for configurations, or one is required for images; or a value
   
   For more information, try '--help'.
   [2]
+
+unpack with --key checks the whole image first, and keeps nothing of one that the key does not sign:
+
+  $ mkdir kept empty && uimg unpack -C kept --key dev.pem signed.itb && ls kept
+  kernel: 4 bytes, sha256 dc1114cd074914bd872cc1f9a23ec910ea2203bc79779ab2e17da25782a624fc
+  board: 5 bytes, sha256 724643df68eda64051eb364fcdde3a5d9b94582656797261af5641278a7eb664
+  board
+  kernel
+  $ uimg unpack -C kept --only board --force --key control.dtb signed.itb
+  board: 5 bytes, sha256 724643df68eda64051eb364fcdde3a5d9b94582656797261af5641278a7eb664
+  $ uimg unpack -C empty --key other.pem signed.itb
+  uimg: signed.itb: bad-signature board-1
+  [1]
+  $ uimg unpack -C empty --keep-good --key dev.pem changed.itb
+  uimg: changed.itb: unknown-signature board-1
+  [1]
+  $ uimg unpack -C empty --key dev.pem kernel.img
+  uimg: kernel.img: unsigned
+  [1]
+  $ uimg unpack -C empty --key dev.pem --need sha512 signed.itb
+  uimg: signed.itb: weak kernel
+  [1]
+  $ uimg unpack -C empty --key none.pem signed.itb
+  uimg: cannot read none.pem: No such file or directory (os error 2)
+  [3]
+  $ uimg unpack -C empty --key dev.pem none.itb
+  uimg: cannot read none.itb: No such file or directory (os error 2)
+  [3]
+
+spare-signed.itb is the same image with another one, spare, that no configuration names:
+
+  $ cp "$TESTDIR/files/spare-signed.itb" spare.itb && uimg check --key dev.pem spare.itb
+  spare.itb: ok 3 payloads, 3 hashes, all configurations signed
+  $ uimg unpack -C empty --key dev.pem spare.itb
+  uimg: spare.itb: unsigned spare
+  [1]
+  $ uimg unpack -C empty --only kernel --key dev.pem spare.itb
+  uimg: spare.itb: unsigned spare
+  [1]
+  $ uimg unpack --json -C empty --key dev.pem spare.itb
+  {"path":"spare.itb","status":1,"verdict":"unsigned","format":"fit","node":"spare"}
+  [1]
+  $ ls -A empty

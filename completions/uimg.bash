@@ -43,7 +43,7 @@ _uimg() {
                 --max-files) return ;;
                 --max-bytes) return ;;
             esac
-            test "${current#-}" = "$current" || { COMPREPLY=($(compgen -W '-C --only --need --force --keep-good --no-sync --max-files --max-bytes --json --clean -h --help' -- "$current")); return; }
+            test "${current#-}" = "$current" || { COMPREPLY=($(compgen -W '-C --only --need --key --force --keep-good --no-sync --max-files --max-bytes --json --clean -h --help' -- "$current")); return; }
             ;;
         info)
             test "${current#-}" = "$current" || { COMPREPLY=($(compgen -W '--json -h --help' -- "$current")); return; }

@@ -38,6 +38,7 @@ complete -c uimg -n __fish_use_subcommand -f -a unpack -d 'Write the payloads of
 complete -c uimg -n '__fish_seen_subcommand_from unpack' -s C -x -a '(__fish_complete_directories)' -d 'Write the files to this folder, which must exist'
 complete -c uimg -n '__fish_seen_subcommand_from unpack' -l only -x -d 'Unpack only the payload of the image of this name, or one part: image-0'
 complete -c uimg -n '__fish_seen_subcommand_from unpack' -l need -x -a 'crc32 md5 sha1 sha256 sha384 sha512' -d 'Require a hash by this algorithm or a stronger one'
+complete -c uimg -n '__fish_seen_subcommand_from unpack' -l key -r -d 'Unpack only if each configuration is signed by the key in this file'
 complete -c uimg -n '__fish_seen_subcommand_from unpack' -l force -d 'Replace files that exist'
 complete -c uimg -n '__fish_seen_subcommand_from unpack' -l keep-good -d 'Keep the good payloads if another one is refused'
 complete -c uimg -n '__fish_seen_subcommand_from unpack' -l no-sync -d 'Do not wait until the files are on the disk'

@@ -122,14 +122,15 @@ uint32_t uimg_check_strict(const uint8_t *image, size_t image_size, uint32_t nee
    - a control devicetree of U-Boot, as `mkimage -K` completes it, of at most 1 MiB. Its keys are the nodes in
      /signature whose property `required` is "conf". Each of them must have signed each configuration, or one of them,
      if the property `required-mode` of /signature is "any".
-   A key is RSA of 2048, 3072 or 4096 bits, with an odd exponent above 2.
+   A key is RSA of 2048, 3072 or 4096 bits, with an odd exponent above 2; in a devicetree with all that `mkimage -K`
+   writes of it.
 
    Returns report->status, which is
    - UIMG_DONE only if uimg_check_strict returns it, the FIT has a configuration, and each configuration has a signature
      by the keys over SHA-256, SHA-384 or SHA-512,
    - UIMG_NOT_RIGHT with a fault from S17 to S24, whose line has the reason, as "S24 bad-signature", if a configuration
      has none, or the FIT no configuration; with S17 for a legacy image, which has no signatures,
-   - UIMG_BAD_KEYS if `keys` is neither, or has no such key, whatever the image is,
+   - UIMG_BAD_KEYS if `keys` is neither, or has no such key, or another one, whatever the image is,
    - else that of uimg_check_strict.
 
    A signature covers the root, the configuration, and the images that it names, with their hash nodes. An image that no

@@ -9,7 +9,7 @@ import itertools
 from tokens import BEGIN, END, PROP, Blob, cells
 
 SIGNATURE = (b"", b"signature")
-REQUIRED = (None, b"conf\0", b"image\0", b"", b"conf", b"Conf\0", b"conf\0x")
+REQUIRED = (None, b"conf\0", b"image\0", b"", b"conf", b"image", b"Conf\0", b"conf\0x")
 MODES = (None, b"any\0", b"all\0", b"ANY\0", b"any\0x", b"")
 PROPERTIES = {
     b"algo": (None, b"sha1,rsa2048\0", b"sha256,rsa2048", b"sha256,rsa2048\0x", b"SHA256,RSA2048\0", b"sha512,rsa2048\0", b"sha256,rsa4096\0", b""),
@@ -55,6 +55,9 @@ def trees(base):
     for first, second, mode in itertools.product(REQUIRED[:4], REQUIRED[:3], MODES):
         keys = [key_node(blob, b"dev", first), key_node(blob, b"other", second)]
         yield f"dev {first}, other {second}, mode {mode}", tree(base, mode, keys)
+    for first, second in itertools.product(REQUIRED, REQUIRED):
+        keys = [key_node(blob, b"dev", first), key_node(blob, b"other", second)]
+        yield f"dev {first}, other {second}", tree(base, None, keys)
     for required in REQUIRED:
         yield f"dev {required} alone", tree(base, None, [key_node(blob, b"dev", required)])
     dev, other = (key_node(blob, it, b"conf\0") for it in (b"dev", b"other"))
@@ -77,5 +80,8 @@ def trees(base):
     yield "no signature node", bare.bytes(is_moved=True)
     bare.tokens = [(BEGIN, b""), (BEGIN, b"signature@1"), *dev, (END,), (END,)]
     yield "a signature node with a unit address", bare.bytes(is_moved=True)
+    for first, second in ((b"signature@1", b"signature"), (b"signature", b"signature@1"), (b"signatures", b"signature")):
+        bare.tokens = [(BEGIN, b""), (BEGIN, first), *other, (END,), (BEGIN, second), *dev, (END,), (END,)]
+        yield f"{first} before {second}", bare.bytes(is_moved=True)
     bare.tokens = [(BEGIN, b""), (BEGIN, b"signature"), *other, (END,), (BEGIN, b"signature"), *dev, (END,), (END,)]
     yield "two signature nodes", bare.bytes(is_moved=True)

@@ -18,6 +18,7 @@ import zlib
 
 TOP = os.path.dirname(os.path.dirname(os.path.abspath(__file__)))
 FARM = os.path.join(TOP, "examples", "farm", "check-farm.sh")
+KEY = os.path.join(TOP, "examples", "dev.pem")
 
 sys.path.insert(0, os.path.join(TOP, "bench"))
 import fits  # noqa: E402
@@ -125,10 +126,11 @@ def changed_cases(program, names, paths, farm):
 
 
 def settings_cases(program, few, folder):
-    """NEED, STRICT and ALL."""
+    """NEED, STRICT, KEY and ALL."""
     for name, options, settings in (
         ("needs", ("--need", "sha256"), {"NEED": "sha256"}),
         ("strict", ("--strict",), {"STRICT": "1"}),
+        ("signed", ("--key", KEY), {"KEY": KEY}),
         ("both", ("--strict", "--need", "crc32"), {"STRICT": "1", "NEED": "crc32"}),
     ):
         farm = Farm(program, few, os.path.join(folder, name), **settings)

@@ -500,7 +500,7 @@ def try_unpacking(program, paths, validator, folder):
             path.decode()
         except UnicodeDecodeError:
             continue
-        for options in ([], ["--keep-good"], ["--need", "sha256"]):
+        for options in ([], ["--keep-good"], ["--need", "sha256"], ["--key", KEY]):
             try:
                 told += judge_unpacked(program, path, validator, folder, [*options, "--no-sync"])
             except Exception as error:

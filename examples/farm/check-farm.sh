@@ -5,15 +5,16 @@
 #
 # The same command again continues a run. It checks a batch again if the batch is not complete, or if
 # one of its images failed or has changed since its check, by size and change time. It refuses a
-# FOLDER of another LIST, program, NEED or STRICT (status 2).
+# FOLDER of another LIST, program, NEED, STRICT or KEY (status 2).
 #
 # OPTIONs go to parallel: --jobs 2, --bar, or --sshlogin one,two,: if ssh reaches each host without a
-# prompt, and the images, FOLDER and the program have the same paths there.
+# prompt, and the images, FOLDER, KEY and the program have the same paths there.
 #
 # Environment:
 #   UIMG      the program [uimg]
 #   NEED      an algorithm for --need
 #   STRICT=1  uses --strict
+#   KEY       a file of keys for --key
 #   ALL=1     checks all images again
 #   BATCH     images that one process checks [500]; more pays for small images and several hosts
 #
@@ -48,6 +49,7 @@ uimg=$(command -v "${UIMG:-uimg}") || say "there is no ${UIMG:-uimg}"
 options=--json
 on "${STRICT:-0}" && options="$options --strict"
 test -z "${NEED:-}" || options="$options --need $(quoted "$NEED")"
+test -z "${KEY:-}" || options="$options --key $(quoted "$KEY")"
 check="$(quoted "$(realpath "$uimg")") check $options --allow-empty --files-from"
 eval "$check /dev/null" || exit 2
 test -r "$list" || say "cannot read $list"
@@ -60,7 +62,7 @@ folder=$(cd "$folder" && pwd) || exit 2
 # check. A status of 1 is a result. Only 3, of an image that failed or of the job itself, is a
 # failure, after which the next run repeats the batch.
 cat > "$folder/job.new" << END
-# $(sha256sum < "$(realpath "$uimg")")
+# $(sha256sum < "$(realpath "$uimg")") $(sha256sum < "${KEY:-/dev/null}")
 cd $(quoted "$PWD") && farm=$(quoted "$folder") && part="\$farm/parts/\$1.\$(uname -n).\$\$" || exit 3
 cat "\$farm/states/\$1" > "\$part" || exit 3
 $check "\$farm/batches/\$1" >> "\$part"
@@ -74,7 +76,7 @@ END
 # Batches are cut once. Another list, or other settings, need another folder.
 if test -d "$folder/batches"; then
     cmp -s "$list" "$folder/list" || say "$folder is of another list"
-    cmp -s "$folder/job.new" "$folder/job" || say "$folder is of another program, folder, NEED or STRICT: $folder/job"
+    cmp -s "$folder/job.new" "$folder/job" || say "$folder is of another program, folder, NEED, STRICT or KEY: $folder/job"
     rm -f "$folder/job.new"
 else
     rm -rf "$folder/batches.new" && mkdir "$folder/batches.new" && cp "$list" "$folder/list" || exit 2

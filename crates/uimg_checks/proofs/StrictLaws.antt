@@ -28,30 +28,33 @@ use Rattle.uimg_strict.specs.{Looseness.{LooseSaid, looseness_of}, Telling.{Tell
 use Rattle.uimg_strict.specs.declared.loose.Loose.{Loose}
 use Rattle.uimg_checks.specs.CheckEnds.{AnswersFault, Shows}
 use Rattle.uimg_checks.specs.StrictEnds.{TellsFurther}
-use Rattle.uimg_checks.specs.Verdicts.{Verdict, Finds, facts_verdict, fit_verdict, is_right, lacks_or, loose_or, node_count, signed_verdict, strict_verdict}
-use Rattle.uimg_checks.specs.declared.judging.Further.{Further}
+use Rattle.uimg_checks.specs.Verdicts.{Verdict, Finds, covered_or, facts_verdict, fit_verdict, is_right, lacks_or, loose_or, node_count, signed_by, signed_verdict, strict_verdict}
+use Rattle.uimg_checks.specs.declared.answer.Configurations.TheVariants.{Signed}
 use Rattle.uimg_keys.specs.declared.keys.Keys.{Keys}
+use Rattle.uimg_verifying.specs.Configurations.{TellsUnsigned, unsigned_of}
+use Rattle.uimg_checks.specs.declared.judging.Further.{Further}
+use Rattle.uimg_checks.specs.declared.judging.Terms.{Terms}
 use Rattle.uimg_checks.proofs.VerdictLaws.{fault_shown, over, told_fault, unread_shows}
 
-by_looseness : (keys : Option Keys) (file : List ℕ) (found : Checked (List ℕ)) (r : Result (Option LooseSaid) FitEngineFault) → looseness_of file ≡ r
-    → fit_verdict keys file found ≡ loose_or r (facts_verdict keys file found (survey_of file))
-by_looseness keys file found r is = ap (λ (it : Result (Option LooseSaid) FitEngineFault). loose_or it (facts_verdict keys file found (survey_of file))) is
+by_looseness : (terms : Terms) (file : List ℕ) (found : Checked (List ℕ)) (r : Result (Option LooseSaid) FitEngineFault) → looseness_of file ≡ r
+    → fit_verdict terms file found ≡ loose_or r (facts_verdict terms file found (survey_of file))
+by_looseness terms file found r is = ap (λ (it : Result (Option LooseSaid) FitEngineFault). loose_or it (facts_verdict terms file found (survey_of file))) is
 
-by_facts : (keys : Option Keys) (file : List ℕ) (found : Checked (List ℕ)) (r : Result Said FitEngineFault) → TellsLooseness file (Ok None) → survey_of file ≡ r
-    → fit_verdict keys file found ≡ facts_verdict keys file found r
-by_facts keys file found r tight is = by_looseness keys file found (Ok None) tight ∙ ap (facts_verdict keys file found) is
+by_facts : (terms : Terms) (file : List ℕ) (found : Checked (List ℕ)) (r : Result Said FitEngineFault) → TellsLooseness file (Ok None) → survey_of file ≡ r
+    → fit_verdict terms file found ≡ facts_verdict terms file found r
+by_facts terms file found r tight is = by_looseness terms file found (Ok None) tight ∙ ap (facts_verdict terms file found) is
 
 -- the verdict by the facts of a survey
-surveyed : (keys : Option Keys) (d e f : Device) (survey : Survey) (missing : Option Missing) → SameDevice d e → SameDevice e f → (IsTrue d.honest → TellsLooseness d.bytes (Ok None))
+surveyed : (terms : Terms) (d e f : Device) (survey : Survey) (missing : Option Missing) → SameDevice d e → SameDevice e f → (IsTrue d.honest → TellsLooseness d.bytes (Ok None))
     → (IsTrue e.honest → Surveys e.bytes (Ok survey)) → (IsTrue f.honest → TellsMissing f.bytes (missing_in (read_survey f.bytes survey)) (Ok missing))
     → IsTrue d.honest → (found : Checked (List ℕ))
-    → fit_verdict keys d.bytes found ≡ lacks_or (option_map (read_missing d.bytes) missing) (signed_verdict keys d.bytes found (node_count (read_survey d.bytes survey).configurations))
-surveyed keys d e f survey missing first more tight told lost honest found =
+    → fit_verdict terms d.bytes found ≡ lacks_or (option_map (read_missing d.bytes) missing) (signed_verdict terms d.bytes found (node_count (read_survey d.bytes survey).configurations))
+surveyed terms d e f survey missing first more tight told lost honest found =
     let said = over d e (λ file. Surveys file (Ok survey)) first told honest in
     let lacks = over d e (λ file. TellsMissing file (missing_in (read_survey file survey)) (Ok missing)) first
     (over e f (λ file. TellsMissing file (missing_in (read_survey file survey)) (Ok missing)) more lost) honest in
-    by_facts keys d.bytes found (Ok (read_survey d.bytes survey)) (tight honest) said
-    ∙ ap (λ (it : Option _). lacks_or it (signed_verdict keys d.bytes found (node_count (read_survey d.bytes survey).configurations))) (sym lacks)
+    by_facts terms d.bytes found (Ok (read_survey d.bytes survey)) (tight honest) said
+    ∙ ap (λ (it : Option _). lacks_or it (signed_verdict terms d.bytes found (node_count (read_survey d.bytes survey).configurations))) (sym lacks)
 
 nodes_sum : (file : List ℕ) (cs : List ConfigurationFacts) → sum_by (λ (c : ConfigurationSaid). length c.nodes) (map (read_configuration file) cs) ≡ sum_by (λ (c : ConfigurationFacts). length c.nodes.items) cs
 nodes_sum file [] = refl
@@ -61,21 +64,35 @@ nodes_sum file (c ∷ cs) =
     ∙ sym (sum_by-cons (λ (it : ConfigurationFacts). length it.nodes.items) c cs)
 
 -- the verdict by signatures, where nothing is loose or missing
-pub signatures_left : (keys : Option Keys) (d e f g : Device) (survey : Survey) (nodes : ℕ) (loose : Option Loose) (missing : Option Missing) (result : Result Further SurveyFault)
+pub signatures_left : (terms : Terms) (d e f g : Device) (survey : Survey) (nodes : ℕ) (loose : Option Loose) (missing : Option Missing) (result : Result Further SurveyFault)
     → loose ≡ None → missing ≡ None → SameDevice d e → SameDevice e f → SameDevice f g
     → (IsTrue d.honest → TellsLooseness d.bytes (Ok loose)) → (IsTrue e.honest → Surveys e.bytes (Ok survey))
     → (IsTrue f.honest → TellsMissing f.bytes (missing_in (read_survey f.bytes survey)) (Ok missing))
     → nodes ≡ min (sum_by (λ (c : ConfigurationFacts). length c.nodes.items) survey.configurations.items) (2 ^ 64 - 1)
-    → (IsTrue g.honest → (found : Checked (List ℕ)) → TellsFurther (signed_verdict keys g.bytes found nodes) g.bytes found result)
-    → IsTrue d.honest → (found : Checked (List ℕ)) → TellsFurther (fit_verdict keys d.bytes found) d.bytes found result
-signatures_left keys d e f g survey nodes loose missing result no_loose no_missing first more last tight told lost counted signed honest found =
-    let same = surveyed keys d e f survey None first more (λ h. subst (λ (l : Option Loose). TellsLooseness d.bytes (Ok l)) no_loose (tight h)) told
+    → (IsTrue g.honest → (found : Checked (List ℕ)) → TellsFurther (signed_verdict terms g.bytes found nodes) g.bytes found result)
+    → IsTrue d.honest → (found : Checked (List ℕ)) → TellsFurther (fit_verdict terms d.bytes found) d.bytes found result
+signatures_left terms d e f g survey nodes loose missing result no_loose no_missing first more last tight told lost counted signed honest found =
+    let same = surveyed terms d e f survey None first more (λ h. subst (λ (l : Option Loose). TellsLooseness d.bytes (Ok l)) no_loose (tight h)) told
     (λ h. subst (λ (m : Option Missing). TellsMissing f.bytes (missing_in (read_survey f.bytes survey)) (Ok m)) no_missing (lost h)) honest found
-    ∙ ap (signed_verdict keys d.bytes found) (ap (λ (n : ℕ). min n (2 ^ 64 - 1)) (nodes_sum d.bytes survey.configurations.items) ∙ sym counted) in
-    let further = over d e (λ file. (found : Checked (List ℕ)) → TellsFurther (signed_verdict keys file found nodes) file found result) first
-    (over e f (λ file. (found : Checked (List ℕ)) → TellsFurther (signed_verdict keys file found nodes) file found result) more
-    (over f g (λ file. (found : Checked (List ℕ)) → TellsFurther (signed_verdict keys file found nodes) file found result) last signed)) honest found in
+    ∙ ap (signed_verdict terms d.bytes found) (ap (λ (n : ℕ). min n (2 ^ 64 - 1)) (nodes_sum d.bytes survey.configurations.items) ∙ sym counted) in
+    let further = over d e (λ file. (found : Checked (List ℕ)) → TellsFurther (signed_verdict terms file found nodes) file found result) first
+    (over e f (λ file. (found : Checked (List ℕ)) → TellsFurther (signed_verdict terms file found nodes) file found result) more
+    (over f g (λ file. (found : Checked (List ℕ)) → TellsFurther (signed_verdict terms file found nodes) file found result) last signed)) honest found in
     subst (λ (v : Verdict). TellsFurther v d.bytes found result) (sym same) further
+
+-- the verdict about the images, where each configuration is signed
+pub images_left : (terms : Terms) (keys : Keys) (d e : Device) (nodes : ℕ) (loose : Option Loose) (result : Result Further SurveyFault) → terms.keys ≡ Some keys → loose ≡ None → SameDevice d e
+    → (IsTrue d.honest → TellsUnsigned keys d.bytes (Ok loose))
+    → (IsTrue e.honest → (found : Checked (List ℕ)) → TellsFurther (covered_or terms.covers_images e.bytes (Finds found (Some Signed))) e.bytes found result)
+    → IsTrue d.honest → (found : Checked (List ℕ)) → TellsFurther (signed_verdict terms d.bytes found nodes) d.bytes found result
+images_left terms keys d e nodes loose result are no_loose same signed covered honest found =
+    let later = covered_or terms.covers_images d.bytes (Finds found (Some Signed)) in
+    let further = over d e (λ file. (found : Checked (List ℕ)) → TellsFurther (covered_or terms.covers_images file (Finds found (Some Signed))) file found result) same covered honest found in
+    let all : unsigned_of keys d.bytes ≡ Ok None = subst (λ (l : Option Loose). TellsUnsigned keys d.bytes (Ok l)) no_loose (signed honest) in
+    let is : signed_verdict terms d.bytes found nodes ≡ later =
+    ap (λ (k : Option Keys). signed_by k terms.covers_images d.bytes found nodes) are
+    ∙ ap (λ (r : Result (Option LooseSaid) FitEngineFault). loose_or r later) all in
+    subst (λ (v : Verdict). TellsFurther v d.bytes found result) (sym is) further
 
 shown_stop : (verdict : Verdict) (file : List ℕ) (found : Checked (List ℕ)) (fault : FitEngineFault) (answer : Answer) → TellsFurther verdict file found (Err (Stopped fault)) → AnswersFault (of_fit fault) answer
     → Shows answer verdict
@@ -93,20 +110,20 @@ stopped_shown verdict file found stopped fault told answer stops is further answ
     shown_stop verdict file found fault answer (subst (λ (f : SurveyFault). TellsFurther verdict file found (Err f)) stops further) (subst (λ (f : Fault). AnswersFault f answer) is answers)
 
 -- a strict check looks further if all is right
-pub right_shown : (keys : Option Keys) (file : List ℕ) (finding : Finding Span) (answer : Answer) → is_right finding ≡ true → Shows answer (fit_verdict keys file (checked.Fit (named_finding file finding)))
-    → Shows answer (strict_verdict keys file (checked.Fit (named_finding file finding)))
-right_shown keys file (fit.Right images nodes) answer right shows = shows
-right_shown keys file (fit.Unhashed image) answer right shows = absurd (true≢false (sym right))
-right_shown keys file (fit.Wrong image hash word) answer right shows = absurd (true≢false (sym right))
-right_shown keys file (fit.Weak image) answer right shows = absurd (true≢false (sym right))
-right_shown keys file (fit.Overlapping image) answer right shows = absurd (true≢false (sym right))
-right_shown keys file fit.NoImage answer right shows = absurd (true≢false (sym right))
+pub right_shown : (terms : Terms) (file : List ℕ) (finding : Finding Span) (answer : Answer) → is_right finding ≡ true → Shows answer (fit_verdict terms file (checked.Fit (named_finding file finding)))
+    → Shows answer (strict_verdict terms file (checked.Fit (named_finding file finding)))
+right_shown terms file (fit.Right images nodes) answer right shows = shows
+right_shown terms file (fit.Unhashed image) answer right shows = absurd (true≢false (sym right))
+right_shown terms file (fit.Wrong image hash word) answer right shows = absurd (true≢false (sym right))
+right_shown terms file (fit.Weak image) answer right shows = absurd (true≢false (sym right))
+right_shown terms file (fit.Overlapping image) answer right shows = absurd (true≢false (sym right))
+right_shown terms file fit.NoImage answer right shows = absurd (true≢false (sym right))
 
-pub other_shown : (keys : Option Keys) (file : List ℕ) (finding : Finding Span) (answer : Answer) → is_right finding ≡ false → Shows answer (Finds (checked.Fit (named_finding file finding)) None)
-    → Shows answer (strict_verdict keys file (checked.Fit (named_finding file finding)))
-other_shown keys file (fit.Right images nodes) answer other shows = absurd (true≢false other)
-other_shown keys file (fit.Unhashed image) answer other shows = shows
-other_shown keys file (fit.Wrong image hash word) answer other shows = shows
-other_shown keys file (fit.Weak image) answer other shows = shows
-other_shown keys file (fit.Overlapping image) answer other shows = shows
-other_shown keys file fit.NoImage answer other shows = shows
+pub other_shown : (terms : Terms) (file : List ℕ) (finding : Finding Span) (answer : Answer) → is_right finding ≡ false → Shows answer (Finds (checked.Fit (named_finding file finding)) None)
+    → Shows answer (strict_verdict terms file (checked.Fit (named_finding file finding)))
+other_shown terms file (fit.Right images nodes) answer other shows = absurd (true≢false other)
+other_shown terms file (fit.Unhashed image) answer other shows = shows
+other_shown terms file (fit.Wrong image hash word) answer other shows = shows
+other_shown terms file (fit.Weak image) answer other shows = shows
+other_shown terms file (fit.Overlapping image) answer other shows = shows
+other_shown terms file fit.NoImage answer other shows = shows

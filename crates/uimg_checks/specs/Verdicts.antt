@@ -22,7 +22,7 @@ use Rattle.uimg_strict.specs.declared.loose.Looseness.{Looseness}
 use Rattle.uimg_keys.specs.declared.keys.Keys.{Keys}
 use Rattle.uimg_strict.specs.declared.loose.Looseness.TheVariants.{Unsigned}
 use Rattle.uimg_checks.specs.declared.judging.Terms.{Terms}
-use Rattle.uimg_verifying.specs.Configurations.{unsigned_of}
+use Rattle.uimg_verifying.specs.{Configurations.unsigned_of, Covering.uncovered_of}
 
 -- A finding, with what a strict check says of the configurations; a name without a node; what strictness refuses, and the node; or the fault that refuses the file.
 pub data Verdict : Type 0 where
@@ -54,24 +54,31 @@ loose_or (Ok (Some said)) later = loosens said
 loose_or (Ok None) later = later
 loose_or (Err fault) later = Refuses (of_fit fault)
 
--- a signature of each configuration by the keys, if there are keys; or else the finding with the
--- number of nodes
-abbrev pub signed_verdict : Option Keys → List ℕ → Checked (List ℕ) → ℕ → Verdict
-signed_verdict None file found nodes = Finds found (Some (Unchecked nodes))
-signed_verdict (Some keys) file found nodes =
-    loose_or (unsigned_of keys file) (Finds found (Some Signed))
+-- a configuration for each image, if that is required, or else what comes later
+abbrev pub covered_or : Bool → List ℕ → Verdict → Verdict
+covered_or false file later = later
+covered_or true file later = loose_or (uncovered_of file) later
+
+-- if there are keys, a signature of each configuration by them, and then of each image; or else the
+-- finding with the number of nodes
+abbrev pub signed_by : Option Keys → Bool → List ℕ → Checked (List ℕ) → ℕ → Verdict
+signed_by None covers file found nodes = Finds found (Some (Unchecked nodes))
+signed_by (Some keys) covers file found nodes =
+    loose_or (unsigned_of keys file) (covered_or covers file (Finds found (Some Signed)))
+
+abbrev pub signed_verdict : Terms → List ℕ → Checked (List ℕ) → ℕ → Verdict
+signed_verdict terms = signed_by terms.keys terms.covers_images
 
 -- a FIT image's names, and then its signatures
-abbrev pub facts_verdict : Option Keys → List ℕ → Checked (List ℕ) → Result Said FitEngineFault
-    → Verdict
-facts_verdict keys file found (Ok said) =
-    lacks_or (missing_in said) (signed_verdict keys file found (node_count said.configurations))
-facts_verdict keys file found (Err fault) = Refuses (of_fit fault)
+abbrev pub facts_verdict : Terms → List ℕ → Checked (List ℕ) → Result Said FitEngineFault → Verdict
+facts_verdict terms file found (Ok said) =
+    lacks_or (missing_in said) (signed_verdict terms file found (node_count said.configurations))
+facts_verdict terms file found (Err fault) = Refuses (of_fit fault)
 
 -- a strict check of a FIT image with this finding
-abbrev pub fit_verdict : Option Keys → List ℕ → Checked (List ℕ) → Verdict
-fit_verdict keys file found =
-    loose_or (looseness_of file) (facts_verdict keys file found (survey_of file))
+abbrev pub fit_verdict : Terms → List ℕ → Checked (List ℕ) → Verdict
+fit_verdict terms file found =
+    loose_or (looseness_of file) (facts_verdict terms file found (survey_of file))
 
 -- A legacy image has no signature.
 abbrev pub unsigned_or : Option Keys → Verdict → Verdict
@@ -90,17 +97,17 @@ is_right (fit.Right images nodes) = true
 is_right other = false
 
 -- a strict check looks further only if all hashes or checksums are right
-abbrev pub strict_verdict : Option Keys → List ℕ → Checked (List ℕ) → Verdict
-strict_verdict keys file (checked.Fit finding) =
-    if is_right finding then fit_verdict keys file (checked.Fit finding)
+abbrev pub strict_verdict : Terms → List ℕ → Checked (List ℕ) → Verdict
+strict_verdict terms file (checked.Fit finding) =
+    if is_right finding then fit_verdict terms file (checked.Fit finding)
     else Finds (checked.Fit finding) None
-strict_verdict keys file checked.Right = header_verdict keys (loose_legacy file)
-strict_verdict keys file other = Finds other None
+strict_verdict terms file checked.Right = header_verdict terms.keys (loose_legacy file)
+strict_verdict terms file other = Finds other None
 
 -- the verdict by what is found
 abbrev pub verdict_by : Terms → List ℕ → Result (Checked (List ℕ)) Fault → Verdict
 verdict_by terms file (Ok found) =
-    if terms.is_strict then strict_verdict terms.keys file found else Finds found None
+    if terms.is_strict then strict_verdict terms file found else Finds found None
 verdict_by terms file (Err fault) = Refuses fault
 
 -- the verdict of a check about a file, whose first bytes decide the format

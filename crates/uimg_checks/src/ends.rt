@@ -102,7 +102,8 @@ pub(crate) fn answer_of_found<'a, S: Source>(
     source: &mut S,
     names: &'a mut Names,
 ) -> Answer<'a>
-    ensures { IfHonest S.device source
+    ensures same { SameDevice (S.device source.old) (S.device source.new) }
+    ensures shown { IfHonest S.device source
         (λ file. Shows result (Finds (found_at file found) configurations)) }
 {
     match found {
@@ -120,7 +121,8 @@ pub(crate) fn answer_of_finding<'a, S: Source>(
     source: &mut S,
     names: &'a mut Names,
 ) -> Answer<'a>
-    ensures { IfHonest S.device source
+    ensures same { SameDevice (S.device source.old) (S.device source.new) }
+    ensures shown { IfHonest S.device source
         (λ file. Shows result (Finds (Checked.Fit (named_finding file finding)) configurations)) }
 {
     if !read_names(finding, source, names) {
@@ -135,7 +137,8 @@ pub(crate) fn answer_of_missing<'a, S: Source>(
     source: &mut S,
     names: &'a mut Names,
 ) -> Answer<'a>
-    ensures { IfHonest S.device source
+    ensures same { SameDevice (S.device source.old) (S.device source.new) }
+    ensures shown { IfHonest S.device source
         (λ file. Shows result (Lacks (read_missing file missing))) }
 {
     let Missing {
@@ -238,7 +241,8 @@ fn offset_of(fault: Fault) -> Option<u64>
 
 // Returns false if a name cannot be read.
 fn read_names<S: Source>(finding: Finding<Span>, source: &mut S, names: &mut Names) -> bool
-    ensures { IfHonest S.device source (λ file. result ≡ true →
+    ensures same { SameDevice (S.device source.old) (S.device source.new) }
+    ensures names { IfHonest S.device source (λ file. result ≡ true →
         kept_names names.new.image names.new.hash finding ≡ named_finding file finding) }
 {
     match finding {

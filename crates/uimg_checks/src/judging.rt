@@ -1,14 +1,15 @@
 //! Answers a check of a source, and checks strictly what was found to be right.
 
-ghost use Rattle.std.specs.Prelude.{◌≡◌, ◌-◌, ◌^◌, ℕ, List, min, length};
+ghost use Rattle.std.specs.Prelude.{◌≡◌, ◌-◌, ◌^◌, ℕ, List, Some, min, length};
 ghost use Rattle.std.specs.List.{sum_by};
 ghost use Rattle.uimg_base.specs.{Device.SameDevice, Honest.IfHonest};
+ghost use Rattle.uimg_checks.specs.declared.answer.Configurations.TheVariants.{Signed};
 ghost use Rattle.uimg_checks.specs.Finding.{found_at, told_at};
 ghost use Rattle.uimg_checks.specs.declared.finding.Checked.{Checked};
 ghost use Rattle.uimg_fit_checking.specs.Checks.{named_finding};
 ghost use Rattle.uimg_checks.specs.CheckEnds.{IsVerdict, Shows};
 ghost use Rattle.uimg_checks.specs.StrictEnds.{TellsFurther};
-ghost use Rattle.uimg_checks.specs.Verdicts.{Finds, fit_verdict, header_verdict, is_right, signed_verdict, strict_verdict, unsigned_or, verdict_by, verdict_of};
+ghost use Rattle.uimg_checks.specs.Verdicts.{Finds, covered_or, fit_verdict, header_verdict, is_right, signed_verdict, strict_verdict, unsigned_or, verdict_by, verdict_of};
 ghost use Rattle.uimg_strict.specs.Headers.{loose_legacy};
 
 use crate::answer::{Answer, Configurations};
@@ -24,7 +25,7 @@ use uimg_engine::Fault;
 use uimg_fit_checking::{ConfigurationFacts, Finding, SurveyFault, survey};
 use uimg_keys::Keys;
 use uimg_strict::{Loose, Looseness, find_loose, find_loose_header};
-use uimg_verifying::find_unsigned;
+use uimg_verifying::{find_uncovered, find_unsigned};
 
 /// What is asked of an image.
 #[derive(Drop)]
@@ -37,6 +38,9 @@ pub struct Terms {
 
     /// The keys by which a strict check requires each configuration to be signed, if there are any.
     pub keys: Option<Keys>,
+
+    /// Whether, with keys, each image must be named by a configuration, too, so that it is signed.
+    pub covers_images: bool,
 }
 
 // What is found in a FIT image whose hashes are right.
@@ -61,7 +65,8 @@ pub fn answer_of_source<'a, S: Source>(
     room: &mut Room<Global>,
     names: &'a mut Names,
 ) -> Answer<'a>
-    ensures { IfHonest S.device source (λ file. Shows result (verdict_of terms.now file)) }
+    ensures same { SameDevice (S.device source.old) (S.device source.new) }
+    ensures shown { IfHonest S.device source (λ file. Shows result (verdict_of terms.now file)) }
 {
     let end = check(terms.need, source, room);
     answer_of_check(alloc, terms, end, source, room, names)
@@ -75,7 +80,8 @@ fn answer_of_check<'a, S: Source>(
     room: &mut Room<Global>,
     names: &'a mut Names,
 ) -> Answer<'a>
-    ensures { IfHonest S.device source
+    ensures same { SameDevice (S.device source.old) (S.device source.new) }
+    ensures shown { IfHonest S.device source
         (λ file. Shows result (verdict_by terms.now file (told_at file end))) }
 {
     match end {
@@ -97,8 +103,9 @@ fn answer_strictly<'a, S: Source>(
     room: &mut Room<Global>,
     names: &'a mut Names,
 ) -> Answer<'a>
-    ensures { IfHonest S.device source
-        (λ file. Shows result (strict_verdict terms.now.keys file (found_at file found))) }
+    ensures same { SameDevice (S.device source.old) (S.device source.new) }
+    ensures shown { IfHonest S.device source
+        (λ file. Shows result (strict_verdict terms.now file (found_at file found))) }
 {
     match found {
         Checked::Fit(finding) => answer_fit_strictly(alloc, terms, finding, source, room, names),
@@ -117,8 +124,9 @@ fn answer_fit_strictly<'a, S: Source>(
     room: &mut Room<Global>,
     names: &'a mut Names,
 ) -> Answer<'a>
-    ensures { IfHonest S.device source (λ file.
-        Shows result (strict_verdict terms.now.keys file (Checked.Fit (named_finding file finding)))) }
+    ensures same { SameDevice (S.device source.old) (S.device source.new) }
+    ensures shown { IfHonest S.device source (λ file.
+        Shows result (strict_verdict terms.now file (Checked.Fit (named_finding file finding)))) }
 {
     if is_right(finding) {
         return answer_of_fit(alloc, terms, finding, source, room, names);
@@ -145,8 +153,9 @@ fn answer_of_fit<'a, S: Source>(
     room: &mut Room<Global>,
     names: &'a mut Names,
 ) -> Answer<'a>
-    ensures { IfHonest S.device source (λ file.
-        Shows result (fit_verdict terms.now.keys file (Checked.Fit (named_finding file finding)))) }
+    ensures same { SameDevice (S.device source.old) (S.device source.new) }
+    ensures shown { IfHonest S.device source (λ file.
+        Shows result (fit_verdict terms.now file (Checked.Fit (named_finding file finding)))) }
 {
     match look_further(alloc, terms, source, room) {
         Ok(Further::Loose(loose)) => answer_of_loose(loose, names),
@@ -166,7 +175,7 @@ fn look_further<S: Source>(
 ) -> Result<Further, SurveyFault>
     ensures same { SameDevice (S.device source.old) (S.device source.new) }
     ensures told { IfHonest S.device source (λ file. (found : Checked (List ℕ)) →
-        TellsFurther (fit_verdict terms.now.keys file found) file found result) }
+        TellsFurther (fit_verdict terms.now file found) file found result) }
 {
     if let Some(loose) = find_loose(alloc, source, room)? {
         return Ok(Further::Loose(loose));
@@ -189,12 +198,32 @@ fn look_signed<S: Source>(
 ) -> Result<Further, SurveyFault>
     ensures same { SameDevice (S.device source.old) (S.device source.new) }
     ensures told { IfHonest S.device source (λ file. (found : Checked (List ℕ)) →
-        TellsFurther (signed_verdict terms.now.keys file found nodes) file found result) }
+        TellsFurther (signed_verdict terms.now file found nodes) file found result) }
 {
     let Some(keys) = &terms.keys else {
         return Ok(Further::Right(Configurations::Unchecked(nodes)));
     };
     match find_unsigned(alloc, keys, source, room)? {
+        Some(loose) => Ok(Further::Loose(loose)),
+        None => look_covered(alloc, terms.covers_images, source, room),
+    }
+}
+
+// Each configuration is signed.
+fn look_covered<S: Source>(
+    alloc: Global,
+    covers: bool,
+    source: &mut S,
+    room: &mut Room<Global>,
+) -> Result<Further, SurveyFault>
+    ensures same { SameDevice (S.device source.old) (S.device source.new) }
+    ensures told { IfHonest S.device source (λ file. (found : Checked (List ℕ)) →
+        TellsFurther (covered_or covers file (Finds found (Some Signed))) file found result) }
+{
+    if !covers {
+        return Ok(Further::Right(Configurations::Signed));
+    }
+    match find_uncovered(alloc, source, room)? {
         Some(loose) => Ok(Further::Loose(loose)),
         None => Ok(Further::Right(Configurations::Signed)),
     }
@@ -215,7 +244,8 @@ fn answer_of_legacy<'a, S: Source>(
     source: &mut S,
     names: &'a mut Names,
 ) -> Answer<'a>
-    ensures { IfHonest S.device source
+    ensures same { SameDevice (S.device source.old) (S.device source.new) }
+    ensures shown { IfHonest S.device source
         (λ file. Shows result (header_verdict terms.now.keys (loose_legacy file))) }
 {
     match find_loose_header(source) {

@@ -115,7 +115,7 @@ unfolding clap_on_literals uimg_on_literals
 a_check = refl
 
 an_unpacking : asked (codes "unpack" ∷ codes "-C" ∷ codes "out" ∷ codes "--need-hash=sha256" ∷ codes "--max-files" ∷ codes "9" ∷ codes "a.itb" ∷ [])
-    ≡ Ok (unpacks (record { folder = codes "out"; only = None; need = Some Sha256; is_forced = false; keeps_good = false; is_synced = true; as_json = false; cleans = false; most_files = 9; most_bytes = None; image = Some (codes "a.itb") })) ∷ []
+    ≡ Ok (unpacks (record { folder = codes "out"; only = None; need = Some Sha256; key = None; is_forced = false; keeps_good = false; is_synced = true; as_json = false; cleans = false; most_files = 9; most_bytes = None; image = Some (codes "a.itb") })) ∷ []
 unfolding clap_on_literals uimg_on_literals
 an_unpacking = refl
 
@@ -176,6 +176,6 @@ unfolding clap_on_literals uimg_on_literals
 any_list_of_images file = refl
 
 any_one_payload : (name image : Text) → asked (codes "unpack" ∷ (codes "--only=" ++ name) ∷ codes "--" ∷ image ∷ [])
-    ≡ Ok (unpacks (record { folder = codes "."; only = Some name; need = None; is_forced = false; keeps_good = false; is_synced = true; as_json = false; cleans = false; most_files = 4096; most_bytes = None; image = Some image })) ∷ []
+    ≡ Ok (unpacks (record { folder = codes "."; only = Some name; need = None; key = None; is_forced = false; keeps_good = false; is_synced = true; as_json = false; cleans = false; most_files = 4096; most_bytes = None; image = Some image })) ∷ []
 unfolding clap_on_literals uimg_on_literals
 any_one_payload name image = refl

@@ -1,16 +1,15 @@
 -- The arguments of `check`.
-use Rattle.std.specs.Prelude.{Bool, true, ◌&&◌, ◌||◌, List, [], ◌∷◌, Option, Some, None, Result, Ok, Err, codes, if◌then◌else◌, is_none, is_some, option_map}
+use Rattle.std.specs.Prelude.{Bool, ◌&&◌, ◌||◌, List, [], ◌∷◌, Option, Some, Result, Ok, Err, codes, if◌then◌else◌, is_none, is_some, option_map}
 use Rattle.clap.specs.Lexer.{usize_max}
 use Rattle.clap.specs.Simple.{App, new_app, new_rule}
 use Rattle.clap.specs.Walk.{Row, Rule, Text, first_of, is_empty, texts}
 use Rattle.clap.specs.declared.builder.action.ArgAction.TheVariants.{Append}
-use Rattle.uimg_cli.specs.Needs.{need_asked}
+use Rattle.uimg_cli.specs.Needs.{least_need, need_asked}
 use Rattle.uimg_cli.specs.Readings.{is_set, texts_given}
 use Rattle.uimg_cli.specs.Rules.{flag_rule, long_rule, switch_rule, with_rules}
 use Rattle.uimg_cli.specs.Wrong.{Wrong, and_then, no_images}
 use Rattle.uimg_cli.specs.declared.command_line.check.CheckRequest.{CheckRequest}
 use Rattle.uimg_sums.specs.declared.algo.Algo.{Algo}
-use Rattle.uimg_sums.specs.declared.algo.Algo.TheVariants.{Crc32}
 
 -- any number of images
 abbrev pub images_rule : Rule
@@ -57,11 +56,6 @@ checking_of request = record {
   is_quiet = request.is_quiet;
   allows_none = request.allows_none;
 }
-
--- a strict check needs at least a CRC-32
-abbrev pub least_need : Bool → Option Algo → Option Algo
-least_need true None = Some Crc32
-least_need is_strict need = need
 
 -- whether a check is strict: if it is to be, or if there are keys
 abbrev pub is_to_be_strict : List Row → Bool

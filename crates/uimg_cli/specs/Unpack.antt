@@ -1,9 +1,9 @@
 -- The arguments of `unpack`.
-use Rattle.std.specs.Prelude.{ℕ, Bool, not, ◌&&◌, List, [], ◌∷◌, Option, Some, None, Result, Ok, Err, codes, if◌then◌else◌, is_none, option_map, unwrap_or}
+use Rattle.std.specs.Prelude.{ℕ, Bool, not, ◌&&◌, List, [], ◌∷◌, Option, Some, None, Result, Ok, Err, codes, if◌then◌else◌, is_none, is_some, option_map, unwrap_or}
 use Rattle.std.specs.Option.{option_map_or}
 use Rattle.clap.specs.Simple.{App, new_app, new_rule}
 use Rattle.clap.specs.Walk.{Row, Rule, Text, first_of, is_empty}
-use Rattle.uimg_cli.specs.Needs.{need_asked}
+use Rattle.uimg_cli.specs.Needs.{least_need, need_asked}
 use Rattle.uimg_cli.specs.Readings.{count_of, is_set, or_wrong, text_or}
 use Rattle.uimg_cli.specs.Rules.{long_rule, switch_rule, value_rule, with_rules}
 use Rattle.uimg_cli.specs.Wrong.{Wrong, and_then, cleans_with_json, no_folder, no_images, not_number}
@@ -17,7 +17,7 @@ need_rule = record (long_rule (codes "need")) { aliases = codes "need-hash" ∷ 
 -- the options of what is unpacked
 unfoldable pub chosen_rules : List Rule
 chosen_rules =
-    value_rule (codes "folder") 67 ∷ long_rule (codes "only") ∷ need_rule ∷ []
+    value_rule (codes "folder") 67 ∷ long_rule (codes "only") ∷ need_rule ∷ long_rule (codes "key") ∷ []
 
 -- the options of how files are written, and of how many
 unfoldable pub written_rules : List Rule
@@ -29,7 +29,7 @@ written_rules =
     ∷ long_rule (codes "max-bytes")
     ∷ []
 
--- unpack [-C FOLDER] [--only NAME] [--need ALGO] [--force] [--keep-good] [--no-sync]
+-- unpack [-C FOLDER] [--only NAME] [--need ALGO] [--key FILE] [--force] [--keep-good] [--no-sync]
 -- [--max-files NUMBER] [--max-bytes NUMBER] [--json] [--clean] [IMAGE]
 unfoldable pub unpack : App
 unpack = with_rules (
@@ -42,6 +42,7 @@ pub record Unpacking : Type 0 where
   pub folder : Text
   pub only : Option Text
   pub need : Option Algo
+  pub key : Option Text
   pub is_forced : Bool
   pub keeps_good : Bool
   pub is_synced : Bool
@@ -56,6 +57,7 @@ unpacking_of request = record {
   folder = request.folder.now;
   only = option_map (λ name. name.now) request.only;
   need = request.need;
+  key = option_map (λ path. path.now) request.key;
   is_forced = request.is_forced;
   keeps_good = request.keeps_good;
   is_synced = request.is_synced;
@@ -75,11 +77,13 @@ count_by id (Some text) =
 abbrev pub count_asked : Text → List Row → Result (Option ℕ) Wrong
 count_asked id rows = count_by id (first_of id rows)
 
+-- with keys, as a strict check needs it
 abbrev pub unpacking_by : List Row → Option Algo → Option ℕ → Option ℕ → Unpacking
 unpacking_by rows need files bytes = record {
   folder = text_or (codes "folder") rows (codes ".");
   only = first_of (codes "only") rows;
-  need = need;
+  need = least_need (is_some (first_of (codes "key") rows)) need;
+  key = first_of (codes "key") rows;
   is_forced = is_set (codes "force") rows;
   keeps_good = is_set (codes "keep-good") rows;
   is_synced = not (is_set (codes "no-sync") rows);

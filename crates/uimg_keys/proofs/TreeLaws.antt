@@ -1,8 +1,8 @@
 -- What is found in a tree, a node or a property at a time.
-use Rattle.std.proofs.Common.{◌≡◌, ℕ, zero, suc, ◌+◌, ◌<◌, ◌≤◌, List, [], ◌∷◌, ◌++◌, length, map, drop, flat_map, Option, Some, None, Bool, true, false, bytes_eq, slice_get, get_or, if◌then◌else◌, refl, ap, sym, ◌∙◌, append_assoc, append-nil, codes, arith}
+use Rattle.std.proofs.Common.{◌≡◌, ℕ, zero, suc, ◌+◌, ◌<◌, ◌≤◌, List, [], ◌∷◌, ◌++◌, length, map, drop, flat_map, Option, Some, None, Bool, true, false, bytes_eq, slice_get, get_or, if◌then◌else◌, refl, ap, sym, ◌∙◌, ◌&&◌, append_assoc, append-nil, codes, subst, arith}
 use Rattle.std.proofs.lemmas.List.{drop_more, length-map}
 use Rattle.std.proofs.lemmas.List.Concat.{flat_map-cons}
-use Rattle.std.{specs.{List.All, Option.option_map}, proofs.lemmas.List.Elements.All-weaker}
+use Rattle.std.{specs.{List.All, Option.option_map}, proofs.lemmas.List.Elements.{All-cons, All-nil, All-weaker}}
 use Rattle.uimg_base.specs.declared.spans.Span.{Span}
 use Rattle.uimg_texts.specs.Slices.{slice}
 use Rattle.uimg_blob_reading.specs.declared.{nodes.Blob.Blob, places.PropertyPlace.PropertyPlace}
@@ -10,7 +10,8 @@ use Rattle.uimg_blob_reading.specs.{Grammar.Siblings, Indexed.IsIndexed, Kept.{k
 use Rattle.uimg_blob_reading.proofs.{LookLaws.length_rows, SoFarLaws.length_kept}
 use Rattle.uimg_blob_reading.specs.{Plain.NamedOf, Properties.places_of}
 use Rattle.uimg_signing.specs.{Signatures.rsa_algo, declared.signature.RsaAlgo.RsaAlgo}
-use Rattle.uimg_keys.specs.Trees.{Said, IsIndexOf, found_in, is_parent, is_required, is_signature, key_in, name_in, number, or_empty, rows_in, rows_of, says, signature_from, value_named}
+use Rattle.uimg_rsa.specs.RSquared.{is_r_squared}
+use Rattle.uimg_keys.specs.Trees.{Said, IsTaken, IsIndexOf, are_helps, found_in, has_helps, is_inverse, names_signature, is_parent, is_required, is_signature, key_in, name_in, number, or_empty, rows_in, rows_of, says, signature_from, value_named}
 
 drop_at : {X : Type 0} (xs : List X) (k : ℕ) → k < length xs → (x : X) × (slice_get xs k ≡ Some x) × (drop k xs ≡ x ∷ drop (suc k) xs)
 drop_at [] k h = absurd (omega (arith, h))
@@ -99,7 +100,7 @@ ends_in a b xs le all = All-weaker (EndsBy a) (EndsBy b) (λ x e. record { name 
 
 -- a child of another node
 pub not_child : (file : List ℕ) (row : Row) → is_parent 0 row.parent ≡ false → false ≡ is_signature file row
-not_child file row is = sym (ap (λ (b : Bool). if b then bytes_eq (name_in file row) (codes "signature") else false) is)
+not_child file row is = sym (ap (λ (b : Bool). if b then names_signature (name_in file row) else false) is)
 
 pub not_below : (file : List ℕ) (signature : ℕ) (row : Row) → is_parent signature row.parent ≡ false → [] ≡ found_in file signature row
 not_below file signature row is =
@@ -125,3 +126,22 @@ key_said file own one other third m e a items n r first second last modulus expo
     let named : or_empty (value_named file own (codes "algo")) ≡ a = ap (λ (k : List ℕ). or_empty (value_named file own k)) (sym last) ∙ ap or_empty algo in
     ap (λ (x : Option RsaAlgo). (items, n, x)) r_is ∙ ap (λ (l : List ℕ). (l, n, rsa_algo a)) (items_are ∙ sym found) ∙ ap (λ (x : ℕ). (or_empty (value_named file own (codes "rsa,modulus")), x, rsa_algo a)) (n_is ∙ ap number (sym counted))
     ∙ ap (λ (l : List ℕ). (or_empty (value_named file own (codes "rsa,modulus")), number (or_empty (value_named file own (codes "rsa,exponent"))), rsa_algo l)) (sym named)
+
+-- what U-Boot's arithmetic begins with
+pub helps_said : (file : List ℕ) (own : List (NamedOf Span)) (one other modulus inverse square : List ℕ) → one ≡ codes "rsa,n0-inverse" → other ≡ codes "rsa,r-squared"
+    → value_named file own one ≡ Some inverse → value_named file own other ≡ Some square → (is_inverse modulus inverse && is_r_squared modulus square) ≡ has_helps file own modulus
+helps_said file own one other modulus inverse square first second found also =
+    let a : value_named file own (codes "rsa,n0-inverse") ≡ Some inverse = ap (λ (k : List ℕ). value_named file own k) (sym first) ∙ found in
+    let b : value_named file own (codes "rsa,r-squared") ≡ Some square = ap (λ (k : List ℕ). value_named file own k) (sym second) ∙ also in
+    sym (ap (λ (o : Option (List ℕ)). are_helps modulus o (value_named file own (codes "rsa,r-squared"))) a ∙ ap (λ (o : Option (List ℕ)). are_helps modulus (Some inverse) o) b)
+
+-- a child of another node is no key
+pub no_key : (file : List ℕ) (signature : ℕ) (row : Row) → is_parent signature row.parent ≡ false → IsTaken file signature row
+no_key file signature row is = λ below. absurd (grind (arith, is, below))
+
+-- what holds of a row, and of those after it
+pub all_from : {X : Type 0} (P : X → Type 0) (x : X) (more left all : List X) → left ≡ x ∷ more → P x → (All P left → All P all) → All P more → All P all
+all_from {X} P x more left all is this rest h = rest (subst (λ (l : List X). All P l) (sym is) (All-cons P x more this h))
+
+pub all_done : {X : Type 0} (P : X → Type 0) (left all : List X) → left ≡ [] → (All P left → All P all) → All P all
+all_done {X} P left all is rest = rest (subst (λ (l : List X). All P l) (sym is) (All-nil P))

@@ -1,12 +1,13 @@
 -- The keys of a control devicetree (U-Boot, doc/uImage.FIT/signature.rst, "Public Key Storage").
 use Rattle.std.specs.Prelude.{◌≡◌, ℕ, zero, suc, ◌+◌, ◌*◌, ◌^◌, ◌<◌, ◌≤◌, ◌==◌, List, [], ◌∷◌, ◌++◌, length, map, flat_map, Option, Some, None, Result, Ok, Err, codes}
-use Rattle.std.specs.Prelude.{Bool, true, false, if◌then◌else◌}
-use Rattle.std.specs.{List.{slice_get, starts_with}, Option.option_map, Str.bytes_eq}
+use Rattle.std.specs.Prelude.{Bool, true, false, if◌then◌else◌, ◌&&◌, ◌||◌, ◌-◌, ◌/◌, ◌%◌, nat_le}
+use Rattle.std.specs.{List.{All, list_any, slice_get, starts_with}, Option.option_map, Str.bytes_eq}
 use Rattle.uimg_base.specs.declared.spans.Span.{Span}
 use Rattle.uimg_texts.specs.{Numbers.be32, Slices.slice}
 use Rattle.uimg_blob_reading.specs.{Blob.tree, Grammar.Siblings, Indexed.IsIndexed, LookUps.first, Plain.NamedOf, Properties.places_of, Reading.Fault, Rows.{Row, table}}
 use Rattle.uimg_blob_reading.specs.declared.nodes.Blob.{Blob}
 use Rattle.uimg_keys.specs.declared.{key.PublicKey.PublicKey, keys.Keys.Keys}
+use Rattle.uimg_rsa.specs.RSquared.{is_r_squared}
 use Rattle.uimg_signing.specs.{Signatures.rsa_algo, declared.signature.RsaAlgo.RsaAlgo}
 
 -- A blob and its entries are those of a file's tree.
@@ -33,10 +34,14 @@ abbrev pub is_parent : ℕ → Option ℕ → Bool
 is_parent number None = false
 is_parent number (Some parent) = parent == number
 
--- the row is that of a child of the root that is called `signature`
+-- the name is `signature`, or this with a unit address (libfdt's fdt_nodename_eq_)
+abbrev pub names_signature : List ℕ → Bool
+names_signature name =
+    bytes_eq name (codes "signature") || starts_with (λ a b. a == b) name (codes "signature@")
+
+-- the row is that of a child of the root of this name
 abbrev pub is_signature : List ℕ → Row → Bool
-is_signature file row =
-    if is_parent 0 row.parent then bytes_eq (name_in file row) (codes "signature") else false
+is_signature file row = if is_parent 0 row.parent then names_signature (name_in file row) else false
 
 -- the number of the first one, among rows that are numbered from i on
 unfoldable pub signature_from : List ℕ → ℕ → List Row → Option ℕ
@@ -85,6 +90,31 @@ key_in file own = (
   rsa_algo (or_empty (value_named file own (codes "algo"))),
 )
 
+-- the modulus times the number of four octets is one less than a multiple of 2 ^ 32
+abbrev pub is_inverse : List ℕ → List ℕ → Bool
+is_inverse modulus inverse =
+    if length inverse == 4 && nat_le 4 (length modulus)
+    then be32 modulus (length modulus - 4) * be32 inverse 0 % 2 ^ 32 == 0xffffffff else false
+
+abbrev pub are_helps : List ℕ → Option (List ℕ) → Option (List ℕ) → Bool
+are_helps modulus (Some inverse) (Some square) = is_inverse modulus inverse && is_r_squared modulus square
+are_helps modulus inverse square = false
+
+-- the properties have what U-Boot's arithmetic with a modulus begins with: `rsa,n0-inverse` and
+-- `rsa,r-squared` (lib/rsa/rsa-mod-exp.c)
+abbrev pub has_helps : List ℕ → List (NamedOf Span) → List ℕ → Bool
+has_helps file own modulus = are_helps modulus (value_named file own (codes "rsa,n0-inverse"))
+    (value_named file own (codes "rsa,r-squared"))
+
+abbrev pub is_long : List ℕ → Option RsaAlgo → Bool
+is_long modulus None = false
+is_long modulus (Some algo) = algo.bits / 8 == length modulus
+
+-- the value names an algorithm for keys as long as the modulus
+abbrev pub has_size : List ℕ → Option (List ℕ) → Bool
+has_size modulus None = false
+has_size modulus (Some algo) = is_long modulus (rsa_algo algo)
+
 -- the properties say that configurations must be signed by the key
 abbrev pub is_required : List ℕ → List (NamedOf Span) → Bool
 is_required file own = says (value_named file own (codes "required")) (codes "conf" ++ 0 ∷ [])
@@ -93,6 +123,22 @@ is_required file own = says (value_named file own (codes "required")) (codes "co
 abbrev pub found_in : List ℕ → ℕ → Row → List Said
 found_in file signature row = if is_parent signature row.parent then
     (if is_required file (places_of row) then key_in file (places_of row) ∷ [] else []) else []
+
+-- there is no value, or a NUL in it
+abbrev pub is_ended : Option (List ℕ) → Bool
+is_ended None = true
+is_ended (Some value) = list_any (λ b. b == 0) value
+
+-- The properties of a key are right for its modulus.
+pub record IsRight (file : List ℕ) (own : List (NamedOf Span)) : Type 0 where
+  pub size : has_size (key_in file own).0 (value_named file own (codes "algo")) ≡ true
+  pub helps : has_helps file own (key_in file own).0 ≡ true
+
+-- What a child says of being required ends with a NUL, and a required key is right.
+abbrev pub IsTaken : List ℕ → ℕ → Row → Type 0
+IsTaken file signature row = is_parent signature row.parent ≡ true
+    → (is_ended (value_named file (places_of row) (codes "required")) ≡ true)
+    × (is_required file (places_of row) ≡ true → IsRight file (places_of row))
 
 -- the keys below the node of this number
 abbrev pub keys_in : List ℕ → ℕ → List Said
@@ -110,4 +156,5 @@ pub record HasTreeKeys (file : List ℕ) (keys : Keys) : Type 0 where
   pub is : signature_of file ≡ Some signature
   pub keys_are : map said keys.keys.items ≡ keys_in file signature
   pub mode : keys.is_any ≡ is_any_in file (slice_get (rows_of file) signature)
+  pub taken : All (IsTaken file signature) (rows_of file)
   pub some : 0 < length keys.keys.items

@@ -38,6 +38,10 @@ pub enum KeyFault {
     #[error("not a key that U-Boot takes: 2048, 3072 or 4096 bits, an odd exponent above 2")]
     Unfit,
 
+    /// The node of a key lacks a property, or has a wrong one.
+    #[error("a key in /signature lacks a property, or has a wrong one")]
+    WrongNode,
+
     /// A read failed.
     #[error("cannot read the key")]
     Read,

@@ -76,14 +76,15 @@ fn keys_of_file(alloc: Global, file: &[u8]) -> Result<Keys, KeyFault>
 /// `conf`, in their order, and one of them is enough if `required-mode` in `/signature` is `any`.
 ///
 /// The node of a key has `algo`, which each signature by it must name, `rsa,num-bits`, `rsa,modulus` of
-/// so many bits, `rsa,exponent` of eight octets, `rsa,n0-inverse` and `rsa,r-squared`. (Of an exponent
-/// of four octets U-Boot takes none, but 65537.)
+/// so many bits, `rsa,exponent` of eight octets, and `rsa,n0-inverse` and `rsa,r-squared` of that
+/// modulus, with which U-Boot computes. (Of an exponent of four octets U-Boot takes none, but 65537.)
 ///
 /// - `NotKey`: the file has more than 1 MiB, or is no devicetree and has more than 8192 bytes; or
 ///   as `key_of_pem`; or the devicetree is damaged.
 /// - `NoKey`: the devicetree has no `/signature`, or no key there is required for configurations.
 /// - `ImageKey`: a key in `/signature` is required for images.
-/// - `Unfit`: U-Boot does not take a key, or its node lacks a property.
+/// - `WrongNode`: the node of a key lacks a property, or has a wrong one.
+/// - `Unfit`: U-Boot takes no key of that size or exponent.
 /// - `Read`: a read failed.
 /// - `OutOfMemory`: memory was refused.
 pub fn read_keys<S: Source>(alloc: Global, source: &mut S) -> Result<Keys, KeyFault>

@@ -4,12 +4,12 @@
 ghost use Rattle.std.specs.Prelude.{◌≡◌, ◌++◌, ◌<◌, List, ℕ, length, map, None, Some, IfOk, IfSome, OnOk};
 ghost use Rattle.std.specs.{List.{All, slice_get}, Option.option_map};
 ghost use Rattle.uimg_blob_reading.specs.{Places.{EndsBy, read_place}, Properties.places_of, Rows.Row};
-ghost use Rattle.uimg_keys.specs.Trees.{HasTreeKeys, IsIndexOf, found_in, is_any_in, is_parent, is_signature, keys_in, listed, rows_of, said, signature_of};
+ghost use Rattle.uimg_keys.specs.Trees.{HasTreeKeys, IsIndexOf, IsTaken, found_in, is_any_in, is_parent, is_signature, keys_in, listed, rows_of, said, signature_of};
 
 use crate::key::{KeyFault, PublicKey};
 use crate::keys::Keys;
 use crate::reading::is_fit;
-use crate::values::{bytes_at, key_in, says};
+use crate::values::{bytes_at, has_helps, has_size, is_ended, key_in, says};
 use std::alloc::Global;
 use uimg_base::{MemSource, Room};
 use uimg_blob_reading::{
@@ -47,6 +47,7 @@ fn is_parent(parent: Option<usize>, number: usize) -> bool
     }
 }
 
+// U-Boot takes the first node of the name, with a unit address or without.
 fn is_signature(file: &[u8], blob: &Blob, room: &Room<Global>, node: usize) -> bool
     requires node { node < length room.now.entries }
     requires index { IsIndexOf file.now blob.now room.now.entries }
@@ -56,7 +57,8 @@ fn is_signature(file: &[u8], blob: &Blob, room: &Room<Global>, node: usize) -> b
     if !is_parent(blob.parent(room, node), 0) {
         return false;
     }
-    bytes_at(file, blob.name(room, node)) == b"signature".as_slice()
+    let name = bytes_at(file, blob.name(room, node));
+    name == b"signature".as_slice() || name.starts_with(b"signature@")
 }
 
 // Returns the number of /signature.
@@ -89,11 +91,16 @@ fn found_in(
     ensures room { room.new ≡ room.old }
     ensures told { (row : Row) → slice_get (rows_of file.now) node ≡ Some row → IfOk result
         (λ found. listed (option_map said found) ≡ found_in file.now signature row) }
+    ensures taken { (row : Row) → slice_get (rows_of file.now) node ≡ Some row → IfOk result
+        (λ found. IsTaken file.now signature row) }
 {
     if !is_parent(blob.parent(room, node), signature) {
         return Ok(None);
     }
     let places = places_at(alloc, file, blob, room, node)?;
+    if !is_ended(file, &places) {
+        return Err(KeyFault::WrongNode);
+    }
     if says(file, &places, b"required".as_slice(), b"image\0".as_slice()) {
         return Err(KeyFault::ImageKey);
     }
@@ -103,6 +110,10 @@ fn found_in(
     let key = key_in(alloc, file, &places)?;
     if !is_fit(&key) {
         return Err(KeyFault::Unfit);
+    }
+    let modulus = key.modulus.as_slice();
+    if !has_size(file, &places, modulus) || !has_helps(file, &places, modulus) {
+        return Err(KeyFault::WrongNode);
     }
     Ok(Some(key))
 }
@@ -129,6 +140,7 @@ fn keys_in(
     requires { IsIndexOf file.now blob.now room.old.entries }
     ensures room { room.new ≡ room.old }
     ensures told { IfOk result (λ keys. map said keys.items ≡ keys_in file.now signature) }
+    ensures taken { IfOk result (λ keys. All (IsTaken file.now signature) (rows_of file.now)) }
 {
     let mut keys = Vec::new(alloc);
     let mut node = 0;

@@ -1,15 +1,16 @@
 //! The values of a node's properties, in the bytes of its blob.
 
-ghost use Rattle.std.specs.Prelude.{◌≡◌, ◌+◌, ◌≤◌, List, length, map, None, Some, IfOk};
+ghost use Rattle.std.specs.Prelude.{◌≡◌, ◌+◌, ◌≤◌, List, length, map, codes, None, Some, IfOk};
 ghost use Rattle.std.specs.{List.All, Option.MatchOption};
 ghost use Rattle.uimg_texts.specs.Slices.{slice};
 ghost use Rattle.uimg_blob_reading.specs.Places.{EndsBy, read_place};
-ghost use Rattle.uimg_keys.specs.Trees.{key_in, number, said, says, value_named};
+ghost use Rattle.uimg_keys.specs.Trees.{has_helps, has_size, is_ended, is_inverse, key_in, number, said, says, value_named};
 
 use crate::key::{KeyFault, PublicKey};
 use std::alloc::Global;
 use uimg_base::Span;
 use uimg_blob_reading::PropertyPlace;
+use uimg_rsa::is_r_squared;
 use uimg_signing::rsa_algo;
 use uimg_texts::be32_at;
 
@@ -66,12 +67,56 @@ fn is_sized(modulus: &[u8], bits: &[u8]) -> bool {
     bits % 8 == 0 && bits / 8 == modulus.len()
 }
 
-// U-Boot wants these for its arithmetic.
-fn has_helps(file: &[u8], places: &[PropertyPlace]) -> bool
-    requires { All (EndsBy (length file.now)) places.now }
+// Returns whether a modulus times this number is one less than a multiple of 2^32.
+fn is_inverse(modulus: &[u8], inverse: &[u8]) -> bool
+    ensures { result ≡ is_inverse modulus.now inverse.now }
 {
-    value_named(file, places, b"rsa,n0-inverse".as_slice()).is_some()
-        && value_named(file, places, b"rsa,r-squared".as_slice()).is_some()
+    if inverse.len() != 4 || modulus.len() < 4 {
+        return false;
+    }
+    let low = be32_at(modulus, modulus.len() - 4) as u64;
+    low * be32_at(inverse, 0) as u64 % 0x1_0000_0000 == 0xffff_ffff
+}
+
+/// Returns whether a value of `required`, if there is one, has a NUL. U-Boot reads on to the next one.
+pub(crate) fn is_ended(file: &[u8], places: &[PropertyPlace]) -> bool
+    requires { All (EndsBy (length file.now)) places.now }
+    ensures { result ≡ is_ended (value_named file.now (map (read_place file.now) places.now)
+        (codes "required")) }
+{
+    match value_named(file, places, b"required".as_slice()) {
+        Some(value) => value.contains(&0),
+        None => true,
+    }
+}
+
+/// Returns whether `algo` is for keys as long as the modulus.
+pub(crate) fn has_size(file: &[u8], places: &[PropertyPlace], modulus: &[u8]) -> bool
+    requires { All (EndsBy (length file.now)) places.now }
+    ensures { result ≡ has_size modulus.now (value_named file.now
+        (map (read_place file.now) places.now) (codes "algo")) }
+{
+    let Some(algo) = value_named(file, places, b"algo".as_slice()) else {
+        return false;
+    };
+    match rsa_algo(algo) {
+        Some(algo) => algo.bits as usize / 8 == modulus.len(),
+        None => false,
+    }
+}
+
+/// Returns whether a key has what U-Boot's arithmetic begins with.
+pub(crate) fn has_helps(file: &[u8], places: &[PropertyPlace], modulus: &[u8]) -> bool
+    requires { All (EndsBy (length file.now)) places.now }
+    ensures { result ≡ has_helps file.now (map (read_place file.now) places.now) modulus.now }
+{
+    let (Some(inverse), Some(r_squared)) = (
+        value_named(file, places, b"rsa,n0-inverse".as_slice()),
+        value_named(file, places, b"rsa,r-squared".as_slice()),
+    ) else {
+        return false;
+    };
+    is_inverse(modulus, inverse) && is_r_squared(modulus, r_squared)
 }
 
 /// Returns the key that a node's properties say.
@@ -90,14 +135,10 @@ pub(crate) fn key_in(
         value_named(file, places, b"rsa,num-bits".as_slice()),
         value_named(file, places, b"algo".as_slice()),
     ) else {
-        return Err(KeyFault::Unfit);
+        return Err(KeyFault::WrongNode);
     };
-    if exponent.len() != 8
-        || !is_sized(modulus, bits)
-        || rsa_algo(algo).is_none()
-        || !has_helps(file, places)
-    {
-        return Err(KeyFault::Unfit);
+    if exponent.len() != 8 || !is_sized(modulus, bits) || rsa_algo(algo).is_none() {
+        return Err(KeyFault::WrongNode);
     }
     Ok(PublicKey {
         modulus: Vec::from_slice(alloc, modulus)?,

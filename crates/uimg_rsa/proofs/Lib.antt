@@ -6,4 +6,5 @@ pub mod LimbLaws
 pub mod OctetLaws
 pub mod PssLaws
 pub mod ReducingLaws
+pub mod RSquaredLaws
 pub mod ValidLaws

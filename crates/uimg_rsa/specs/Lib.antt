@@ -5,3 +5,4 @@ pub mod Opening
 pub mod Pkcs1
 pub mod Mgf1
 pub mod Pss
+pub mod RSquared

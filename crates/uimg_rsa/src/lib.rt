@@ -10,10 +10,12 @@ mod octets;
 mod opening;
 mod pkcs1;
 mod pss;
+mod r_squared;
 mod reducing;
 mod refusal;
 mod rsavp1;
 
 pub use pkcs1::verify_pkcs1;
 pub use pss::verify_pss;
+pub use r_squared::is_r_squared;
 pub use refusal::Refusal;

@@ -20,7 +20,7 @@ fn is_sha(algo: Algo) -> bool
 
 // Returns whether the modulus has exactly 2048, 3072 or 4096 bits.
 #[tactic(auto, unfolding(crate::specs::Opening::is_modulus))]
-fn is_modulus(modulus: &[u8]) -> bool
+pub(crate) fn is_modulus(modulus: &[u8]) -> bool
     ensures { result ≡ is_modulus modulus.now }
 {
     if modulus.len() == 256 || modulus.len() == 384 || modulus.len() == 512 {

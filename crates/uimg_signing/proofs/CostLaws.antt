@@ -1,15 +1,15 @@
 -- Why nodes are not listed, and what listing them costs.
-use Rattle.std.proofs.Common.{◌≡◌, ℕ, zero, suc, ◌+◌, ◌*◌, ◌<◌, ◌≤◌, List, [], ◌∷◌, ◌++◌, length, map, drop, Option, Some, None, Result, Err, Bool, true, false, if◌then◌else◌, ◌&&◌, ◌||◌, refl, ap, sym, ◌∙◌, suc-mul, zero-mul, length-append, arith}
-use Rattle.std.specs.Prelude.{nat_le, nat_lt}
+use Rattle.std.proofs.Common.{◌≡◌, ℕ, zero, suc, ◌+◌, ◌*◌, ◌<◌, ◌≤◌, List, [], ◌∷◌, ◌++◌, length, map, Option, Some, None, Result, Err, Bool, true, false, if◌then◌else◌, ◌||◌, refl, ap, sym, ◌∙◌, suc-mul, zero-mul, length-append, arith}
+use Rattle.std.specs.Prelude.{nat_lt}
 use Rattle.std.proofs.lemmas.List.{length-map}
 use Rattle.uimg_base.specs.declared.spans.Span.{Span}
 use Rattle.uimg_blob_reading.specs.declared.places.PropertyPlace.{PropertyPlace}
 use Rattle.uimg_blob_reading.specs.{Rows.Row, Plain.NamedOf, Places.{read_place}, Properties.places_of}
+use Rattle.uimg_signing.proofs.TurnLaws.{less_false}
 use Rattle.uimg_signing.specs.declared.faults.SigningFault.{SigningFault}
-use Rattle.uimg_signing.specs.declared.faults.SigningFault.TheVariants.{TooLong, TooManyNodes}
+use Rattle.uimg_signing.specs.declared.faults.SigningFault.TheVariants.{TooLong}
 use Rattle.uimg_signing.specs.{Faults.Refuses, Naming.{any_long, any_long_at}}
-use Rattle.uimg_signing.specs.Listing.{is_listed, mark_of, marks_from, many_refusal, nodes_refusal, listing_refusal}
-use Rattle.uimg_signing.proofs.TurnLaws.{le_true, less_true, less_false}
+use Rattle.uimg_signing.specs.Listing.{is_over, mark_if, many_refusal, nodes_refusal, listing_refusal}
 
 next_cost : (n k : ℕ) → (n + 1) * k ≡ n * k + k
 next_cost n k = let e : n + 1 ≡ suc n = omega arith in ap (λ (m : ℕ). m * k) e ∙ suc-mul n k
@@ -36,32 +36,38 @@ none_some x h = absurd (grind (arith, h))
 pub no_refusal : (fault : SigningFault) (o : Option SigningFault) → Refuses None (let r : Result Unit SigningFault = Err fault in r) → Refuses o (let r : Result Unit SigningFault = Err fault in r)
 no_refusal fault o h = λ read memory. none_some fault (h read memory)
 
-by_count : (fault : SigningFault) (b : Bool) (old all : List ℕ) → nat_le 100 (length old) ≡ b → (100 ≤ length old → 100 < length all)
-    → Refuses (if b then Some TooManyNodes else None) (let r : Result Unit SigningFault = Err fault in r) → Refuses (many_refusal all) (let r : Result Unit SigningFault = Err fault in r)
-by_count fault true old all is more h = λ read memory.
-    h read memory ∙ sym (ap (λ (x : Bool). (let o : Option SigningFault = if x then Some TooManyNodes else None in o)) (less_true 100 (length all) (more (le_true 100 (length old) is))))
-by_count fault false old all is more h = no_refusal fault (many_refusal all) h
+more_true : (k a b : ℕ) → a ≤ b → nat_lt k a ≡ true → nat_lt k b ≡ true
+more_true k a b le h = grind (arith, le, h)
 
-one_more : (file : List ℕ) (own : List (NamedOf Span)) (rows : List Row) (configuration i : ℕ) (row : Row) (old all : List ℕ) → drop i rows ≡ row ∷ drop (suc i) rows → true ≡ is_listed file own rows configuration i row
-    → old ++ marks_from file own rows configuration i (drop i rows) ≡ all → length old < length all
-unfolding marks_from
-one_more file own rows configuration i row old all is listed left =
-    let rest = marks_from file own rows configuration (i + 1) (drop (suc i) rows) in
-    let split : old ++ (mark_of file own rows configuration i row ++ rest) ≡ all = ap (λ (l : List Row). old ++ marks_from file own rows configuration i l) (sym is) ∙ left in
-    let marked : old ++ (row.at ∷ rest) ≡ all = ap (λ (b : Bool). old ++ ((if b then row.at ∷ [] else []) ++ rest)) listed ∙ split in
-    omega (arith, ap length marked, length-append old (row.at ∷ rest))
+or_more : (x : Bool) (d : ℕ) → nat_lt 4096 d ≡ true → (if x then true else nat_lt 4096 d) ≡ true
+or_more true d h = refl
+or_more false d h = h
 
--- one node more is too many
-pub too_many : (fault : SigningFault) (file : List ℕ) (own : List (NamedOf Span)) (rows : List Row) (configuration i : ℕ) (row : Row) (old all : List ℕ) (is_it : Bool) → drop i rows ≡ row ∷ drop (suc i) rows
-    → is_it ≡ is_listed file own rows configuration i row → old ++ marks_from file own rows configuration i (drop i rows) ≡ all
-    → Refuses (if is_it && nat_le 100 (length old) then Some TooManyNodes else None) (let r : Result Unit SigningFault = Err fault in r) → Refuses (many_refusal all) (let r : Result Unit SigningFault = Err fault in r)
-too_many fault file own rows configuration i row old all true is listed left h =
-    by_count fault (nat_le 100 (length old)) old all refl (λ some. omega (arith, some, one_more file own rows configuration i row old all is listed left)) h
-too_many fault file own rows configuration i row old all false is listed left h = no_refusal fault (many_refusal all) h
+by_nodes : (x : Bool) (a b c d : ℕ) → nat_lt 100 a ≡ x → a ≤ c → b ≤ d → (if x then true else nat_lt 4096 b) ≡ true → is_over c d ≡ true
+by_nodes true a b c d is nodes bytes over = ap (λ (x : Bool). if x then true else nat_lt 4096 d) (more_true 100 a c nodes is)
+by_nodes false a b c d is nodes bytes over = or_more (nat_lt 100 c) d (more_true 4096 b d bytes over)
 
--- a hundred nodes are not too many
-pub few_refusal : (found all : List ℕ) → found ≡ all → length found ≤ 100 → None ≡ many_refusal all
-few_refusal found all is few = sym (ap (λ (x : Bool). (let o : Option SigningFault = if x then Some TooManyNodes else None in o)) (less_false 100 (length all) (omega (arith, few, ap length is))))
+-- more nodes, or more bytes of paths, are too many as well
+pub over_more : (a b c d : ℕ) → a ≤ c → b ≤ d → is_over a b ≡ true → is_over c d ≡ true
+over_more a b c d nodes bytes over = by_nodes (nat_lt 100 a) a b c d refl nodes bytes over
+
+-- nothing is refused
+pub none_over : (over : Bool) → over ≡ false → None ≡ many_refusal over
+none_over over is = sym (ap many_refusal is)
+
+pub fits : (nodes bytes : ℕ) → nodes ≤ 100 → bytes ≤ 4096 → is_over nodes bytes ≡ false
+fits nodes bytes few short = ap (λ (x : Bool). if x then true else nat_lt 4096 bytes) (less_false 100 nodes few) ∙ less_false 4096 bytes short
+
+positive : (n : ℕ) → nat_lt 0 n ≡ true → 0 < n
+positive n h = grind (arith, h)
+
+by_mark : (b : Bool) (old new : List ℕ) (times at total sum : ℕ) → nat_lt 0 times ≡ b → new ≡ old ++ mark_if b at → sum ≡ total + times → length old ≤ total → length new ≤ sum
+by_mark true old new times at total sum so is added few = omega (arith, ap length is, length-append old (at ∷ []), added, few, positive times so)
+by_mark false old new times at total sum so is added few = omega (arith, ap length is, length-append old [], added, few)
+
+-- a node that is marked was counted
+pub few_more : (old new : List ℕ) (times at total sum : ℕ) → new ≡ old ++ mark_if (nat_lt 0 times) at → sum ≡ total + times → length old ≤ total → length new ≤ sum
+few_more old new times at total sum is added few = by_mark (nat_lt 0 times) old new times at total sum refl is added few
 
 -- spans and what is read of them have the same lengths
 long_is : (file : List ℕ) (xs : List PropertyPlace) → any_long_at xs ≡ any_long (map (read_place file) xs)
@@ -71,8 +77,8 @@ long_is file (x ∷ xs) = ap (λ (b : Bool). nat_lt 8192 x.value.length || b) (l
 pub long_of : (file : List ℕ) (xs : List PropertyPlace) (own : List (NamedOf Span)) → map (read_place file) xs ≡ own → any_long_at xs ≡ any_long own
 long_of file xs own are = long_is file xs ∙ ap (λ (l : List (NamedOf Span)). any_long l) are
 
-pub long_refusal : (own : List (NamedOf Span)) (marks : List ℕ) (hashed b : Bool) → b ≡ any_long own → listing_refusal own marks hashed ≡ (if b then Some TooLong else nodes_refusal marks hashed)
-long_refusal own marks hashed b is = ap (λ (x : Bool). (let o : Option SigningFault = if x then Some TooLong else nodes_refusal marks hashed in o)) (sym is)
+pub long_refusal : (own : List (NamedOf Span)) (many hashed b : Bool) → b ≡ any_long own → listing_refusal own many hashed ≡ (if b then Some TooLong else nodes_refusal many hashed)
+long_refusal own many hashed b is = ap (λ (x : Bool). (let o : Option SigningFault = if x then Some TooLong else nodes_refusal many hashed in o)) (sym is)
 
 pub count_of : (file : List ℕ) (xs : List PropertyPlace) (row : Row) → map (read_place file) xs ≡ places_of row → length xs ≡ length row.own
 count_of file xs row are = sym (length-map xs (read_place file)) ∙ ap length are ∙ grind (arith, length-map)

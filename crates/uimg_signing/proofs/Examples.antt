@@ -2,30 +2,44 @@
 use Rattle.std.specs.Prelude.{◌≡◌, [], ◌∷◌, ◌++◌, refl, Ok, Err, Some, None, true, false, codes, ◌==◌, replicate}
 use Rattle.uimg_texts.specs.Nul.{before_nul}
 use Rattle.uimg_texts.specs.Numbers.{be32}
-use Rattle.uimg_blob_reading.specs.Tokens.{begin_node, end_node, nop}
+use Rattle.uimg_blob_reading.specs.Tokens.{begin_node, end_node, last, nop}
 use Rattle.uimg_signing.specs.declared.faults.SigningFault.TheVariants.{StringsOffset, StringsOutside}
-use Rattle.uimg_signing.specs.Texts.{has_text, one_of_texts, is_skipped}
+use Rattle.uimg_signing.specs.{Texts.{count_text, count_from, is_skipped}, Listing.is_over}
 use Rattle.uimg_signing.specs.Covering.{covers, in_nodes, is_deep}
-use Rattle.uimg_signing.specs.{Strings.size_in, Signatures.rsa_algo}
+use Rattle.uimg_signing.specs.{Reach.is_name, Strings.size_in, Signatures.rsa_algo, Turning.ends_early}
 use Rattle.uimg_sums.specs.declared.algo.Algo.TheVariants.{Sha256}
 
--- a value of two texts names both, and no other
-pub first_text : has_text (97 ∷ 0 ∷ 98 ∷ 99 ∷ 0 ∷ []) (97 ∷ []) ≡ true
-unfolding one_of_texts before_nul
+-- a value of three texts, two of which are the same
+pub first_text : count_text (97 ∷ 0 ∷ 98 ∷ 99 ∷ 0 ∷ 97 ∷ 0 ∷ []) (97 ∷ []) ≡ 2
+unfolding count_from before_nul
 first_text = refl
 
-pub second_text : has_text (97 ∷ 0 ∷ 98 ∷ 99 ∷ 0 ∷ []) (98 ∷ 99 ∷ []) ≡ true
-unfolding one_of_texts before_nul
+pub second_text : count_text (97 ∷ 0 ∷ 98 ∷ 99 ∷ 0 ∷ 97 ∷ 0 ∷ []) (98 ∷ 99 ∷ []) ≡ 1
+unfolding count_from before_nul
 second_text = refl
 
-pub no_such_text : has_text (97 ∷ 0 ∷ 98 ∷ 99 ∷ 0 ∷ []) (99 ∷ []) ≡ false
-unfolding one_of_texts before_nul
+pub no_such_text : count_text (97 ∷ 0 ∷ 98 ∷ 99 ∷ 0 ∷ []) (99 ∷ []) ≡ 0
+unfolding count_from before_nul
 no_such_text = refl
 
--- a text that no NUL ends is none
-pub unended_text : has_text (97 ∷ 0 ∷ 98 ∷ 99 ∷ []) (98 ∷ 99 ∷ []) ≡ false
-unfolding one_of_texts before_nul
+-- a value that does not end with a NUL has none, nor has an empty one
+pub unended_text : count_text (97 ∷ 0 ∷ 98 ∷ 99 ∷ []) (97 ∷ []) ≡ 0
+unfolding count_from before_nul
 unended_text = refl
+
+pub empty_value : count_text [] [] ≡ 0
+unfolding count_from before_nul
+empty_value = refl
+
+-- 100 nodes with 4096 bytes of paths are not too many, one more is
+pub most_nodes : is_over 100 4096 ≡ false
+most_nodes = refl
+
+pub node_over : is_over 101 4096 ≡ true
+node_over = refl
+
+pub byte_over : is_over 100 4097 ≡ true
+byte_over = refl
 
 pub skipped : is_skipped (codes "compatible") ≡ true
 skipped = refl
@@ -51,6 +65,23 @@ deep = refl
 pub not_deep : is_deep (replicate 31 0) (begin_node 8 (Ok []) ∷ end_node 16 ∷ []) ≡ false
 unfolding in_nodes
 not_deep = refl
+
+-- FDT_END at 40 ends a block of 44 bytes, not one of 48
+pub whole : ends_early 44 (last 40) ≡ false
+whole = refl
+
+pub goes_on : ends_early 48 (last 40) ≡ true
+goes_on = refl
+
+-- a name has no slash and at least one byte
+pub plain_name : is_name (codes "kernel-1") ≡ true
+plain_name = refl
+
+pub two_names : is_name (codes "images/kernel-1") ≡ false
+two_names = refl
+
+pub no_name : is_name [] ≡ false
+no_name = refl
 
 -- an algorithm needs its NUL, and ECDSA is none
 pub named_algo : rsa_algo (codes "sha256,rsa4096" ++ 0 ∷ []) ≡ Some (record { sum = Sha256; bits = 4096 })

@@ -65,7 +65,7 @@ well_some t [] (inl h) = err_ok h
 well_some t [] (inr h) = err_ok h.1
 well_some t (a ∷ nodes) h = err_ok h.3
 
-true_false : {A : Type 0} (b : Bool) → b ≡ true → b ≡ false → A
+pub true_false : {A : Type 0} (b : Bool) → b ≡ true → b ≡ false → A
 true_false b x y = absurd (grind (arith, x, y))
 
 lt_true : (a b : ℕ) → a < b → nat_lt a b ≡ true
@@ -76,7 +76,7 @@ past_end : (b : Blocks) (at : ℕ) → b.structure_end < at + 4 → token_at b a
 unfolding token_at
 past_end b at h = ap (λ (x : Bool). if x then stray at Truncated else by_word b at (be32 b.bytes at)) (lt_true b.structure_end (at + 4) h)
 
-last_size : (k : Token) → is_last k ≡ true → size_of k ≡ 4
+pub last_size : (k : Token) → is_last k ≡ true → size_of k ≡ 4
 last_size (begin_node at name) h = true_false false h refl
 last_size (end_node at) h = refl
 last_size (prop at p) h = true_false false h refl

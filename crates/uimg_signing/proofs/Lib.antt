@@ -3,6 +3,8 @@ pub mod TurnLaws
 pub mod StepLaws
 pub mod MessageLaws
 pub mod LookLaws
+pub mod SumLaws
+pub mod ApartLaws
 pub mod NamedLaws
 pub mod PathLaws
 pub mod ParentLaws
@@ -11,5 +13,10 @@ pub mod GoingLaws
 pub mod ShortLaws
 pub mod HashedLaws
 pub mod CostLaws
+pub mod ClimbLaws
+pub mod ReachLaws
 pub mod FindLaws
+pub mod PieceLaws
+pub mod TokenLaws
+pub mod SignedPartLaws
 pub mod Examples

@@ -1,5 +1,5 @@
 -- The message of a file with a tree.
-use Rattle.std.proofs.Common.{◌≡◌, ℕ, List, [], ◌++◌, Result, Ok, Err, Bool, IsTrue, ap, sym, subst, ◌∙◌, arith}
+use Rattle.std.proofs.Common.{◌≡◌, ℕ, List, [], ◌++◌, ◌+◌, Result, Ok, Err, Bool, IsTrue, ap, sym, subst, ◌∙◌, arith}
 use Rattle.uimg_texts.specs.{Slices.slice, Numbers.be32}
 use Rattle.uimg_base.specs.{Device.{Device, SameDevice}, Ranges.SumsRange, Results.◌>>=◌}
 use Rattle.uimg_blob_reading.specs.declared.extent.Extent.{Extent}
@@ -8,7 +8,7 @@ use Rattle.uimg_blob_reading.specs.Tokens.{Token, Blocks, tokens}
 use Rattle.uimg_blob_reading.specs.Blob.{blocks, blocks_named, tree, met, met_from, met_in}
 use Rattle.uimg_blob_reading.specs.Extents.{blocks_of}
 use Rattle.uimg_signing.specs.declared.faults.SigningFault.{SigningFault, TheVariants.StringsOutside}
-use Rattle.uimg_signing.specs.{Covering.signed_of, Walking.{Feeds, deep_refusal}, Message.{message, refusal}, Faults.Refuses}
+use Rattle.uimg_signing.specs.{Covering.signed_of, Walking.{Feeds, walk_refusal}, Message.{message, refusal}, Faults.Refuses}
 use Rattle.uimg_signing.proofs.TurnLaws.{less_true, less_false}
 use Rattle.std.proofs.Common.{Option, Some, if◌then◌else◌, ◌<◌, ◌≤◌}
 
@@ -19,11 +19,11 @@ err_ok h = grind (arith, h)
 pub ok_ok : {A F : Type 0} (x y : A) → (let r : Result A F = Ok x in r) ≡ Ok y → x ≡ y
 ok_ok x y h = cc
 
-named : (file : List ℕ) (b : Blocks) → blocks file ≡ Ok b → blocks_named file ≡ b
+pub named : (file : List ℕ) (b : Blocks) → blocks file ≡ Ok b → blocks_named file ≡ b
 unfolding blocks
 named file b h = grind (arith, err_ok, ok_ok)
 
-tokens_met : (file : List ℕ) (b : Blocks) (t : Siblings) → blocks file ≡ Ok b → tree file ≡ Ok t → tokens b ≡ met file
+pub tokens_met : (file : List ℕ) (b : Blocks) (t : Siblings) → blocks file ≡ Ok b → tree file ≡ Ok t → tokens b ≡ met file
 unfolding tree
 tokens_met file b t found is =
     let rooted : root (without_nops (tokens b)) ≡ Ok t = sym (ap (λ (r : Result Blocks Fault). r >>= λ x. root (without_nops (tokens x))) found) ∙ is in
@@ -49,17 +49,22 @@ whole fed more listed d e f x t strings old between new same after honest is fou
 pub strings_size : (file : List ℕ) (x : Extent) → blocks file ≡ Ok (blocks_of file x) → be32 file 32 ≡ x.strings_size
 strings_size file x found = ap (λ (k : Blocks). k.strings_size) (named file (blocks_of file x) found)
 
+-- the end of the structure block
+pub structure_end : (file : List ℕ) (x : Extent) → blocks file ≡ Ok (blocks_of file x) → be32 file 8 + be32 file 36 ≡ x.structure_end
+structure_end file x found = ap (λ (k : Blocks). k.structure_end) (named file (blocks_of file x) found)
+
 pub outside : (file : List ℕ) (strings size : ℕ) → be32 file 32 ≡ size → size < strings → refusal file strings ≡ Some StringsOutside
-outside file strings size is past = ap (λ (x : Bool). (let o : Option SigningFault = if x then Some StringsOutside else deep_refusal (met file) in o)) (less_true (be32 file 32) strings (omega (arith, is, past)))
+outside file strings size is past = ap (λ (x : Bool). (let o : Option SigningFault = if x then Some StringsOutside else walk_refusal (be32 file 8 + be32 file 36) (met file) in o)) (less_true (be32 file 32) strings (omega (arith, is, past)))
 
 -- the refusal is that of the tokens
 pub refuses_tokens : (d e : Device) (x : Extent) (t : Siblings) (strings : ℕ) (result : Result Unit SigningFault) → SameDevice d e → tree d.bytes ≡ Ok t → blocks d.bytes ≡ Ok (blocks_of d.bytes x)
-    → strings ≤ x.strings_size → Refuses (deep_refusal (tokens (blocks_of e.bytes x))) result → Refuses (refusal d.bytes strings) result
+    → strings ≤ x.strings_size → Refuses (walk_refusal x.structure_end (tokens (blocks_of e.bytes x))) result → Refuses (refusal d.bytes strings) result
 refuses_tokens d e x t strings result same is found within refuses = λ read memory.
     refuses read memory
-    ∙ ap (λ (xs : List ℕ). deep_refusal (tokens (blocks_of xs x))) same.bytes
-    ∙ ap (λ (ts : List Token). deep_refusal ts) (tokens_met d.bytes (blocks_of d.bytes x) t found is)
-    ∙ sym (ap (λ (x : Bool). (let o : Option SigningFault = if x then Some StringsOutside else deep_refusal (met d.bytes) in o)) (less_false (be32 d.bytes 32) strings (omega (arith, strings_size d.bytes x found, within))))
+    ∙ ap (λ (xs : List ℕ). walk_refusal x.structure_end (tokens (blocks_of xs x))) same.bytes
+    ∙ ap (λ (b : Blocks). walk_refusal b.structure_end (tokens (blocks_of d.bytes x))) (sym (named d.bytes (blocks_of d.bytes x) found))
+    ∙ ap (λ (ts : List Token). walk_refusal (be32 d.bytes 8 + be32 d.bytes 36) ts) (tokens_met d.bytes (blocks_of d.bytes x) t found is)
+    ∙ sym (ap (λ (x : Bool). (let o : Option SigningFault = if x then Some StringsOutside else walk_refusal (be32 d.bytes 8 + be32 d.bytes 36) (met d.bytes) in o)) (less_false (be32 d.bytes 32) strings (omega (arith, strings_size d.bytes x found, within))))
 
 -- the tree is that of the tokens
 pub rooted : (d e : Device) (x : Extent) (t : Siblings) → SameDevice d e → blocks d.bytes ≡ Ok (blocks_of d.bytes x) → tree d.bytes ≡ Ok t → root (without_nops (tokens (blocks_of e.bytes x))) ≡ Ok t

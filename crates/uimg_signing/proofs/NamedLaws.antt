@@ -1,5 +1,6 @@
 -- Whether a configuration names an image, and which nodes are listed.
-use Rattle.std.proofs.Common.{◌≡◌, ℕ, suc, ◌+◌, ◌<◌, ◌≤◌, List, ◌∷◌, ◌++◌, length, map, drop, Option, Some, None, Result, IfOk, Bool, true, false, slice_get, if◌then◌else◌, refl, ap, sym, subst, ◌∙◌, append_assoc, append-nil, arith}
+use Rattle.std.proofs.Common.{◌≡◌, ℕ, suc, ◌+◌, ◌<◌, ◌≤◌, List, ◌∷◌, ◌++◌, length, map, drop, Option, Some, None, Result, IfOk, Bool, slice_get, refl, ap, sym, subst, ◌∙◌, append_assoc, append-nil, arith}
+use Rattle.std.specs.Prelude.{nat_lt}
 use Rattle.std.proofs.lemmas.List.{length-map}
 use Rattle.std.{specs.List.All, proofs.lemmas.List.Elements.All-weaker}
 use Rattle.uimg_blob_reading.specs.Places.{EndsBy}
@@ -10,38 +11,29 @@ use Rattle.uimg_blob_reading.specs.{Grammar.Siblings, Rows.{Row, table}, Roles.t
 use Rattle.uimg_blob_reading.specs.{Indexed.{IsIndexed}, Places.read_place, Plain.NamedOf}
 use Rattle.uimg_blob_reading.proofs.{LookLaws.length_rows, SoFarLaws.length_kept}
 use Rattle.uimg_signing.specs.declared.faults.SigningFault.{SigningFault}
-use Rattle.uimg_signing.specs.Naming.{names_at, named}
-use Rattle.uimg_signing.specs.Listing.{name_in, image_named, row_named, is_part_of, listed_as, is_listed, mark_if, mark_of, marks_from}
+use Rattle.uimg_signing.specs.Naming.{count_at, times}
+use Rattle.uimg_signing.specs.Listing.{name_in, image_times, row_times, parent_times, listed_as, listed_times, mark_if, mark_of, marks_from}
 use Rattle.uimg_signing.proofs.LookLaws.{drop_at, drop_end}
 
 -- what a loop takes where there is no place
 abbrev pub no_place : PropertyPlace
 no_place = record { name = record { place = 0; length = 0 }; value = record { place = 0; length = 0 } }
 
-named_first : (file wanted : List ℕ) (p : PropertyPlace) (ps xs : List PropertyPlace) → xs ≡ p ∷ ps
-    → named file wanted (map (read_place file) xs) ≡ (if names_at file wanted p then true else named file wanted (map (read_place file) ps))
-unfolding named
-named_first file wanted p ps xs is = ap (λ (l : List PropertyPlace). named file wanted (map (read_place file) l)) is
+times_first : (file wanted : List ℕ) (p : PropertyPlace) (ps xs : List PropertyPlace) → xs ≡ p ∷ ps
+    → times file wanted (map (read_place file) xs) ≡ count_at file wanted p + times file wanted (map (read_place file) ps)
+unfolding times
+times_first file wanted p ps xs is = ap (λ (l : List PropertyPlace). times file wanted (map (read_place file) l)) is
 
--- one that names it
-pub named_found : (file wanted : List ℕ) (p : PropertyPlace) (xs : List PropertyPlace) (i : ℕ) (all : Bool) → drop i xs ≡ p ∷ drop (suc i) xs → true ≡ names_at file wanted p
-    → named file wanted (map (read_place file) (drop i xs)) ≡ all → true ≡ all
-named_found file wanted p xs i all is names left =
-    ap (λ (b : Bool). if b then true else named file wanted (map (read_place file) (drop (suc i) xs))) names
-    ∙ sym (named_first file wanted p (drop (suc i) xs) (drop i xs) is) ∙ left
-
--- one that doesn't
-pub named_more : (file wanted : List ℕ) (p : PropertyPlace) (xs : List PropertyPlace) (i : ℕ) (all : Bool) → drop i xs ≡ p ∷ drop (suc i) xs → false ≡ names_at file wanted p
-    → named file wanted (map (read_place file) (drop i xs)) ≡ all → named file wanted (map (read_place file) (drop (i + 1) xs)) ≡ all
-named_more file wanted p xs i all is names left =
+-- one place more
+pub times_more : (file wanted : List ℕ) (p : PropertyPlace) (xs : List PropertyPlace) (i found more all : ℕ) → drop i xs ≡ p ∷ drop (suc i) xs → more ≡ count_at file wanted p
+    → found + times file wanted (map (read_place file) (drop i xs)) ≡ all → found + more + times file wanted (map (read_place file) (drop (i + 1) xs)) ≡ all
+times_more file wanted p xs i found more all is counted left =
     let next : i + 1 ≡ suc i = omega arith in
-    ap (λ (k : ℕ). named file wanted (map (read_place file) (drop k xs))) next
-    ∙ ap (λ (b : Bool). if b then true else named file wanted (map (read_place file) (drop (suc i) xs))) names
-    ∙ sym (named_first file wanted p (drop (suc i) xs) (drop i xs) is) ∙ left
+    omega (arith, left, counted, times_first file wanted p (drop (suc i) xs) (drop i xs) is, ap (λ (k : ℕ). times file wanted (map (read_place file) (drop k xs))) next)
 
-pub named_none : (file wanted : List ℕ) (xs : List PropertyPlace) (i : ℕ) (all : Bool) → length xs ≤ i → named file wanted (map (read_place file) (drop i xs)) ≡ all → false ≡ all
-unfolding named
-named_none file wanted xs i all past left = sym (ap (λ (l : List PropertyPlace). named file wanted (map (read_place file) l)) (drop_end xs i past)) ∙ left
+pub times_end : (file wanted : List ℕ) (xs : List PropertyPlace) (i found all : ℕ) → length xs ≤ i → found + times file wanted (map (read_place file) (drop i xs)) ≡ all → found ≡ all
+unfolding times
+times_end file wanted xs i found all past left = omega (arith, left, ap (λ (l : List PropertyPlace). times file wanted (map (read_place file) l)) (drop_end xs i past))
 
 -- a table has as many rows as entries
 pub rows_count : (t : Siblings) (blob : Blob) (es : List (List ℕ)) → IsIndexed t blob es → length (table t) ≡ length es
@@ -52,10 +44,10 @@ pub row_of : (t : Siblings) (blob : Blob) (es : List (List ℕ)) (n : ℕ) → I
 row_of t blob es n h within = drop_at (table t) n (omega (arith, rows_count t blob es h, within))
 
 -- an answer that is as another
-pub told_as : (r : Result Bool SigningFault) (a b : Bool) → a ≡ b → IfOk r (λ it. it ≡ a) → IfOk r (λ it. it ≡ b)
-told_as r a b same told = subst (λ (x : Bool). IfOk r (λ it. it ≡ x)) same told
+pub told_as : {X : Type 0} (r : Result X SigningFault) (a b : X) → a ≡ b → IfOk r (λ it. it ≡ a) → IfOk r (λ it. it ≡ b)
+told_as {X} r a b same told = subst (λ (x : X). IfOk r (λ it. it ≡ x)) same told
 
-pub not_image : (file : List ℕ) (own : List (NamedOf Span)) (name : List ℕ) (r : Role) → (r ≡ role.Image → ⊥) → false ≡ image_named file own r name
+pub not_image : (file : List ℕ) (own : List (NamedOf Span)) (name : List ℕ) (r : Role) → (r ≡ role.Image → ⊥) → 0 ≡ image_times file own r name
 not_image file own name role.Root h = refl
 not_image file own name role.Images h = refl
 not_image file own name role.Image h = absurd (h refl)
@@ -66,36 +58,36 @@ not_image file own name role.Configuration h = refl
 not_image file own name role.Other h = refl
 
 -- the parent is an image
-pub part_of_image : (file : List ℕ) (own : List (NamedOf Span)) (rows : List Row) (o : Option ℕ) (parent : ℕ) (row : Row) → o ≡ Some parent → slice_get rows parent ≡ Some row → row.role ≡ role.Image
-    → named file (name_in file row) own ≡ is_part_of file own rows o
-part_of_image file own rows o parent row is at its = sym (ap (is_part_of file own rows) is ∙ ap (row_named file own) at ∙ ap (λ (r : Role). image_named file own r (name_in file row)) its)
+pub around_image : (file : List ℕ) (own : List (NamedOf Span)) (rows : List Row) (o : Option ℕ) (parent : ℕ) (row : Row) → o ≡ Some parent → slice_get rows parent ≡ Some row → row.role ≡ role.Image
+    → times file (name_in file row) own ≡ parent_times file own rows o
+around_image file own rows o parent row is at its = sym (ap (parent_times file own rows) is ∙ ap (row_times file own) at ∙ ap (λ (r : Role). image_times file own r (name_in file row)) its)
 
 -- the parent is none
-pub part_of_other : (file : List ℕ) (own : List (NamedOf Span)) (rows : List Row) (o : Option ℕ) (parent : ℕ) (row : Row) → o ≡ Some parent → slice_get rows parent ≡ Some row → (row.role ≡ role.Image → ⊥)
-    → false ≡ is_part_of file own rows o
-part_of_other file own rows o parent row is at its = not_image file own (name_in file row) row.role its ∙ sym (ap (is_part_of file own rows) is ∙ ap (row_named file own) at)
+pub around_other : (file : List ℕ) (own : List (NamedOf Span)) (rows : List Row) (o : Option ℕ) (parent : ℕ) (row : Row) → o ≡ Some parent → slice_get rows parent ≡ Some row → (row.role ≡ role.Image → ⊥)
+    → 0 ≡ parent_times file own rows o
+around_other file own rows o parent row is at its = not_image file own (name_in file row) row.role its ∙ sym (ap (parent_times file own rows) is ∙ ap (row_times file own) at)
 
-pub part_of_none : (file : List ℕ) (own : List (NamedOf Span)) (rows : List Row) (o : Option ℕ) → o ≡ None → false ≡ is_part_of file own rows o
-part_of_none file own rows o is = sym (ap (is_part_of file own rows) is)
+pub around_none : (file : List ℕ) (own : List (NamedOf Span)) (rows : List Row) (o : Option ℕ) → o ≡ None → 0 ≡ parent_times file own rows o
+around_none file own rows o is = sym (ap (parent_times file own rows) is)
 
 -- the role tells
-pub by_role : (r s : Role) (number is_named cipher part : Bool) → r ≡ s → listed_as r number is_named cipher part ≡ listed_as s number is_named cipher part
-by_role r s number is_named cipher part same = ap (λ (x : Role). listed_as x number is_named cipher part) same
+pub by_role : (r s : Role) (number : Bool) (named : ℕ) (cipher : Bool) (around : ℕ) → r ≡ s → listed_as r number named cipher around ≡ listed_as s number named cipher around
+by_role r s number named cipher around same = ap (λ (x : Role). listed_as x number named cipher around) same
 
-pub by_cipher : (number is_named x y part : Bool) → x ≡ y → listed_as role.Other number is_named x part ≡ listed_as role.Other number is_named y part
-by_cipher number is_named x y part same = ap (λ (b : Bool). listed_as role.Other number is_named b part) same
+pub by_cipher : (number : Bool) (named : ℕ) (x y : Bool) (around : ℕ) → x ≡ y → listed_as role.Other number named x around ≡ listed_as role.Other number named y around
+by_cipher number named x y around same = ap (λ (b : Bool). listed_as role.Other number named b around) same
 
 -- none of the other roles is listed
-pub not_listed : (r : Role) (number is_named cipher part : Bool) → (r ≡ role.Root → ⊥) → (r ≡ role.Configuration → ⊥) → (r ≡ role.Image → ⊥) → (r ≡ role.Hash → ⊥) → (r ≡ role.Other → ⊥)
-    → false ≡ listed_as r number is_named cipher part
-not_listed role.Root number is_named cipher part a b c d e = absurd (a refl)
-not_listed role.Images number is_named cipher part a b c d e = refl
-not_listed role.Image number is_named cipher part a b c d e = absurd (c refl)
-not_listed role.Hash number is_named cipher part a b c d e = absurd (d refl)
-not_listed role.Signature number is_named cipher part a b c d e = refl
-not_listed role.Configurations number is_named cipher part a b c d e = refl
-not_listed role.Configuration number is_named cipher part a b c d e = absurd (b refl)
-not_listed role.Other number is_named cipher part a b c d e = absurd (e refl)
+pub not_listed : (r : Role) (number : Bool) (named : ℕ) (cipher : Bool) (around : ℕ) → (r ≡ role.Root → ⊥) → (r ≡ role.Configuration → ⊥) → (r ≡ role.Image → ⊥) → (r ≡ role.Hash → ⊥) → (r ≡ role.Other → ⊥)
+    → 0 ≡ listed_as r number named cipher around
+not_listed role.Root number named cipher around a b c d e = absurd (a refl)
+not_listed role.Images number named cipher around a b c d e = refl
+not_listed role.Image number named cipher around a b c d e = absurd (c refl)
+not_listed role.Hash number named cipher around a b c d e = absurd (d refl)
+not_listed role.Signature number named cipher around a b c d e = refl
+not_listed role.Configurations number named cipher around a b c d e = refl
+not_listed role.Configuration number named cipher around a b c d e = absurd (b refl)
+not_listed role.Other number named cipher around a b c d e = absurd (e refl)
 
 -- the next node
 pub marks_more : (file : List ℕ) (own : List (NamedOf Span)) (rows : List Row) (configuration i : ℕ) (row : Row) (old new all : List ℕ) → drop i rows ≡ row ∷ drop (suc i) rows
@@ -115,10 +107,10 @@ marks_end file own rows configuration i old all past left =
     sym (append-nil old) ∙ sym (ap (λ (l : List Row). old ++ marks_from file own rows configuration i l) (drop_end rows i past)) ∙ left
 
 -- a node's offset was added if it is listed
-pub marked : (file : List ℕ) (own : List (NamedOf Span)) (rows : List Row) (configuration i : ℕ) (row : Row) (old new : List ℕ) (is_it : Bool) (at : ℕ) → new ≡ old ++ mark_if is_it at → at ≡ row.at → is_it ≡ is_listed file own rows configuration i row
+pub marked : (file : List ℕ) (own : List (NamedOf Span)) (rows : List Row) (configuration i : ℕ) (row : Row) (old new : List ℕ) (times at : ℕ) → new ≡ old ++ mark_if (nat_lt 0 times) at → at ≡ row.at → times ≡ listed_times file own rows configuration i row
     → new ≡ old ++ mark_of file own rows configuration i row
-marked file own rows configuration i row old new is_it at is place listed =
-    is ∙ ap (λ (n : ℕ). old ++ mark_if is_it n) place ∙ ap (λ (b : Bool). old ++ mark_if b row.at) listed
+marked file own rows configuration i row old new times at is place listed =
+    is ∙ ap (λ (n : ℕ). old ++ mark_if (nat_lt 0 times) n) place ∙ ap (λ (n : ℕ). old ++ mark_if (nat_lt 0 n) row.at) listed
 
 -- spans that end earlier
 pub ends_in : (a b : ℕ) (xs : List PropertyPlace) → a ≤ b → All (EndsBy a) xs → All (EndsBy b) xs

@@ -4,15 +4,15 @@ use Rattle.std.specs.Prelude.{nat_lt, ⊤}
 use Rattle.std.specs.List.{AllByRecursion}
 use Rattle.uimg_texts.specs.{Nul.before_nul, Numbers.be32}
 use Rattle.uimg_base.specs.Results.{◌>>=◌}
-use Rattle.uimg_blob_reading.specs.Tokens.{Token, begin_node, end_node, prop, nop, last, stray, Blocks, token_at, next, tokens, tokens_from, by_word, begins, node_name, reach, property_at}
-use Rattle.uimg_blob_reading.specs.declared.fault.BlobFault.TheVariants.{Truncated, BadToken, BadNodeName}
+use Rattle.uimg_blob_reading.specs.Tokens.{Token, begin_node, end_node, prop, nop, last, stray, Blocks, token_at, next, tokens, tokens_from, node_name, reach}
+use Rattle.uimg_blob_reading.specs.declared.fault.BlobFault.TheVariants.{Truncated, BadNodeName}
 use Rattle.uimg_blob_reading.specs.{Reading.Fault, Grammar.{Siblings, none, node, root, without_nops}, Blob.{blocks, tree}}
 use Rattle.uimg_blob_reading.specs.Walk.{Open, opened, walk, begun, finished, as_node, close, join}
 use Rattle.uimg_blob_reading.specs.Rows.{Row, rows, table, size}
 use Rattle.uimg_blob_reading.specs.Roles.{Level, top, role_at, level_in, level_after}
 use Rattle.uimg_blob_reading.proofs.WalkLaws.{begun_is}
 use Rattle.uimg_signing.specs.Paths.{Path, paths, ParentIs, Stands, AllStand}
-use Rattle.uimg_signing.proofs.{GoingLaws.err_ok, MessageLaws.ok_ok, ParentLaws.{table_stands, length_paths}}
+use Rattle.uimg_signing.proofs.{TokenLaws.{either, each_word}, GoingLaws.err_ok, MessageLaws.ok_ok, ParentLaws.{table_stands, length_paths}}
 use Rattle.uimg_signing.proofs.ListedLaws.{empty, within}
 use Rattle.uimg_blob_reading.proofs.{PhaseLaws.some_some, LookLaws.length_rows}
 
@@ -80,10 +80,6 @@ begun_short t (prop at p ∷ ts) k h = absurd (err_ok h)
 begun_short t (last at ∷ ts) k h = absurd (err_ok h)
 begun_short t (stray at fault ∷ ts) k h = absurd (err_ok h)
 
-either : (c : Bool) (x y : Token) → ShortToken x → ShortToken y → ShortToken (if c then x else y)
-either true x y a b = a
-either false x y a b = b
-
 some_same : (x y : List ℕ) → (let o : Option (List ℕ) = Some x in o) ≡ Some y → x ≡ y
 some_same x y h = some_some x y h
 
@@ -112,20 +108,12 @@ short_begin : (at : ℕ) (near : List ℕ) (o : Option (List ℕ)) → before_nu
 short_begin at near (Some name) is most = omega (arith, nul_within near name is, most)
 short_begin at near None is most = no_name (length near == 256) at
 
-short_word : (b : Blocks) (at w : ℕ) → ShortToken (by_word b at w)
-short_word b at w =
-    let near = reach b.bytes (at + 4) b.structure_end in
-    let nine = if w == 9 then last at else stray at BadToken in
-    let four = if w == 4 then nop at else nine in
-    let three = if w == 3 then prop at (property_at b at) else four in
-    let two = if w == 2 then end_node at else three in
-    either (w == 1) (begins at near) two (short_begin at near (before_nul near) refl (few 256 (take (b.structure_end - (at + 4)) (drop (at + 4) b.bytes))))
-    (either (w == 2) (end_node at) three tt (either (w == 3) (prop at (property_at b at)) four tt
-    (either (w == 4) (nop at) nine tt (either (w == 9) (last at) (stray at BadToken) tt tt))))
-
 short_at : (b : Blocks) (at : ℕ) → ShortToken (token_at b at)
 unfolding token_at
-short_at b at = either (nat_lt b.structure_end (at + 4)) (stray at Truncated) (by_word b at (be32 b.bytes at)) tt (short_word b at (be32 b.bytes at))
+short_at b at =
+    let near = reach b.bytes (at + 4) b.structure_end in
+    either ShortToken (nat_lt b.structure_end (at + 4)) _ _ (λ h. tt)
+    (λ h. each_word ShortToken b at (be32 b.bytes at) (λ is. short_begin at near (before_nul near) refl (few 256 (take (b.structure_end - (at + 4)) (drop (at + 4) b.bytes)))) (λ is. tt) (λ is. tt) (λ is. tt) (λ is. tt) tt)
 
 tokens_short : (n : ℕ) (b : Blocks) (o : Option ℕ) → AllByRecursion ShortToken (tokens_from n b o)
 unfolding tokens_from
@@ -152,11 +140,12 @@ rows_short level parent i (node at name own below after) h = (
       (rows_short (level_in (role_at level name)) (Some i) (i + 1) below h.1) (rows_short (level_after level name) parent (i + (1 + size below)) after h.2),
 )
 
-tree_in : (t : Siblings) (r : Result Blocks Fault) → (r >>= (λ b. root (without_nops (tokens b)))) ≡ Ok t → (b : Blocks) × (root (without_nops (tokens b)) ≡ Ok t)
-tree_in t (Ok b) h = (b, h)
+tree_in : (t : Siblings) (r : Result Blocks Fault) → (r >>= (λ b. root (without_nops (tokens b)))) ≡ Ok t → (b : Blocks) × (r ≡ Ok b) × (root (without_nops (tokens b)) ≡ Ok t)
+tree_in t (Ok b) h = (b, refl, h)
 tree_in t (Err e) h = absurd (err_ok h)
 
-tree_of : (file : List ℕ) (t : Siblings) → tree file ≡ Ok t → (b : Blocks) × (root (without_nops (tokens b)) ≡ Ok t)
+-- the blocks of a file with a tree
+pub tree_of : (file : List ℕ) (t : Siblings) → tree file ≡ Ok t → (b : Blocks) × (blocks file ≡ Ok b) × (root (without_nops (tokens b)) ≡ Ok t)
 unfolding tree
 tree_of file t h = tree_in t (blocks file) h
 
@@ -165,7 +154,7 @@ pub name_short : (file : List ℕ) (t : Siblings) (i : ℕ) (row : Row) → tree
 name_short file t i row is at =
     let r = tree_of file t is in
     let all = tokens_short (suc (r.0.structure_end - r.0.structure)) r.0 (Some r.0.structure) in
-    all_get (λ (x : Row). IsShort x.name) (table t) i row (rows_short top None 0 t (begun_short t (tokens r.0) all (begun_is (tokens r.0) ∙ r.1))) at
+    all_get (λ (x : Row). IsShort x.name) (table t) i row (rows_short top None 0 t (begun_short t (tokens r.0) all (begun_is (tokens r.0) ∙ r.2))) at
 
 stand : (all : List Path) (rs : List Row) (ps : List Path) → AllStand all rs ps → (n : ℕ) (row : Row) → slice_get rs n ≡ Some row → (path : Path) × Stands all row path
 stand all [] ps a n row is = absurd (empty n row is)

@@ -2,7 +2,7 @@
 use Rattle.std.specs.Prelude.{◌≡◌, Bool, true, false, Option, Some, None, Result, Ok, Err}
 use Rattle.uimg_signing.specs.declared.faults.SigningFault.{SigningFault}
 use Rattle.uimg_signing.specs.declared.faults.SigningFault.TheVariants.{Read, OutOfMemory, Changed}
-use Rattle.uimg_signing.specs.declared.faults.SigningFault.TheVariants.{TooLong, TooDeep}
+use Rattle.uimg_signing.specs.declared.faults.SigningFault.TheVariants.{TooLong, TooDeep, EarlyEnd}
 use Rattle.uimg_signing.specs.declared.faults.SigningFault.TheVariants.{TooManyNodes, Unhashed}
 use Rattle.uimg_signing.specs.declared.faults.SigningFault.TheVariants.{BadStrings, StringsOffset, StringsOutside}
 
@@ -16,6 +16,7 @@ is_unread (Err TooManyNodes) = false
 is_unread (Err Unhashed) = false
 is_unread (Err Changed) = false
 is_unread (Err TooDeep) = false
+is_unread (Err EarlyEnd) = false
 is_unread (Err BadStrings) = false
 is_unread (Err StringsOffset) = false
 is_unread (Err StringsOutside) = false
@@ -30,6 +31,7 @@ is_out_of_memory (Err TooManyNodes) = false
 is_out_of_memory (Err Unhashed) = false
 is_out_of_memory (Err Changed) = false
 is_out_of_memory (Err TooDeep) = false
+is_out_of_memory (Err EarlyEnd) = false
 is_out_of_memory (Err BadStrings) = false
 is_out_of_memory (Err StringsOffset) = false
 is_out_of_memory (Err StringsOutside) = false

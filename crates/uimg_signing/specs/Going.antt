@@ -2,10 +2,10 @@
 use Rattle.std.specs.Prelude.{◌≡◌, ℕ, ◌+◌, ◌<◌, ◌≤◌, Some, List, [], ◌∷◌, length, Ok, Err, Bool, true, false, ◌⊎◌, ⊤}
 use Rattle.uimg_blob_reading.specs.Tokens.{Token, begin_node, end_node, prop, nop, last, stray, next}
 use Rattle.uimg_blob_reading.specs.Tokens.{Blocks}
-use Rattle.uimg_signing.specs.{Covering.{size_of, placed_in, begins_deep}, Turning.is_last}
+use Rattle.uimg_signing.specs.{Covering.{size_of, placed_in, begins_deep}, Turning.{is_last, ends_early}}
 use Rattle.uimg_blob_reading.specs.{Grammar.Siblings, Walk.{Open, walk, begun, finished}}
 use Rattle.uimg_signing.specs.declared.faults.SigningFault.{SigningFault}
-use Rattle.uimg_signing.specs.declared.faults.SigningFault.TheVariants.{Read, Changed, TooDeep}
+use Rattle.uimg_signing.specs.declared.faults.SigningFault.TheVariants.{Read, Changed, TooDeep, EarlyEnd}
 
 -- the token is faulty, or ends no node
 abbrev pub is_wrong : List ℕ → Token → Bool
@@ -45,4 +45,5 @@ abbrev pub RefusesToken : SigningFault → Blocks → List ℕ → ℕ → Token
 RefusesToken Read b nodes at t = ⊤
 RefusesToken Changed b nodes at t = IsBad b nodes at t
 RefusesToken TooDeep b nodes at t = begins_deep (placed_in nodes t) ≡ true
+RefusesToken EarlyEnd b nodes at t = ends_early b.structure_end t ≡ true
 RefusesToken _ b nodes at t = ⊥

@@ -1,10 +1,10 @@
 -- Whether the images that a configuration names have hash nodes (U-Boot's fit_config_get_hash_list
 -- and fit_config_add_hash).
-use Rattle.std.specs.Prelude.{ℕ, ◌+◌, ◌==◌, List, [], ◌∷◌, Option, Some, None}
+use Rattle.std.specs.Prelude.{ℕ, ◌+◌, ◌==◌, nat_lt, List, [], ◌∷◌, Option, Some, None}
 use Rattle.std.specs.{Prelude.{Bool, true, false, not, if◌then◌else◌}, List.list_any}
 use Rattle.uimg_base.specs.declared.spans.Span.{Span}
 use Rattle.uimg_blob_reading.specs.{Plain.NamedOf, Roles.is_hash_role, Rows.Row}
-use Rattle.uimg_signing.specs.Listing.{image_named, name_in}
+use Rattle.uimg_signing.specs.Listing.{image_times, name_in}
 
 abbrev pub is_parent : ℕ → Option ℕ → Bool
 is_parent number None = false
@@ -20,7 +20,7 @@ has_hash rows image = list_any (is_hash_of image) rows
 
 -- the row is that of an image that the configuration with these properties names
 abbrev pub is_named_image : List ℕ → List (NamedOf Span) → Row → Bool
-is_named_image file own row = image_named file own row.role (name_in file row)
+is_named_image file own row = nat_lt 0 (image_times file own row.role (name_in file row))
 
 -- whether such an image has a hash node; else nothing
 abbrev pub hashed_as : List ℕ → List (NamedOf Span) → List Row → ℕ → Row → Option Bool

@@ -1,10 +1,10 @@
 -- The nodes of a tree by their paths.
-use Rattle.std.specs.Prelude.{◌≡◌, List, [], ◌∷◌, ◌++◌, Bool, false, ◌&&◌, ◌||◌, if◌then◌else◌, ⊤}
+use Rattle.std.specs.Prelude.{◌≡◌, nat_lt, List, [], ◌∷◌, ◌++◌, Bool, false, ◌&&◌, ◌||◌, if◌then◌else◌, ⊤}
 use Rattle.std.specs.{Prelude.{ℕ, Option, Some, None}, List.slice_get}
 use Rattle.std.specs.Str.{bytes_eq}
 use Rattle.uimg_base.specs.declared.spans.Span.{Span}
 use Rattle.uimg_blob_reading.specs.{Rows.Row, Plain.NamedOf}
-use Rattle.uimg_signing.specs.{Naming.named, Texts.is_cipher, Listing.{image_named, listed_as}}
+use Rattle.uimg_signing.specs.{Naming.times, Texts.is_cipher, Listing.{image_times, listed_as}}
 use Rattle.uimg_blob_reading.specs.declared.roles.Role.{Role}
 use Rattle.uimg_blob_reading.specs.declared.roles.Role.TheVariants as role
 use Rattle.uimg_blob_reading.specs.Grammar.{Siblings, none, node}
@@ -64,15 +64,15 @@ AllStand all [] (p ∷ ps) = ⊥
 AllStand all (r ∷ rs) [] = ⊥
 AllStand all (r ∷ rs) (p ∷ ps) = Stands all r p × AllStand all rs ps
 
--- a path of an image that the configuration with these properties names
-abbrev pub part_at : List ℕ → List (NamedOf Span) → Path → Bool
-part_at file own [] = false
-part_at file own (x ∷ above) = image_named file own (role_of (x ∷ above)) x
+-- how often the configuration with these properties names the image of this path
+abbrev pub around_at : List ℕ → List (NamedOf Span) → Path → ℕ
+around_at file own [] = 0
+around_at file own (x ∷ above) = image_times file own (role_of (x ∷ above)) x
 
 -- The path is listed: that of the root, of the configuration of this name, of an image that it names,
 -- or of a hash node or cipher of such an image.
 abbrev pub listed_at : List ℕ → List (NamedOf Span) → List ℕ → Path → Bool
 listed_at file own configuration [] = false
 listed_at file own configuration (x ∷ above) =
-    listed_as (role_of (x ∷ above)) (bytes_eq x configuration) (named file x own) (is_cipher x)
-    (part_at file own above)
+    nat_lt 0 (listed_as (role_of (x ∷ above)) (bytes_eq x configuration) (times file x own)
+    (is_cipher x) (around_at file own above))

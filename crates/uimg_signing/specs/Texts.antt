@@ -1,22 +1,30 @@
--- The texts of a value that a NUL ends.
-use Rattle.std.specs.Prelude.{ℕ, zero, suc, ◌+◌, List, length, drop, Option, Some, None}
-use Rattle.std.specs.{Prelude.{Bool, true, false, if◌then◌else◌, codes}, Str.bytes_eq}
+-- The texts of a value.
+use Rattle.std.specs.Prelude.{ℕ, zero, suc, ◌+◌, List, [], ◌∷◌, length, drop, Option, Some, None}
+use Rattle.std.specs.{Prelude.{Bool, true, if◌then◌else◌, codes}, Str.bytes_eq}
 use Rattle.uimg_texts.specs.Nul.{before_nul}
+use Rattle.std.specs.Int.{from_bool}
 
--- whether the first text is this one, or another after it
-abbrev pub text_or : Option (List ℕ) → List ℕ → (List ℕ → Bool) → Bool
-text_or None wanted more = false
-text_or (Some text) wanted more = if bytes_eq text wanted then true else more text
+-- so many texts, if the value ends here; none, if bytes without a NUL are left
+abbrev pub if_ended : List ℕ → ℕ → ℕ
+if_ended [] found = found
+if_ended (byte ∷ bytes) found = 0
 
--- one of the first n texts is this one
-unfoldable pub one_of_texts : ℕ → List ℕ → List ℕ → Bool
-one_of_texts zero bytes wanted = false
-one_of_texts (suc n) bytes wanted =
-    text_or (before_nul bytes) wanted (λ text. one_of_texts n (drop (length text + 1) bytes) wanted)
+-- the first where no NUL follows, else what the other says of the text before it
+abbrev pub after_text : Option (List ℕ) → ℕ → (List ℕ → ℕ) → ℕ
+after_text None ended more = ended
+after_text (Some text) ended more = more text
 
--- one of the texts of a value, each of which a NUL ends, is this one
-abbrev pub has_text : List ℕ → List ℕ → Bool
-has_text bytes wanted = one_of_texts (length bytes + 1) bytes wanted
+-- how many of the first n texts are this one, and so many before them
+unfoldable pub count_from : ℕ → ℕ → List ℕ → List ℕ → ℕ
+count_from zero found bytes wanted = 0
+count_from (suc n) found bytes wanted =
+    after_text (before_nul bytes) (if_ended bytes found)
+    (λ text. count_from n (found + from_bool (bytes_eq text wanted)) (drop (length text + 1) bytes) wanted)
+
+-- how many texts of a value are this one: a NUL ends each; a value that ends without one has none
+-- (libfdt's fdt_stringlist_count)
+abbrev pub count_text : List ℕ → List ℕ → ℕ
+count_text bytes wanted = count_from (length bytes + 1) 0 bytes wanted
 
 -- the properties of a configuration that do not name images (U-Boot's fit_config_get_hash_list)
 abbrev pub is_skipped : List ℕ → Bool

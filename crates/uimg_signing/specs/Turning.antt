@@ -1,5 +1,5 @@
 -- What is done at a token.
-use Rattle.std.specs.Prelude.{◌≡◌, ℕ, ◌+◌, ◌*◌, ◌^◌, ◌<◌, ◌≤◌, List, [], ◌∷◌, Bool, true, false}
+use Rattle.std.specs.Prelude.{◌≡◌, ℕ, ◌+◌, ◌*◌, ◌^◌, ◌<◌, ◌≤◌, List, [], ◌∷◌, Bool, true, false, not, ◌&&◌, ◌==◌}
 use Rattle.std.specs.Prelude.{if◌then◌else◌, Some, None}
 use Rattle.uimg_blob_reading.specs.{Tokens.{Token, begin_node, end_node, prop, nop, last, stray, next, offset}}
 use Rattle.uimg_blob_reading.specs.ReadTokens.{IsReadAs}
@@ -20,6 +20,10 @@ is_last (prop at p) = false
 is_last (nop at) = false
 is_last (last at) = true
 is_last (stray at fault) = false
+
+-- the token is FDT_END, and its block does not end with it
+abbrev pub ends_early : ℕ → Token → Bool
+ends_early block_end t = is_last t && not (offset t + 4 == block_end)
 
 -- What is done at a token inside these open nodes.
 pub record TurnsAt (listed : ℕ → Bool) (at : ℕ) (nodes : List ℕ) (t : Token) (turn : Turn) : Type 0 where

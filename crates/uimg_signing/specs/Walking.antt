@@ -1,17 +1,18 @@
 -- What the walk over the tokens feeds.
 use Rattle.std.specs.Prelude.{◌≡◌, ℕ, ◌+◌, ◌-◌, ◌*◌, ◌<◌, ◌≤◌, List, [], ◌++◌, Bool, false}
 use Rattle.std.specs.Prelude.{if◌then◌else◌, Option, Some, None, Result, Ok, IfOk, IfErr, IfSome, OnOk, IsTrue, is_err}
+use Rattle.std.specs.List.{list_any}
 use Rattle.uimg_base.specs.{declared.source.SourceFault.SourceFault, Device.Device, Held.Held, Using.Uses}
 use Rattle.uimg_texts.specs.{Slices.slice}
 use Rattle.uimg_blob_reading.specs.declared.extent.Extent.{Extent}
 use Rattle.uimg_blob_reading.specs.Tokens.{Token, Blocks, token_at, next, tokens, tokens_from}
 use Rattle.uimg_blob_reading.specs.Extents.{blocks_of}
 use Rattle.uimg_signing.specs.declared.faults.SigningFault.{SigningFault}
-use Rattle.uimg_signing.specs.declared.faults.SigningFault.TheVariants.{TooDeep}
+use Rattle.uimg_signing.specs.declared.faults.SigningFault.TheVariants.{TooDeep, EarlyEnd}
 use Rattle.uimg_signing.specs.declared.turns.Walk.{Walk}
 use Rattle.uimg_signing.specs.Covering.{after, signed, signed_of, is_marked, placed_in, begins_deep, is_deep}
 use Rattle.uimg_blob_reading.specs.Grammar.{Siblings, root, without_nops}
-use Rattle.uimg_signing.specs.{Turning.coded, Faults.{is_unread, Refuses}, Going.{RefusesToken, GoesWell}}
+use Rattle.uimg_signing.specs.{Turning.{coded, ends_early}, Faults.{is_unread, Refuses}, Going.{RefusesToken, GoesWell}}
 
 -- Some bytes were fed: of an honest device these.
 pub record Feeds {T : Type 0} (fed : T → T → List ℕ → Type 0) (honest : Bool) (bytes : List ℕ)
@@ -48,6 +49,8 @@ pub record Passes {T : Type 0} (fed : T → T → List ℕ → Type 0) (listed :
       × GoesOn listed nodes (token_at b walk.at) then_at
   pub shallow : IsTrue honest → (nodes : List ℕ) → walk.bits ≡ coded listed nodes
       → begins_deep (placed_in nodes (token_at b walk.at)) ≡ false
+  pub whole : IsTrue honest → (nodes : List ℕ) → walk.bits ≡ coded listed nodes
+      → ends_early b.structure_end (token_at b walk.at) ≡ false
 
 -- A step over one token.
 pub record Steps {T : Type 0} (fed : T → T → List ℕ → Type 0) (marks : List ℕ) (x : Extent)
@@ -64,9 +67,14 @@ pub record Steps {T : Type 0} (fed : T → T → List ℕ → Type 0) (marks : L
   pub passes : IfOk result
       (λ o. Passes fed (is_marked marks) d.honest (blocks_of d.bytes x) walk o old new)
 
--- why tokens are refused: a node is in 32 others
-abbrev pub deep_refusal : List Token → Option SigningFault
-deep_refusal ts = if is_deep [] ts then Some TooDeep else None
+-- FDT_END is one of these tokens, and the block does not end with it
+abbrev pub is_early : ℕ → List Token → Bool
+is_early block_end ts = list_any (ends_early block_end) ts
+
+-- why tokens are refused: a node is in 32 others, or the block goes on behind the last one
+abbrev pub walk_refusal : ℕ → List Token → Option SigningFault
+walk_refusal block_end ts =
+    if is_deep [] ts then Some TooDeep else if is_early block_end ts then Some EarlyEnd else None
 
 -- The walk over all tokens.
 pub record Walks {T : Type 0} (fed : T → T → List ℕ → Type 0) (marks : List ℕ) (x : Extent)
@@ -77,7 +85,7 @@ pub record Walks {T : Type 0} (fed : T → T → List ℕ → Type 0) (marks : L
   -- over the bytes of a tree
   pub refused : IsTrue d.honest → (t : Siblings)
       → root (without_nops (tokens (blocks_of d.bytes x))) ≡ Ok t
-      → Refuses (deep_refusal (tokens (blocks_of d.bytes x))) result
+      → Refuses (walk_refusal x.structure_end (tokens (blocks_of d.bytes x))) result
   pub feeds : OnOk result (Feeds fed d.honest
       (signed_of (is_marked marks) d.bytes [] (tokens (blocks_of d.bytes x))) old new)
 
@@ -93,6 +101,8 @@ pub record SoFar {T : Type 0} (fed : T → T → List ℕ → Type 0) (listed : 
       → GoesWell t nodes (tokens_from fuel b (Some walk.at))
   pub shallow : IsTrue honest
       → is_deep nodes (tokens_from fuel b (Some walk.at)) ≡ is_deep [] (tokens b)
+  pub whole : IsTrue honest → is_early b.structure_end (tokens_from fuel b (Some walk.at))
+      ≡ is_early b.structure_end (tokens b)
   pub enough : b.structure_end < walk.at + fuel
   pub right : IsTrue honest → piece
       ++ signed_of listed b.bytes nodes (tokens_from fuel b (Some walk.at))

@@ -17,8 +17,10 @@ pub enum SigningFault {
     /// A value of the configuration has more than 8192 bytes.
     #[error("a value of the configuration is longer than 8192 bytes")]
     TooLong,
-    /// The signature covers more than 100 nodes.
-    #[error("the signature covers more than 100 nodes")]
+    /// The signature covers more nodes than U-Boot has place for: more than 100, or their paths have
+    /// more than 4096 bytes, or too many children of theirs are not covered. An image that is named
+    /// more than once counts as often.
+    #[error("the signature covers more nodes than U-Boot has place for")]
     TooManyNodes,
     /// The configuration names no image, or one that has no hash node.
     #[error("the configuration names no image, or one without a hash node")]
@@ -26,6 +28,9 @@ pub enum SigningFault {
     /// A node is inside 32 others.
     #[error("nodes are nested more than 32 deep")]
     TooDeep,
+    /// The structure block goes on behind its last token.
+    #[error("the structure block goes on behind its last token")]
+    EarlyEnd,
     /// The value of `hashed-strings` is not two cells.
     #[error("hashed-strings is not two cells")]
     BadStrings,

@@ -13,12 +13,16 @@
 //! `Examples` has worked cases.
 #![tactic(auto)]
 
+mod apart;
 mod faults;
 mod hashed;
+mod image_naming;
 mod listing;
 mod message;
 mod naming;
+mod path_sizes;
 mod properties;
+mod reach;
 mod signature;
 mod strings;
 mod texts;
@@ -26,7 +30,9 @@ mod turns;
 mod walking;
 
 pub use faults::SigningFault;
+pub use image_naming::names_image;
 pub use listing::list_nodes;
 pub use message::feed_message;
+pub use reach::{is_closed, is_reached};
 pub use signature::{RsaAlgo, RsaPadding, read_rsa_algo, read_rsa_padding, rsa_algo};
 pub use strings::strings_size;

@@ -26,6 +26,7 @@ use uimg_blob_reading::{Blob, PropertiesFault, extent_again};
 /// - `Read`: if and only if a read failed.
 /// - `StringsOutside`: if and only if the strings block has fewer than `strings` bytes.
 /// - `TooDeep`: otherwise, if and only if a node is inside 32 others.
+/// - `EarlyEnd`: otherwise, if and only if the structure block goes on behind FDT_END.
 /// - `Changed`: only if the source does not have the blob that was indexed.
 pub fn feed_message<S: Source, A: Allocator, M: Sums>(
     source: &mut S,

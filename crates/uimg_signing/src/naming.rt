@@ -1,13 +1,13 @@
-//! Whether a configuration names an image.
+//! How often a configuration names an image.
 
 ghost use Rattle.std.specs.Prelude.{◌≡◌, ◌+◌, ◌*◌, ◌≤◌, List, length, is_err, OnOk, IfOk};
 ghost use Rattle.std.specs.List.{All};
 ghost use Rattle.uimg_base.specs.{Honest.HonestSource, Using.Asks};
 ghost use Rattle.uimg_texts.specs.Slices.{slice};
-ghost use Rattle.uimg_signing.specs.Naming.{names_at, named_at, any_long_at, CanBeRead};
-ghost use Rattle.uimg_signing.specs.Texts.{is_skipped, has_text};
+ghost use Rattle.uimg_signing.specs.Naming.{count_at, times_at, any_long_at, CanBeRead};
+ghost use Rattle.uimg_signing.specs.Texts.{is_skipped, count_text};
 
-use crate::texts::{has_text, is_skipped};
+use crate::texts::{count_text, is_skipped};
 use std::alloc::Allocator;
 use uimg_base::{Room, Source, SourceFault, Span};
 use uimg_blob_reading::PropertyPlace;
@@ -28,69 +28,72 @@ fn is_skipped_at<S: Source>(source: &mut S, name: Span) -> Result<bool, SourceFa
     Ok(is_skipped(bytes))
 }
 
-// Returns whether a value has this text.
-fn has_text_at<S: Source, A: Allocator>(
+// Returns how many texts of a value are this one.
+fn count_text_at<S: Source, A: Allocator>(
     source: &mut S,
     room: &mut Room<A>,
     value: Span,
     wanted: &[u8],
-) -> Result<bool, SourceFault>
+) -> Result<u64, SourceFault>
     requires inside { value.place + value.length ≤ length (S.device source.old).bytes }
     requires short { value.length ≤ 8192 }
     ensures uses { Asks 8192 (is_err result) (S.device source.old) (S.device source.new) }
     ensures room { room.new ≡ room.old }
-    ensures told { HonestSource S.device source → IfOk result (λ it.
-        it ≡ has_text (slice (S.device source.old).bytes value.place value.length) wanted.now) }
+    ensures few { IfOk result (λ n. n ≤ 8192) }
+    ensures told { HonestSource S.device source → IfOk result (λ n.
+        n ≡ count_text (slice (S.device source.old).bytes value.place value.length) wanted.now) }
 {
     let bytes = &mut room.window()[..value.length as usize];
     if source.fill_at(value.place, bytes).is_err() {
         return Err(SourceFault);
     }
-    Ok(has_text(bytes, wanted))
+    Ok(count_text(bytes, wanted))
 }
 
-// Returns whether a property of a configuration names the image of this name.
-fn names_at<S: Source, A: Allocator>(
+// Returns how often a property of a configuration names the image of this name.
+fn count_at<S: Source, A: Allocator>(
     source: &mut S,
     room: &mut Room<A>,
     place: PropertyPlace,
     wanted: &[u8],
-) -> Result<bool, SourceFault>
+) -> Result<u64, SourceFault>
     requires { CanBeRead (length (S.device source.old).bytes) place }
     ensures uses { Asks 8447 (is_err result) (S.device source.old) (S.device source.new) }
     ensures room { room.new ≡ room.old }
-    ensures told { HonestSource S.device source → IfOk result (λ it.
-        it ≡ names_at (S.device source.old).bytes wanted.now place) }
+    ensures few { IfOk result (λ n. n ≤ 8192) }
+    ensures told { HonestSource S.device source → IfOk result (λ n.
+        n ≡ count_at (S.device source.old).bytes wanted.now place) }
 {
     match is_skipped_at(source, place.name) {
-        Ok(true) => Ok(false),
-        Ok(false) => has_text_at(source, room, place.value, wanted),
+        Ok(true) => Ok(0),
+        Ok(false) => count_text_at(source, room, place.value, wanted),
         Err(fault) => Err(fault),
     }
 }
 
-// Returns whether one of the properties of a configuration names the image of this name.
-pub(crate) fn named_at<S: Source, A: Allocator>(
+// Returns how often the properties of a configuration name the image of this name.
+pub(crate) fn times_at<S: Source, A: Allocator>(
     source: &mut S,
     room: &mut Room<A>,
     places: &[PropertyPlace],
     wanted: &[u8],
-) -> Result<bool, SourceFault>
+) -> Result<u128, SourceFault>
     requires { All (CanBeRead (length (S.device source.old).bytes)) places.now }
     ensures uses { Asks (8447 * length places.now) (is_err result) (S.device source.old)
         (S.device source.new) }
     ensures room { room.new ≡ room.old }
-    ensures told { HonestSource S.device source → IfOk result (λ it.
-        it ≡ named_at (S.device source.old).bytes wanted.now places.now) }
+    ensures told { HonestSource S.device source → IfOk result (λ n.
+        n ≡ times_at (S.device source.old).bytes wanted.now places.now) }
 {
+    // 128 bits hold 8192 texts of each place
+    let mut found = 0;
     for place in places {
-        match names_at(source, room, *place, wanted) {
-            Ok(true) => return Ok(true),
-            Ok(false) => {}
+        match count_at(source, room, *place, wanted) {
+            Ok(more) => found += more as u128,
             Err(fault) => return Err(fault),
         }
     }
-    Ok(false)
+    Ok(found)
 }
 
 // Returns whether a value has more than 8192 bytes.

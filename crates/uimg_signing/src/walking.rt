@@ -61,6 +61,9 @@ fn step<S: Source, A: Allocator, M: Sums>(
         Err(_) => return Err(SigningFault::Read),
     }
     if turn.is_last {
+        if walk.at + turn.size < extent.structure_end {
+            return Err(SigningFault::EarlyEnd);
+        }
         return Ok(None);
     }
     Ok(Some(Walk {

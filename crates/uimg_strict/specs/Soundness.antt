@@ -1,5 +1,6 @@
--- What libfdt's `fdt_check_full` asks of a blob besides its tree: the header (Devicetree
--- Specification, section 5.2), and a last entry of the reservation block (section 5.3).
+-- What libfdt asks of a blob besides its tree: `fdt_check_full` the header (Devicetree Specification,
+-- section 5.2), and a last entry of the reservation block (section 5.3); `fdt_check_node_offset_` the
+-- root at the start of the structure block.
 use Rattle.std.specs.Prelude.{ℕ, zero, suc, ◌+◌, ◌-◌, ◌/◌, List, length, nat_lt, not, ◌==◌}
 use Rattle.std.specs.Prelude.{◌||◌, ◌&&◌, Bool, false, if◌then◌else◌}
 use Rattle.uimg_texts.specs.Numbers.{be32}
@@ -12,6 +13,12 @@ has_sound_fields header =
     if not (nat_lt (be32 header 4) 0x7fffffff) || (nat_lt (be32 header 8) 40
     || nat_lt (be32 header 12) 40) then false
     else not (nat_lt (be32 header 16) 40) && not (nat_lt (be32 header 4) (be32 header 16))
+
+-- FDT_BEGIN_NODE is the first word of the structure block, inside the blob
+abbrev pub begins_with_root : List ℕ → List ℕ → Bool
+begins_with_root header file =
+    if nat_lt (be32 header 4) (be32 header 8 + 4) then false
+    else be32 (slice file (be32 header 8) 4) 0 == 1
 
 -- an entry, of an address and a size, is the last if its size is 0
 abbrev pub is_last : List ℕ → Bool
@@ -27,6 +34,7 @@ unfoldable pub is_sound_by : List ℕ → List ℕ → Bool
 is_sound_by header file =
     if nat_lt (length file) (be32 header 4) then false
     else if not (has_sound_fields header) then false
+    else if not (begins_with_root header file) then false
     else ends_among file (be32 header 16) ((be32 header 4 - be32 header 16) / 16)
 
 -- the same by the header that the file begins with

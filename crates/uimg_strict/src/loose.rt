@@ -24,7 +24,7 @@ pub enum Looseness {
     TwoPayloads,
     /// An image has only `data-size`, or an offset or a position without it.
     HalfPlace,
-    /// libfdt's `fdt_check_full` refuses the header, the reservation block or the root's name.
+    /// libfdt refuses the header, the reservation block, or the root's name or place.
     UnsoundBlob,
     /// A payload by an offset or a position begins before the blob's end, or before the end of the
     /// payload of an earlier image.
@@ -47,8 +47,7 @@ pub enum Looseness {
     WeakSignature,
     /// The strings that a signature covers are not the first ones of the strings block.
     SignedStrings,
-    /// A signature covers more nodes than U-Boot takes, or deeper ones, or too long a value names
-    /// them.
+    /// U-Boot does not walk over the nodes that a signature covers, or over the tree.
     SignedNodes,
     /// The value of a signature has another length than the modulus of the key.
     SignatureLength,

@@ -3,13 +3,16 @@
 ghost use Rattle.std.specs.Prelude.{◌≡◌, ◌+◌, ◌*◌, ◌≤◌, length, is_err, IfOk};
 ghost use Rattle.uimg_base.specs.Honest.{HonestSource};
 ghost use Rattle.uimg_base.specs.Using.{Uses};
-ghost use Rattle.uimg_texts.specs.Slices.{slice};
-ghost use Rattle.uimg_strict.specs.Soundness.{has_sound_fields, is_last, ends_among, is_sound};
+ghost use Rattle.uimg_texts.specs.{Numbers.be32, Slices.slice};
+ghost use Rattle.uimg_strict.specs.Soundness.{begins_with_root, has_sound_fields, is_last, ends_among, is_sound};
 
 use uimg_base::{Source, SourceFault, be32_at};
 
 /// The length of a blob's header.
 const HEADER_LEN: usize = 40;
+
+/// The token that begins a node.
+const FDT_BEGIN_NODE: u32 = 1;
 
 /// The length of an entry of the reservation block: an address and a size.
 const ENTRY_LEN: usize = 16;
@@ -59,8 +62,28 @@ fn ends_among<S: Source>(source: &mut S, at: u64, count: u64) -> Result<bool, So
     Ok(false)
 }
 
-/// Returns whether libfdt takes the header of the blob at the start of a file, and the reservation
-/// block has a last entry inside the blob.
+// Returns whether the root begins the structure block: libfdt looks for it nowhere else, not behind
+// FDT_NOP.
+fn begins_with_root<S: Source>(
+    source: &mut S,
+    header: &[u8; HEADER_LEN],
+) -> Result<bool, SourceFault>
+    requires { be32 header.now 4 ≤ length (S.device source.old).bytes }
+    ensures uses { Uses (is_err result) (S.device source.old) (S.device source.new) }
+    ensures told { HonestSource S.device source → IfOk result
+        (λ begins. begins ≡ begins_with_root header.now (S.device source.old).bytes) }
+{
+    let at = be32_at(header, 8) as u64;
+    if at + 4 > be32_at(header, 4) as u64 {
+        return Ok(false);
+    }
+    let mut word = [0; 4];
+    source.fill_at(at, &mut word)?;
+    Ok(be32_at(&word, 0) == FDT_BEGIN_NODE)
+}
+
+/// Returns whether libfdt takes the header of the blob at the start of a file, the root begins the
+/// structure block, and the reservation block has a last entry inside the blob.
 #[tactic(auto, unfolding(crate::specs::Soundness::is_sound, crate::specs::Soundness::is_sound_by))]
 pub(crate) fn is_sound<S: Source>(source: &mut S) -> Result<bool, SourceFault>
     ensures uses { Uses (is_err result) (S.device source.old) (S.device source.new) }
@@ -78,6 +101,9 @@ pub(crate) fn is_sound<S: Source>(source: &mut S) -> Result<bool, SourceFault>
         return Ok(false);
     }
     if !has_sound_fields(&header) {
+        return Ok(false);
+    }
+    if !begins_with_root(source, &header)? {
         return Ok(false);
     }
     let at = be32_at(&header, 16) as u64;

@@ -19,6 +19,7 @@ pub mod RunLaws
 pub mod SearchedLaws
 pub mod StatusLaws
 pub mod TreeLaws
+pub mod SignedLaws
 pub mod UnpackLaws
 pub mod UnpackTells
 pub mod WritingLaws

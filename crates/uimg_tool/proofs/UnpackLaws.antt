@@ -5,14 +5,15 @@ use Rattle.std.proofs.lemmas.List.Folds.{list_all-append}
 use Rattle.uimg_unpacking.proofs.Placing.{no_more, stays_naming}
 use Rattle.uimg_unpacking.specs.Deeds.{Deed, Opens, Identifies, changes, changes_only}
 use Rattle.uimg_unpacking.specs.declared.file_id.FileId.{FileId}
-use Rattle.std.specs.Prelude.{Option, Some}
+use Rattle.std.specs.Prelude.{Option, Some, None}
 use Rattle.std.specs.Borrow.{Bor}
-use Rattle.uimg_base.specs.Named.{FileMap}
+use Rattle.uimg_base.specs.Named.{FileMap, SameFiles}
 use Rattle.uimg_cli.specs.declared.command_line.unpack.UnpackRequest.{UnpackRequest}
 use Rattle.uimg_unpacking.specs.Places.{ChangesWithin, Obeys, Terms, may_change, terms_of}
 use Rattle.uimg_checks.specs.Answers.{answer_status}
+use Rattle.uimg_keys.specs.declared.keys.Keys.{Keys}
 use Rattle.uimg_checks.specs.declared.answer.Answer.{Answer, TheVariants.{Failed, Refused}}
-use Rattle.uimg_tool.specs.{UnpackEnds.AnswersEnding, Unpackings.{HoldsPayloads, IsRight, RightAt, UnpacksRight, unpacking_of}}
+use Rattle.uimg_tool.specs.{Checking.keys_read, UnpackEnds.AnswersEnding, Unpackings.{HoldsPayloads, IsRight, KeepsAt, KeepsBy, KeepsImage, RightAt, SignedBy, UnpacksRight, unpacking_of}}
 use Rattle.uimg_tool.specs.declared.unpack_answers.Ending.{Ending}
 use Rattle.uimg_tool.specs.declared.unpack_answers.Ending.TheVariants as ending
 
@@ -46,6 +47,10 @@ told_after folder old middle new first same = record { made = first.made; is = s
 pub looked_before : (folder path : List ℕ) (file : Option FileId) (old middle new : List Deed) → middle ≡ Identifies path file ∷ Opens path true ∷ old → ChangesWithin folder true middle new → ChangesWithin folder true old new
 looked_before folder path file old middle new looked last = record { made = last.made; is = last.is ∙ ap (λ (t : List Deed). last.made ++ changes t) looked; within = last.within }
 
+-- a file of keys that was opened before
+pub noted_before : (folder : List ℕ) (old middle new : List Deed) → changes middle ≡ changes old → ChangesWithin folder true middle new → ChangesWithin folder true old new
+noted_before folder old middle new same last = record { made = last.made; is = last.is ∙ ap (λ (t : List Deed). last.made ++ t) same; within = last.within }
+
 -- an end that is told as an object is none of status 0
 failed : {P : Type 0} (status : ℕ) → (status ≡ 1) ⊎ (status ≡ 3) → status ≡ 0 → P
 failed status (inl one) zero = absurd (omega arith)
@@ -54,6 +59,8 @@ failed status (inr three) zero = absurd (omega arith)
 shown : (end : Ending) (answer : Answer) → AnswersEnding end answer → (answer_status answer ≡ 1) ⊎ (answer_status answer ≡ 3)
 shown (ending.Told status) (Failed stop) is = inr refl
 shown (ending.Told status) (Refused stop) is = inl refl
+shown (ending.Unsigned answer) (Failed stop) is = inr refl
+shown (ending.Unsigned answer) (Refused stop) is = inl refl
 shown ending.Unread (Failed stop) is = inr refl
 shown ending.Unread (Refused stop) is = inl refl
 shown ending.Weak answer is = inl (ap answer_status is)
@@ -69,16 +76,46 @@ pub nothing_called : (terms : Terms) (old new : List Deed) → new ≡ old → O
 nothing_called terms old new same = no_more terms true old new same
 
 -- an image that was opened and looked at before
-pub right_at : (asked : UnpackRequest) (path : Bor (List ℕ)) (image : Option FileId) (file : List ℕ) (old middle new : List Deed) → middle ≡ Identifies path.now image ∷ Opens path.now true ∷ old
-    → Obeys (terms_of (unpacking_of asked image path).folder) true middle new → IsRight (unpacking_of asked image path) file → HoldsPayloads (unpacking_of asked image path) file new → UnpacksRight asked path file old new
-right_at asked path image file old middle new looked obeys right holds =
+pub right_at : (asked : UnpackRequest) (keys : Option Keys) (path : Bor (List ℕ)) (image : Option FileId) (file : List ℕ) (old middle new : List Deed) → middle ≡ Identifies path.now image ∷ Opens path.now true ∷ old
+    → Obeys (terms_of (unpacking_of asked image path).folder) true middle new → IsRight (unpacking_of asked image path) file → HoldsPayloads (unpacking_of asked image path) file new → SignedBy keys file → UnpacksRight asked keys path file old new
+right_at asked keys path image file old middle new looked obeys right holds signed =
     record {
       image = image;
       obeys = subst (λ (t : List Deed). Obeys (terms_of (unpacking_of asked image path).folder) true t new) looked obeys;
       right = right;
       holds = holds;
+      signed = signed;
     }
 
 -- the same after it was told
-pub right_told : (files : FileMap) (asked : UnpackRequest) (path : Bor (List ℕ)) (old middle new : List Deed) → RightAt files asked (Some path) old middle → new ≡ middle → RightAt files asked (Some path) old new
-right_told files asked path old middle new right same = subst (λ (t : List Deed). RightAt files asked (Some path) old t) (sym same) right
+pub right_told : (files : FileMap) (asked : UnpackRequest) (keys : Option Keys) (path : Bor (List ℕ)) (old middle new : List Deed) → RightAt files asked keys (Some path) old middle → new ≡ middle
+    → RightAt files asked keys (Some path) old new
+right_told files asked keys path old middle new right same = subst (λ (t : List Deed). RightAt files asked keys (Some path) old t) (sym same) right
+
+-- the same of files that are the same, by keys that were read before
+pub keys_right : (old_files new_files : FileMap) (asked : UnpackRequest) (keys : Option Keys) (image : Option (Bor (List ℕ))) (old middle new : List Deed) → SameFiles old_files new_files → middle ≡ keys_read asked.key old
+    → RightAt new_files asked keys image middle new → RightAt old_files asked keys image (keys_read asked.key old) new
+keys_right old_files new_files asked keys None old middle new same noted right = tt
+keys_right old_files new_files asked keys (Some path) old middle new same noted right = (
+  right.0,
+  sym (ap (λ (bytes : List ℕ → Option (List ℕ)). bytes path.now) same.bytes) ∙ right.1,
+  subst (λ (t : List Deed). UnpacksRight asked keys path right.0 t new) noted right.2,
+)
+
+pub keys_kept : (old_files new_files : FileMap) (asked : UnpackRequest) (keys : Option Keys) (image : Option (Bor (List ℕ))) (old middle new : List Deed) → SameFiles old_files new_files → middle ≡ keys_read asked.key old
+    → KeepsImage new_files keys image middle new → KeepsImage old_files keys image (keys_read asked.key old) new
+keys_kept old_files new_files asked keys None old middle new same noted kept = kept ∙ ap changes noted
+keys_kept old_files new_files asked keys (Some path) old middle new same noted (inl signed) =
+    inl (signed.0, sym (ap (λ (bytes : List ℕ → Option (List ℕ)). bytes path.now) same.bytes) ∙ signed.1, signed.2)
+keys_kept old_files new_files asked keys (Some path) old middle new same noted (inr kept) = inr (kept ∙ ap changes noted)
+
+-- an image that was opened and looked at before
+pub kept_at : (files : FileMap) (keys : Option Keys) (path file : List ℕ) (image : Option FileId) (old middle new : List Deed) → files.bytes path ≡ Some file → middle ≡ Identifies path image ∷ Opens path true ∷ old → KeepsBy keys file middle new
+    → KeepsAt files keys path old new
+kept_at files keys path file image old middle new found looked (inl signed) = inl (file, found, signed)
+kept_at files keys path file image old middle new found looked (inr kept) = inr (kept ∙ ap changes looked)
+
+-- the same after it was told
+pub kept_told : (files : FileMap) (keys : Option Keys) (path : List ℕ) (old middle new : List Deed) → KeepsAt files keys path old middle → changes new ≡ changes middle → KeepsAt files keys path old new
+kept_told files keys path old middle new (inl signed) same = inl signed
+kept_told files keys path old middle new (inr kept) same = inr (same ∙ kept)

@@ -1,12 +1,14 @@
 -- What is told of an unpacking is that of its end.
-use Rattle.std.proofs.Common.{◌≡◌, ◌⊎◌, inl, inr, ℕ, List, Option, Some, None, Bool, true, false, refl, sym, subst, ◌∙◌, true≢false}
+use Rattle.std.proofs.Common.{◌≡◌, ◌⊎◌, inl, inr, ℕ, List, Option, Some, None, Bool, true, false, refl, ap, sym, subst, ◌∙◌, true≢false}
 use Rattle.std.specs.Borrow.{Bor}
-use Rattle.uimg_base.specs.Named.{FileMap}
+use Rattle.uimg_base.specs.Named.{FileMap, SameFiles}
 use Rattle.uimg_cli.specs.declared.command_line.unpack.UnpackRequest.{UnpackRequest}
+use Rattle.uimg_checks.specs.declared.judging.Terms.{Terms}
 use Rattle.uimg_engine.specs.Headline.{is_fit}
+use Rattle.uimg_keys.specs.declared.keys.Keys.{Keys}
 use Rattle.uimg_requests.specs.declared.command.Form.TheVariants as form
-use Rattle.uimg_tool.specs.{Complaints.ComplainsBetween, EndingStatuses.{HasEndingStatus, ending_status}, Unpackings.unpacking_of}
-use Rattle.uimg_tool.specs.UnpackComplaints.{ComplainsImage, EndsAt, EndsIn, EndsOver, told_of_unpacking}
+use Rattle.uimg_tool.specs.{Complaints.ComplainsBetween, EndingStatuses.{HasEndingStatus, ending_status}, Unpackings.{signed_terms, unpacking_of}}
+use Rattle.uimg_tool.specs.UnpackComplaints.{ComplainsImage, EndsAsked, EndsAt, EndsIn, EndsOver, EndsSigned, EndsUnsigned, told_of_unpacking}
 use Rattle.uimg_tool.specs.declared.complaints.Complaints.{Complaints}
 use Rattle.uimg_tool.specs.declared.unpack_answers.Ending.{Ending}
 use Rattle.uimg_unpacking.specs.declared.file_id.FileId.{FileId}
@@ -22,10 +24,12 @@ over_at files asked path image file end found (inl failed) = inl failed
 over_at files asked path image file end found (inr ends) = inr (file, found, any_image (is_fit form.Guess file) asked image path file end ends)
 
 -- an image that was opened
-pub ended_at : (files : FileMap) (asked : UnpackRequest) (path : Bor (List ℕ)) (image : Option FileId) (file : List ℕ) (unpacking : Unpacking) (end : Ending) → unpacking ≡ unpacking_of asked image path → files.bytes path.now ≡ Some file
-    → EndsOver unpacking file end → EndsAt files (unpacking_of asked None path) path.now end
-ended_at files asked path image file unpacking end is found ends =
-    over_at files asked path image file end found (subst (λ (it : Unpacking). EndsOver it file end) is ends)
+pub ended_at : (files : FileMap) (asked : UnpackRequest) (terms : Terms) (path : Bor (List ℕ)) (image : Option FileId) (file : List ℕ) (unpacking : Unpacking) (end : Ending) → unpacking ≡ unpacking_of asked image path
+    → terms ≡ signed_terms asked terms.keys → files.bytes path.now ≡ Some file → EndsSigned unpacking terms file end → EndsAsked files asked terms.keys path end
+ended_at files asked terms path image file unpacking end is are found (inl ends) =
+    inl (over_at files asked path image file end found (subst (λ (it : Unpacking). EndsOver it file end) is ends))
+ended_at files asked terms path image file unpacking end is are found (inr unsigned) =
+    inr (file, found, subst (λ (it : Terms). EndsUnsigned it file end) are unsigned)
 
 has_status : (end : Ending) (status : ℕ) → HasEndingStatus end status → (status ≡ 3) ⊎ (status ≡ ending_status end)
 has_status end status (inl same) = inr same
@@ -39,13 +43,34 @@ by_json json false end status is has = without (has_status end status (has is)) 
   without (inl failed) = inl failed
   without (inr same) = inr (λ _. same)
 
-module _ {V : Type 0} (contents : V → Option (List ℕ)) (files : FileMap) (asked : UnpackRequest) (path : Bor (List ℕ)) (end : Ending) (status : ℕ) (old new : Complaints V) where
-  both : EndsAt files (unpacking_of asked None path) path.now end → (status ≡ 3) ⊎ (asked.as_json ≡ false → status ≡ ending_status end)
-      → (status ≡ 3) ⊎ ComplainsBetween contents (told_of_unpacking asked.as_json end) old new → ComplainsImage contents files asked (Some path) status old new
+module _ {V : Type 0} (contents : V → Option (List ℕ)) (files : FileMap) (asked : UnpackRequest) (keys : Option Keys) (path : Bor (List ℕ)) (end : Ending) (status : ℕ) (old new : Complaints V) where
+  both : EndsAsked files asked keys path end → (status ≡ 3) ⊎ (asked.as_json ≡ false → status ≡ ending_status end)
+      → (status ≡ 3) ⊎ ComplainsBetween contents (told_of_unpacking path.now asked.as_json end) old new → ComplainsImage contents files asked keys (Some path) status old new
   both ends (inl failed) told = inl failed
   both ends (inr is) (inl failed) = inl failed
   both ends (inr is) (inr told) = inr (record { end = end; ends = ends; is = is; told = told })
 
-  pub image_told : EndsAt files (unpacking_of asked None path) path.now end → (asked.as_json ≡ false → HasEndingStatus end status)
-      → (status ≡ 3) ⊎ ComplainsBetween contents (told_of_unpacking asked.as_json end) old new → ComplainsImage contents files asked (Some path) status old new
+  pub image_told : EndsAsked files asked keys path end → (asked.as_json ≡ false → HasEndingStatus end status)
+      → (status ≡ 3) ⊎ ComplainsBetween contents (told_of_unpacking path.now asked.as_json end) old new → ComplainsImage contents files asked keys (Some path) status old new
   image_told ends has told = both ends (by_json asked.as_json asked.as_json end status refl has) told
+
+-- the same of files that are the same
+ends_same : (old_files new_files : FileMap) (asked : UnpackRequest) (keys : Option Keys) (path : Bor (List ℕ)) (end : Ending) → SameFiles old_files new_files → EndsAsked new_files asked keys path end → EndsAsked old_files asked keys path end
+ends_same old_files new_files asked keys path end same (inl (inl failed)) = inl (inl failed)
+ends_same old_files new_files asked keys path end same (inl (inr ends)) =
+    inl (inr (ends.0, sym (ap (λ (bytes : List ℕ → Option (List ℕ)). bytes path.now) same.bytes) ∙ ends.1, ends.2))
+ends_same old_files new_files asked keys path end same (inr ends) =
+    inr (ends.0, sym (ap (λ (bytes : List ℕ → Option (List ℕ)). bytes path.now) same.bytes) ∙ ends.1, ends.2)
+
+files_same : {V : Type 0} (contents : V → Option (List ℕ)) (old_files new_files : FileMap) (asked : UnpackRequest) (keys : Option Keys) (image : Option (Bor (List ℕ))) (status : ℕ) (old new : Complaints V) → SameFiles old_files new_files
+    → ComplainsImage contents new_files asked keys image status old new → ComplainsImage contents old_files asked keys image status old new
+files_same contents old_files new_files asked keys None status old new same told = told
+files_same contents old_files new_files asked keys (Some path) status old new same (inl failed) = inl failed
+files_same contents old_files new_files asked keys (Some path) status old new same (inr told) =
+    inr (record { end = told.end; ends = ends_same old_files new_files asked keys path told.end same told.ends; is = told.is; told = told.told })
+
+-- .. and where nothing was told before
+pub image_same : {V : Type 0} (contents : V → Option (List ℕ)) (old_files new_files : FileMap) (asked : UnpackRequest) (keys : Option Keys) (image : Option (Bor (List ℕ))) (status : ℕ) (old middle new : Complaints V) → SameFiles old_files new_files
+    → middle ≡ old → ComplainsImage contents new_files asked keys image status middle new → ComplainsImage contents old_files asked keys image status old new
+image_same {V} contents old_files new_files asked keys image status old middle new same silent told =
+    subst (λ (before : Complaints V). ComplainsImage contents old_files asked keys image status before new) silent (files_same contents old_files new_files asked keys image status middle new same told)

@@ -19,7 +19,12 @@ KeysAt files (Some path) None = ⊥
 KeysAt files (Some path) (Some keys) =
     IsTrue files.honest → IfSome (files.bytes path.now) (λ file. HasKeys file keys)
 
--- the same after the file of keys was opened
+-- the status if they cannot be read
+abbrev pub KeysFail : Option (Bor (List ℕ)) → ℕ → Type 0
+KeysFail None status = ⊥
+KeysFail (Some path) status = status ≡ 3
+
+-- what was opened, after the file of keys was
 abbrev pub keys_read : Option (Bor (List ℕ)) → List Deed → List Deed
 keys_read None trace = trace
 keys_read (Some path) trace = Opens path.now true ∷ trace
@@ -34,7 +39,8 @@ AnswersKeyed files asked status before after asked_before asked_after = (status 
 
 -- what a request asks of an image, with these keys
 abbrev pub terms_of : CheckRequest → Option Keys → Terms
-terms_of asked keys = record { need = asked.need; is_strict = asked.is_strict; keys = keys }
+terms_of asked keys =
+    record { need = asked.need; is_strict = asked.is_strict; keys = keys; covers_images = false }
 
 -- The same with the keys of the file of keys, which is opened before, if there is one.
 abbrev pub AnswersRequest : FileMap → CheckRequest → ℕ → (before after : Option (List ℕ)) → (asked_before asked_after : List Deed) → Type 0

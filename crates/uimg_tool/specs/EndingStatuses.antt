@@ -1,7 +1,7 @@
 -- The exit status of an unpacking.
-use Rattle.std.specs.Prelude.{◌≡◌, ⊤, ◌⊎◌, ℕ, true}
+use Rattle.std.specs.Prelude.{◌≡◌, ⊤, ◌⊎◌, ℕ, max, true}
 use Rattle.uimg_base.specs.declared.status.Status.TheVariants.{Done, NotRight}
-use Rattle.uimg_checks.specs.FaultStatuses.{fault_status}
+use Rattle.uimg_checks.specs.{Answers.answer_status, FaultStatuses.fault_status}
 use Rattle.uimg_tool.specs.Statuses.{is_of_command, trouble_status}
 use Rattle.uimg_tool.specs.declared.unpack_answers.Ending.{Ending}
 use Rattle.uimg_tool.specs.declared.unpack_answers.Ending.TheVariants as ending
@@ -9,6 +9,7 @@ use Rattle.uimg_tool.specs.declared.unpack_answers.Ending.TheVariants as ending
 abbrev pub ending_status : Ending → ℕ
 ending_status (ending.Told Done) = 0
 ending_status (ending.Told NotRight) = 1
+ending_status (ending.Unsigned answer) = max 1 (answer_status answer)
 ending_status ending.Unread = 3
 ending_status ending.Weak = 1
 ending_status ending.NoImage = 1

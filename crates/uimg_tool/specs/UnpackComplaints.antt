@@ -1,11 +1,13 @@
 -- What an unpacking prints on standard error, over the files of a world.
-use Rattle.std.specs.Prelude.{◌≡◌, ⊤, ◌⊎◌, ℕ, List, codes, Bool, true, false, Option, Some, None, if◌then◌else◌}
+use Rattle.std.specs.Prelude.{◌≡◌, ⊤, ◌⊎◌, ℕ, List, codes, Bool, true, false, IsTrue, is_some, Option, Some, None, if◌then◌else◌}
 use Rattle.std.specs.Borrow.{Bor}
 use Rattle.uimg_base.specs.Named.{FileMap}
 use Rattle.uimg_cli.specs.declared.command_line.unpack.UnpackRequest.{UnpackRequest}
 use Rattle.uimg_engine.specs.{FaultTexts.text_of, Headline.is_fit}
 use Rattle.uimg_requests.specs.declared.command.Form.TheVariants as form
-use Rattle.uimg_tool.specs.{Complaints.ComplainsBetween, EndingStatuses.ending_status, Statuses.is_of_command, UnpackEnds.{end_of, end_of_parts}, Unpackings.unpacking_of}
+use Rattle.uimg_checks.specs.{CheckEnds.Shows, Lines.answer_line, Verdicts.verdict_of, declared.{answer.Answer.Answer, judging.Terms.Terms}}
+use Rattle.uimg_keys.specs.declared.keys.Keys.{Keys}
+use Rattle.uimg_tool.specs.{Checking.{KeysAt, KeysFail}, Complaints.ComplainsBetween, EndingStatuses.ending_status, Statuses.is_of_command, UnpackEnds.{end_of, end_of_parts}, Unpackings.{signed_terms, unpacking_of}}
 use Rattle.uimg_tool.specs.declared.complaints.Complaints.{Complaints}
 use Rattle.uimg_tool.specs.declared.unpack_answers.Ending.{Ending}
 use Rattle.uimg_tool.specs.declared.unpack_answers.Ending.TheVariants as ending
@@ -28,40 +30,59 @@ abbrev pub EndsAt : FileMap → Unpacking → List ℕ → Ending → Type 0
 EndsAt files asked path end =
     (ending_status end ≡ 3) ⊎ ((file : List ℕ) × (files.bytes path ≡ Some file) × EndsIn (is_fit form.Guess file) asked file end)
 
--- What is told of an end: a fault, or a trouble, whose text is not defined. What was unpacked or is refused
--- or weak has its lines on standard output.
-abbrev pub told_of_ending : Ending → Option (Option (List ℕ))
-told_of_ending (ending.Told status) = None
-told_of_ending ending.Unread = Some None
-told_of_ending ending.Weak = None
-told_of_ending ending.NoImage = Some (Some (codes "no image has a hash, as there is none"))
-told_of_ending (ending.Stopped fault) = Some (Some (text_of fault))
-told_of_ending (ending.Troubled trouble) = Some None
+-- The end is the answer of a check by keys, if there are any.
+pub record EndsUnsigned (terms : Terms) (file : List ℕ) (end : Ending) : Type 0 where
+  pub keyed : IsTrue (is_some terms.keys)
+  pub answer : Answer
+  pub is : end ≡ ending.Unsigned answer
+  pub shows : Shows answer (verdict_of terms file)
+
+-- an unpacking that may end so
+abbrev pub EndsSigned : Unpacking → Terms → List ℕ → Ending → Type 0
+EndsSigned asked terms file end = EndsOver asked file end ⊎ EndsUnsigned terms file end
+
+-- the same of the file at a path
+abbrev pub EndsAsked : FileMap → UnpackRequest → Option Keys → Bor (List ℕ) → Ending → Type 0
+EndsAsked files asked keys path end = EndsAt files (unpacking_of asked None path) path.now end
+    ⊎ ((file : List ℕ) × (files.bytes path.now ≡ Some file) × EndsUnsigned (signed_terms asked keys) file end)
+
+-- What is told of an end: a fault, or a trouble, whose text is not defined, or the line of a check of the image at this
+-- path. What was unpacked or is refused or weak has its lines on standard output.
+abbrev pub told_of_ending : List ℕ → Ending → Option (Option (List ℕ))
+told_of_ending path (ending.Told status) = None
+told_of_ending path (ending.Unsigned answer) = Some (Some (answer_line path answer))
+told_of_ending path ending.Unread = Some None
+told_of_ending path ending.Weak = None
+told_of_ending path ending.NoImage = Some (Some (codes "no image has a hash, as there is none"))
+told_of_ending path (ending.Stopped fault) = Some (Some (text_of fault))
+told_of_ending path (ending.Troubled trouble) = Some None
 
 -- For JSON, objects on standard output have all of it but some troubles.
 abbrev pub told_beside_object : Ending → Option (Option (List ℕ))
 told_beside_object (ending.Troubled trouble) = if is_of_command trouble then Some None else None
 told_beside_object end = None
 
-abbrev pub told_of_unpacking : Bool → Ending → Option (Option (List ℕ))
-told_of_unpacking true end = told_beside_object end
-told_of_unpacking false end = told_of_ending end
+abbrev pub told_of_unpacking : List ℕ → Bool → Ending → Option (Option (List ℕ))
+told_of_unpacking path true end = told_beside_object end
+told_of_unpacking path false end = told_of_ending path end
 
 -- What is told is that of how the unpacking of the file at a path ended. Without JSON the status is that of it, too.
 pub record ComplainsUnpacked {V : Type 0} (contents : V → Option (List ℕ)) (files : FileMap) (asked : UnpackRequest)
-    (path : Bor (List ℕ)) (status : ℕ) (old new : Complaints V) : Type 0 where
+    (keys : Option Keys) (path : Bor (List ℕ)) (status : ℕ) (old new : Complaints V) : Type 0 where
   pub end : Ending
-  pub ends : EndsAt files (unpacking_of asked None path) path.now end
+  pub ends : EndsAsked files asked keys path end
   pub is : asked.as_json ≡ false → status ≡ ending_status end
-  pub told : ComplainsBetween contents (told_of_unpacking asked.as_json end) old new
+  pub told : ComplainsBetween contents (told_of_unpacking path.now asked.as_json end) old new
 
 -- the same of the image of a request, unless the status is 3; without an image nothing is told
-abbrev pub ComplainsImage : {V : Type 0} → (V → Option (List ℕ)) → FileMap → UnpackRequest → Option (Bor (List ℕ)) → ℕ → (old new : Complaints V) → Type 0
-ComplainsImage contents files asked None status old new = ComplainsBetween contents None old new
-ComplainsImage contents files asked (Some path) status old new =
-    (status ≡ 3) ⊎ ComplainsUnpacked contents files asked path status old new
+abbrev pub ComplainsImage : {V : Type 0} → (V → Option (List ℕ)) → FileMap → UnpackRequest → Option Keys → Option (Bor (List ℕ)) → ℕ → (old new : Complaints V) → Type 0
+ComplainsImage contents files asked keys None status old new = ComplainsBetween contents None old new
+ComplainsImage contents files asked keys (Some path) status old new =
+    (status ≡ 3) ⊎ ComplainsUnpacked contents files asked keys path status old new
 
--- Where the folder is cleaned before, this is not said.
+-- The same with the keys of the file of keys, if there is one, or that cannot be read. Where the folder is cleaned
+-- before, this is not said.
 abbrev pub ComplainsUnpack : {V : Type 0} → (V → Option (List ℕ)) → FileMap → UnpackRequest → ℕ → (old new : Complaints V) → Type 0
 ComplainsUnpack contents files asked status old new =
-    asked.cleans ≡ false → ComplainsImage contents files asked asked.image status old new
+    asked.cleans ≡ false → KeysFail asked.key status ⊎ ((keys : Option Keys) × KeysAt files asked.key keys
+    × ComplainsImage contents files asked keys asked.image status old new)

@@ -32,6 +32,7 @@ end_of_parts (legacy.Troubled trouble) = ending.Troubled trouble
 -- what is answered where the end of an unpacking is told by no line
 abbrev pub AnswersEnding : Ending → Answer → Type 0
 AnswersEnding (ending.Told status) answer = AnswersLine false answer
+AnswersEnding (ending.Unsigned unsigned) answer = AnswersLine false answer
 AnswersEnding ending.Unread answer = AnswersLine false answer
 AnswersEnding ending.Weak answer = answer ≡ Found checked.Weak None
 AnswersEnding ending.NoImage answer = answer ≡ Found (checked.Fit finding.NoImage) None

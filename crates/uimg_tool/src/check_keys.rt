@@ -1,8 +1,8 @@
-//! The keys of a check.
+//! The keys of a check or of an unpacking.
 
 ghost use Rattle.std.specs.Prelude.{◌≡◌, ◌+◌, ◌≤◌, IfErr, IfOk, OnOk, option_map};
 ghost use Rattle.uimg_base.specs.Named.{SameFiles};
-ghost use Rattle.uimg_tool.specs.Checking.{KeysAt, keys_read};
+ghost use Rattle.uimg_tool.specs.Checking.{KeysAt, KeysFail, keys_read};
 ghost use Rattle.uimg_unpacking.specs.Deeds.{changes};
 
 use crate::complaints::Complaints;
@@ -29,6 +29,7 @@ pub(crate) fn keys_of<D: World, V: Write>(
     complaints: &mut Complaints<'_, V>,
 ) -> Result<Option<Keys>, u8>
     ensures failed { IfErr result (λ status. status ≡ 3) }
+    ensures keyed { IfErr result (KeysFail path.entry) }
     ensures once { complaints.new.count ≤ complaints.old.count + 1 }
     ensures silent { OnOk result (complaints.new ≡ complaints.old) }
     ensures keys { IfOk result (KeysAt (D.map world.old) path.entry) }

@@ -56,6 +56,7 @@ pub(crate) fn check_images<D: World, W: Write + Drop, V: Write>(
         need: request.need,
         is_strict: request.is_strict,
         keys,
+        covers_images: false,
     };
     check_by(world, &Keyed { request, terms }, out, complaints)
 }

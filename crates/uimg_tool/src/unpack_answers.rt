@@ -14,9 +14,12 @@ use uimg_unpacking::{Ended, PartsEnded, Trouble, World};
 
 /// How the unpacking of an image ended.
 #[derive(Drop)]
-pub(crate) enum Ending {
+pub(crate) enum Ending<'a> {
     /// Lines have reported all. It is done if all is kept.
     Told(Status),
+
+    /// The keys do not sign the image, by this answer of a check.
+    Unsigned(Answer<'a>),
 
     /// The image could not be opened.
     Unread,
@@ -34,13 +37,13 @@ pub(crate) enum Ending {
     Troubled(Trouble),
 }
 
-impl From<Ended> for Ending {
+impl<'a> From<Ended> for Ending<'a> {
     ghost use Rattle.std.specs.Prelude.{◌≡◌};
     ghost use Rattle.uimg_tool.specs.UnpackEnds.{end_of};
 
     ghost from_gives = { λ ended ending. ending ≡ end_of ended };
 
-    fn from(ended: Ended) -> Ending {
+    fn from(ended: Ended) -> Ending<'a> {
         match ended {
             Ended::Kept => Ending::Told(Status::Done),
             Ended::Refused => Ending::Told(Status::NotRight),
@@ -51,13 +54,13 @@ impl From<Ended> for Ending {
     }
 }
 
-impl From<PartsEnded> for Ending {
+impl<'a> From<PartsEnded> for Ending<'a> {
     ghost use Rattle.std.specs.Prelude.{◌≡◌};
     ghost use Rattle.uimg_tool.specs.UnpackEnds.{end_of_parts};
 
     ghost from_gives = { λ ended ending. ending ≡ end_of_parts ended };
 
-    fn from(ended: PartsEnded) -> Ending {
+    fn from(ended: PartsEnded) -> Ending<'a> {
         match ended {
             PartsEnded::Kept => Ending::Told(Status::Done),
             PartsEnded::Weak => Ending::Weak,
@@ -71,14 +74,15 @@ impl From<PartsEnded> for Ending {
 pub(crate) fn answer_of_ending<'a, D: World>(
     world: &mut D,
     path: &str,
-    ending: Ending,
+    ending: Ending<'_>,
     names: &'a mut Names,
 ) -> Answer<'a>
-    ensures answers { AnswersEnding ending result }
+    ensures answers { AnswersEnding ending.entry result }
     ensures kept { changes (D.trace world.new) ≡ changes (D.trace world.old) }
 {
     match ending {
         Ending::Told(_) => answer_of_unread(world, path, names),
+        Ending::Unsigned(_) => answer_of_unread(world, path, names),
         Ending::Unread => answer_of_unread(world, path, names),
         Ending::Weak => Answer::Found(Checked::Weak, None),
         Ending::NoImage => Answer::Found(Checked::Fit(Finding::NoImage), None),

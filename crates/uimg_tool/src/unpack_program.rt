@@ -1,12 +1,14 @@
 //! Unpacks an image.
 
-ghost use Rattle.std.specs.Prelude.{◌≡◌, ◌⊎◌, IsTrue, None, OnErr, Some, true, false};
-ghost use Rattle.uimg_base.specs.Honest.{IfHonest};
+ghost use Rattle.std.specs.Prelude.{◌≡◌, ◌⊎◌, ◌≤◌, IfSome, IsTrue, None, OnErr, Some, is_some, max, true, false};
+ghost use Rattle.uimg_base.specs.{Device.SameDevice, Honest.IfHonest};
+ghost use Rattle.uimg_checks.specs.{Answers.answer_status, CheckEnds.Shows, Verdicts.verdict_of};
 ghost use Rattle.uimg_tool.specs.{Complaining.ComplainsNot, Complaints.{Complains, Ends}, EndingStatuses.{HasEndingStatus, TellsCommand}, Statuses.{is_of_command, trouble_status}};
-ghost use Rattle.uimg_tool.specs.UnpackComplaints.{ComplainsImage, ComplainsUnpack, EndsAt, EndsOver, told_of_unpacking};
-ghost use Rattle.uimg_tool.specs.Unpackings.{AnswersUnpacking, HoldsPayloads, IsRight, RightAt, unpacking_of};
+ghost use Rattle.uimg_tool.specs.UnpackComplaints.{ComplainsImage, ComplainsUnpack, EndsAsked, EndsOver, EndsSigned, told_of_unpacking};
+ghost use Rattle.uimg_tool.specs.Unpackings.{AnswersUnpacking, HoldsPayloads, IsRight, KeepsAt, KeepsBy, KeepsImage, RightAt, SignedBy, is_signed, signed_terms, unpacking_of};
 ghost use Rattle.uimg_unpacking.specs.{Deeds.changes, Places.{ChangesWithin, Obeys, terms_of}};
 
+use crate::check_keys::keys_of;
 use crate::complaints::Complaints;
 use crate::info_program::put_object;
 use crate::json_lines::JsonOut;
@@ -14,8 +16,8 @@ use crate::request_fault::{DONE, FAILED, REFUSED, RequestFault, status_of};
 use crate::unpack_answers::{Ending, answer_of_ending, status_of_trouble};
 use std::alloc::Global;
 use std::io::{BufWriter, Write};
-use uimg_base::{Source, Status};
-use uimg_checks::{Names, object_text};
+use uimg_base::{Room, Source, Status};
+use uimg_checks::{Answer, Configurations, Line, Names, Terms, answer_of_source, object_text};
 use uimg_cli::UnpackRequest;
 use uimg_engine::{Fault, Form, is_fit};
 use uimg_printing::Printed;
@@ -23,8 +25,9 @@ use uimg_unpacking::{FileId, Folder, Limits, Trouble, Unpacking, World, unpack, 
 
 /// Cleans the folder and unpacks the image, as requested. Writes a line for each removed file,
 /// payload or part on `out`. Returns the status. A fault is reported by a line on standard error,
-/// or for JSON on `out`.
-#[tactic(auto, using(crate::proofs::UnpackLaws::cleaned_alone, crate::proofs::UnpackLaws::cleaned_first))]
+/// or for JSON on `out`. A file of keys is read first. Then nothing is written unless they sign the
+/// image, and each of its images.
+#[tactic(auto, using(crate::proofs::UnpackLaws::unchanged, crate::proofs::UnpackLaws::noted_before))]
 pub(crate) fn unpack_image<D: World, W: Write + Drop, V: Write>(
     world: &mut D,
     request: &UnpackRequest<'_>,
@@ -40,9 +43,46 @@ pub(crate) fn unpack_image<D: World, W: Write + Drop, V: Write>(
     ensures line { IsTrue (D.map world.old).honest → ComplainsUnpack V.contents
         (D.map world.old) request.now result complaints.old complaints.new }
 {
+    let keys = match keys_of(world, request.key, complaints) {
+        Ok(keys) => keys,
+        Err(status) => return status,
+    };
+    let terms = Terms {
+        need: request.need,
+        is_strict: true,
+        keys,
+        covers_images: true,
+    };
+    unpack_by(world, request, &terms, out, complaints)
+}
+
+// The terms have the keys.
+#[tactic(auto, using(crate::proofs::UnpackLaws::cleaned_alone, crate::proofs::UnpackLaws::cleaned_first))]
+fn unpack_by<D: World, W: Write + Drop, V: Write>(
+    world: &mut D,
+    request: &UnpackRequest<'_>,
+    terms: &Terms,
+    out: &mut BufWriter<W, Global>,
+    complaints: &mut Complaints<'_, V>,
+) -> u8
+    requires covers { terms.now.covers_images ≡ true }
+    requires terms { terms.now ≡ signed_terms request.now terms.now.keys }
+    ensures ends { Ends result complaints.old.count complaints.new.count }
+    ensures within { ChangesWithin request.now.folder.now true (D.trace world.old)
+        (D.trace world.new) }
+    ensures told { IsTrue (D.map world.old).honest → request.now.cleans ≡ false → result ≡ 0 →
+        RightAt (D.map world.old) request.now terms.now.keys request.now.image
+        (D.trace world.old) (D.trace world.new) }
+    ensures kept { IsTrue (D.map world.old).honest → request.now.cleans ≡ false →
+        KeepsImage (D.map world.old) terms.now.keys request.now.image (D.trace world.old)
+        (D.trace world.new) }
+    ensures line { IsTrue (D.map world.old).honest → request.now.cleans ≡ false →
+        ComplainsImage V.contents (D.map world.old) request.now terms.now.keys
+        request.now.image result complaints.old complaints.new }
+{
     match (clean_if(world, request, out), request.image) {
         (Err(trouble), _) => tell_trouble(trouble, complaints),
-        (Ok(()), Some(image)) => unpack_and_tell(world, image, request, out, complaints),
+        (Ok(()), Some(image)) => unpack_and_tell(world, image, request, terms, out, complaints),
         (Ok(()), None) => DONE,
     }
 }
@@ -65,23 +105,30 @@ fn clean_if<D: World, W: Write>(
     Ok(())
 }
 
-#[tactic(auto, using(crate::proofs::UnpackLaws::told_after, crate::proofs::UnpackLaws::right_told))]
+#[tactic(auto, using(crate::proofs::UnpackLaws::told_after, crate::proofs::UnpackLaws::right_told, crate::proofs::UnpackLaws::kept_told))]
 fn unpack_and_tell<D: World, W: Write + Drop, V: Write>(
     world: &mut D,
     path: &str,
     request: &UnpackRequest<'_>,
+    terms: &Terms,
     out: &mut BufWriter<W, Global>,
     complaints: &mut Complaints<'_, V>,
 ) -> u8
+    requires covers { terms.now.covers_images ≡ true }
+    requires terms { terms.now ≡ signed_terms request.now terms.now.keys }
     ensures ends { Ends result complaints.old.count complaints.new.count }
     ensures within { ChangesWithin request.now.folder.now true (D.trace world.old)
         (D.trace world.new) }
     ensures done { IsTrue (D.map world.old).honest → result ≡ 0 → RightAt (D.map world.old)
-        request.now (Some path.entry) (D.trace world.old) (D.trace world.new) }
+        request.now terms.now.keys (Some path.entry) (D.trace world.old) (D.trace world.new) }
+    ensures kept { IsTrue (D.map world.old).honest → KeepsAt (D.map world.old)
+        terms.now.keys path.now (D.trace world.old) (D.trace world.new) }
     ensures line { IsTrue (D.map world.old).honest → ComplainsImage V.contents
-        (D.map world.old) request.now (Some path.entry) result complaints.old complaints.new }
+        (D.map world.old) request.now terms.now.keys (Some path.entry) result complaints.old
+        complaints.new }
 {
-    let ending = unpack_at(world, path, request, out);
+    let mut names = Names::new(world.alloc());
+    let ending = unpack_at(world, path, request, terms, &mut names, out);
     tell_ending(world, path, request.as_json, ending, out, complaints)
 }
 
@@ -122,39 +169,112 @@ fn unpacking_of<'a>(
 }
 
 #[tactic(auto, using(crate::proofs::UnpackLaws::unchanged, crate::proofs::UnpackLaws::looked_before, crate::proofs::UnpackLaws::right_at))]
-fn unpack_at<'a, D: World, W: Write + Drop>(
+fn unpack_at<'a, 'n, D: World, W: Write + Drop>(
     world: &mut D,
     path: &'a str,
     request: &UnpackRequest<'a>,
+    terms: &Terms,
+    names: &'n mut Names,
     out: &mut W,
-) -> Ending
+) -> Ending<'n>
+    requires covers { terms.now.covers_images ≡ true }
+    requires terms { terms.now ≡ signed_terms request.now terms.now.keys }
     ensures within { ChangesWithin request.now.folder.now true (D.trace world.old)
         (D.trace world.new) }
     ensures done { IsTrue (D.map world.old).honest → result ≡ Ending.Told Status.Done →
-        RightAt (D.map world.old) request.now (Some path.entry) (D.trace world.old)
-        (D.trace world.new) }
-    ensures ended { IsTrue (D.map world.old).honest → EndsAt (D.map world.old)
-        (unpacking_of request.now None path.entry) path.now result }
+        RightAt (D.map world.old) request.now terms.now.keys (Some path.entry)
+        (D.trace world.old) (D.trace world.new) }
+    ensures kept { IsTrue (D.map world.old).honest → KeepsAt (D.map world.old)
+        terms.now.keys path.now (D.trace world.old) (D.trace world.new) }
+    ensures ended { IsTrue (D.map world.old).honest → EndsAsked (D.map world.old)
+        request.now terms.now.keys path.entry result }
 {
     let Ok(mut source) = world.open(path) else {
         return Ending::Unread;
     };
     let asked = unpacking_of(request, world.file_at(path), path);
     if request.as_json {
-        unpack_source(world, &asked, &mut source, JsonOut::new(out))
+        unpack_signed(world, &asked, terms, names, &mut source, JsonOut::new(out))
     } else {
-        unpack_source(world, &asked, &mut source, out)
+        unpack_signed(world, &asked, terms, names, &mut source, out)
+    }
+}
+
+// Nothing is written unless the keys sign the image.
+#[tactic(auto, using(crate::proofs::UnpackLaws::unchanged, crate::proofs::UnpackLaws::nothing_called, crate::proofs::SignedLaws::unsigned_ended))]
+fn unpack_signed<'n, D: World, S: Source, W: Write + Drop>(
+    world: &mut D,
+    asked: &Unpacking<'_>,
+    terms: &Terms,
+    names: &'n mut Names,
+    source: &mut S,
+    out: W,
+) -> Ending<'n>
+    requires { terms.now.covers_images ≡ true }
+    ensures within { ChangesWithin asked.now.folder.path.now true (D.trace world.old)
+        (D.trace world.new) }
+    ensures obeys { Obeys (terms_of asked.now.folder) true (D.trace world.old) (D.trace world.new) }
+    ensures done { IfHonest S.device source (λ file. result ≡ Ending.Told Status.Done →
+        IsRight asked.now file) }
+    ensures signed { IfHonest S.device source (λ file. result ≡ Ending.Told Status.Done →
+        SignedBy terms.now.keys file) }
+    ensures kept { IfHonest S.device source (λ file. KeepsBy terms.now.keys file
+        (D.trace world.old) (D.trace world.new)) }
+    ensures holds { IfHonest S.device source (λ file. IsTrue D.knows →
+        result ≡ Ending.Told Status.Done →
+        HoldsPayloads asked.now file (D.trace world.new)) }
+    ensures ended { IfHonest S.device source (λ file. EndsSigned asked.now terms.now file result) }
+{
+    match unsigned(world.alloc(), terms, source, names) {
+        Some(answer) => Ending::Unsigned(answer),
+        None => unpack_source(world, asked, source, out),
+    }
+}
+
+// Returns the answer of a strict check, unless there are no keys or they sign all.
+#[tactic(auto, using(crate::proofs::SignedLaws::signed_shown))]
+fn unsigned<'n, S: Source>(
+    alloc: Global,
+    terms: &Terms,
+    source: &mut S,
+    names: &'n mut Names,
+) -> Option<Answer<'n>>
+    requires { terms.now.covers_images ≡ true }
+    ensures same { SameDevice (S.device source.old) (S.device source.new) }
+    ensures signed { IfHonest S.device source (λ file. result ≡ None →
+        SignedBy terms.now.keys file) }
+    ensures refused { IfHonest S.device source (λ file. IfSome result (λ answer.
+        IsTrue (is_some terms.now.keys) × Shows answer (verdict_of terms.now file))) }
+{
+    if terms.keys.is_none() {
+        return None;
+    }
+    let mut room = Room::new(alloc);
+    let answer = answer_of_source(alloc, terms, source, &mut room, names);
+    if is_signed(answer) {
+        None
+    } else {
+        Some(answer)
+    }
+}
+
+fn is_signed(answer: Answer<'_>) -> bool
+    ensures { result ≡ is_signed answer.entry }
+{
+    match answer {
+        Answer::Found(_, Some(Configurations::Signed)) => true,
+        _ => false,
     }
 }
 
 // The first four bytes decide the image's format.
 #[tactic(auto, using(crate::proofs::UnpackLaws::unchanged, crate::proofs::UnpackLaws::nothing_called))]
-fn unpack_source<D: World, S: Source, W: Write + Drop>(
+fn unpack_source<'n, D: World, S: Source, W: Write + Drop>(
     world: &mut D,
     asked: &Unpacking<'_>,
     source: &mut S,
     out: W,
-) -> Ending
+) -> Ending<'n>
     ensures within { ChangesWithin asked.now.folder.path.now true (D.trace world.old)
         (D.trace world.new) }
     ensures obeys { Obeys (terms_of asked.now.folder) true (D.trace world.old) (D.trace world.new) }
@@ -176,22 +296,25 @@ fn tell_ending<D: World, W: Write + Drop, V: Write>(
     world: &mut D,
     path: &str,
     as_json: bool,
-    ending: Ending,
+    ending: Ending<'_>,
     out: &mut BufWriter<W, Global>,
     complaints: &mut Complaints<'_, V>,
 ) -> u8
     ensures ends { Ends result complaints.old.count complaints.new.count }
-    ensures status { as_json ≡ false → HasEndingStatus ending result }
+    ensures status { as_json ≡ false → HasEndingStatus ending.entry result }
     ensures line { (result ≡ 3)
-        ⊎ Complains V.contents (told_of_unpacking as_json ending) complaints }
-    ensures command { TellsCommand ending result out.old out.new }
-    ensures done { result ≡ 0 → ending ≡ Ending.Told Status.Done }
+        ⊎ Complains V.contents (told_of_unpacking path.now as_json ending.entry) complaints }
+    ensures command { TellsCommand ending.entry result out.old out.new }
+    ensures done { result ≡ 0 → ending.entry ≡ Ending.Told Status.Done }
     ensures unasked { result ≡ 0 → D.trace world.new ≡ D.trace world.old }
     ensures kept { changes (D.trace world.new) ≡ changes (D.trace world.old) }
 {
     match ending {
         Ending::Told(Status::Done) => DONE,
         Ending::Told(Status::NotRight) => REFUSED,
+        Ending::Unsigned(answer) => {
+            tell_unsigned(world.alloc(), path, as_json, answer, out, complaints)
+        }
         Ending::Troubled(trouble) if !as_json || is_of_command(&trouble) => {
             tell_trouble(trouble, complaints)
         }
@@ -204,6 +327,46 @@ fn tell_ending<D: World, W: Write + Drop, V: Write>(
             complaints.tell(&fault, status_of(&fault))
         }
         Ending::Troubled(trouble) => tell_trouble(trouble, complaints),
+    }
+}
+
+// Reports the answer of a check, on standard error or for JSON on `out`.
+fn tell_unsigned<W: Write + Drop, V: Write>(
+    alloc: Global,
+    path: &str,
+    as_json: bool,
+    answer: Answer<'_>,
+    out: &mut BufWriter<W, Global>,
+    complaints: &mut Complaints<'_, V>,
+) -> u8
+    ensures ends { Ends result complaints.old.count complaints.new.count }
+    ensures status { (result ≡ max 1 (answer_status answer.entry)) ⊎ (result ≡ 3) }
+    ensures line { (result ≡ 3) ⊎ Complains V.contents
+        (told_of_unpacking path.now as_json (Ending.Unsigned answer.entry)) complaints }
+{
+    let status = u8::max(REFUSED, answer.status());
+    let path = path.as_bytes();
+    if as_json {
+        return put_answer(alloc, path, &answer, status, out, complaints);
+    }
+    complaints.tell(&Line { path, answer }, status)
+}
+
+fn put_answer<W: Write + Drop, V: Write>(
+    alloc: Global,
+    path: &[u8],
+    answer: &Answer<'_>,
+    status: u8,
+    out: &mut BufWriter<W, Global>,
+    complaints: &mut Complaints<'_, V>,
+) -> u8
+    ensures ends { status ≤ 3 → Ends result complaints.old.count complaints.new.count }
+    ensures status { (result ≡ status) ⊎ (result ≡ 3) }
+    ensures line { ComplainsNot V.contents result complaints.old complaints.new }
+{
+    match object_text(alloc, path, answer) {
+        Ok(text) => put_object(text.as_slice(), status, out, complaints),
+        Err(_) => complaints.tell_no_memory(),
     }
 }
 
@@ -222,22 +385,27 @@ fn is_of_command(trouble: &Trouble) -> bool
 fn tell_object<D: World, W: Write + Drop, V: Write>(
     world: &mut D,
     path: &str,
-    ending: Ending,
+    ending: Ending<'_>,
     out: &mut BufWriter<W, Global>,
     complaints: &mut Complaints<'_, V>,
 ) -> u8
     ensures ends { Ends result complaints.old.count complaints.new.count }
-    ensures done { result ≡ 0 → ending ≡ Ending.Told Status.Done }
+    ensures done { result ≡ 0 → ending.entry ≡ Ending.Told Status.Done }
     ensures unasked { result ≡ 0 → D.trace world.new ≡ D.trace world.old }
     ensures kept { changes (D.trace world.new) ≡ changes (D.trace world.old) }
     ensures line { ComplainsNot V.contents result complaints.old complaints.new }
 {
     let mut names = Names::new(world.alloc());
     let answer = answer_of_ending(world, path, ending, &mut names);
-    match object_text(world.alloc(), path.as_bytes(), &answer) {
-        Ok(text) => put_object(text.as_slice(), answer.status(), out, complaints),
-        Err(_) => complaints.tell_no_memory(),
-    }
+    let status = answer.status();
+    put_answer(
+        world.alloc(),
+        path.as_bytes(),
+        &answer,
+        status,
+        out,
+        complaints,
+    )
 }
 
 // Reports that a legacy image has CRC-32 only.

@@ -4,7 +4,7 @@ use Rattle.std.proofs.lemmas.List.{drop_more}
 use Rattle.uimg_blob_reading.specs.Rows.{Row}
 use Rattle.uimg_keys.specs.declared.{key.PublicKey.PublicKey, keys.Keys.Keys}
 use Rattle.uimg_strict.specs.declared.loose.Looseness.{Looseness}
-use Rattle.uimg_strict.specs.declared.loose.Looseness.TheVariants.{SignedNodes, Unsigned}
+use Rattle.uimg_strict.specs.declared.loose.Looseness.TheVariants.{SignedNodes, SignedStrings, Unsigned}
 use Rattle.uimg_verifying.specs.Configurations.{is_configuration, configuration_refusal, decides, judged_node, refused_after, refused_by, refused_from, tried_node, unsigned_after, unsigned_from}
 use Rattle.uimg_blob_reading.specs.declared.roles.Role.{Role}
 use Rattle.uimg_blob_reading.specs.declared.roles.Role.TheVariants as role
@@ -12,7 +12,7 @@ use Rattle.uimg_signing.specs.Listing.{name_in}
 use Rattle.uimg_strict.specs.Looseness.{LooseSaid}
 use Rattle.uimg_verifying.specs.declared.configurations.Judged.{Judged}
 use Rattle.uimg_verifying.specs.declared.configurations.Judged.TheVariants as judged
-use Rattle.uimg_verifying.specs.declared.configurations.Tried.{Tried, TheVariants.{Other, Valid, Refused}}
+use Rattle.uimg_verifying.specs.declared.configurations.Tried.{Tried, TheVariants.{Other, Outside, Valid, Refused}}
 
 module _ (key : PublicKey) (file : List ℕ) (rows : List Row) (configuration : ℕ) (its node : Row) (nodes : List Row) (why : Looseness) (found : Tried) (is : found ≡ tried_node key file rows configuration its node) where
   after : (left : ℕ) → refused_after found why left (λ w more. refused_from key file rows configuration its w more nodes) ≡ refused_from key file rows configuration its why left (node ∷ nodes)
@@ -27,14 +27,18 @@ module _ (key : PublicKey) (file : List ℕ) (rows : List Row) (configuration : 
   pub none_more : (left : ℕ) → found ≡ Other → refused_from key file rows configuration its why left nodes ≡ refused_from key file rows configuration its why left (node ∷ nodes)
   none_more left same = by_found Other left left same refl
 
-  too_many : (left : ℕ) (one : Tried) → (one ≡ Other → ⊥) → found ≡ one → left ≡ 0 → Some SignedNodes ≡ refused_from key file rows configuration its why left (node ∷ nodes)
-  too_many left Other not same none = absurd (not refl)
-  too_many left Valid not same none = by_found Valid left 0 same none
-  too_many left (Refused w) not same none = by_found (Refused w) left 0 same none
+  pub strings_outside : (left : ℕ) → found ≡ Outside → Some SignedStrings ≡ refused_from key file rows configuration its why left (node ∷ nodes)
+  strings_outside left same = by_found Outside left left same refl
+
+  too_many : (left : ℕ) (one : Tried) → (one ≡ Other → ⊥) → (one ≡ Outside → ⊥) → found ≡ one → left ≡ 0 → Some SignedNodes ≡ refused_from key file rows configuration its why left (node ∷ nodes)
+  too_many left Other not inside same none = absurd (not refl)
+  too_many left Outside not inside same none = absurd (inside refl)
+  too_many left Valid not inside same none = by_found Valid left 0 same none
+  too_many left (Refused w) not inside same none = by_found (Refused w) left 0 same none
 
   -- no more signatures are tried
-  pub none_tried : (left : ℕ) → (found ≡ Other → ⊥) → left ≡ 0 → Some SignedNodes ≡ refused_from key file rows configuration its why left (node ∷ nodes)
-  none_tried left not none = too_many left found not refl none
+  pub none_tried : (left : ℕ) → (found ≡ Other → ⊥) → (found ≡ Outside → ⊥) → left ≡ 0 → Some SignedNodes ≡ refused_from key file rows configuration its why left (node ∷ nodes)
+  none_tried left not inside none = too_many left found not inside refl none
 
   pub one_valid : (left more : ℕ) → found ≡ Valid → left ≡ suc more → None ≡ refused_from key file rows configuration its why left (node ∷ nodes)
   one_valid left more same many = by_found Valid left (suc more) same many

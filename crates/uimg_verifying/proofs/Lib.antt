@@ -1,2 +1,3 @@
 mod RefusalLaws
 mod ConfigurationLaws
+mod CoveringLaws

@@ -6,7 +6,7 @@ use Rattle.uimg_base.specs.Device.{Device, SameDevice}
 use Rattle.uimg_blob_reading.specs.{Properties.places_of, Rows.Row}
 use Rattle.uimg_fit_checking.specs.declared.surveying.fault.SurveyFault.{SurveyFault}
 use Rattle.uimg_keys.specs.declared.key.PublicKey.{PublicKey}
-use Rattle.uimg_signing.specs.{Covering.is_marked, Faults.{is_unread, is_out_of_memory}, Listing.{listing_refusal, marks_of}}
+use Rattle.uimg_signing.specs.{Covering.is_marked, Faults.{is_unread, is_out_of_memory}, Listing.{are_many, listing_refusal, marks_of}}
 use Rattle.uimg_signing.specs.Hashed.{are_hashed}
 use Rattle.uimg_signing.specs.{Message.{message, refusal}, Strings.strings_of}
 use Rattle.uimg_signing.specs.declared.faults.SigningFault.{SigningFault}
@@ -15,7 +15,7 @@ use Rattle.uimg_strict.specs.declared.loose.Looseness.{Looseness}
 use Rattle.uimg_strict.specs.declared.loose.Looseness.TheVariants as loose
 use Rattle.uimg_sums.specs.{Algorithms.{digest_by, digest_size}, AnySum.padded_digest, declared.algo.Algo.Algo}
 use Rattle.uimg_sums.proofs.DigestSizes.{length-digest_by}
-use Rattle.uimg_verifying.specs.Signatures.{StopsAs, fault_or, is_weak, message_refusal, said_refusal, signature_of, signature_refusal, value_refusal, verdict, why_judged, why_of}
+use Rattle.uimg_verifying.specs.Signatures.{StopsAs, fault_or, is_weak, message_refusal, said_refusal, signature_of, signature_refusal, strings_refusal, value_refusal, verdict, why_judged, why_of}
 use Rattle.uimg_verifying.specs.declared.signatures.Signature.{Signature}
 
 -- what is said of the bytes of a device that is what it was
@@ -48,45 +48,45 @@ stopped X P signing.Changed result expected stops refuses is = rw stops (is (ref
 stopped X P signing.TooManyNodes result expected stops refuses is = rw stops (is (refuses refl refl))
 stopped X P signing.Unhashed result expected stops refuses is = rw stops (is (refuses refl refl))
 stopped X P signing.TooDeep result expected stops refuses is = rw stops (is (refuses refl refl))
+stopped X P signing.EarlyEnd result expected stops refuses is = rw stops (is (refuses refl refl))
 stopped X P signing.BadStrings result expected stops refuses is = rw stops (is (refuses refl refl))
 stopped X P signing.StringsOffset result expected stops refuses is = rw stops (is (refuses refl refl))
 stopped X P signing.StringsOutside result expected stops refuses is = rw stops (is (refuses refl refl))
 
 module _ (key : PublicKey) (file : List ℕ) (rows : List Row) (configuration : ℕ) (its node : Row) where
-  said : (found : Option Signature) → found ≡ signature_of key file node → said_refusal key file rows configuration its node found ≡ signature_refusal key file rows configuration its node
+  by_strings : (strings : Result ℕ SigningFault) → strings ≡ strings_of file (places_of node) → strings_refusal key file rows configuration its (signature_of key file node) strings ≡ signature_refusal key file rows configuration its node
   unfolding signature_refusal
-  said found is = ap (said_refusal key file rows configuration its node) is
+  by_strings strings are = ap (strings_refusal key file rows configuration its (signature_of key file node)) are
 
-  pub unknown : None ≡ signature_of key file node → Some loose.UnknownSignature ≡ signature_refusal key file rows configuration its node
-  unknown is = said None is
+  pub strings_stop : (fault : SigningFault) → Err fault ≡ strings_of file (places_of node) → Some (why_of fault) ≡ signature_refusal key file rows configuration its node
+  strings_stop fault stops = by_strings (Err fault) stops
 
-  module _ (it : Signature) (is : Some it ≡ signature_of key file node) where
-    pub weak : is_weak it.algo ≡ true → Some loose.WeakSignature ≡ signature_refusal key file rows configuration its node
-    weak found = sym (ap (λ (b : Bool). if b then Some loose.WeakSignature else fault_or (listing_refusal (places_of its) (marks_of file (places_of its) rows configuration) (are_hashed file (places_of its) rows)) (message_refusal key file it (marks_of file (places_of its) rows configuration) (strings_of file (places_of node)))) found) ∙ said (Some it) is
+  module _ (strings : ℕ) (are : Ok strings ≡ strings_of file (places_of node)) where
+    said : (found : Option Signature) → found ≡ signature_of key file node → said_refusal key file rows configuration its strings found ≡ signature_refusal key file rows configuration its node
+    said found is = ap (said_refusal key file rows configuration its strings) is ∙ by_strings (Ok strings) are
 
-    strong : is_weak it.algo ≡ false → fault_or (listing_refusal (places_of its) (marks_of file (places_of its) rows configuration) (are_hashed file (places_of its) rows)) (message_refusal key file it (marks_of file (places_of its) rows configuration) (strings_of file (places_of node))) ≡ signature_refusal key file rows configuration its node
-    strong found = sym (ap (λ (b : Bool). if b then Some loose.WeakSignature else fault_or (listing_refusal (places_of its) (marks_of file (places_of its) rows configuration) (are_hashed file (places_of its) rows)) (message_refusal key file it (marks_of file (places_of its) rows configuration) (strings_of file (places_of node)))) found) ∙ said (Some it) is
+    pub unknown : None ≡ signature_of key file node → Some loose.UnknownSignature ≡ signature_refusal key file rows configuration its node
+    unknown is = said None is
 
-    pub nodes_stop : is_weak it.algo ≡ false → (fault : SigningFault) → Some fault ≡ listing_refusal (places_of its) (marks_of file (places_of its) rows configuration) (are_hashed file (places_of its) rows) → Some (why_of fault) ≡ signature_refusal key file rows configuration its node
-    nodes_stop found fault stops = ap (λ (o : Option SigningFault). fault_or o (message_refusal key file it (marks_of file (places_of its) rows configuration) (strings_of file (places_of node)))) stops ∙ strong found
+    module _ (it : Signature) (is : Some it ≡ signature_of key file node) where
+      pub weak : is_weak it.algo ≡ true → Some loose.WeakSignature ≡ signature_refusal key file rows configuration its node
+      weak found = sym (ap (λ (b : Bool). if b then Some loose.WeakSignature else fault_or (listing_refusal (places_of its) (are_many file (places_of its) rows configuration) (are_hashed file (places_of its) rows)) (message_refusal key file it (marks_of file (places_of its) rows configuration) strings)) found) ∙ said (Some it) is
 
-    listed : is_weak it.algo ≡ false → None ≡ listing_refusal (places_of its) (marks_of file (places_of its) rows configuration) (are_hashed file (places_of its) rows) → message_refusal key file it (marks_of file (places_of its) rows configuration) (strings_of file (places_of node)) ≡ signature_refusal key file rows configuration its node
-    listed found none = ap (λ (o : Option SigningFault). fault_or o (message_refusal key file it (marks_of file (places_of its) rows configuration) (strings_of file (places_of node)))) none ∙ strong found
+      strong : is_weak it.algo ≡ false → fault_or (listing_refusal (places_of its) (are_many file (places_of its) rows configuration) (are_hashed file (places_of its) rows)) (message_refusal key file it (marks_of file (places_of its) rows configuration) strings) ≡ signature_refusal key file rows configuration its node
+      strong found = sym (ap (λ (b : Bool). if b then Some loose.WeakSignature else fault_or (listing_refusal (places_of its) (are_many file (places_of its) rows configuration) (are_hashed file (places_of its) rows)) (message_refusal key file it (marks_of file (places_of its) rows configuration) strings)) found) ∙ said (Some it) is
 
-    pub strings_stop : is_weak it.algo ≡ false → None ≡ listing_refusal (places_of its) (marks_of file (places_of its) rows configuration) (are_hashed file (places_of its) rows) → (fault : SigningFault) → Err fault ≡ strings_of file (places_of node) → Some (why_of fault) ≡ signature_refusal key file rows configuration its node
-    strings_stop found none fault stops = ap (message_refusal key file it (marks_of file (places_of its) rows configuration)) stops ∙ listed found none
+      pub nodes_stop : is_weak it.algo ≡ false → (fault : SigningFault) → Some fault ≡ listing_refusal (places_of its) (are_many file (places_of its) rows configuration) (are_hashed file (places_of its) rows) → Some (why_of fault) ≡ signature_refusal key file rows configuration its node
+      nodes_stop found fault stops = ap (λ (o : Option SigningFault). fault_or o (message_refusal key file it (marks_of file (places_of its) rows configuration) strings)) stops ∙ strong found
 
-    read : is_weak it.algo ≡ false → None ≡ listing_refusal (places_of its) (marks_of file (places_of its) rows configuration) (are_hashed file (places_of its) rows) → (strings : ℕ) → Ok strings ≡ strings_of file (places_of node)
-        → fault_or (refusal file strings) (value_refusal key file it (message (is_marked (marks_of file (places_of its) rows configuration)) file strings)) ≡ signature_refusal key file rows configuration its node
-    read found none strings are = ap (message_refusal key file it (marks_of file (places_of its) rows configuration)) are ∙ listed found none
+      listed : is_weak it.algo ≡ false → None ≡ listing_refusal (places_of its) (are_many file (places_of its) rows configuration) (are_hashed file (places_of its) rows) → message_refusal key file it (marks_of file (places_of its) rows configuration) strings ≡ signature_refusal key file rows configuration its node
+      listed found none = ap (λ (o : Option SigningFault). fault_or o (message_refusal key file it (marks_of file (places_of its) rows configuration) strings)) none ∙ strong found
 
-    pub message_stop : is_weak it.algo ≡ false → None ≡ listing_refusal (places_of its) (marks_of file (places_of its) rows configuration) (are_hashed file (places_of its) rows) → (strings : ℕ) → Ok strings ≡ strings_of file (places_of node)
-        → (fault : SigningFault) → Some fault ≡ refusal file strings → Some (why_of fault) ≡ signature_refusal key file rows configuration its node
-    message_stop found none strings are fault stops = ap (λ (o : Option SigningFault). fault_or o (value_refusal key file it (message (is_marked (marks_of file (places_of its) rows configuration)) file strings))) stops ∙ read found none strings are
+      pub message_stop : is_weak it.algo ≡ false → None ≡ listing_refusal (places_of its) (are_many file (places_of its) rows configuration) (are_hashed file (places_of its) rows) → (fault : SigningFault) → Some fault ≡ refusal file strings → Some (why_of fault) ≡ signature_refusal key file rows configuration its node
+      message_stop found none fault stops = ap (λ (o : Option SigningFault). fault_or o (value_refusal key file it (message (is_marked (marks_of file (places_of its) rows configuration)) file strings))) stops ∙ listed found none
 
-    pub judged : is_weak it.algo ≡ false → None ≡ listing_refusal (places_of its) (marks_of file (places_of its) rows configuration) (are_hashed file (places_of its) rows) → (strings : ℕ) → Ok strings ≡ strings_of file (places_of node)
-        → None ≡ refusal file strings → (marks : List ℕ) → marks ≡ marks_of file (places_of its) rows configuration → (why : Option Looseness) → why ≡ value_refusal key file it (message (is_marked marks) file strings)
-        → why ≡ signature_refusal key file rows configuration its node
-    judged found none strings are fine marks listed_are why is_why =
-        is_why ∙ ap (λ (ms : List ℕ). value_refusal key file it (message (is_marked ms) file strings)) listed_are
-        ∙ ap (λ (o : Option SigningFault). fault_or o (value_refusal key file it (message (is_marked (marks_of file (places_of its) rows configuration)) file strings))) fine ∙ read found none strings are
+      pub judged : is_weak it.algo ≡ false → None ≡ listing_refusal (places_of its) (are_many file (places_of its) rows configuration) (are_hashed file (places_of its) rows)
+          → None ≡ refusal file strings → (marks : List ℕ) → marks ≡ marks_of file (places_of its) rows configuration → (why : Option Looseness) → why ≡ value_refusal key file it (message (is_marked marks) file strings)
+          → why ≡ signature_refusal key file rows configuration its node
+      judged found none fine marks listed_are why is_why =
+          is_why ∙ ap (λ (ms : List ℕ). value_refusal key file it (message (is_marked ms) file strings)) listed_are
+          ∙ ap (λ (o : Option SigningFault). fault_or o (value_refusal key file it (message (is_marked (marks_of file (places_of its) rows configuration)) file strings))) fine ∙ listed found none

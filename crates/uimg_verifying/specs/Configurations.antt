@@ -1,5 +1,5 @@
 -- Why a configuration is refused: no signature of it is a required key's.
-use Rattle.std.specs.Prelude.{◌≡◌, ℕ, zero, suc, ◌==◌, List, [], ◌∷◌, Option, Some, None, is_some, is_none, Bool, true, false, if◌then◌else◌}
+use Rattle.std.specs.Prelude.{◌≡◌, ℕ, zero, suc, ◌==◌, List, [], ◌∷◌, Option, Some, None, Bool, true, false, not, if◌then◌else◌}
 use Rattle.std.specs.Prelude.{◌+◌, ⊤, Result, Ok, Err, nat_lt}
 use Rattle.uimg_texts.specs.Numbers.{be32}
 use Rattle.std.specs.{List.slice_get, Option.option_map}
@@ -11,7 +11,7 @@ use Rattle.uimg_blob_reading.specs.{Grammar.Siblings, Indexed.IsIndexed, Roles.i
 use Rattle.uimg_blob_reading.specs.declared.nodes.Blob.{Blob}
 use Rattle.uimg_fit_base.specs.declared.fault.Fault.{Fault}
 use Rattle.uimg_fit_base.specs.declared.fault.Fault.TheVariants as of
-use Rattle.uimg_signing.specs.Listing.{name_in}
+use Rattle.uimg_signing.specs.{Listing.name_in, Reach.{is_closed, is_reached}}
 use Rattle.uimg_blob_reading.specs.Faults.{refuses_memory}
 use Rattle.uimg_fit_checking.specs.declared.surveying.fault.SurveyFault.{SurveyFault}
 use Rattle.uimg_fit_checking.specs.declared.surveying.fault.SurveyFault.TheVariants.{Stopped, OutOfMemory, Changed}
@@ -20,11 +20,11 @@ use Rattle.uimg_strict.specs.declared.loose.Loose.{Loose}
 use Rattle.uimg_keys.specs.declared.key.PublicKey.{PublicKey}
 use Rattle.uimg_keys.specs.declared.keys.Keys.{Keys}
 use Rattle.uimg_strict.specs.declared.loose.Looseness.{Looseness}
-use Rattle.uimg_strict.specs.declared.loose.Looseness.TheVariants.{SignedNodes, Unsigned}
+use Rattle.uimg_strict.specs.declared.loose.Looseness.TheVariants.{SignedNodes, SignedStrings, Unsigned}
 use Rattle.uimg_verifying.specs.Signatures.{signature_refusal}
 use Rattle.uimg_verifying.specs.declared.configurations.Judged.{Judged}
 use Rattle.uimg_verifying.specs.declared.configurations.Judged.TheVariants as judged
-use Rattle.uimg_verifying.specs.declared.configurations.Tried.{Tried, TheVariants.{Other, Valid, Refused}}
+use Rattle.uimg_verifying.specs.declared.configurations.Tried.{Tried, TheVariants.{Other, Outside, Valid, Refused}}
 
 abbrev pub is_parent : ℕ → Option ℕ → Bool
 is_parent number None = false
@@ -37,6 +37,7 @@ is_signature_of configuration node =
 
 abbrev pub tried_of : Option Looseness → Tried
 tried_of None = Valid
+tried_of (Some SignedStrings) = Outside
 tried_of (Some why) = Refused why
 
 -- what a node is as a signature of a configuration
@@ -46,10 +47,11 @@ tried_node key file rows configuration its node =
     then tried_of (signature_refusal key file rows configuration its node) else Other
 
 -- after one more node: as before, not refused, or refused by this signature, of which so many more
--- may be tried
+-- may be tried. None is after one with strings that are not the first ones of their block.
 abbrev pub refused_after : Tried → Looseness → ℕ → (Looseness → ℕ → Option Looseness)
     → Option Looseness
 refused_after Other why left rest = rest why left
+refused_after Outside why left rest = Some SignedStrings
 refused_after Valid why zero rest = Some SignedNodes
 refused_after Valid why (suc left) rest = None
 refused_after (Refused found) why zero rest = Some SignedNodes
@@ -78,10 +80,11 @@ is_configuration role.Configuration = true
 is_configuration role = false
 
 -- what a key says of a configuration decides: if one key is enough, that it signs it, else that it
--- does not
+-- does not; always, that a signature has strings outside of their block
 abbrev pub decides : Bool → Option Looseness → Bool
-decides true found = is_none found
-decides false found = is_some found
+decides is_any None = is_any
+decides is_any (Some SignedStrings) = true
+decides is_any (Some why) = not is_any
 
 -- why a configuration is refused by these keys and what was found before
 unfoldable pub refused_by : Bool → List PublicKey → List ℕ → List Row → ℕ → Row → Option Looseness
@@ -124,11 +127,23 @@ unsigned_from keys file rows i any (row ∷ more) =
     unsigned_after (judged_node keys file rows i row) any (name_in file row)
     (λ found. unsigned_from keys file rows (i + 1) found more)
 
--- the same of a blob of so many bytes; of more than 256 MiB U-Boot verifies no signature
+-- why U-Boot verifies no signature of a blob of so many bytes: more than 256 MiB, or an end or nodes
+-- that its walk does not take
+abbrev pub blob_refusal : List ℕ → List Row → ℕ → Option Looseness
+blob_refusal file rows size =
+    if nat_lt 268435456 size then Some SignedNodes
+    else if not (is_closed file) then Some SignedNodes
+    else if is_reached file rows then None else Some SignedNodes
+
+-- this, or else what comes later
+abbrev pub loose_or : Option Looseness → Option LooseSaid → Option LooseSaid
+loose_or (Some why) later = Some (record { why = why; node = None })
+loose_or None later = later
+
+-- the first configuration of a blob of so many bytes that is refused
 abbrev pub unsigned_within : Keys → List ℕ → List Row → ℕ → Option LooseSaid
 unsigned_within keys file rows size =
-    if nat_lt 268435456 size then Some (record { why = SignedNodes; node = None })
-    else unsigned_from keys file rows 0 false rows
+    loose_or (blob_refusal file rows size) (unsigned_from keys file rows 0 false rows)
 
 abbrev pub unsigned_in : Keys → List ℕ → Result Siblings BlobFaultAt
     → Result (Option LooseSaid) Fault
@@ -139,14 +154,17 @@ unsigned_in keys file (Err fault) = Err (of.Blob fault.0 fault.1)
 unfoldable pub unsigned_of : Keys → List ℕ → Result (Option LooseSaid) Fault
 unsigned_of keys file = unsigned_in keys file (tree file)
 
--- The result is what the definition says, unless a read failed, memory was refused, or the source is
+-- The result is what a definition says, unless a read failed, memory was refused, or the source is
 -- another one than before.
+abbrev pub Tells : Result (Option LooseSaid) Fault → Result (Option Loose) SurveyFault → Type 0
+Tells said (Ok found) = said ≡ Ok (option_map read_loose found)
+Tells said (Err (Stopped (of.Blob fault at))) =
+    refuses_memory fault ≡ false → said ≡ Err (of.Blob fault at)
+Tells said (Err (Stopped (of.Fit fault))) = ⊥
+Tells said (Err (Stopped of.Read)) = ⊤
+Tells said (Err (Stopped of.Put)) = ⊥
+Tells said (Err OutOfMemory) = ⊤
+Tells said (Err Changed) = ⊤
+
 abbrev pub TellsUnsigned : Keys → List ℕ → Result (Option Loose) SurveyFault → Type 0
-TellsUnsigned keys file (Ok found) = unsigned_of keys file ≡ Ok (option_map read_loose found)
-TellsUnsigned keys file (Err (Stopped (of.Blob fault at))) =
-    refuses_memory fault ≡ false → unsigned_of keys file ≡ Err (of.Blob fault at)
-TellsUnsigned keys file (Err (Stopped (of.Fit fault))) = ⊥
-TellsUnsigned keys file (Err (Stopped of.Read)) = ⊤
-TellsUnsigned keys file (Err (Stopped of.Put)) = ⊥
-TellsUnsigned keys file (Err OutOfMemory) = ⊤
-TellsUnsigned keys file (Err Changed) = ⊤
+TellsUnsigned keys file = Tells (unsigned_of keys file)

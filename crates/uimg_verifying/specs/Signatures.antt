@@ -16,7 +16,7 @@ use Rattle.uimg_keys.specs.declared.key.PublicKey.{PublicKey}
 use Rattle.uimg_rsa.specs.{Pkcs1.pkcs1_verdict, Pss.pss_verdict}
 use Rattle.uimg_rsa.specs.declared.refusal.Refusal.{Refusal}
 use Rattle.uimg_rsa.specs.declared.refusal.Refusal.TheVariants as rsa
-use Rattle.uimg_signing.specs.{Covering.is_marked, Listing.{listing_refusal, marks_of}}
+use Rattle.uimg_signing.specs.{Covering.is_marked, Listing.{are_many, listing_refusal, marks_of}}
 use Rattle.uimg_signing.specs.Hashed.{are_hashed}
 use Rattle.uimg_signing.specs.{Message.{message, refusal}, Strings.strings_of}
 use Rattle.uimg_signing.specs.Signatures.{rsa_algo_at, rsa_padding_at}
@@ -68,6 +68,7 @@ why_of signing.TooLong = loose.SignedNodes
 why_of signing.TooManyNodes = loose.SignedNodes
 why_of signing.Unhashed = loose.SignedNodes
 why_of signing.TooDeep = loose.SignedNodes
+why_of signing.EarlyEnd = loose.SignedNodes
 why_of signing.BadStrings = loose.SignedStrings
 why_of signing.StringsOffset = loose.SignedStrings
 why_of signing.StringsOutside = loose.SignedStrings
@@ -101,31 +102,35 @@ fault_or (Some fault) later = Some (why_of fault)
 fault_or None later = later
 
 -- why a signature is refused that covers the nodes at these offsets, with so many bytes of strings
-abbrev pub message_refusal : PublicKey → List ℕ → Signature → List ℕ → Result ℕ SigningFault
-    → Option Looseness
-message_refusal key file it marks (Ok strings) = fault_or (refusal file strings)
+abbrev pub message_refusal : PublicKey → List ℕ → Signature → List ℕ → ℕ → Option Looseness
+message_refusal key file it marks strings = fault_or (refusal file strings)
     (value_refusal key file it (message (is_marked marks) file strings))
-message_refusal key file it marks (Err fault) = Some (why_of fault)
 
 abbrev pub is_weak : Algo → Bool
 is_weak Sha1 = true
 is_weak algo = false
 
--- why a signature is refused by what its node says; SHA-1 is too weak
-abbrev pub said_refusal : PublicKey → List ℕ → List Row → ℕ → Row → Row → Option Signature
+-- why a signature with so many bytes of strings is refused by what its node says; SHA-1 is too weak
+abbrev pub said_refusal : PublicKey → List ℕ → List Row → ℕ → Row → ℕ → Option Signature
     → Option Looseness
-said_refusal key file rows configuration its node None = Some loose.UnknownSignature
-said_refusal key file rows configuration its node (Some it) =
+said_refusal key file rows configuration its strings None = Some loose.UnknownSignature
+said_refusal key file rows configuration its strings (Some it) =
     if is_weak it.algo then Some loose.WeakSignature
-    else fault_or (listing_refusal (places_of its) (marks_of file (places_of its) rows configuration)
+    else fault_or (listing_refusal (places_of its) (are_many file (places_of its) rows configuration)
     (are_hashed file (places_of its) rows))
-    (message_refusal key file it (marks_of file (places_of its) rows configuration)
-    (strings_of file (places_of node)))
+    (message_refusal key file it (marks_of file (places_of its) rows configuration) strings)
+
+-- the same, first by its strings
+abbrev pub strings_refusal : PublicKey → List ℕ → List Row → ℕ → Row → Option Signature
+    → Result ℕ SigningFault → Option Looseness
+strings_refusal key file rows configuration its found (Ok strings) =
+    said_refusal key file rows configuration its strings found
+strings_refusal key file rows configuration its found (Err fault) = Some (why_of fault)
 
 -- why the signature of a node is refused, of the configuration of a number and a row
 unfoldable pub signature_refusal : PublicKey → List ℕ → List Row → ℕ → Row → Row → Option Looseness
-signature_refusal key file rows configuration its node = said_refusal key file rows configuration its
-    node (signature_of key file node)
+signature_refusal key file rows configuration its node = strings_refusal key file rows configuration
+    its (signature_of key file node) (strings_of file (places_of node))
 
 -- P holds of the rows of two nodes in the tree of an honest device's bytes, if that was indexed.
 abbrev pub OfPair : Device → Blob → Held → ℕ → ℕ

@@ -6,12 +6,13 @@ ghost use Rattle.uimg_base.specs.{Honest.{HonestSource, IfHonest}, Using.Uses};
 ghost use Rattle.uimg_blob_reading.specs.{Grammar.Siblings, Indexed.TakesNodes, Rows.{Row, table}};
 ghost use Rattle.uimg_fit_checking.specs.SurveyParts.{IsOwn, is_unread, lacks_room};
 ghost use Rattle.uimg_fit_reading.specs.Nodes.{InFile, Opened};
-ghost use Rattle.uimg_verifying.specs.Configurations.{OfNode, TellsUnsigned, configuration_refusal, decides, is_configuration, is_parent, is_signature_of, judged_node, judged_of, keys_refusal, tried_node, tried_of, unsigned_from, unsigned_within};
+ghost use Rattle.uimg_verifying.specs.Configurations.{OfNode, TellsUnsigned, blob_refusal, configuration_refusal, decides, is_configuration, is_parent, is_signature_of, judged_node, judged_of, keys_refusal, tried_node, tried_of, unsigned_from, unsigned_within};
 ghost use Rattle.uimg_signing.specs.Listing.{name_in};
 ghost use Rattle.uimg_strict.specs.Telling.{read_loose};
 ghost use Rattle.uimg_texts.specs.Numbers.{be32};
 ghost use Rattle.uimg_verifying.specs.Signatures.{OfPair};
 
+use crate::refusals::stop;
 use crate::signatures::{Signed, signature_refusal};
 use std::alloc::{Allocator, Global};
 use uimg_base::{Room, Source};
@@ -19,6 +20,7 @@ use uimg_blob_reading::{Blob, Role};
 use uimg_fit_checking::{SurveyFault, read_bytes};
 use uimg_fit_reading::read_tree;
 use uimg_keys::{Keys, PublicKey};
+use uimg_signing::{is_closed, is_reached};
 use uimg_strict::{Loose, Looseness};
 
 /// The largest blob whose signatures U-Boot verifies (FIT_SIGNATURE_MAX_SIZE).
@@ -29,6 +31,9 @@ const LARGEST: u32 = 0x1000_0000;
 enum Tried {
     // None of its signature nodes.
     Other,
+    // A signature with strings that are not the first ones of their block, or outside of it. U-Boot
+    // reads these, whatever its key.
+    Outside,
     // A signature by the key.
     Valid,
     // A signature that is refused.
@@ -74,6 +79,7 @@ fn tried_of(refusal: Option<Looseness>) -> Tried
 {
     match refusal {
         None => Tried::Valid,
+        Some(Looseness::SignedStrings) => Tried::Outside,
         Some(why) => Tried::Refused(why),
     }
 }
@@ -132,6 +138,7 @@ fn configuration_refusal<S: Source, A: Allocator>(
         };
         match try_node(alloc, source, blob, room, key, at)? {
             Tried::Other => {}
+            Tried::Outside => return Ok(Some(Looseness::SignedStrings)),
             Tried::Valid if left > 0 => return Ok(None),
             Tried::Refused(found) if left > 0 => {
                 why = found;
@@ -148,10 +155,10 @@ fn configuration_refusal<S: Source, A: Allocator>(
 fn decides(is_any: bool, found: Option<Looseness>) -> bool
     ensures { result ≡ decides is_any found }
 {
-    if is_any {
-        found.is_none()
-    } else {
-        found.is_some()
+    match found {
+        None => is_any,
+        Some(Looseness::SignedStrings) => true,
+        Some(_) => !is_any,
     }
 }
 
@@ -288,7 +295,35 @@ fn first_unsigned<S: Source, A: Allocator>(
     Ok(Some(Loose { why, node: None }))
 }
 
-// Of a larger blob U-Boot verifies no signature.
+// Returns why U-Boot verifies no signature of a blob.
+fn blob_refusal<S: Source, A: Allocator>(
+    source: &mut S,
+    blob: &Blob,
+    room: &Room<A>,
+) -> Result<Option<Looseness>, SurveyFault>
+    requires { InFile (length (S.device source.old).bytes) blob.now room.now.entries }
+    ensures uses { Uses (is_unread result) (S.device source.old) (S.device source.new) }
+    ensures own { IsOwn result }
+    ensures told { (t : Siblings) → Opened (S.device source.old) blob.now room.now t → IfOk result
+        (λ why. why ≡ blob_refusal (S.device source.old).bytes (table t)
+        (be32 (S.device source.old).bytes 4)) }
+{
+    if blob.totalsize() > LARGEST {
+        return Ok(Some(Looseness::SignedNodes));
+    }
+    match is_closed(source, blob) {
+        Ok(true) => {}
+        Ok(false) => return Ok(Some(Looseness::SignedNodes)),
+        Err(fault) => return stop(fault),
+    }
+    match is_reached(source, blob, room) {
+        Ok(true) => Ok(None),
+        Ok(false) => Ok(Some(Looseness::SignedNodes)),
+        Err(fault) => stop(fault),
+    }
+}
+
+// Returns the first configuration of a blob that is refused.
 fn unsigned_within<S: Source, A: Allocator>(
     alloc: Global,
     source: &mut S,
@@ -304,17 +339,20 @@ fn unsigned_within<S: Source, A: Allocator>(
         (λ found. option_map read_loose found ≡ unsigned_within keys.now
         (S.device source.old).bytes (table t) (be32 (S.device source.old).bytes 4)) }
 {
-    if blob.totalsize() > LARGEST {
-        let why = Looseness::SignedNodes;
-        return Ok(Some(Loose { why, node: None }));
+    match blob_refusal(source, blob, room)? {
+        Some(why) => Ok(Some(Loose { why, node: None })),
+        None => first_unsigned(alloc, source, blob, room, keys),
     }
-    first_unsigned(alloc, source, blob, room, keys)
 }
 
 /// Returns the first configuration of a FIT image that is not signed by the keys: by each of them, or
 /// by one if one is enough. With it comes the word for its last signature node by the first key that
-/// did not sign it, or by the last key if none of them did. Without a name: the image has no
-/// configuration. At most sixteen signature nodes of a configuration are tried for each key.
+/// did not sign it, or by the last key if none of them did; or `SignedStrings`, if a node that is
+/// tried says strings that are not the first ones of their block, since U-Boot reads what it says. At
+/// most sixteen signature nodes of a configuration are tried for each key; if there are more, the word
+/// is `SignedNodes`. Without a name: the image has no configuration (`Unsigned`), or U-Boot verifies
+/// no signature of it, since it has more than 256 MiB, or `is_closed` or `is_reached` is false
+/// (`SignedNodes`).
 ///
 /// Indexes the blob again. The source is read once for each signature node and key that are tried, up
 /// to the end of its blob, without payloads. Takes memory for the offsets of at most 100 nodes.

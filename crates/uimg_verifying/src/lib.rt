@@ -1,9 +1,12 @@
-//! Whether each configuration of a FIT image is signed by a key, as U-Boot verifies it.
+//! Whether each configuration of a FIT image is signed by a key, as U-Boot verifies it, and whether a
+//! configuration names each image.
 #![tactic(auto)]
 
 mod configurations;
+mod covering;
 mod digests;
 mod refusals;
 mod signatures;
 
 pub use configurations::find_unsigned;
+pub use covering::find_uncovered;

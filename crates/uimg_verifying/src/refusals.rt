@@ -18,7 +18,8 @@ fn why_of(fault: SigningFault) -> Looseness
         SigningFault::TooLong
         | SigningFault::TooManyNodes
         | SigningFault::Unhashed
-        | SigningFault::TooDeep => Looseness::SignedNodes,
+        | SigningFault::TooDeep
+        | SigningFault::EarlyEnd => Looseness::SignedNodes,
         SigningFault::BadStrings | SigningFault::StringsOffset | SigningFault::StringsOutside => {
             Looseness::SignedStrings
         }

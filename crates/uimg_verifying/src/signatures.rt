@@ -143,7 +143,7 @@ fn is_weak(algo: Algo) -> bool
 }
 
 /// Returns why a signature node is refused, or `None` if its value is the key's signature of the
-/// configuration.
+/// configuration. Its strings are judged first, whatever its algorithm.
 pub(crate) fn signature_refusal<S: Source, A: Allocator>(
     alloc: Global,
     source: &mut S,
@@ -162,6 +162,10 @@ pub(crate) fn signature_refusal<S: Source, A: Allocator>(
         (λ file rows its node. IfOk result
         (λ why. why ≡ signature_refusal key.now file rows at.configuration its node)) }
 {
+    let strings = match strings_size(alloc, source, blob, room, at.node) {
+        Ok(strings) => strings,
+        Err(fault) => return stop(fault),
+    };
     let Some(it) = read_signature(source, blob, room, at.node, key)? else {
         return Ok(Some(Looseness::UnknownSignature));
     };
@@ -170,10 +174,6 @@ pub(crate) fn signature_refusal<S: Source, A: Allocator>(
     }
     let marks = match list_nodes(alloc, source, blob, room, at.configuration) {
         Ok(marks) => marks,
-        Err(fault) => return stop(fault),
-    };
-    let strings = match strings_size(alloc, source, blob, room, at.node) {
-        Ok(strings) => strings,
         Err(fault) => return stop(fault),
     };
     let digest = match message_digest(source, blob, room, &marks, strings, it.algo) {

@@ -5,14 +5,13 @@ ghost use Rattle.clap.specs.Simple.{app_of};
 ghost use Rattle.clap.specs.Walk.{rule_of, texts};
 ghost use Rattle.clap.specs.declared.builder.command.Command.TheViews.{out-Command as fields_of};
 ghost use Rattle.uimg_cli.specs.Check.{check, check_asked, checking_of, checking_with, images_rule};
-ghost use Rattle.uimg_cli.specs.Check.{least_need};
 ghost use Rattle.uimg_cli.specs.Readings.{given, texts_given};
 ghost use Rattle.uimg_cli.specs.Wrong.{Tells};
 
 use super::WordsFault;
 use super::arguments::{titled, with, with_flag, with_long, with_switch};
 use super::help_notes::CHECK_NOTES;
-use super::needs::need_of;
+use super::needs::{least_need, need_of};
 use super::readings::{is_missing, is_set, text_of, values_of};
 use clap::{Arg, ArgAction, ArgMatches};
 use std::alloc::{AllocError, Global};
@@ -142,15 +141,5 @@ fn images_of<'a>(alloc: Global, matches: &ArgMatches<'a>) -> Result<Vec<&'a str>
     match values_of(matches, "image") {
         Some(values) => Vec::from_slice(alloc, values),
         None => Ok(Vec::new(alloc)),
-    }
-}
-
-// A strict check needs at least CRC-32.
-fn least_need(is_strict: bool, need: Option<Algo>) -> Option<Algo>
-    ensures { result ≡ least_need is_strict need }
-{
-    match need {
-        None if is_strict => Some(Algo::Crc32),
-        need => need,
     }
 }

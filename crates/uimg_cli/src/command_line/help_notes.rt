@@ -94,7 +94,8 @@ A line has the path of the image and the first finding:
   unsigned unknown-signature weak-signature signed-strings signed-nodes
   signature-length signature-range bad-signature
                With --key: this configuration is not signed by the key; or the
-               FIT has none, or the image is a legacy image
+               FIT has none, or U-Boot verifies no signature of it, or the image
+               is a legacy image
   overlapping  With this image, the payloads to hash are longer than the file
   refused      The image is refused, with this fault
   failed       The file cannot be opened, a read failed, or memory ran out
@@ -143,12 +144,13 @@ the same). Otherwise it is image-N, with N counted from 0 (kernel: 3 bytes as
 image-1, ..). If one of the files exists, nothing is written; with --force it is
 replaced, or with --keep-good removed if its new payload is refused. In names,
 control characters, \\, spaces, colons and commas are printed as \\xNN.
-Signatures and the hashes of configurations are not checked. Of an image with
-more files or bytes than allowed nothing is written. --clean removes what stopped
+Signatures are checked with --key alone: if check --key refuses the image, or no
+configuration names one of its images, nothing is written. Of an image with more
+files or bytes than allowed nothing is written. --clean removes what stopped
 commands left, .uimg-new1 to .uimg-new10000; no other command may be at work there.
 --json prints path, status and verdict (ok for a kept payload, or a word as above),
 and depending on it format, image, file, size, algo, digest, data-crc, hash, fault,
-message and offset.
+message and offset; of what --key refuses, what check --json --key prints.
 
 All parts of a legacy image, or its data if it has no parts, are kept if the
 checksum of the data is right:
@@ -166,8 +168,8 @@ Exit status:
   1  A payload is refused, the image or part does not exist, or the image is refused
      or becomes too many files or bytes
   2  The command line is wrong, or a file would replace the image
-  3  The image cannot be opened, a file exists (without --force) or cannot be
-     written, or memory ran out";
+  3  The image or the key cannot be opened, a file exists (without --force) or
+     cannot be written, or memory ran out";
 
 pub(super) const MAP_NOTES: &str =
     "A line for each item, by its offset and then by its end: offset and end in

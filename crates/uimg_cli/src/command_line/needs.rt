@@ -1,7 +1,7 @@
 //! The algorithm of --need.
 
 ghost use Rattle.std.specs.Prelude.{◌≡◌, Err, Option, Result};
-ghost use Rattle.uimg_cli.specs.Needs.{need_asked};
+ghost use Rattle.uimg_cli.specs.Needs.{least_need, need_asked};
 ghost use Rattle.uimg_cli.specs.Readings.{given};
 ghost use Rattle.uimg_cli.specs.Wrong.{IsWrong, Tells, Wrong, unknown_algo, wrong_of};
 ghost use Rattle.uimg_sums.specs.declared.algo.Algo.{Algo};
@@ -21,6 +21,16 @@ pub(super) fn need_of(alloc: Global, matches: &ArgMatches<'_>) -> Result<Option<
     match Algo::named(name.as_bytes()) {
         Some(algo) => Ok(Some(algo)),
         None => Err(unknown_algo(alloc, name)),
+    }
+}
+
+// A strict check needs at least CRC-32.
+pub(super) fn least_need(is_strict: bool, need: Option<Algo>) -> Option<Algo>
+    ensures { result ≡ least_need is_strict need }
+{
+    match need {
+        None if is_strict => Some(Algo::Crc32),
+        need => need,
     }
 }
 

@@ -14,7 +14,7 @@ ghost use Rattle.uimg_cli.specs.Wrong.{IsWrong, Tells, Wrong, not_number, wrong_
 use super::WordsFault;
 use super::arguments::{titled, with, with_long, with_switch, with_value};
 use super::help_notes::UNPACK_NOTES;
-use super::needs::need_of;
+use super::needs::{least_need, need_of};
 use super::readings::{count, is_missing, is_set, text_of, text_or};
 use clap::{Arg, ArgAction, ArgMatches};
 use std::alloc::{AllocError, Global};
@@ -31,6 +31,9 @@ pub struct UnpackRequest<'a> {
 
     /// The weakest algorithm that is enough, if one is needed.
     pub need: Option<Algo>,
+
+    /// The path of a file with keys, by which each configuration must be signed.
+    pub key: Option<&'a str>,
 
     /// Whether existing files are replaced.
     pub is_forced: bool,
@@ -66,6 +69,8 @@ const ABOUT: &str = "Write the payloads of an image to a folder, if their hashes
 const ONLY: &str = "Unpack only the payload of the image of this name, or one part: image-0";
 
 const NEED: &str = "Require a hash by this algorithm or a stronger one";
+
+const KEY: &str = "Unpack only if each configuration is signed by the key in this file";
 
 const FORCE: &str = "Replace files that exist";
 
@@ -114,7 +119,8 @@ fn chosen_options<'a>(
 {
     let command = with_value(command, alloc, "folder", 'C', FOLDER)?;
     let command = with_long(command, alloc, "only", "name", ONLY)?;
-    with(command, need(alloc)?)
+    let command = with(command, need(alloc)?)?;
+    with_long(command, alloc, "key", "file", KEY)
 }
 
 fn written_options<'a>(
@@ -189,12 +195,14 @@ fn limited<'a>(
 ) -> Result<UnpackRequest<'a>, WordsFault>
     ensures { Tells unpacking_of (unpacking_limited (given matches.now) need) result }
 {
+    let key = text_of(matches, "key");
     let files = number_of(alloc, matches, "max-files")?;
     let bytes = number_of(alloc, matches, "max-bytes")?;
     Ok(UnpackRequest {
         folder: text_or(matches, "folder", "."),
         only: text_of(matches, "only"),
-        need,
+        need: least_need(!is_missing(key), need),
+        key,
         is_forced: is_set(matches, "force"),
         keeps_good: is_set(matches, "keep-good"),
         is_synced: !is_set(matches, "no-sync"),

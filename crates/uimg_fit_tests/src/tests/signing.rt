@@ -1,5 +1,6 @@
 //! What the signatures of FIT configurations sign, and whether they are a key's.
 
+mod covering;
 mod key_trees;
 mod keys;
 mod required;

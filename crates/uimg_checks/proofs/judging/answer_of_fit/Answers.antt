@@ -5,9 +5,9 @@ use Rattle.uimg_checks.specs.Verdicts.{fit_verdict}
 use Rattle.uimg_checks.proofs.StrictLaws.{stopped_shown}
 use Rattle.uimg_checks.proofs.judging.answer_of_fit.Goals as goal
 
-pub returns-in-Err-Stopped : goal.returns-in-Err-Stopped
-returns-in-Err-Stopped g c = λ honest.
+pub returns-in-Err-Stopped-clause-shown : goal.returns-in-Err-Stopped-clause-shown
+returns-in-Err-Stopped-clause-shown g c = λ honest.
     let file = (g.S.Source.device c.args.source.now).bytes in
     let found = checked.Fit (named_finding file c.args.finding) in
-    stopped_shown (fit_verdict c.args.terms.now.keys file found) file found c.in-Err-Stopped.field-0 c.in-Err-Stopped.fault c.from.result c.answer_of_fault.result c.in-Err-Stopped.field-0-is (search rules)
+    stopped_shown (fit_verdict c.args.terms.now file found) file found c.in-Err-Stopped.field-0 c.in-Err-Stopped.fault c.from.result c.answer_of_fault.result c.in-Err-Stopped.field-0-is (search rules)
     (c.in-Err-Stopped.ensures.told honest found) c.answer_of_fault.ensures

@@ -51,7 +51,7 @@ fn by_mkimage(rt: HostRuntime) {
 }
 
 // Returns the tree of two keys with these bytes at these offsets.
-fn changed(changes: &[(usize, u8)]) -> [u8; 1059] {
+fn changed(changes: &[(usize, u8)]) -> [u8; 1563] {
     let mut file = TWO;
     for (at, byte) in changes {
         file[*at] = *byte;
@@ -82,7 +82,7 @@ fn any_of_two_keys(rt: HostRuntime) {
 #[test]
 fn one_required(rt: HostRuntime) {
     for (at, text, why) in [
-        (536, DEV, None),
+        (788, DEV, None),
         (132, OTHER, Some(Looseness::BadSignature)),
     ] {
         let Ok(keys) = read(rt.alloc(), &changed(&[(at, b'x')])) else {
@@ -94,26 +94,31 @@ fn one_required(rt: HostRuntime) {
 }
 
 // Bytes of the tree of two keys, and why it is refused then.
-const REFUSED: [(&[(usize, u8)], KeyFault); 17] = [
+const REFUSED: [(&[(usize, u8)], KeyFault); 21] = [
     // no key is required, or there is no /signature, or a key is required for images
-    (&[(132, b'x'), (536, b'x')], KeyFault::NoKey),
-    (&[(136, b'x'), (540, b'x')], KeyFault::NoKey),
+    (&[(132, b'x'), (788, b'x')], KeyFault::NoKey),
+    (&[(136, b'x'), (792, b'x')], KeyFault::WrongNode),
     (&[(80, b'x')], KeyFault::NoKey),
-    (&[(944, b'e')], KeyFault::ImageKey),
+    (&[(1448, b'e')], KeyFault::ImageKey),
     // the size of the modulus, and its highest bit
-    (&[(183, 1)], KeyFault::Unfit),
-    (&[(586, 0x0c)], KeyFault::Unfit),
+    (&[(183, 1)], KeyFault::WrongNode),
+    (&[(838, 0x0c)], KeyFault::WrongNode),
     (&[(196, 0x7f)], KeyFault::Unfit),
     // an exponent that is even, and that is 1
     (&[(471, 0)], KeyFault::Unfit),
     (&[(469, 0)], KeyFault::Unfit),
     // the names of the properties
-    (&[(987, b'x')], KeyFault::Unfit),
-    (&[(992, b'x')], KeyFault::Unfit),
-    (&[(1005, b'x')], KeyFault::Unfit),
-    (&[(1017, b'x')], KeyFault::Unfit),
-    (&[(1030, b'x')], KeyFault::Unfit),
-    (&[(1045, b'x')], KeyFault::Unfit),
+    (&[(1491, b'x')], KeyFault::WrongNode),
+    (&[(1496, b'x')], KeyFault::WrongNode),
+    (&[(1509, b'x')], KeyFault::WrongNode),
+    (&[(1521, b'x')], KeyFault::WrongNode),
+    (&[(1534, b'x')], KeyFault::WrongNode),
+    (&[(1549, b'x')], KeyFault::WrongNode),
+    // rsa,r-squared and rsa,n0-inverse of another modulus
+    (&[(755, 0xde)], KeyFault::WrongNode),
+    (&[(1156, 0x5)], KeyFault::WrongNode),
+    (&[(487, 0x8e)], KeyFault::WrongNode),
+    (&[(1140, 0x30)], KeyFault::WrongNode),
     // a token, and the size of the structure block
     (&[(59, 7)], KeyFault::NotKey),
     (&[(37, 1)], KeyFault::NotKey),
@@ -141,9 +146,9 @@ fn refused_files(rt: HostRuntime) {
     assert!(rt; text.extend_from_slice(long).is_ok());
     long = text.as_slice();
     for (row, (file, why)) in [
-        (SHORT.as_slice(), KeyFault::Unfit),
+        (SHORT.as_slice(), KeyFault::WrongNode),
         (WEAK.as_slice(), KeyFault::Unfit),
-        (&TWO[..1058], KeyFault::NotKey),
+        (&TWO[..TWO.len() - 1], KeyFault::NotKey),
         (&TWO[..4], KeyFault::NotKey),
         (large.as_slice(), KeyFault::NotKey),
         (long, KeyFault::NotKey),

@@ -6,8 +6,8 @@ use std::alloc::{AllocError, Global};
 use uimg_base::{MemSource, Room};
 use uimg_blob_reading::{Blob, Key, index};
 use uimg_signing::{
-    RsaAlgo, RsaPadding, SigningFault, feed_message, list_nodes, read_rsa_algo, read_rsa_padding,
-    strings_size,
+    RsaAlgo, RsaPadding, SigningFault, feed_message, is_reached, list_nodes, read_rsa_algo,
+    read_rsa_padding, strings_size,
 };
 use uimg_sums::{Algo, Sha256Sum, Summer};
 
@@ -156,16 +156,21 @@ fn hashed_strings(rt: HostRuntime) {
 // The tokens of the structure block, of names of at most 3 bytes.
 const NAMELESS: [u8; 8] = [0, 0, 0, 1, 0, 0, 0, 0];
 
+const BEGIN_NODE: [u8; 4] = [0, 0, 0, 1];
+
 const END_NODE: [u8; 4] = [0, 0, 0, 2];
 
 const END: [u8; 4] = [0, 0, 0, 9];
 
-const HASH: [u8; 16] = *b"\0\0\0\x01hash\0\0\0\0\0\0\0\x02";
+const CHILD: [u8; 12] = *b"\0\0\0\x01x\0\0\0\0\0\0\x02";
 
 const IMAGES: [u8; 20] = *b"\0\0\0\x01images\0\0\0\0\0\x01k\0\0\0";
 
-const CONFIGURATIONS: [u8; 44] =
-    *b"\0\0\0\x01configurations\0\0\0\0\0\x01c\0\0\0\0\0\0\x03\0\0\0\x02\0\0\0\0k\0\0\0";
+const CONFIGURATIONS: [u8; 24] = *b"\0\0\0\x01configurations\0\0\0\0\0\x01";
+
+// The name of the image, 34 times.
+const REPEATED: [u8; 68] = *b"k\0k\0k\0k\0k\0k\0k\0k\0k\0k\0k\0k\0k\0k\0k\0k\0k\0\
+    k\0k\0k\0k\0k\0k\0k\0k\0k\0k\0k\0k\0k\0k\0k\0k\0k\0";
 
 // Returns a blob with these tokens, `times` times the second, and the property name `kernel`.
 fn blob_of(alloc: Global, parts: &[(&[u8], usize)]) -> Result<Vec<u8>, AllocError> {
@@ -210,14 +215,50 @@ fn nested(alloc: Global, count: usize) -> Option<SigningFault> {
     digest_of(alloc, &file, &[], 0).err()
 }
 
-// Returns how many nodes are listed of an image with so many hash nodes.
-fn listed(alloc: Global, count: usize) -> Result<usize, SigningFault> {
-    let parts: [(&[u8], usize); 7] = [
+// Returns what comes of a block that ends with so many words FDT_END.
+fn ended(alloc: Global, count: usize) -> Option<SigningFault> {
+    let parts: [(&[u8], usize); 3] = [(&NAMELESS, 1), (&END_NODE, 1), (&END, count)];
+    let Ok(file) = blob_of(alloc, &parts) else {
+        return Some(SigningFault::OutOfMemory);
+    };
+    digest_of(alloc, &file, &[], 0).err()
+}
+
+// Returns how many nodes are listed of a configuration, whose name has so many letters and whose
+// property `kernel` has this value, and of an image `k` with so many hash nodes, so many letters in
+// the name of each after `hash`, and so many children besides.
+fn listed_of(
+    alloc: Global,
+    (hashes, letters, children): (usize, usize, usize),
+    configuration: usize,
+    value: &[u8],
+) -> Result<usize, SigningFault> {
+    let mut hash = Vec::new(alloc);
+    for (bytes, times) in [
+        (b"\0\0\0\x01hash".as_slice(), 1),
+        (b"h", letters),
+        (b"\0", 4 - letters % 4),
+        (&END_NODE, 1),
+    ] {
+        for _ in 0..times {
+            if hash.extend_from_slice(bytes).is_err() {
+                return Err(SigningFault::OutOfMemory);
+            }
+        }
+    }
+    let property = [0, 0, 0, 3, 0, 0, 0, value.len() as u8, 0, 0, 0, 0];
+    let parts: [(&[u8], usize); 13] = [
         (&NAMELESS, 1),
         (&IMAGES, 1),
-        (&HASH, count),
+        (&hash, hashes),
+        (&CHILD, children),
         (&END_NODE, 2),
         (&CONFIGURATIONS, 1),
+        (b"c", configuration),
+        (b"\0", 4 - configuration % 4),
+        (&property, 1),
+        (value, 1),
+        (b"\0", (4 - value.len() % 4) % 4),
         (&END_NODE, 3),
         (&END, 1),
     ];
@@ -227,10 +268,75 @@ fn listed(alloc: Global, count: usize) -> Result<usize, SigningFault> {
     Ok(marks_of(alloc, &file, 0)?.len())
 }
 
+// Returns how many nodes are listed of an image with so many hash nodes.
+fn listed(alloc: Global, hashes: usize) -> Result<usize, SigningFault> {
+    listed_of(alloc, (hashes, 0, 0), 1, b"k\0")
+}
+
+#[test]
+fn texts_of_names(rt: HostRuntime) {
+    for value in [b"".as_slice(), b"k", b"k\0k", b"k\0kernel", b"K\0", b"kk\0"] {
+        assert!(rt; listed_of(rt.alloc(), (1, 0, 0), 1, value) == Err(SigningFault::Unhashed));
+    }
+    for value in [b"k\0".as_slice(), b"\0k\0", b"k\0\0", b"x\0k\0k\0"] {
+        assert!(rt; listed_of(rt.alloc(), (1, 0, 0), 1, value) == Ok(4));
+    }
+}
+
 #[test]
 fn bounds(rt: HostRuntime) {
     assert!(rt; nested(rt.alloc(), 32).is_none());
     assert!(rt; nested(rt.alloc(), 33) == Some(SigningFault::TooDeep));
+    assert!(rt; ended(rt.alloc(), 1).is_none());
+    assert!(rt; ended(rt.alloc(), 2) == Some(SigningFault::EarlyEnd));
     assert!(rt; listed(rt.alloc(), 97) == Ok(100));
     assert!(rt; listed(rt.alloc(), 98) == Err(SigningFault::TooManyNodes));
+    // an image with two hash nodes counts for three nodes each time that it is named
+    assert!(rt; listed_of(rt.alloc(), (2, 0, 0), 1, &REPEATED[..64]) == Ok(5));
+    let named = listed_of(rt.alloc(), (2, 0, 0), 1, &REPEATED);
+    assert!(rt; named == Err(SigningFault::TooManyNodes));
+    // 27 times the image's path of 10 bytes and the hash node's of 139, and 2 and 71 bytes
+    assert!(rt; listed_of(rt.alloc(), (1, 124, 0), 54, &REPEATED[..54]) == Ok(4));
+    let long = listed_of(rt.alloc(), (1, 124, 0), 55, &REPEATED[..54]);
+    assert!(rt; long == Err(SigningFault::TooManyNodes));
+    // the root has two children that are not listed
+    assert!(rt; listed_of(rt.alloc(), (1, 0, 23), 1, b"k\0") == Ok(4));
+    let apart = listed_of(rt.alloc(), (1, 0, 24), 1, b"k\0");
+    assert!(rt; apart == Err(SigningFault::TooManyNodes));
+}
+
+// The name of a child of the root: a word so many times, and the last one; and whether U-Boot's walk
+// takes it.
+const NAMES: [(&[u8; 4], usize, &[u8; 4], bool); 6] = [
+    (b"name", 0, b"k@1\0", true),
+    (b"name", 0, b"\0\0\0\0", false),
+    (b"name", 0, b"a/b\0", false),
+    (b"n/me", 1, b"\0\0\0\0", false),
+    // with the slash and the NUL the path has 198 bytes, and 199
+    (b"name", 49, b"\0\0\0\0", true),
+    (b"name", 49, b"k\0\0\0", false),
+];
+
+// Returns whether U-Boot's walk takes a tree with these tokens.
+fn reached(alloc: Global, parts: &[(&[u8], usize)]) -> Option<bool> {
+    let file = blob_of(alloc, parts).ok()?;
+    let mut source = MemSource::new(&file);
+    let mut room = Room::new(alloc);
+    let blob = index(&mut source, &mut room).ok()?;
+    is_reached(&mut source, &blob, &room).ok()
+}
+
+#[test]
+fn names(rt: HostRuntime) {
+    for (row, (word, times, last, is_taken)) in NAMES.iter().enumerate() {
+        let parts: [(&[u8], usize); 6] = [
+            (&NAMELESS, 1),
+            (&BEGIN_NODE, 1),
+            (*word, *times),
+            (*last, 1),
+            (&END_NODE, 2),
+            (&END, 1),
+        ];
+        assert!(rt; reached(rt.alloc(), &parts) == Some(*is_taken), "row {row}");
+    }
 }

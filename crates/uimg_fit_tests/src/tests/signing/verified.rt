@@ -2,7 +2,7 @@
 
 use super::keys::{CURVE, DEV, DEV_RSA, LARGE, OTHER, SMALL};
 use super::signed::SIGNED;
-use std::alloc::Global;
+use std::alloc::{AllocError, Global};
 use uimg_base::{MemSource, Room};
 use uimg_fit_checking::SurveyFault;
 use uimg_keys::{KeyFault, Keys, key_of_pem, read_keys};
@@ -43,7 +43,7 @@ fn is_found(found: Result<Option<Loose>, SurveyFault>, wanted: Option<Refused<'_
 }
 
 // An offset in the signed image, the byte there instead, and what is found.
-const CHANGED: [(usize, u8, Option<Refused<'static>>); 14] = [
+const CHANGED: [(usize, u8, Option<Refused<'static>>); 17] = [
     // a byte of a payload, which only its hash tells
     (148, 0xff, None),
     // the hash of a signed image
@@ -57,6 +57,11 @@ const CHANGED: [(usize, u8, Option<Refused<'static>>); 14] = [
     // the strings
     (799, 0xff, Some((Looseness::SignedStrings, Some(b"conf")))),
     (795, 1, Some((Looseness::SignedStrings, Some(b"conf")))),
+    // the size of the structure block
+    (39, 0x30, Some((Looseness::SignedNodes, None))),
+    // the name of an image: none, and one with a slash
+    (356, 0, Some((Looseness::SignedNodes, None))),
+    (513, b'/', Some((Looseness::SignedNodes, None))),
     // the algorithm and the padding
     (
         1243,
@@ -131,6 +136,53 @@ fn by_several_keys(rt: HostRuntime) {
         let found = found_by(rt.alloc(), &keys, &SIGNED);
         let wanted = why.map(|why| (why, Some(b"conf".as_slice())));
         assert!(rt; is_found(found, wanted), "row {row}");
+    }
+}
+
+// The offset of the signature node of the first configuration.
+const SIGNATURE: usize = 764;
+
+// A signature node without an algorithm, and with so many bytes of the strings block.
+const EARLIER: [u8; 32] = *b"\0\0\0\x01signature\0\0\0\0\0\0\x03\0\0\0\x08\0\0\0\xc1\0\0\0\0";
+
+// Returns the signed image with this node before the signature.
+fn with_earlier(alloc: Global, strings: u32) -> Result<Vec<u8>, AllocError> {
+    let mut file = Vec::new(alloc);
+    for part in [
+        &SIGNED[..SIGNATURE],
+        &EARLIER,
+        &strings.to_be_bytes(),
+        &[0, 0, 0, 2],
+        &SIGNED[SIGNATURE..],
+    ] {
+        file.extend_from_slice(part)?;
+    }
+    // the total size, the offset of the strings block, and the size of the structure block
+    for (at, value) in [(4, 0xc49), (12, 0x78c), (36, 0x754)] {
+        let word: u32 = value;
+        file[at..at + 4].copy_from_slice(&word.to_be_bytes());
+    }
+    Ok(file)
+}
+
+#[test]
+fn strings_of_an_earlier_signature(rt: HostRuntime) {
+    for (strings, texts, is_any, why) in [
+        (0xd0, [DEV, OTHER], false, Looseness::BadSignature),
+        (0xd1, [DEV, OTHER], false, Looseness::SignedStrings),
+        (0xd1, [LARGE, DEV], true, Looseness::SignedStrings),
+    ] {
+        let Ok(keys) = keys_of(rt.alloc(), &texts, is_any) else {
+            panic!(rt; "no key");
+        };
+        let Ok(file) = with_earlier(rt.alloc(), strings) else {
+            panic!(rt; "no memory");
+        };
+        let wanted = (why, Some(b"conf".as_slice()));
+        assert!(rt;
+            is_found(found_by(rt.alloc(), &keys, &file), Some(wanted)),
+            "{strings}"
+        );
     }
 }
 

@@ -2,7 +2,7 @@ use Rattle.std.proofs.Common.{rules, ◌≡◌, ◌∙◌, ◌++◌, ◌∷◌, 
 use Rattle.uimg_blob_reading.specs.{Indexed.IsRow, Places.read_place, Properties.places_of}
 use Rattle.uimg_blob_reading.specs.declared.places.PropertyPlace.{PropertyPlace}
 use Rattle.uimg_keys.specs.Trees.{is_parent, key_in, said}
-use Rattle.uimg_keys.proofs.TreeLaws.{found_key, in_table, not_below, says_as}
+use Rattle.uimg_keys.proofs.TreeLaws.{found_key, in_table, no_key, not_below, says_as}
 use Rattle.uimg_keys.proofs.trees.found_in.Goals as goal
 
 pub returns-then-not-is_parent-clause-told : goal.returns-then-not-is_parent-clause-told
@@ -16,12 +16,18 @@ returns-clause-told c = λ row at.
     let file = c.args.file.now in
     let index = c.requires.index in
     let r : IsRow c.args.blob.now c.args.room.now.entries c.args.node row = record { nodes = index.nodes; indexed = index.indexed; is = in_table file c.args.blob.now c.args.room.now.entries c.args.node row index at } in
-    let same : c.deref-2.result.now ≡ c.in_ok-places.places.items = search rules in
-    let again : c.deref-3.result.now ≡ c.in_ok-places.places.items = search rules in
+    let same : c.deref-3.result.now ≡ c.in_ok-places.places.items = search rules in
+    let again : c.deref-4.result.now ≡ c.in_ok-places.places.items = search rules in
     let are = c.in_ok-places.ensures.told row at in
     let name : c.as_slice-3.result.now ≡ codes "required" = search rules in
     let text : c.as_slice-4.result.now ≡ codes "conf" ++ 0 ∷ [] = search rules in
-    let required = sym (says_as file (map (read_place file) c.deref-2.result.now) (places_of row) c.as_slice-3.result.now (codes "required") c.as_slice-4.result.now (codes "conf" ++ 0 ∷ [])
+    let required = sym (says_as file (map (read_place file) c.deref-3.result.now) (places_of row) c.as_slice-3.result.now (codes "required") c.as_slice-4.result.now (codes "conf" ++ 0 ∷ [])
     (ap (λ (l : List PropertyPlace). map (read_place file) l) same ∙ are) name text) ∙ sym c.says-2.ensures ∙ c.if-not-says.false in
     found_key file c.args.signature row (said c.in_ok-key.key) (ap (is_parent c.args.signature) (sym (c.parent.ensures row r)) ∙ sym c.is_parent.ensures ∙ c.if-not-is_parent.false) required
     (c.in_ok-key.ensures ∙ ap (λ (l : List PropertyPlace). key_in file (map (read_place file) l)) again ∙ ap (key_in file) are)
+
+pub returns-then-not-is_parent-clause-taken : goal.returns-then-not-is_parent-clause-taken
+returns-then-not-is_parent-clause-taken c = λ row at.
+    let index = c.requires.index in
+    let r : IsRow c.args.blob.now c.args.room.now.entries c.args.node row = record { nodes = index.nodes; indexed = index.indexed; is = in_table c.args.file.now c.args.blob.now c.args.room.now.entries c.args.node row index at } in
+    no_key c.args.file.now c.args.signature row (ap (is_parent c.args.signature) (sym (c.parent.ensures row r)) ∙ sym c.is_parent.ensures ∙ c.if-not-is_parent.true)

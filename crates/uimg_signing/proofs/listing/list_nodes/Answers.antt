@@ -3,7 +3,7 @@ use Rattle.uimg_base.specs.{Held.Held, declared.spans.Span.Span}
 use Rattle.uimg_blob_reading.specs.{Rows.table, Places.read_place, Properties.places_of, Plain.NamedOf}
 use Rattle.uimg_blob_reading.specs.{Indexed.IsIndexed, Blob.tree, Counts.nops_met}
 use Rattle.uimg_signing.specs.Naming.{any_long}
-use Rattle.uimg_signing.specs.Listing.{node_cost, nodes_refusal, marks_of}
+use Rattle.uimg_signing.specs.Listing.{node_cost, nodes_refusal, are_many}
 use Rattle.uimg_signing.specs.Hashed.{are_hashed}
 use Rattle.uimg_signing.proofs.NamedLaws.{rows_count}
 use Rattle.uimg_signing.proofs.CostLaws.{all_paid, long_of, long_refusal, count_of}
@@ -15,7 +15,7 @@ returns-then-has_long-clause-refused g c = λ honest t is indexed total row at r
     let are = c.in-Ok.ensures.told honest t is indexed total row at in
     let same : c.deref.result.now ≡ c.in-Ok.places.items = search rules in
     let long : true ≡ any_long (places_of row) = sym c.if-has_long.true ∙ c.has_long.ensures ∙ long_of d.bytes c.deref.result.now (places_of row) (ap (map (read_place d.bytes)) same ∙ are) in
-    sym (long_refusal (places_of row) (marks_of d.bytes (places_of row) (table t) c.args.configuration) (are_hashed d.bytes (places_of row) (table t)) true long)
+    sym (long_refusal (places_of row) (are_many d.bytes (places_of row) (table t) c.args.configuration) (are_hashed d.bytes (places_of row) (table t)) true long)
 
 pub returns-clause-asked : goal.returns-clause-asked
 returns-clause-asked g c = λ honest t is indexed total row at.
@@ -42,6 +42,6 @@ returns-clause-refused g c = λ honest t is indexed total row at read memory.
     let second : c.deref-2.result.now ≡ c.in-Ok.places.items = search rules in
     let short : false ≡ any_long (places_of row) = sym c.if-has_long.false ∙ c.has_long.ensures ∙ long_of d.bytes c.deref.result.now (places_of row) (ap (map (read_place d.bytes)) first ∙ are) in
     c.collect_hashed.ensures.refused is_honest t (ap tree same.bytes ∙ is) there read memory
-    ∙ ap (λ (xs : List ℕ). nodes_refusal (marks_of xs (map (read_place xs) c.deref-2.result.now) (table t) c.args.configuration) (are_hashed xs (map (read_place xs) c.deref-2.result.now) (table t))) same.bytes
-    ∙ ap (λ (own : List (NamedOf Span)). nodes_refusal (marks_of d.bytes own (table t) c.args.configuration) (are_hashed d.bytes own (table t))) (ap (map (read_place d.bytes)) second ∙ are)
-    ∙ sym (long_refusal (places_of row) (marks_of d.bytes (places_of row) (table t) c.args.configuration) (are_hashed d.bytes (places_of row) (table t)) false short)
+    ∙ ap (λ (xs : List ℕ). nodes_refusal (are_many xs (map (read_place xs) c.deref-2.result.now) (table t) c.args.configuration) (are_hashed xs (map (read_place xs) c.deref-2.result.now) (table t))) same.bytes
+    ∙ ap (λ (own : List (NamedOf Span)). nodes_refusal (are_many d.bytes own (table t) c.args.configuration) (are_hashed d.bytes own (table t))) (ap (map (read_place d.bytes)) second ∙ are)
+    ∙ sym (long_refusal (places_of row) (are_many d.bytes (places_of row) (table t) c.args.configuration) (are_hashed d.bytes (places_of row) (table t)) false short)

@@ -2,13 +2,10 @@ use Rattle.std.proofs.Common.{◌≤◌, ◌+◌, ◌∙◌, refl, rules, arith,
 use Rattle.uimg_signing.specs.declared.turns.Walk.{Walk}
 use Rattle.uimg_signing.specs.{Covering.is_marked, Walking.Passes}
 use Rattle.uimg_blob_reading.specs.Extents.{blocks_of}
-use Rattle.std.proofs.Common.{ap, sym, Bool, IsTrue, List, ℕ}
+use Rattle.std.proofs.Common.{sym, Bool, IsTrue, List, ℕ}
 use Rattle.uimg_blob_reading.specs.Tokens.{token_at}
 use Rattle.uimg_signing.specs.Going.{RefusesToken}
-use Rattle.uimg_signing.specs.declared.faults.SigningFault.TheVariants.{TooDeep}
-use Rattle.std.proofs.Common.{if◌then◌else◌}
-use Rattle.uimg_signing.specs.declared.faults.SigningFault.{SigningFault}
-use Rattle.uimg_signing.proofs.StepLaws.{refused_so_far, ends_shallow, passed_on, begins, over, more_so_far, ends}
+use Rattle.uimg_signing.proofs.StepLaws.{refused_so_far, ends_right, passed_on, begins, over, more_so_far, ends}
 use Rattle.uimg_signing.proofs.walking.feed_tokens.Goals as goal
 
 pub loop-next-init : goal.loop-next-init
@@ -59,9 +56,8 @@ returns g c =
       asked = omega (arith, c.step.ensures.asked, now.invariant.asked, now.invariant.near, now.invariant.within);
       room = search rules;
       refused = λ honest t tree read memory.
-          sym (ap (λ (x : Bool). (let o : Option SigningFault = if x then Some TooDeep else None in o))
-          (ends_shallow g.M.Sums.fed listed d.honest (blocks_of d.bytes c.args.extent) now.walk c.args.sums.now now.sums c.step.new.sums now.invariant.so_far.fuel now.invariant.so_far refl
-          (over g.M.Sums.fed listed d e c.args.extent now.walk None now.sums c.step.new.sums now.invariant.same passed) now.invariant.within honest));
+          sym (ends_right g.M.Sums.fed listed d.honest (blocks_of d.bytes c.args.extent) now.walk c.args.sums.now now.sums c.step.new.sums now.invariant.so_far.fuel now.invariant.so_far refl
+          (over g.M.Sums.fed listed d e c.args.extent now.walk None now.sums c.step.new.sums now.invariant.same passed) now.invariant.within honest);
       feeds = ends g.M.Sums.fed g.M.Sums.fed_more listed d.honest (blocks_of d.bytes c.args.extent) now.walk c.args.sums.now now.sums c.step.new.sums now.invariant.so_far.fuel now.invariant.so_far refl
           (over g.M.Sums.fed listed d e c.args.extent now.walk None now.sums c.step.new.sums now.invariant.same passed) now.invariant.within;
     }

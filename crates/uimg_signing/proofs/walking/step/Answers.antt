@@ -1,8 +1,8 @@
 use Rattle.std.proofs.Common.{rules, arith, ◌+◌, Some, None}
-use Rattle.std.proofs.Common.{inr}
+use Rattle.std.proofs.Common.{inr, sym, ◌∙◌}
 use Rattle.uimg_blob_reading.specs.{Extents.blocks_of, Tokens.token_at}
-use Rattle.uimg_signing.proofs.GoingLaws.{beyond}
-use Rattle.uimg_signing.proofs.StepLaws.{passes, stays, moves, turn_token}
+use Rattle.uimg_signing.proofs.GoingLaws.{beyond, true_false}
+use Rattle.uimg_signing.proofs.StepLaws.{early, passes, stays, moves, turn_token}
 use Rattle.uimg_signing.specs.Covering.{is_marked}
 use Rattle.uimg_signing.proofs.walking.step.Goals as goal
 
@@ -18,7 +18,7 @@ returns-then-turn g c =
       refused = search rules;
       ahead = search rules;
       passes = passes g.M.Sums.fed c.args.marks.now d e c.args.extent c.args.walk c.in-Ok.token turn None c.args.sums.now c.feed_turn.new.sums
-          c.read_token.ensures.uses.same c.in-Ok.ensures.read c.in-Ok-turn_at.ensures.turns c.in-Ok-turn_at.ensures.shallow c.in-Ok-feed_turn.ensures.feeds (stays turn c.args.walk.at c.if-turn.true);
+          c.read_token.ensures.uses.same c.in-Ok.ensures.read c.in-Ok-turn_at.ensures.turns c.in-Ok-turn_at.ensures.shallow c.in-Ok-feed_turn.ensures.feeds (λ is. omega arith) (stays turn c.args.walk.at c.if-turn.true);
     }
 
 pub returns : goal.returns
@@ -33,7 +33,7 @@ returns g c =
       refused = search rules;
       ahead = (omega (arith, c.in-Ok-turn_at.ensures.lies.some), omega arith, omega (arith, c.read_token.ensures.most, c.feed_turn.ensures.asked));
       passes = passes g.M.Sums.fed c.args.marks.now d e c.args.extent c.args.walk c.in-Ok.token turn (Some (record { at = c.args.walk.at + turn.size; bits = turn.bits })) c.args.sums.now c.feed_turn.new.sums
-          c.read_token.ensures.uses.same c.in-Ok.ensures.read c.in-Ok-turn_at.ensures.turns c.in-Ok-turn_at.ensures.shallow c.in-Ok-feed_turn.ensures.feeds (moves turn c.args.walk.at c.if-turn.false);
+          c.read_token.ensures.uses.same c.in-Ok.ensures.read c.in-Ok-turn_at.ensures.turns c.in-Ok-turn_at.ensures.shallow c.in-Ok-feed_turn.ensures.feeds (λ is. true_false turn.is_last is c.if-turn.false) (moves turn c.args.walk.at c.if-turn.false);
     }
 
 pub returns-then-extent-walk : goal.returns-then-extent-walk
@@ -66,5 +66,22 @@ returns-in-Err g c =
       refused = λ honest nodes bits.
           turn_token c.in-Err.fault b nodes at (token_at b at)
           (c.in-Err.ensures.refused (is_marked c.args.marks.now) nodes (token_at b at) bits (c.in-Ok.ensures.read honest));
+      passes = search rules;
+    }
+
+pub returns-then-walk-turn : goal.returns-then-walk-turn
+returns-then-walk-turn g c =
+    let d = g.S.Source.device c.args.source.now in
+    let b = blocks_of d.bytes c.args.extent in
+    let at = c.args.walk.at in
+    let turn = c.in-Ok-turn_at.turn in
+    record {
+      uses = search rules;
+      asked = omega (arith, c.read_token.ensures.most, c.feed_turn.ensures.asked);
+      room = search rules;
+      ahead = search rules;
+      refused = λ honest nodes bits.
+          let does = c.in-Ok-turn_at.ensures.turns nodes (token_at b at) bits (c.in-Ok.ensures.read honest) in
+          early (token_at b at) at turn.size c.args.extent.structure_end does.place does.size (sym does.last ∙ c.if-turn.true) (omega arith);
       passes = search rules;
     }

@@ -6,7 +6,7 @@ use Rattle.uimg_fit_reading.proofs.OpenedLaws.{still}
 use Rattle.uimg_signing.proofs.NamedLaws.{row_of, rows_count}
 use Rattle.uimg_strict.specs.declared.loose.Looseness.{Looseness}
 use Rattle.uimg_verifying.specs.Configurations.{configuration_refusal, refused_from, tried_node}
-use Rattle.uimg_verifying.proofs.{ConfigurationLaws.{none_left, none_more, none_tried, one_refused, one_valid}, RefusalLaws.over}
+use Rattle.uimg_verifying.proofs.{ConfigurationLaws.{none_left, none_more, none_tried, one_refused, one_valid, strings_outside}, RefusalLaws.over}
 use Rattle.uimg_verifying.proofs.configurations.configuration_refusal.Goals as goal
 use Rattle.uimg_verifying.proofs.configurations.configuration_refusal.Goals.{in-Other, in-Refused}
 
@@ -21,6 +21,17 @@ returns-in-Valid-clause-told g c = λ t o its at.
     one_valid c.args.key.now d.bytes (table t) c.args.configuration its r.0 (drop (suc now.node) (table t)) now.why c.in_ok-try_node.field-0 is now.left (now.left - 1) c.in-Valid.is (search rules)
     ∙ ap (refused_from c.args.key.now d.bytes (table t) c.args.configuration its now.why now.left) (sym r.2) ∙ now.invariant.left t o its at
 
+pub returns-in-Outside-clause-told : goal.returns-in-Outside-clause-told
+returns-in-Outside-clause-told g c = λ t o its at.
+    let d = g.S.Source.device c.args.source.now in
+    let e = g.S.Source.device c.loop-node.source in
+    let now = c.loop-node in
+    let o1 = still now.invariant.uses.same now.invariant.room o in
+    let r = row_of t c.args.blob.now c.args.room.now.entries now.node o.read.indexed (search rules) in
+    let is = over d e (λ (file : List ℕ). c.in_ok-try_node.field-0 ≡ tried_node c.args.key.now file (table t) c.args.configuration its r.0) now.invariant.uses.same (c.in_ok-try_node.ensures.told t o1 its r.0 at r.1) in
+    strings_outside c.args.key.now d.bytes (table t) c.args.configuration its r.0 (drop (suc now.node) (table t)) now.why c.in_ok-try_node.field-0 is now.left c.in-Outside.is
+    ∙ ap (refused_from c.args.key.now d.bytes (table t) c.args.configuration its now.why now.left) (sym r.2) ∙ now.invariant.left t o its at
+
 pub returns-in_default-clause-told : goal.returns-in_default-clause-told
 returns-in_default-clause-told g c = λ t o its at.
     let d = g.S.Source.device c.args.source.now in
@@ -29,7 +40,7 @@ returns-in_default-clause-told g c = λ t o its at.
     let o1 = still now.invariant.uses.same now.invariant.room o in
     let r = row_of t c.args.blob.now c.args.room.now.entries now.node o.read.indexed (search rules) in
     let is = over d e (λ (file : List ℕ). c.in_ok-try_node.field-0 ≡ tried_node c.args.key.now file (table t) c.args.configuration its r.0) now.invariant.uses.same (c.in_ok-try_node.ensures.told t o1 its r.0 at r.1) in
-    none_tried c.args.key.now d.bytes (table t) c.args.configuration its r.0 (drop (suc now.node) (table t)) now.why c.in_ok-try_node.field-0 is now.left c.in_default.not-Other (search rules)
+    none_tried c.args.key.now d.bytes (table t) c.args.configuration its r.0 (drop (suc now.node) (table t)) now.why c.in_ok-try_node.field-0 is now.left c.in_default.not-Other c.in_default.not-Outside (search rules)
     ∙ ap (refused_from c.args.key.now d.bytes (table t) c.args.configuration its now.why now.left) (sym r.2) ∙ now.invariant.left t o its at
 
 pub returns-in_default-2-clause-told : goal.returns-in_default-2-clause-told
@@ -40,7 +51,7 @@ returns-in_default-2-clause-told g c = λ t o its at.
     let o1 = still now.invariant.uses.same now.invariant.room o in
     let r = row_of t c.args.blob.now c.args.room.now.entries now.node o.read.indexed (search rules) in
     let is = over d e (λ (file : List ℕ). c.in_ok-try_node.field-0 ≡ tried_node c.args.key.now file (table t) c.args.configuration its r.0) now.invariant.uses.same (c.in_ok-try_node.ensures.told t o1 its r.0 at r.1) in
-    none_tried c.args.key.now d.bytes (table t) c.args.configuration its r.0 (drop (suc now.node) (table t)) now.why c.in_ok-try_node.field-0 is now.left c.in_default.not-Other (search rules)
+    none_tried c.args.key.now d.bytes (table t) c.args.configuration its r.0 (drop (suc now.node) (table t)) now.why c.in_ok-try_node.field-0 is now.left c.in_default.not-Other c.in_default.not-Outside (search rules)
     ∙ ap (refused_from c.args.key.now d.bytes (table t) c.args.configuration its now.why now.left) (sym r.2) ∙ now.invariant.left t o its at
 
 pub loop-node-preserved : goal.loop-node-preserved

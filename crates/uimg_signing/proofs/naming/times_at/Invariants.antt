@@ -1,8 +1,8 @@
 use Rattle.std.proofs.Common.{◌≡◌, ◌≤◌, ◌+◌, ◌*◌, map, drop, IsTrue}
 use Rattle.uimg_base.specs.Device.{SameDevice}
 use Rattle.uimg_blob_reading.specs.Places.{read_place}
-use Rattle.uimg_signing.specs.Naming.{named, named_at}
-use Rattle.uimg_signing.proofs.naming.named_at.Given as goal
+use Rattle.uimg_signing.specs.Naming.{times, times_at}
+use Rattle.uimg_signing.proofs.naming.times_at.Given as goal
 
 -- what is left says the same
 abbrev pub invariant-loop-place : goal.invariant-loop-place
@@ -14,5 +14,6 @@ invariant-loop-place g l =
       failures : (device l.source).failures ≡ d.failures;
       asked : (device l.source).asked ≤ (device l.fn.source).asked + 8447 * l.place-index;
       room : l.room ≡ l.fn.room;
-      left : IsTrue d.honest → named d.bytes l.wanted (map (read_place d.bytes) (drop l.place-index l.places)) ≡ named_at d.bytes l.wanted l.places;
+      few : l.found ≤ 8192 * l.place-index;
+      left : IsTrue d.honest → l.found + times d.bytes l.wanted (map (read_place d.bytes) (drop l.place-index l.places)) ≡ times_at d.bytes l.wanted l.places;
     }
