@@ -144,7 +144,9 @@ Helps
   Options:
         --need <algo>        Require a hash by this algorithm or a stronger one
         --strict             Require hashes, images for all names, and a tree that U-Boot reads alike
-        --key <file>         Require each configuration to be signed by the key in this file
+        --key <[name=]file>  Require each configuration to be signed by the key in this file
+        --config <name>      With --key: require only this configuration to be signed
+        --allow-sha1         With --key: accept signatures over SHA-1
         --files-from <file>  Also check the images whose paths are in this file, one a line
     -0                       Paths in that file end with NUL, not with a newline
         --json               Print a JSON object for each image
@@ -159,7 +161,8 @@ Helps
     ok           All hashes are right, or both checksums of a legacy image. With
                  --strict the line of a FIT also counts the nodes of its
                  configurations, if any: 2 nodes of configurations unchecked; with
-                 --key it ends with: all configurations signed
+                 --key it ends with: all configurations signed by dev, or with
+                 --config: configuration conf-1 signed by dev
     unhashed     The same, but this image of the FIT has no hash
     bad          This hash of this image, or the data's checksum of a legacy image,
                  is wrong
@@ -183,8 +186,8 @@ Helps
     unsigned unknown-signature weak-signature signed-strings signed-nodes
     signature-length signature-range bad-signature
                  With --key: this configuration is not signed by the key; or the
-                 FIT has none, or U-Boot verifies no signature of it, or the image
-                 is a legacy image
+                 FIT has none (or not this one), or U-Boot verifies no signature
+                 of it, or the image is a legacy image
     overlapping  With this image, the payloads to hash are longer than the file
     refused      The image is refused, with this fault
     failed       The file cannot be opened, a read failed, or memory ran out
@@ -192,17 +195,20 @@ Helps
   spaces, colons and commas. --files-from - reads standard input; a file without a
   path is refused (--allow-empty). --json prints path, status and verdict (the
   word), and depending on it format, images, hashes, unchecked, configurations,
-  checksums, algo, image, hash, configuration, property, name, node, fault, message
-  and offset.
+  signed, signatures, checksums, algo, image, hash, configuration, property, name,
+  node, fault, message and offset.
   
   --key implies --strict. Its file has an RSA key in PEM (openssl pkey -pubout), or
   is U-Boot's control devicetree with the keys that it requires for configurations.
-  Each configuration must be signed by the key. Without --key no signature is
-  checked; hashes of configurations never are.
+  Each configuration must be signed by the key, or with --config this one only. The
+  line has the name before the =, or those of the keys in the devicetree; a path
+  with a = before its first / begins with ./, as ./a=b. Without --key no signature
+  is checked; hashes of configurations never are.
   
   Examples:
     uimg check --strict --need sha256 kernel.itb rescue.itb
-    uimg check --key dev.pem kernel.itb
+    uimg check --key dev=dev.pem kernel.itb
+    uimg check --key dev=dev.pem --config conf-1 kernel.itb
     find /srv/images -name '*.itb' -print0 | uimg check -0 --files-from -
   
   Exit status, the greatest of all lines:

@@ -28,7 +28,7 @@ A FIT image with two images and a configuration. Addresses have one cell or two;
   >     one { description = "c"; kernel = "kernel"; ramdisk = "initrd"; fdt = "dtb", "overlay"; loadables = "a", "", "b"; };
   > };'
   $ uimg info --json k.itb
-  {"path":"k.itb","status":0,"format":"fit","size":708,"totalsize":708,"description":"d","timestamp":1700000000,"default":"one","reservations":[],"images":[{"name":"kernel","description":"k","type":"kernel","arch":"arm64","os":"linux","compression":"none","load":524288,"entry":6442450944,"offset":148,"data-size":4,"hashes":[{"name":"hash-1","algo":"crc32","value":"a75d6850"},{"name":"hash-2","algo":"md5","value":"147a664a2ca9410911e61986d3f0d52a"}]},{"name":"dtb","type":"flat_dt","offset":404,"data-size":2,"hashes":[]}],"configurations":[{"name":"one","description":"c","kernel":"kernel","ramdisk":"initrd","fdt":["dtb","overlay"],"loadables":["a","","b"],"nodes":[],"properties":[{"name":"description","size":2},{"name":"kernel","size":7},{"name":"ramdisk","size":7},{"name":"fdt","size":12},{"name":"loadables","size":5}]}]}
+  {"path":"k.itb","status":0,"format":"fit","size":708,"totalsize":708,"description":"d","timestamp":1700000000,"default":"one","reservations":[],"images":[{"name":"kernel","description":"k","type":"kernel","arch":"arm64","os":"linux","compression":"none","load":524288,"entry":6442450944,"offset":148,"data-size":4,"hashes":[{"name":"hash-1","algo":"crc32","value":"a75d6850"},{"name":"hash-2","algo":"md5","value":"147a664a2ca9410911e61986d3f0d52a"}]},{"name":"dtb","type":"flat_dt","offset":404,"data-size":2,"hashes":[]}],"configurations":[{"name":"one","description":"c","kernel":"kernel","ramdisk":"initrd","fdt":["dtb","overlay"],"loadables":["a","","b"],"nodes":[],"properties":[{"name":"description","size":2},{"name":"kernel","size":7},{"name":"ramdisk","size":7},{"name":"fdt","size":12},{"name":"loadables","size":5}]}],"signatures":[]}
   $ uimg info k.itb > plain && uimg info --json k.itb | cmp - plain
   $ dd if=k.itb bs=1 skip=148 count=4 status=none | od -An -c
      a   b   c  \0
@@ -39,12 +39,12 @@ Payloads after the blob, and from a position on:
 
   $ fit 'images { a { data = "abc"; }; b { data = "defgh"; }; };' -E
   $ uimg info k.itb
-  {"path":"k.itb","status":0,"format":"fit","size":264,"totalsize":252,"description":"d","timestamp":1700000000,"reservations":[],"images":[{"name":"a","offset":252,"data-size":4,"hashes":[]},{"name":"b","offset":256,"data-size":6,"hashes":[]}],"configurations":[]}
+  {"path":"k.itb","status":0,"format":"fit","size":264,"totalsize":252,"description":"d","timestamp":1700000000,"reservations":[],"images":[{"name":"a","offset":252,"data-size":4,"hashes":[]},{"name":"b","offset":256,"data-size":6,"hashes":[]}],"configurations":[],"signatures":[]}
   $ tail -c 12 k.itb | od -An -c
      a   b   c  \0   d   e   f   g   h  \0  \0  \0
   $ fit 'images { a { data = "abc"; }; };' -E -p 1000
   $ uimg info k.itb
-  {"path":"k.itb","status":0,"format":"fit","size":4100,"totalsize":212,"description":"d","timestamp":1700000000,"reservations":[],"images":[{"name":"a","offset":4096,"data-size":4,"hashes":[]}],"configurations":[]}
+  {"path":"k.itb","status":0,"format":"fit","size":4100,"totalsize":212,"description":"d","timestamp":1700000000,"reservations":[],"images":[{"name":"a","offset":4096,"data-size":4,"hashes":[]}],"configurations":[],"signatures":[]}
 
 No payload, and one that ends after the file:
 
@@ -63,7 +63,7 @@ Hashes are printed and not compared:
   $ fit 'images { a { data = "abcd"; hash-1 { algo = "crc32"; }; }; };'
   $ at=$(grep -abo abcd k.itb | cut -d: -f 1) && cell k.itb $at 65
   $ uimg info k.itb && uimg check k.itb
-  {"path":"k.itb","status":0,"format":"fit","size":244,"totalsize":244,"description":"d","timestamp":1700000000,"reservations":[],"images":[{"name":"a","offset":128,"data-size":5,"hashes":[{"name":"hash-1","algo":"crc32","value":"b85f4db2"}]}],"configurations":[]}
+  {"path":"k.itb","status":0,"format":"fit","size":244,"totalsize":244,"description":"d","timestamp":1700000000,"reservations":[],"images":[{"name":"a","offset":128,"data-size":5,"hashes":[{"name":"hash-1","algo":"crc32","value":"b85f4db2"}]}],"configurations":[],"signatures":[]}
   k.itb: bad a hash-1
   [1]
 
@@ -73,7 +73,7 @@ Texts: up to the first NUL, escaped by RFC 8259. A text that is not UTF-8 has U+
   $ fit 'images { k { data = "a"; description = /incbin/("text"); type = [00]; arch = [61 e4 ff]; os; }; };
   > configurations { c { fdt = [61 00 62 ff 00 00]; loadables = [61 00 00 62]; kernel = [c3]; ramdisk = [e2 80 a8]; }; };'
   $ uimg info k.itb
-  {"path":"k.itb","status":0,"format":"fit","size":404,"totalsize":404,"description":"d","timestamp":1700000000,"reservations":[],"images":[{"name":"k","description":"say \\"no\\" \\\\ \\n\\t\\u001b/\\u007f","type":"","arch":"a\xef\xbf\xbd\xef\xbf\xbd","arch_base64":"YeT/","os":"","offset":128,"data-size":2,"hashes":[]}],"configurations":[{"name":"c","kernel":"\xef\xbf\xbd","kernel_base64":"ww==","ramdisk":"\xe2\x80\xa8","fdt":["a","b\xef\xbf\xbd",""],"fdt_base64":["YQ==","Yv8=",""],"loadables":["a","","b"],"nodes":[],"properties":[{"name":"fdt","size":6},{"name":"loadables","size":4},{"name":"kernel","size":1},{"name":"ramdisk","size":3}]}]} (esc)
+  {"path":"k.itb","status":0,"format":"fit","size":404,"totalsize":404,"description":"d","timestamp":1700000000,"reservations":[],"images":[{"name":"k","description":"say \\"no\\" \\\\ \\n\\t\\u001b/\\u007f","type":"","arch":"a\xef\xbf\xbd\xef\xbf\xbd","arch_base64":"YeT/","os":"","offset":128,"data-size":2,"hashes":[]}],"configurations":[{"name":"c","kernel":"\xef\xbf\xbd","kernel_base64":"ww==","ramdisk":"\xe2\x80\xa8","fdt":["a","b\xef\xbf\xbd",""],"fdt_base64":["YQ==","Yv8=",""],"loadables":["a","","b"],"nodes":[],"properties":[{"name":"fdt","size":6},{"name":"loadables","size":4},{"name":"kernel","size":1},{"name":"ramdisk","size":3}]}],"signatures":[]} (esc)
 
 A name that is not UTF-8, or has control characters:
 
@@ -84,9 +84,9 @@ A name that is not UTF-8, or has control characters:
   > open("bytes.itb", "wb").write(image.replace(b"kernel\0", b"k\xe4\xff\xfen\t\0", 1))
   > END
   $ uimg info name.itb
-  {"path":"name.itb","status":0,"format":"fit","size":180,"totalsize":180,"description":"d","timestamp":1700000000,"reservations":[],"images":[{"name":"\"\n\\\u007f\u001b/","offset":132,"data-size":2,"hashes":[]}],"configurations":[]}
+  {"path":"name.itb","status":0,"format":"fit","size":180,"totalsize":180,"description":"d","timestamp":1700000000,"reservations":[],"images":[{"name":"\"\n\\\u007f\u001b/","offset":132,"data-size":2,"hashes":[]}],"configurations":[],"signatures":[]}
   $ uimg info bytes.itb
-  {"path":"bytes.itb","status":0,"format":"fit","size":180,"totalsize":180,"description":"d","timestamp":1700000000,"reservations":[],"images":[{"name":"k\xef\xbf\xbd\xef\xbf\xbd\xef\xbf\xbdn\\t","name_base64":"a+T//m4J","offset":132,"data-size":2,"hashes":[]}],"configurations":[]} (esc)
+  {"path":"bytes.itb","status":0,"format":"fit","size":180,"totalsize":180,"description":"d","timestamp":1700000000,"reservations":[],"images":[{"name":"k\xef\xbf\xbd\xef\xbf\xbd\xef\xbf\xbdn\\t","name_base64":"a+T//m4J","offset":132,"data-size":2,"hashes":[]}],"configurations":[],"signatures":[]} (esc)
 
 Configurations may name images in nine properties, and the nodes below them, their hashes and signatures, are printed by name. The blob's memory reservations are printed up to the entry of zeros; here the block is moved to a payload with two entries, then so that the blob ends before the list:
 
@@ -94,7 +94,7 @@ Configurations may name images in nine properties, and the nodes below them, the
   > configurations { c { firmware = "a"; fpga = "b"; setup = "s"; standalone = "t"; script = "u", "v"; other = "x";
   >     signature-1 { algo = "sha256,rsa2048"; }; hash-1 { algo = "sha1"; }; }; };'
   $ uimg info k.itb | grep -o '"configurations.*'
-  "configurations":[{"name":"c","firmware":"a","fpga":"b","setup":"s","standalone":"t","script":"u","nodes":[{"name":"signature-1"},{"name":"hash-1"}],"properties":[{"name":"firmware","size":2},{"name":"fpga","size":2},{"name":"setup","size":2},{"name":"standalone","size":2},{"name":"script","size":4},{"name":"other","size":2}]}]}
+  "configurations":[{"name":"c","firmware":"a","fpga":"b","setup":"s","standalone":"t","script":"u","nodes":[{"name":"signature-1"},{"name":"hash-1"}],"properties":[{"name":"firmware","size":2},{"name":"fpga","size":2},{"name":"setup","size":2},{"name":"standalone","size":2},{"name":"script","size":4},{"name":"other","size":2}]}],"signatures":[{"configuration":"c","node":"signature-1","algo":"sha256,rsa2048"}]}
   $ at=$(uimg info k.itb | grep -o '"offset":[0-9]*' | cut -d: -f 2) && cell k.itb 16 0 0 0 $at && uimg info k.itb | grep -o '"reservations.*}],"images'
   "reservations":[{"address":4096,"size":512},{"address":6442450944,"size":18446744073709551615}],"images
   $ cell k.itb 16 0 0 0 $((at + 40)) && uimg info k.itb | grep -c reservations
@@ -108,16 +108,16 @@ Numbers of a wrong length are left out, and of properties with the same name the
 
   $ fit 'timestamp = <1 2>; images { a { data = "a"; load = [01]; entry = <1 2 3>; }; };'
   $ uimg info k.itb
-  {"path":"k.itb","status":0,"format":"fit","size":228,"totalsize":228,"description":"d","timestamp":1700000000,"reservations":[],"images":[{"name":"a","offset":128,"data-size":2,"hashes":[]}],"configurations":[]}
+  {"path":"k.itb","status":0,"format":"fit","size":228,"totalsize":228,"description":"d","timestamp":1700000000,"reservations":[],"images":[{"name":"a","offset":128,"data-size":2,"hashes":[]}],"configurations":[],"signatures":[]}
   $ uimg info "$files/two-cell-addresses.itb" | sed "s|$files/||"
-  {"path":"two-cell-addresses.itb","status":0,"format":"fit","size":768,"totalsize":768,"description":"demo","timestamp":0,"default":"conf","reservations":[],"images":[{"name":"kernel","description":"k","type":"kernel","arch":"arm64","os":"linux","compression":"none","load":6442450944,"entry":524288,"offset":168,"data-size":3,"hashes":[{"name":"hash-1","algo":"crc32","value":"352441c2"},{"name":"hash-2","algo":"md5","value":"900150983cd24fb0d6963f7d28e17f72"},{"name":"hash-3","algo":"sha1","value":"a9993e364706816aba3e25717850c26c9cd0d89d"},{"name":"hash-4","algo":"sha256","value":"ba7816bf8f01cfea414140de5dae2223b00361a396177a9cb410ff61f20015ad"}]}],"configurations":[{"name":"conf","description":"c","kernel":"kernel","nodes":[],"properties":[{"name":"description","size":2},{"name":"kernel","size":7}]}]}
+  {"path":"two-cell-addresses.itb","status":0,"format":"fit","size":768,"totalsize":768,"description":"demo","timestamp":0,"default":"conf","reservations":[],"images":[{"name":"kernel","description":"k","type":"kernel","arch":"arm64","os":"linux","compression":"none","load":6442450944,"entry":524288,"offset":168,"data-size":3,"hashes":[{"name":"hash-1","algo":"crc32","value":"352441c2"},{"name":"hash-2","algo":"md5","value":"900150983cd24fb0d6963f7d28e17f72"},{"name":"hash-3","algo":"sha1","value":"a9993e364706816aba3e25717850c26c9cd0d89d"},{"name":"hash-4","algo":"sha256","value":"ba7816bf8f01cfea414140de5dae2223b00361a396177a9cb410ff61f20015ad"}]}],"configurations":[{"name":"conf","description":"c","kernel":"kernel","nodes":[],"properties":[{"name":"description","size":2},{"name":"kernel","size":7}]}],"signatures":[]}
 
 Of a configuration all properties are printed, also those without a meaning, in the order of the file and repeated ones one by one, with the lengths of their values in bytes; a name is spelled like any other:
 
   $ fit 'images { k { data = "a"; }; };
   > configurations { c { compatible = "a,b", "c"; kernel = "k"; own,flag; lengths = <1 2>; kernel = "other"; hash-1 { algo = "sha1"; }; }; d { }; };'
   $ uimg info k.itb | grep -o '"configurations":.*'
-  "configurations":[{"name":"c","kernel":"k","nodes":[{"name":"hash-1"}],"properties":[{"name":"compatible","size":6},{"name":"kernel","size":2},{"name":"own,flag","size":0},{"name":"lengths","size":8},{"name":"kernel","size":6}]},{"name":"d","nodes":[],"properties":[]}]}
+  "configurations":[{"name":"c","kernel":"k","nodes":[{"name":"hash-1"}],"properties":[{"name":"compatible","size":6},{"name":"kernel","size":2},{"name":"own,flag","size":0},{"name":"lengths","size":8},{"name":"kernel","size":6}]},{"name":"d","nodes":[],"properties":[]}],"signatures":[]}
   $ python3 - <<'END'
   > image = open("k.itb", "rb").read()
   > open("named.itb", "wb").write(image.replace(b"compatible\0", b"c\xe4mpatibl\n\0", 1))
@@ -131,7 +131,7 @@ A value of more than 65536 bytes is printed as its length alone, one of 65536 in
   $ fit 'images { a { data = "a"; description = /incbin/("most"); type = /incbin/("more"); load = /incbin/("more"); hash-1 { algo = "crc32"; }; }; };
   > configurations { c { fdt = /incbin/("more"); loadables = /incbin/("most"); }; };'
   $ uimg info k.itb | python3 -c 'import sys; sys.stdout.write(sys.stdin.read().replace("x" * 65536, "(65536 times x)"))'
-  {"path":"k.itb","status":0,"format":"fit","size":328052,"totalsize":328052,"description":"d","timestamp":1700000000,"reservations":[],"images":[{"name":"a","description":"(65536 times x)","type_length":65537,"offset":128,"data-size":2,"hashes":[{"name":"hash-1","algo":"crc32","value":"3d3f4819"}]}],"configurations":[{"name":"c","fdt_length":65537,"loadables":["(65536 times x)"],"nodes":[],"properties":[{"name":"fdt","size":65537},{"name":"loadables","size":65536}]}]}
+  {"path":"k.itb","status":0,"format":"fit","size":328052,"totalsize":328052,"description":"d","timestamp":1700000000,"reservations":[],"images":[{"name":"a","description":"(65536 times x)","type_length":65537,"offset":128,"data-size":2,"hashes":[{"name":"hash-1","algo":"crc32","value":"3d3f4819"}]}],"configurations":[{"name":"c","fdt_length":65537,"loadables":["(65536 times x)"],"nodes":[],"properties":[{"name":"fdt","size":65537},{"name":"loadables","size":65536}]}],"signatures":[]}
 
 Refused images have the line and the status of a check:
 

@@ -36,6 +36,22 @@ After the blob, from its end on or by its position in the file. An empty payload
   0000031c-0000031c         0 ................................ payload of kernel
   0000031c-00000320         4 ...............................# rest
 
+The signature of a configuration covers the payloads of the images that it names; of two such configurations the first is
+told. Without its signature node board-1 covers nothing:
+
+  $ uimg map "$files/two-signed.itb"
+  00000000-00000028        40 #............................... header
+  00000028-00000038        16 #............................... reservation block
+  00000038-00000708      1744 ####################............ structure
+  0000011c-00000120         4 ...#............................   payload of kernel, covered by board-1
+  000001dc-000001e1         5 .....#..........................   payload of board, covered by board-1
+  00000708-000007cd       197 ...................###.......... strings
+  000007cd-00000bb2       997 .....................########### rest
+  $ cp "$files/two-signed.itb" one.itb && patch one.itb $(grep -abo signature-1 one.itb | head -n 1 | cut -d: -f 1) S
+  $ uimg map one.itb | grep payload
+  0000011c-00000120         4 ...#............................   payload of kernel, covered by rescue
+  000001dc-000001e1         5 .....#..........................   payload of board
+
 A row that begins before another has ended says so. An image at a hostile offset covers the header, and two images share
 their payload:
 
@@ -258,8 +274,8 @@ A picture in place of the lines, one text and one bar for each row, as XML:
   ls: cannot access '*uimg-new*': No such file or directory
   [2]
 
-Bars have the colour of what they are: an item is blue, unused bytes are grey, what ends outside the file is purple, and the
-offset of a fault has a red mark:
+Bars have the colour of what they are: an item is blue, unused bytes are grey, what ends outside the file is purple, the
+offset of a fault has a red mark, and a payload that a signature covers is green:
 
   $ colours() { grep -A 9 '<g' "$1" | grep -o 'fill="#[0-9a-f]*"' | cut -c 7-13 | sort | uniq -c | tr -s ' '; }
   $ colours name.svg && colours cut.svg
@@ -274,6 +290,10 @@ offset of a fault has a red mark:
   $ colours bad.svg
    1 #3465a4
    1 #cc0000
+   1 #d3d7cf
+  $ uimg map --svg one.svg one.itb && colours one.svg
+   5 #3465a4
+   1 #4e9a06
    1 #d3d7cf
 
 An existing file is replaced with --force alone, when the picture is complete, also through a link:

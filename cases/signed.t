@@ -10,11 +10,16 @@ mkimage wrote the key to control.dtb too, as one that is required for configurat
   signed.itb: ok 2 payloads, 2 hashes, 2 nodes of configurations unchecked
   signed.itb: ok 2 payloads, 2 hashes, all configurations signed
   $ uimg check --json --key dev.pem signed.itb
-  {"path":"signed.itb","status":0,"verdict":"ok","format":"fit","images":2,"hashes":2,"configurations":"signed"}
+  {"path":"signed.itb","status":0,"verdict":"ok","format":"fit","images":2,"hashes":2,"configurations":"signed","signatures":[{"configuration":"board-1","node":"signature-1","algo":"sha256,rsa2048","key":"dev","result":"ok"},{"configuration":"rescue","node":"signature-1","algo":"sha256,rsa2048","padding":"pss","key":"dev","result":"ok"}]}
   $ uimg check --json --key other.pem signed.itb
-  {"path":"signed.itb","status":1,"verdict":"bad-signature","format":"fit","node":"board-1"}
+  {"path":"signed.itb","status":1,"verdict":"bad-signature","format":"fit","node":"board-1","signatures":[{"configuration":"board-1","node":"signature-1","algo":"sha256,rsa2048","key":"dev","result":"bad-signature"},{"configuration":"rescue","node":"signature-1","algo":"sha256,rsa2048","padding":"pss","key":"dev","result":"bad-signature"}]}
   [1]
   $ uimg check --quiet --key control.dtb --need sha256 signed.itb
+
+The signature nodes, which `info` does not verify:
+
+  $ uimg info signed.itb | grep -o '"signatures.*'
+  "signatures":[{"configuration":"board-1","node":"signature-1","algo":"sha256,rsa2048","key":"dev"},{"configuration":"rescue","node":"signature-1","algo":"sha256,rsa2048","padding":"pss","key":"dev"}]}
 
 A payload, properties and a signature node that were changed:
 
@@ -53,7 +58,7 @@ FDT_NOP between the end of the root and FDT_END, which no signature covers, and 
   nop.itb: signed-nodes
   [1]
   $ uimg check --json --key dev.pem nop.itb
-  {"path":"nop.itb","status":1,"verdict":"signed-nodes","format":"fit"}
+  {"path":"nop.itb","status":1,"verdict":"signed-nodes","format":"fit","signatures":[{"configuration":"board-1","node":"signature-1","algo":"sha256,rsa2048","key":"dev","result":"ok"},{"configuration":"rescue","node":"signature-1","algo":"sha256,rsa2048","padding":"pss","key":"dev","result":"ok"}]}
   [1]
 
 Images without a signature:
@@ -105,7 +110,7 @@ No key is required for configurations, or one is required for images; or a value
   uimg: cut.dtb: neither an RSA public key in PEM nor a devicetree blob
   [3]
   $ uimg check --key
-  error: a value is required for '--key <file>' but none was supplied
+  error: a value is required for '--key <[name=]file>' but none was supplied
   
   For more information, try '--help'.
   [2]
@@ -152,3 +157,76 @@ spare-signed.itb is the same image with another one, spare, that no configuratio
   {"path":"spare.itb","status":1,"verdict":"unsigned","format":"fit","node":"spare"}
   [1]
   $ ls -A empty
+
+A name before the file stands for its keys in the line. A control devicetree has names of its own:
+
+  $ uimg check --key board=dev.pem signed.itb && uimg check --key control.dtb signed.itb && uimg check --key board=control.dtb signed.itb
+  signed.itb: ok 2 payloads, 2 hashes, all configurations signed by board
+  signed.itb: ok 2 payloads, 2 hashes, all configurations signed by dev
+  signed.itb: ok 2 payloads, 2 hashes, all configurations signed by board
+
+No name is empty or has a slash, and the first = ends it:
+
+  $ cp dev.pem a=b.pem && uimg check --key ./a=b.pem signed.itb && uimg check --key c=a=b.pem signed.itb
+  signed.itb: ok 2 payloads, 2 hashes, all configurations signed
+  signed.itb: ok 2 payloads, 2 hashes, all configurations signed by c
+  $ uimg check --key a=b.pem signed.itb
+  uimg: cannot read b.pem: No such file or directory (os error 2)
+  [3]
+  $ uimg check --key =dev.pem signed.itb
+  uimg: cannot read =dev.pem: No such file or directory (os error 2)
+  [3]
+
+partly-signed.itb and sha1-signed.itb were signed by mkimage 2023.01 with the key of newer.pem: conf-1 over SHA-256.
+conf-2 of the first is not signed, and that of the other is signed over SHA-1.
+
+  $ cp "$TESTDIR/files/partly-signed.itb" partly.itb && cp "$TESTDIR/files/sha1-signed.itb" sha1.itb && cp "$TESTDIR/files/newer.pem" .
+  $ uimg check --key dev=newer.pem partly.itb
+  partly.itb: unsigned conf-2
+  [1]
+  $ uimg check --key dev=newer.pem --config conf-1 partly.itb && uimg check --key newer.pem --config conf-1 partly.itb
+  partly.itb: ok 1 payload, 1 hash, configuration conf-1 signed by dev
+  partly.itb: ok 1 payload, 1 hash, configuration conf-1 signed
+  $ uimg check --json --key newer.pem --config conf-1 partly.itb
+  {"path":"partly.itb","status":0,"verdict":"ok","format":"fit","images":1,"hashes":1,"signed":"conf-1","signatures":[{"configuration":"conf-1","node":"signature-1","algo":"sha256,rsa2048","key":"dev","result":"ok"}]}
+  $ uimg check --key dev.pem --config conf-1 partly.itb
+  partly.itb: bad-signature conf-1
+  [1]
+  $ uimg check --key newer.pem --config conf-2 partly.itb
+  partly.itb: unsigned conf-2
+  [1]
+  $ uimg check --key newer.pem --config conf-3 partly.itb
+  partly.itb: unsigned conf-3
+  [1]
+
+Signatures over SHA-1 are weak unless they are allowed:
+
+  $ uimg check --key newer.pem sha1.itb
+  sha1.itb: weak-signature conf-2
+  [1]
+  $ uimg check --json --key newer.pem sha1.itb
+  {"path":"sha1.itb","status":1,"verdict":"weak-signature","format":"fit","node":"conf-2","signatures":[{"configuration":"conf-1","node":"signature-1","algo":"sha256,rsa2048","key":"dev","result":"ok"},{"configuration":"conf-2","node":"signature-1","algo":"sha1,rsa2048","key":"dev","result":"weak-signature"}]}
+  [1]
+  $ uimg check --key newer.pem --config conf-1 sha1.itb && uimg check --key dev=newer.pem --allow-sha1 sha1.itb
+  sha1.itb: ok 1 payload, 1 hash, configuration conf-1 signed
+  sha1.itb: ok 1 payload, 1 hash, all configurations signed by dev
+  $ uimg check --key dev.pem --allow-sha1 --config conf-2 sha1.itb
+  sha1.itb: bad-signature conf-2
+  [1]
+  $ uimg unpack -C empty --key newer.pem sha1.itb
+  uimg: sha1.itb: weak-signature conf-2
+  [1]
+  $ ls -A empty && uimg unpack -C empty --key newer.pem --allow-sha1 sha1.itb && rm empty/kernel
+  kernel: 4 bytes, sha256 88d4266fd4e6338d13b845fcf289579d209c897823b9217da3e161936f031589
+
+Both options are for keys:
+
+  $ uimg check --config conf-1 partly.itb
+  uimg: --config without --key
+  [2]
+  $ uimg check --strict --allow-sha1 sha1.itb
+  uimg: --allow-sha1 without --key
+  [2]
+  $ uimg unpack -C empty --allow-sha1 sha1.itb
+  uimg: --allow-sha1 without --key
+  [2]

@@ -32,8 +32,9 @@ _uimg() {
         check)
             case "$previous" in
                 --need) COMPREPLY=($(compgen -W 'crc32 md5 sha1 sha256 sha384 sha512' -- "$current")); return ;;
+                --config) return ;;
             esac
-            test "${current#-}" = "$current" || { COMPREPLY=($(compgen -W '--need --strict --key --files-from -0 --json --quiet --allow-empty -h --help' -- "$current")); return; }
+            test "${current#-}" = "$current" || { COMPREPLY=($(compgen -W '--need --strict --key --config --allow-sha1 --files-from -0 --json --quiet --allow-empty -h --help' -- "$current")); return; }
             ;;
         unpack)
             case "$previous" in
@@ -43,7 +44,7 @@ _uimg() {
                 --max-files) return ;;
                 --max-bytes) return ;;
             esac
-            test "${current#-}" = "$current" || { COMPREPLY=($(compgen -W '-C --only --need --key --force --keep-good --no-sync --max-files --max-bytes --json --clean -h --help' -- "$current")); return; }
+            test "${current#-}" = "$current" || { COMPREPLY=($(compgen -W '-C --only --need --key --allow-sha1 --force --keep-good --no-sync --max-files --max-bytes --json --clean -h --help' -- "$current")); return; }
             ;;
         info)
             test "${current#-}" = "$current" || { COMPREPLY=($(compgen -W '--json -h --help' -- "$current")); return; }

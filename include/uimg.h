@@ -13,8 +13,8 @@
 
    The caller must ensure:
    - No pointer is null, even for a size of 0, and each points to as many bytes as its size says.
-   - The text buffer and the report or payload overlap neither each other nor the image, name or keys, and are
-     initialized (by calloc or = {0}). During the call nobody else writes the image, name or keys (or writes or
+   - The text buffer and the report or payload overlap neither each other nor the image, names or keys, and are
+     initialized (by calloc or = {0}). During the call nobody else writes the image, names or keys (or writes or
      truncates a mapped file), and nobody else reads or writes the rest.
    - Calls may run in several threads at once, each on its own memory. No call is made from a signal handler. */
 #ifndef UIMG_H
@@ -123,13 +123,14 @@ uint32_t uimg_check_strict(const uint8_t *image, size_t image_size, uint32_t nee
      /signature whose property `required` is "conf". Each of them must have signed each configuration, or one of them,
      if the property `required-mode` of /signature is "any".
    A key is RSA of 2048, 3072 or 4096 bits, with an odd exponent above 2; in a devicetree with all that `mkimage -K`
-   writes of it.
+   writes of it. `config` is the name of the only configuration that must be signed, without a NUL; if config_size is 0,
+   each must be.
 
    Returns report->status, which is
-   - UIMG_DONE only if uimg_check_strict returns it, the FIT has a configuration, and each configuration has a signature
-     by the keys over SHA-256, SHA-384 or SHA-512,
-   - UIMG_NOT_RIGHT with a fault from S17 to S24, whose line has the reason, as "S24 bad-signature", if a configuration
-     has none, or the FIT no configuration; with S17 for a legacy image, which has no signatures,
+   - UIMG_DONE only if uimg_check_strict returns it, the FIT has a configuration (of this name), and each of these has a
+     signature by the keys over SHA-256, SHA-384 or SHA-512,
+   - UIMG_NOT_RIGHT with a fault from S17 to S24, whose line has the reason, as "S24 bad-signature", if one of these has
+     none, or the FIT has none of these; with S17 for a legacy image, which has no signatures,
    - UIMG_BAD_KEYS if `keys` is neither, or has no such key, or another one, whatever the image is,
    - else that of uimg_check_strict.
 
@@ -137,7 +138,7 @@ uint32_t uimg_check_strict(const uint8_t *image, size_t image_size, uint32_t nee
    configuration names is not signed. Takes memory for the keys and for the nodes that a signature covers, too, which
    peak does not count. */
 uint32_t uimg_check_signed(const uint8_t *image, size_t image_size, const uint8_t *keys, size_t keys_size,
-                           uint32_t need, uimg_report *report);
+                           const uint8_t *config, size_t config_size, uint32_t need, uimg_report *report);
 
 /* Locates the part of a legacy image, or the payload of an image in a FIT, by its position, counted from 0. The
    checksums of a legacy image are verified; the payload of a FIT is not read, so check it first.

@@ -92,7 +92,7 @@ static void tell_signed(const uint8_t *image, size_t size)
 
     memcpy(key, KEY, sizeof KEY - 1);
     prepare();
-    status = uimg_check_signed(image, size, key, sizeof KEY - 1, UIMG_SHA256, &report);
+    status = uimg_check_signed(image, size, key, sizeof KEY - 1, key, 0, UIMG_SHA256, &report);
     printf("signed: %u %u %u %llu %zu %zu\n", status, report.status, report.fault, (unsigned long long)report.place,
            report.needed, report.written);
     look_at_peak(status, report.peak, size);

@@ -37,7 +37,7 @@ def printed(*words):
 
 def options(text):
     """Returns the options of a help of uimg."""
-    rows = re.findall(r"^ +(-\w|(?=--))(?:, )?(--[\w-]+)?(?: <(\w+)>)? {2,}(.*)$", text, re.M)
+    rows = re.findall(r"^ +(-\w|(?=--))(?:, )?(--[\w-]+)?(?: <(?:\[\w+=\])?(\w+)>)? {2,}(.*)$", text, re.M)
     names = short_names(text)
     return [Option([it for it in (short, long) if it], takes, meaning.split(" [")[0], names) for short, long, takes, meaning in rows]
 

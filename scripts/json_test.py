@@ -307,6 +307,7 @@ class Facts:
         self.reservations()
         self.told["images"] = [self.image_facts(node) for node in images[2]]
         self.told["configurations"] = [self.configuration(node) for node in configurations[2]]
+        self.told["signatures"] = [self.signature(node, child) for node in configurations[2] for child in node[2] if child[0].startswith(b"signature")]
 
     def reservations(self):
         """The entries of the block up to one of zeros, if it has one within the blob and 65,536
@@ -392,6 +393,14 @@ class Facts:
         told["nodes"] = [self.name(child[0]) for child in node[2]]
         told["properties"] = [{**self.name(name), "size": size} for name, size in node[3]]
         return told
+
+    def signature(self, configuration, node):
+        told = {}
+        self.spell(told, "configuration", configuration[0])
+        self.spell(told, "node", node[0])
+        for key in ("algo", "padding", "key-name-hint"):
+            self.text(told, node[1], key)
+        return {key.replace("key-name-hint", "key"): value for key, value in told.items()}
 
     def name(self, name):
         told = {}

@@ -290,9 +290,9 @@ def read(path):
         return file.read()
 
 
-def check_signed(name, image, keys, status, fault, need="sha256"):
+def check_signed(name, image, keys, status, fault, need="sha256", config=""):
     """Compares a check of signatures with a status and the line of a fault."""
-    found = uimg.check_signed(image, keys, need)
+    found = uimg.check_signed(image, keys, need, config)
     is_right = (found.status, found.fault, found.text) == (status, fault, b"")
     case(f"a check of signatures, {name}", is_right, f"{found} and {status} {fault}")
 
@@ -310,6 +310,13 @@ def check_signatures():
     check_signed("with other ends of lines", image, key.replace(b"\n", b"\r\n"), *done)
     check_signed("of bytes after the blob", image + b"abc", bytearray(key), *done)
     check_signed("for a stronger hash", image, key, *wrong, "sha512")
+    check_signed("of a configuration", image, key, *done, config="conf")
+    check_signed("of no configuration", image, key, *loose("unsigned"), config="con")
+    partly, newer = read("cases/files/partly-signed.itb"), read("cases/files/newer.pem")
+    check_signed("of a signed configuration and another", partly, newer, *loose("unsigned"))
+    check_signed("of the signed configuration", partly, newer, *done, config="conf-1")
+    check_signed("of the other configuration", partly, newer, *loose("unsigned"), config="conf-2")
+    check_signed("of a configuration by another key", partly, key, *loose("bad-signature"), config=b"conf-1")
     check_signed("of a changed payload", image.replace(b"abc\0", b"abd\0"), key, *wrong)
     for name, old, new, word in (
         ("description", b"c\0\0\0\0\0\0\x03", b"x\0\0\0\0\0\0\x03", "bad-signature"),

@@ -105,11 +105,13 @@ func CheckStrict(image []byte, need Need) error {
 // before or after it, as openssl rsa -pubout writes it, or a control devicetree of U-Boot, as mkimage -K
 // completes it. The keys of a devicetree are the nodes in /signature whose required is conf: each of them must
 // have signed each configuration, or one of them if required-mode is any. A key is RSA of 2048, 3072 or 4096
-// bits, with an odd exponent above 2. The error is ErrBadKeys if there is no such key, and a Fault from S17 to
-// S24 if a configuration is not signed, S17 for a legacy image.
-func CheckSigned(image, keys []byte, need Need) error {
+// bits, with an odd exponent above 2. If config is not empty, only the configuration of this name must be signed.
+// The error is ErrBadKeys if there is no such key, and a Fault from S17 to S24 if a configuration is not signed,
+// S17 if there is none of this name, and for a legacy image.
+func CheckSigned(image, keys []byte, config string, need Need) error {
 	var report C.uimg_report
-	C.uimg_check_signed(pointer(image), C.size_t(len(image)), pointer(keys), C.size_t(len(keys)), C.uint32_t(need), &report)
+	name := []byte(config)
+	C.uimg_check_signed(pointer(image), C.size_t(len(image)), pointer(keys), C.size_t(len(keys)), pointer(name), C.size_t(len(name)), C.uint32_t(need), &report)
 	return done(report.status, report.fault, report.place)
 }
 

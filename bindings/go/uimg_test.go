@@ -71,15 +71,18 @@ func TestSignatures(t *testing.T) {
 	image, keys := example(t, "signed.itb"), example(t, "dev.pem")
 	legacy := example(t, "abc-kernel.img")
 	unsigned, bad := Fault{'S', 17, 0}, Fault{'S', 24, 0}
-	require(t, CheckSigned(image, keys, SHA256), nil)
-	require(t, CheckSigned(image, keys, SHA512), ErrNotRight)
-	require(t, CheckSigned(image, []byte(other), SHA256), bad)
-	require(t, CheckSigned(image, keys[1:], SHA256), ErrBadKeys)
-	require(t, CheckSigned(image, nil, SHA256), ErrBadKeys)
-	require(t, CheckSigned(example(t, "kernel.itb"), keys, SHA256), unsigned)
-	require(t, CheckSigned(legacy, keys, CRC32), unsigned)
-	require(t, CheckSigned(legacy, nil, CRC32), ErrBadKeys)
-	require(t, CheckSigned(changed(t), keys, CRC32), ErrNotRight)
+	require(t, CheckSigned(image, keys, "", SHA256), nil)
+	require(t, CheckSigned(image, keys, "", SHA512), ErrNotRight)
+	require(t, CheckSigned(image, []byte(other), "", SHA256), bad)
+	require(t, CheckSigned(image, keys[1:], "", SHA256), ErrBadKeys)
+	require(t, CheckSigned(image, nil, "", SHA256), ErrBadKeys)
+	require(t, CheckSigned(example(t, "kernel.itb"), keys, "", SHA256), unsigned)
+	require(t, CheckSigned(legacy, keys, "", CRC32), unsigned)
+	require(t, CheckSigned(legacy, nil, "", CRC32), ErrBadKeys)
+	require(t, CheckSigned(image, keys, "conf", SHA256), nil)
+	require(t, CheckSigned(image, []byte(other), "conf", SHA256), bad)
+	require(t, CheckSigned(image, keys, "con", SHA256), unsigned)
+	require(t, CheckSigned(changed(t), keys, "", CRC32), ErrNotRight)
 }
 
 func TestPayloads(t *testing.T) {

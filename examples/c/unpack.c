@@ -57,8 +57,13 @@ static const char *reason(uint32_t status)
 static uint32_t check(struct file image, const struct file *keys)
 {
     uimg_report report = {0};
-    uint32_t status = keys ? uimg_check_signed(image.bytes, image.size, keys->bytes, keys->size, UIMG_SHA256, &report)
-                           : uimg_check_strict(image.bytes, image.size, UIMG_SHA256, &report);
+    uint32_t status;
+
+    if (keys)
+        status = uimg_check_signed(image.bytes, image.size, keys->bytes, keys->size, (const uint8_t *)"", 0,
+                                   UIMG_SHA256, &report);
+    else
+        status = uimg_check_strict(image.bytes, image.size, UIMG_SHA256, &report);
 
     if (report.fault)
         tell(report.fault, report.place);

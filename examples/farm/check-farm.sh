@@ -49,6 +49,7 @@ uimg=$(command -v "${UIMG:-uimg}") || say "there is no ${UIMG:-uimg}"
 options=--json
 on "${STRICT:-0}" && options="$options --strict"
 test -z "${NEED:-}" || options="$options --need $(quoted "$NEED")"
+case ${KEY:-} in '' | /*) ;; *) KEY=./$KEY ;; esac
 test -z "${KEY:-}" || options="$options --key $(quoted "$KEY")"
 check="$(quoted "$(realpath "$uimg")") check $options --allow-empty --files-from"
 eval "$check /dev/null" || exit 2

@@ -27,7 +27,7 @@ func check(image []byte, paths []string) error {
 	if err != nil {
 		return err
 	}
-	return uimg.CheckSigned(image, keys, uimg.SHA256)
+	return uimg.CheckSigned(image, keys, "", uimg.SHA256)
 }
 
 func unpack(image []byte, position uint32) error {

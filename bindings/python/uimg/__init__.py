@@ -66,7 +66,7 @@ for _name in ("uimg_list", "uimg_verify"):
     getattr(_library, _name).argtypes = [_bytes, _size, _bytes, _size, ctypes.POINTER(_Report)]
 for _name in ("uimg_check", "uimg_check_strict"):
     getattr(_library, _name).argtypes = [_bytes, _size, ctypes.c_uint32, ctypes.POINTER(_Report)]
-_library.uimg_check_signed.argtypes = [_bytes, _size, _bytes, _size, ctypes.c_uint32, ctypes.POINTER(_Report)]
+_library.uimg_check_signed.argtypes = [_bytes, _size, _bytes, _size, _bytes, _size, ctypes.c_uint32, ctypes.POINTER(_Report)]
 for _name in ("uimg_payload_at", "uimg_payload_name"):
     getattr(_library, _name).argtypes = [_bytes, _size, ctypes.c_uint32, ctypes.POINTER(_Payload)]
 _library.uimg_payload_count.argtypes = [_bytes, _size, ctypes.POINTER(_Count)]
@@ -183,20 +183,21 @@ def check_strict(image, need="sha256"):
     return _check(_library.uimg_check_strict, image, need)
 
 
-def check_signed(image, keys, need="sha256"):
-    """Checks an image, as check_strict does: DONE only if each configuration is signed, too. The
-    keys are bytes, or another buffer, of a public key in PEM with nothing before or after it, or of
-    a control devicetree of U-Boot: of this each key in /signature whose required is conf must have
-    signed, or one of them if required-mode is any. A key is RSA of 2048, 3072 or 4096 bits. For
-    anything else the status is BAD_KEYS."""
+def check_signed(image, keys, need="sha256", config=""):
+    """Checks an image, as check_strict does: DONE only if each configuration is signed, too, or, with
+    config, the one of this name. The keys are bytes, or another buffer, of a public key in PEM with
+    nothing before or after it, or of a control devicetree of U-Boot: of this each key in /signature
+    whose required is conf must have signed, or one of them if required-mode is any. A key is RSA of
+    2048, 3072 or 4096 bits. For anything else the status is BAD_KEYS."""
     pointer, size, _kept = _passed(keys)
-    return _check(_library.uimg_check_signed, image, need, pointer, size)
+    name, length, _named = _passed(config.encode() if isinstance(config, str) else config)
+    return _check(_library.uimg_check_signed, image, need, pointer, size, name, length)
 
 
-def _check(call, image, need, *keys):
+def _check(call, image, need, *more):
     pointer, size, _keep = _passed(image)
     report = _Report()
-    call(pointer, size, *keys, _STRENGTHS.index(need) + 1, ctypes.byref(report))
+    call(pointer, size, *more, _STRENGTHS.index(need) + 1, ctypes.byref(report))
     return Report(report.status, _line(report), b"", report.peak)
 
 

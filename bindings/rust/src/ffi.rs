@@ -67,6 +67,8 @@ extern "C" {
         image_size: usize,
         keys: *const u8,
         keys_size: usize,
+        config: *const u8,
+        config_size: usize,
         need: u32,
         report: *mut Report,
     ) -> u32;

@@ -138,18 +138,27 @@ pub fn check_strict(image: &[u8], need: Need) -> Result<(), Error> {
 /// writes it, or a control devicetree of U-Boot, as `mkimage -K` completes it. The keys of a devicetree
 /// are the nodes in `/signature` whose `required` is `conf`: each of them must have signed each
 /// configuration, or one of them if `required-mode` is `any`. A key is RSA of 2048, 3072 or 4096 bits,
-/// with an odd exponent above 2. The error is [`Error::BadKeys`] if there is no such key. The fault is
-/// one of S17 to S24 if a configuration is not signed, and S17 for a legacy image.
-pub fn check_signed(image: &[u8], keys: impl AsRef<[u8]>, need: Need) -> Result<(), Error> {
+/// with an odd exponent above 2. With `config` only the configuration of this name must be signed. The
+/// error is [`Error::BadKeys`] if there is no such key. The fault is one of S17 to S24 if a
+/// configuration is not signed, S17 if there is none of this name, and S17 for a legacy image.
+pub fn check_signed(
+    image: &[u8],
+    keys: impl AsRef<[u8]>,
+    config: Option<&str>,
+    need: Need,
+) -> Result<(), Error> {
     let keys = keys.as_ref();
+    let config = config.unwrap_or("");
     let mut report = ffi::Report::default();
-    // SAFETY: the image, the keys and the report are valid for the call, the report apart.
+    // SAFETY: the image, the keys, the name and the report are valid for the call, the report apart.
     unsafe {
         ffi::uimg_check_signed(
             image.as_ptr(),
             image.len(),
             keys.as_ptr(),
             keys.len(),
+            config.as_ptr(),
+            config.len(),
             need as u32,
             &mut report,
         )

@@ -75,7 +75,14 @@ fn unsigned(number: u8) -> Result<(), Error> {
 fn checks_signatures() {
     let (image, keys) = (example("signed.itb"), example("dev.pem"));
     let legacy = example("abc-kernel.img");
-    assert_eq!(uimg::check_signed(&image, &keys, Need::Sha256), Ok(()));
+    for (config, wanted) in [
+        (None, Ok(())),
+        (Some("conf"), Ok(())),
+        (Some("con"), unsigned(17)),
+    ] {
+        let found = uimg::check_signed(&image, &keys, config, Need::Sha256);
+        assert_eq!(found, wanted);
+    }
     for (image, keys, need, wanted) in [
         (&image, &keys[..], Need::Sha512, Err(Error::NotRight)),
         (&image, OTHER.as_bytes(), Need::Sha256, unsigned(24)),
@@ -86,7 +93,7 @@ fn checks_signatures() {
         (&legacy, b"", Need::Crc32, Err(Error::BadKeys)),
         (&changed(), &keys, Need::Crc32, Err(Error::NotRight)),
     ] {
-        assert_eq!(uimg::check_signed(image, keys, need), wanted);
+        assert_eq!(uimg::check_signed(image, keys, None, need), wanted);
     }
 }
 

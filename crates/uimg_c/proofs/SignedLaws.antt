@@ -2,11 +2,10 @@
 use Rattle.std.proofs.Common.{◌≡◌, ℕ, ◌==◌, Bool, true, false, List, Option, Some, None, Ok, if◌then◌else◌, refl, ap, sym, ◌∙◌, arith, true≢false}
 use Rattle.std.specs.Cmp.{unsigned_Decides}
 use Rattle.uimg_engine.specs.Headline.{is_fit}
-use Rattle.uimg_keys.specs.{Keys.HasKeys, declared.keys.Keys.Keys}
 use Rattle.uimg_requests.specs.declared.command.Form.TheVariants as form
 use Rattle.uimg_sums.specs.declared.algo.Algo.{Algo}
 use Rattle.uimg_uboot.specs.Readings.{ReadAsChecked}
-use Rattle.uimg_verifying.specs.Configurations.{unsigned_of}
+use Rattle.uimg_verifying.specs.{Configurations.unsigned_of, declared.required.Required.Required}
 use Rattle.uimg_c.specs.{Codes.strength, Strict.strict_code, declared.codes.Code.Code, declared.reports.UimgReport.UimgReport}
 use Rattle.uimg_c.specs.Signed.{IsSigned, ReportsSigned, signed_after, signed_code, unsigned_code}
 use Rattle.uimg_c.proofs.StrictLaws.{by_need, none_loose, status_in}
@@ -20,30 +19,30 @@ unfolding status_in Both
 both_in true code later zero is = ((unsigned_Decides code.status 0).0 zero, is)
 both_in false code later other is = absurd (true≢false (sym ((unsigned_Decides code.status 0).1 is) ∙ other))
 
-both : (keys : Keys) (image : List ℕ) (strict : Option Code) → status_in (signed_after keys image strict) ≡ 0 → Both strict (unsigned_code (is_fit form.Guess image) keys image)
+both : (required : Required) (image : List ℕ) (strict : Option Code) → status_in (signed_after required image strict) ≡ 0 → Both strict (unsigned_code (is_fit form.Guess image) required image)
 unfolding status_in Both
-both keys image None is = absurd (omega (arith, is))
-both keys image (Some code) is = both_in (code.status == 0) code (unsigned_code (is_fit form.Guess image) keys image) refl is
+both required image None is = absurd (omega (arith, is))
+both required image (Some code) is = both_in (code.status == 0) code (unsigned_code (is_fit form.Guess image) required image) refl is
 
-fit_signed : (fit : Bool) (keys : Keys) (image : List ℕ) → status_in (unsigned_code fit keys image) ≡ 0 → (fit ≡ true) × (unsigned_of keys image ≡ Ok None)
+fit_signed : (fit : Bool) (required : Required) (image : List ℕ) → status_in (unsigned_code fit required image) ≡ 0 → (fit ≡ true) × (unsigned_of required image ≡ Ok None)
 unfolding status_in
-fit_signed true keys image is = (refl, none_loose (unsigned_of keys image) is)
-fit_signed false keys image is = absurd (omega (arith, is))
+fit_signed true required image is = (refl, none_loose (unsigned_of required image) is)
+fit_signed false required image is = absurd (omega (arith, is))
 
-done : (need : ℕ) (file image : List ℕ) (report : UimgReport) (r : ReportsSigned need file image report) → report.status ≡ 0 → Both (strict_code (strength need) image) (unsigned_code (is_fit form.Guess image) r.keys image)
+done : (need : ℕ) (file config image : List ℕ) (report : UimgReport) (r : ReportsSigned need file config image report) → report.status ≡ 0 → Both (strict_code (strength need) image) (unsigned_code (is_fit form.Guess image) r.required image)
 unfolding status_in
-done need file image report r zero = both r.keys image (strict_code (strength need) image) (ap status_in r.code ∙ zero)
+done need file config image report r zero = both r.required image (strict_code (strength need) image) (ap status_in r.code ∙ zero)
 
 -- The keys sign each configuration.
-pub signed_if_done : (need : ℕ) (file image : List ℕ) (report : UimgReport) → ReportsSigned need file image report → report.status ≡ 0 → IsSigned file image
+pub signed_if_done : (need : ℕ) (file config image : List ℕ) (report : UimgReport) → ReportsSigned need file config image report → report.status ≡ 0 → IsSigned file config image
 unfolding Both
-signed_if_done need file image report r zero =
-    let found = fit_signed (is_fit form.Guess image) r.keys image (done need file image report r zero).1 in
-    record { keys = r.keys; has = r.has; is = found.0; signed = found.1 }
+signed_if_done need file config image report r zero =
+    let found = fit_signed (is_fit form.Guess image) r.required image (done need file config image report r zero).1 in
+    record { required = r.required; asked = r.asked; is = found.0; signed = found.1 }
 
 -- U-Boot reads the image as it was checked.
-pub read_if_signed : (need : ℕ) (file image : List ℕ) (report : UimgReport) → ReportsSigned need file image report → report.status ≡ 0 → ReadAsChecked image
+pub read_if_signed : (need : ℕ) (file config image : List ℕ) (report : UimgReport) → ReportsSigned need file config image report → report.status ≡ 0 → ReadAsChecked image
 unfolding Both
-read_if_signed need file image report r zero =
-    let b = done need file image report r zero in
-    by_need (strength need) image b.0 (fit_signed (is_fit form.Guess image) r.keys image b.1).0
+read_if_signed need file config image report r zero =
+    let b = done need file config image report r zero in
+    by_need (strength need) image b.0 (fit_signed (is_fit form.Guess image) r.required image b.1).0

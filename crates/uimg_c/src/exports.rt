@@ -100,24 +100,27 @@ pub extern "C" fn uimg_check_strict(
 
 /// Checks an image as `uimg_check_strict` does. If all is right, it also refuses a FIT image of which
 /// a configuration is not signed by the keys of `keys`, the contents of a file of keys, and any
-/// legacy image. The status is 2 if `keys` has no keys, or keys that U-Boot does not take.
+/// legacy image. If `config` is not empty, only the configuration of this name must be signed. The
+/// status is 2 if `keys` has no keys, or keys that U-Boot does not take.
 #[unsafe(no_mangle)]
 pub extern "C" fn uimg_check_signed(
     alloc: Global,
     image: &[u8],
     keys: &[u8],
+    config: &[u8],
     need: u32,
     report: &mut UimgReport,
 ) -> u32
-    ensures told { result ≢ 3 → result ≢ 2 → ReportsSigned need keys.now image.now report.new }
-    ensures signed { result ≡ 0 → IsSigned keys.now image.now }
+    ensures told { result ≢ 3 → result ≢ 2 →
+        ReportsSigned need keys.now config.now image.now report.new }
+    ensures signed { result ≡ 0 → IsSigned keys.now config.now image.now }
     ensures read { result ≡ 0 → ReadAsChecked image.now }
     ensures status { result ≡ report.new.status }
     ensures peak { report.new.peak ≤ table_most form.Guess image.now }
     ensures nothing { result ≡ 3 → report.new ≡ no_report }
     ensures no_keys { result ≡ 2 → report.new ≡ no_keys }
 {
-    check_signatures(alloc, image, keys, need, report)
+    check_signatures(alloc, image, keys, config, need, report)
 }
 
 /// Finds the part of a legacy image, or the payload of a FIT image's image, at a position, counted

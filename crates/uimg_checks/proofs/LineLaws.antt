@@ -1,5 +1,5 @@
 -- A line has no control character of ASCII, if none of the answer's own text is one.
-use Rattle.std.proofs.Common.{◌≡◌, ℕ, ◌==◌, Bool, true, false, if◌then◌else◌, List, [], ◌++◌, Option, Some, None, Result, Ok, Err, IfOk, refl, ap, ◌∙◌, codes}
+use Rattle.std.proofs.Common.{◌∷◌, ◌≡◌, ℕ, ◌==◌, Bool, true, false, if◌then◌else◌, List, [], ◌++◌, Option, Some, None, Result, Ok, Err, IfOk, refl, ap, ◌∙◌, codes}
 use Rattle.std.specs.Borrow.{Bor}
 use Rattle.uimg_printing.specs.Counting.{counted}
 use Rattle.uimg_printing.specs.Printing.{printed, is_shown}
@@ -18,7 +18,7 @@ use Rattle.uimg_strict.specs.declared.loose.Looseness.{Looseness}
 use Rattle.uimg_strict.specs.declared.loose.Looseness.TheVariants as loose
 use Rattle.uimg_strict.specs.Words.{word_of}
 use Rattle.uimg_checks.specs.Answers.{finding_word, found_word, answer_word}
-use Rattle.uimg_checks.specs.Lines.{nodes_text, some_unchecked, configurations_if, spaced_name, named_if, finding_details, found_details, details_of, answer_line, own_text}
+use Rattle.uimg_checks.specs.Lines.{by_text, only_text, nodes_text, some_unchecked, configurations_if, spaced_name, named_if, finding_details, found_details, details_of, answer_line, own_text}
 
 one_of : (b : Bool) (x y : List ℕ) → is_shown x ≡ true → is_shown y ≡ true → is_shown (if b then x else y) ≡ true
 one_of true x y p q = p
@@ -33,10 +33,19 @@ some_shown : (n : ℕ) → is_shown (some_unchecked n) ≡ true
 unfolding some_unchecked
 some_shown n = one_of (n == 0) [] (nodes_text n) refl (nodes_shown n)
 
+only_shown : (only : Option (Bor (List ℕ))) → is_shown (only_text only) ≡ true
+only_shown None = refl
+only_shown (Some name) = joined (codes ", configuration " ++ printed true name.now) (codes " signed") (joined (codes ", configuration ") (printed true name.now) refl (shown true name.now)) refl
+
+by_shown : (by : List ℕ) → is_shown (by_text by) ≡ true
+unfolding by_text
+by_shown [] = refl
+by_shown (byte ∷ rest) = joined (codes " by ") (printed false (byte ∷ rest)) refl (shown false (byte ∷ rest))
+
 configurations_shown : (it : Option Configurations) → is_shown (configurations_if it) ≡ true
 configurations_shown None = refl
 configurations_shown (Some (Unchecked n)) = some_shown n
-configurations_shown (Some Signed) = refl
+configurations_shown (Some (Signed signed)) = joined (only_text signed.only) (by_text signed.by.now) (only_shown signed.only) (by_shown signed.by.now)
 
 named_shown : (name : List ℕ) → is_shown (spaced_name name) ≡ true
 named_shown name = joined (codes " ") (printed true name) refl (shown true name)
@@ -69,7 +78,7 @@ details_shown (Found found it) own = found_shown found it
 details_shown (Missing configuration property name) own =
     let giver = joined (named_if configuration) (codes " ") (named_if_shown configuration) refl in
     joined (named_if configuration ++ codes " " ++ property.now) (spaced_name name.now) (joined (named_if configuration ++ codes " ") property.now giver own) (named_shown name.now)
-details_shown (Loose format why place) own = named_if_shown place
+details_shown (Loose format why place signatures) own = named_if_shown place
 details_shown (Refused stop) own = joined (codes " ") stop.message.now refl own
 details_shown (Failed stop) own = joined (codes " ") stop.message.now refl own
 
@@ -122,7 +131,7 @@ why_shown loose.BadSignature = refl
 word_shown : (answer : Answer) → is_shown (answer_word answer) ≡ true
 word_shown (Found found it) = found_word_shown found
 word_shown (Missing configuration property name) = refl
-word_shown (Loose format why place) = why_shown why
+word_shown (Loose format why place signatures) = why_shown why
 word_shown (Refused stop) = refl
 word_shown (Failed stop) = refl
 

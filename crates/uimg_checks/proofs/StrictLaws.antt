@@ -24,21 +24,20 @@ use Rattle.uimg_fit_checking.specs.declared.surveying.facts.ConfigurationFacts.{
 use Rattle.uimg_fit_checking.specs.declared.surveying.facts.Survey.{Survey}
 use Rattle.uimg_fit_checking.specs.declared.surveying.fault.SurveyFault.{SurveyFault}
 use Rattle.uimg_fit_checking.specs.declared.surveying.fault.SurveyFault.TheVariants.{Stopped}
-use Rattle.uimg_strict.specs.{Looseness.{LooseSaid, looseness_of}, Telling.{TellsLooseness}}
+use Rattle.uimg_strict.specs.{Looseness.{LooseSaid, looseness_of}, Telling.{TellsLooseness, read_loose}}
 use Rattle.uimg_strict.specs.declared.loose.Loose.{Loose}
 use Rattle.uimg_checks.specs.CheckEnds.{AnswersFault, Shows}
 use Rattle.uimg_checks.specs.StrictEnds.{TellsFurther}
-use Rattle.uimg_checks.specs.Verdicts.{Verdict, Finds, covered_or, facts_verdict, fit_verdict, is_right, lacks_or, loose_or, node_count, signed_by, signed_verdict, strict_verdict}
-use Rattle.uimg_checks.specs.declared.answer.Configurations.TheVariants.{Signed}
-use Rattle.uimg_keys.specs.declared.keys.Keys.{Keys}
-use Rattle.uimg_verifying.specs.Configurations.{TellsUnsigned, unsigned_of}
+use Rattle.uimg_checks.specs.Verdicts.{Verdict, Finds, covered_or, facts_verdict, fit_verdict, is_right, lacks_or, listed, listed_then, loose_or, loosens, node_count, required_verdict, signed_by, signed_finding, signed_verdict, strict_verdict}
+use Rattle.uimg_verifying.specs.{Configurations.{TellsUnsigned, unsigned_of}, Results.SignatureSaid}
+use Rattle.uimg_verifying.specs.declared.required.Required.{Required}
 use Rattle.uimg_checks.specs.declared.judging.Further.{Further}
 use Rattle.uimg_checks.specs.declared.judging.Terms.{Terms}
 use Rattle.uimg_checks.proofs.VerdictLaws.{fault_shown, over, told_fault, unread_shows}
 
 by_looseness : (terms : Terms) (file : List ℕ) (found : Checked (List ℕ)) (r : Result (Option LooseSaid) FitEngineFault) → looseness_of file ≡ r
-    → fit_verdict terms file found ≡ loose_or r (facts_verdict terms file found (survey_of file))
-by_looseness terms file found r is = ap (λ (it : Result (Option LooseSaid) FitEngineFault). loose_or it (facts_verdict terms file found (survey_of file))) is
+    → fit_verdict terms file found ≡ loose_or [] r (facts_verdict terms file found (survey_of file))
+by_looseness terms file found r is = ap (λ (it : Result (Option LooseSaid) FitEngineFault). loose_or [] it (facts_verdict terms file found (survey_of file))) is
 
 by_facts : (terms : Terms) (file : List ℕ) (found : Checked (List ℕ)) (r : Result Said FitEngineFault) → TellsLooseness file (Ok None) → survey_of file ≡ r
     → fit_verdict terms file found ≡ facts_verdict terms file found r
@@ -80,19 +79,33 @@ signatures_left terms d e f g survey nodes loose missing result no_loose no_miss
     (over f g (λ file. (found : Checked (List ℕ)) → TellsFurther (signed_verdict terms file found nodes) file found result) last signed)) honest found in
     subst (λ (v : Verdict). TellsFurther v d.bytes found result) (sym same) further
 
--- the verdict about the images, where each configuration is signed
-pub images_left : (terms : Terms) (keys : Keys) (d e : Device) (nodes : ℕ) (loose : Option Loose) (result : Result Further SurveyFault) → terms.keys ≡ Some keys → loose ≡ None → SameDevice d e
-    → (IsTrue d.honest → TellsUnsigned keys d.bytes (Ok loose))
-    → (IsTrue e.honest → (found : Checked (List ℕ)) → TellsFurther (covered_or terms.covers_images e.bytes (Finds found (Some Signed))) e.bytes found result)
-    → IsTrue d.honest → (found : Checked (List ℕ)) → TellsFurther (signed_verdict terms d.bytes found nodes) d.bytes found result
-images_left terms keys d e nodes loose result are no_loose same signed covered honest found =
-    let later = covered_or terms.covers_images d.bytes (Finds found (Some Signed)) in
-    let further = over d e (λ file. (found : Checked (List ℕ)) → TellsFurther (covered_or terms.covers_images file (Finds found (Some Signed))) file found result) same covered honest found in
-    let all : unsigned_of keys d.bytes ≡ Ok None = subst (λ (l : Option Loose). TellsUnsigned keys d.bytes (Ok l)) no_loose (signed honest) in
-    let is : signed_verdict terms d.bytes found nodes ≡ later =
-    ap (λ (k : Option Keys). signed_by k terms.covers_images d.bytes found nodes) are
-    ∙ ap (λ (r : Result (Option LooseSaid) FitEngineFault). loose_or r later) all in
-    subst (λ (v : Verdict). TellsFurther v d.bytes found result) (sym is) further
+module _ (terms : Terms) (required : Required) (d e : Device) (nodes : ℕ) (signatures : List SignatureSaid) (are : terms.required ≡ Some required) (first : SameDevice d e) (listed_are : IsTrue d.honest → listed terms.lists required d.bytes ≡ Ok signatures) (honest : IsTrue d.honest) where
+  -- the verdict with these signature nodes
+  with_nodes : (found : Checked (List ℕ)) → signed_verdict terms d.bytes found nodes ≡ required_verdict terms required d.bytes found signatures
+  with_nodes found =
+      ap (λ (k : Option Required). signed_by k terms d.bytes found nodes) are
+      ∙ ap (λ (l : Result (List SignatureSaid) FitEngineFault). listed_then l (required_verdict terms required d.bytes found)) (listed_are honest)
+
+  -- .. where a configuration is not signed
+  pub unsigned_found : (loose : Loose) (result : Option Loose) → result ≡ Some loose → (IsTrue e.honest → TellsUnsigned required e.bytes (Ok result)) → (found : Checked (List ℕ))
+      → signed_verdict terms d.bytes found nodes ≡ loosens signatures (read_loose loose)
+  unsigned_found loose result is told found =
+      let all : unsigned_of required d.bytes ≡ Ok (Some (read_loose loose)) = subst (λ (l : Option Loose). TellsUnsigned required d.bytes (Ok l)) is (over d e (λ file. TellsUnsigned required file (Ok result)) first told honest) in
+      with_nodes found ∙ ap (λ (r : Result (Option LooseSaid) FitEngineFault). loose_or signatures r (covered_or terms.covers_images d.bytes (signed_finding required found signatures))) all
+
+  -- .. where all are
+  pub images_left : (f : Device) (loose : Option Loose) (result : Result Further SurveyFault) → loose ≡ None → SameDevice e f
+      → (IsTrue e.honest → TellsUnsigned required e.bytes (Ok loose))
+      → (IsTrue f.honest → (found : Checked (List ℕ)) → TellsFurther (covered_or terms.covers_images f.bytes (signed_finding required found signatures)) f.bytes found result)
+      → (found : Checked (List ℕ)) → TellsFurther (signed_verdict terms d.bytes found nodes) d.bytes found result
+  images_left f loose result no_loose more signed covered found =
+      let later = covered_or terms.covers_images d.bytes (signed_finding required found signatures) in
+      let P = λ (file : List ℕ). (it : Checked (List ℕ)) → TellsFurther (covered_or terms.covers_images file (signed_finding required it signatures)) file it result in
+      let further = over d e P first (over e f P more covered) honest found in
+      let all : unsigned_of required d.bytes ≡ Ok None = subst (λ (l : Option Loose). TellsUnsigned required d.bytes (Ok l)) no_loose (over d e (λ file. TellsUnsigned required file (Ok loose)) first signed honest) in
+      let is : signed_verdict terms d.bytes found nodes ≡ later =
+      with_nodes found ∙ ap (λ (r : Result (Option LooseSaid) FitEngineFault). loose_or signatures r later) all in
+      subst (λ (v : Verdict). TellsFurther v d.bytes found result) (sym is) further
 
 shown_stop : (verdict : Verdict) (file : List ℕ) (found : Checked (List ℕ)) (fault : FitEngineFault) (answer : Answer) → TellsFurther verdict file found (Err (Stopped fault)) → AnswersFault (of_fit fault) answer
     → Shows answer verdict

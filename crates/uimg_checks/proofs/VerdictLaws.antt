@@ -20,7 +20,7 @@ pub fault_shown : (fault : Fault) (answer : Answer) → AnswersFault fault answe
 fault_shown fault (Failed stop) told = tt
 fault_shown fault (Found found more) told = absurd told
 fault_shown fault (Missing configuration property name) told = absurd told
-fault_shown fault (Loose shown why name) told = absurd told
+fault_shown fault (Loose shown why name signatures) told = absurd told
 fault_shown fault (Refused stop) told = told
 
 -- a fault of status 3 refuses no file
@@ -28,7 +28,7 @@ pub failure_shown : (fault : Fault) (answer : Answer) (verdict : Verdict) → fa
 failure_shown fault (Failed stop) verdict three shows = tt
 failure_shown fault (Found found more) verdict three shows = absurd shows
 failure_shown fault (Missing configuration property name) verdict three shows = absurd shows
-failure_shown fault (Loose shown why name) verdict three shows = absurd shows
+failure_shown fault (Loose shown why name signatures) verdict three shows = absurd shows
 failure_shown fault (Refused stop) verdict three shows = absurd (omega (arith, three, shows.status))
 
 pub unread_shows : (answer : Answer) (verdict : Verdict) → AnswersFault engine.Read answer → Shows answer verdict

@@ -20,7 +20,7 @@ exit_status NotRight = 1
 abbrev pub answer_status : Answer → ℕ
 answer_status (Found found configurations) = exit_status (of.status_of found)
 answer_status (Missing configuration property name) = 1
-answer_status (Loose format why place) = 1
+answer_status (Loose format why place signatures) = 1
 answer_status (Refused stop) = 1
 answer_status (Failed stop) = 3
 
@@ -41,6 +41,6 @@ found_word checked.Weak = codes "weak"
 abbrev pub answer_word : Answer → List ℕ
 answer_word (Found found configurations) = found_word found
 answer_word (Missing configuration property name) = codes "missing"
-answer_word (Loose format why place) = strict.word_of why
+answer_word (Loose format why place signatures) = strict.word_of why
 answer_word (Refused stop) = codes "refused"
 answer_word (Failed stop) = codes "failed"

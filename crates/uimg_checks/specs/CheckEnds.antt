@@ -1,7 +1,9 @@
 -- What a check answers at its end.
-use Rattle.std.specs.Prelude.{◌≡◌, ◌⊎◌, ⊤, ℕ, ◌==◌, min, take, List, codes, Option, Some, None, Result, Ok, Err}
+use Rattle.std.specs.Prelude.{◌≡◌, ◌⊎◌, ⊤, ℕ, ◌==◌, min, take, map, List, codes, Option, Some, None, Result, Ok, Err}
 use Rattle.std.specs.{Borrow.Bor, Option.option_map, Prelude.{Bool, true, false, IsTrue, is_some}}
 use Rattle.uimg_base.specs.declared.spans.Span.{Span}
+use Rattle.uimg_checks.specs.declared.answer.{Configurations.Configurations, Signed.Signed}
+use Rattle.uimg_checks.specs.declared.answer.Configurations.TheVariants as configurations
 use Rattle.uimg_checks.specs.declared.answer.Format.{Format}
 use Rattle.uimg_checks.specs.declared.answer.Format.TheVariants as format
 use Rattle.uimg_checks.specs.declared.answer.Stop.{Stop}
@@ -18,7 +20,9 @@ use Rattle.uimg_engine.specs.FaultTexts.{code_of, text_of}
 use Rattle.uimg_engine.specs.declared.fault.Fault.{Fault}
 use Rattle.uimg_engine.specs.declared.fault.Fault.TheVariants as engine
 use Rattle.uimg_checks.specs.FaultStatuses.{fault_status}
-use Rattle.uimg_checks.specs.Verdicts.{Verdict, Finds, Lacks, Loosens, Refuses}
+use Rattle.uimg_checks.specs.Verdicts.{ConfigurationsSaid, SignedSaid, Verdict, Finds, Lacks, Loosens, Refuses}
+use Rattle.uimg_checks.specs.Verdicts as said
+use Rattle.uimg_verifying.specs.Results.{read_result}
 
 -- the format of the image, if a fault shows it
 abbrev pub format_of : Fault → Option Format
@@ -64,6 +68,18 @@ AnswersLine is_refused (Refused stop) = IsTrue is_refused
 AnswersLine is_refused (Failed stop) = ⊤
 AnswersLine is_refused answer = ⊥
 
+-- what is told of signatures and of configurations
+abbrev pub read_signed : Signed → SignedSaid
+read_signed signed = record {
+  only = told_name signed.only;
+  by = signed.by.now;
+  signatures = map read_result signed.signatures.now;
+}
+
+abbrev pub read_configurations : Configurations → ConfigurationsSaid
+read_configurations (configurations.Unchecked nodes) = said.Unchecked nodes
+read_configurations (configurations.Signed signed) = said.Signed (read_signed signed)
+
 -- the names of a finding
 abbrev pub fit_names : Finding (Bor (List ℕ)) → Finding (List ℕ)
 fit_names (fit.Right images nodes) = fit.Right images nodes
@@ -93,15 +109,16 @@ kept_names images hashes fit.NoImage = fit.NoImage
 -- The answer is this verdict.
 abbrev pub IsVerdict : Answer → Verdict → Type 0
 IsVerdict (Found told more) (Finds found configurations) =
-    (names_in told ≡ found) × (more ≡ configurations)
+    (names_in told ≡ found) × (option_map read_configurations more ≡ configurations)
 IsVerdict (Found told more) other = ⊥
 IsVerdict (answer.Missing configuration property name) (Lacks said) =
     (told_name configuration ≡ said.configuration)
     × (property.now ≡ property_name said.reference) × (name.now ≡ said.name)
 IsVerdict (answer.Missing configuration property name) other = ⊥
-IsVerdict (answer.Loose shown told name) (Loosens form why node) =
+IsVerdict (answer.Loose shown told name signatures) (Loosens form why node said) =
     (shown ≡ form) × (told ≡ why) × (told_name name ≡ node)
-IsVerdict (answer.Loose shown told name) other = ⊥
+    × (map read_result signatures.now ≡ said)
+IsVerdict (answer.Loose shown told name signatures) other = ⊥
 IsVerdict (Refused stop) (Refuses fault) = TellsFault fault 1 stop
 IsVerdict (Refused stop) other = ⊥
 IsVerdict (Failed stop) verdict = ⊥
@@ -112,5 +129,6 @@ Shows (Failed stop) verdict = ⊤
 Shows (Found told more) verdict = IsVerdict (Found told more) verdict
 Shows (answer.Missing configuration property name) verdict =
     IsVerdict (answer.Missing configuration property name) verdict
-Shows (answer.Loose shown told name) verdict = IsVerdict (answer.Loose shown told name) verdict
+Shows (answer.Loose shown told name signatures) verdict =
+    IsVerdict (answer.Loose shown told name signatures) verdict
 Shows (Refused stop) verdict = IsVerdict (Refused stop) verdict

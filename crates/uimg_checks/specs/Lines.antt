@@ -1,5 +1,5 @@
 -- The line of a checked image: its path, the word of the finding, and the details.
-use Rattle.std.specs.Prelude.{ℕ, ◌==◌, List, [], ◌++◌, codes, true, false, if◌then◌else◌, Option}
+use Rattle.std.specs.Prelude.{ℕ, ◌==◌, List, [], ◌∷◌, ◌++◌, codes, true, false, if◌then◌else◌, Option}
 use Rattle.std.specs.Prelude.{Some, None}
 use Rattle.std.specs.Borrow.{Bor}
 use Rattle.uimg_printing.specs.Counting.{counted}
@@ -10,6 +10,7 @@ use Rattle.uimg_checks.specs.declared.answer.Answer.{Answer}
 use Rattle.uimg_checks.specs.declared.answer.Answer.TheVariants.{Found, Missing, Loose, Refused}
 use Rattle.uimg_checks.specs.declared.answer.Answer.TheVariants.{Failed}
 use Rattle.uimg_checks.specs.declared.answer.Configurations.{Configurations, TheVariants.{Signed, Unchecked}}
+use Rattle.uimg_checks.specs.declared.answer.Signed as keys
 use Rattle.uimg_checks.specs.declared.finding.Checked.{Checked}
 use Rattle.uimg_checks.specs.declared.finding.Checked.TheVariants as checked
 use Rattle.uimg_checks.specs.Answers.{answer_word}
@@ -22,9 +23,22 @@ nodes_text n =
 unfoldable pub some_unchecked : ℕ → List ℕ
 some_unchecked n = if n == 0 then [] else nodes_text n
 
+-- which configurations are signed
+abbrev pub only_text : Option (Bor (List ℕ)) → List ℕ
+only_text None = codes ", all configurations signed"
+only_text (Some name) = codes ", configuration " ++ printed true name.now ++ codes " signed"
+
+-- what the keys are called, if they have a name
+unfoldable pub by_text : List ℕ → List ℕ
+by_text [] = []
+by_text (byte ∷ rest) = codes " by " ++ printed false (byte ∷ rest)
+
+abbrev pub signed_text : keys.Signed → List ℕ
+signed_text signed = only_text signed.only ++ by_text signed.by.now
+
 abbrev pub configurations_text : Configurations → List ℕ
 configurations_text (Unchecked n) = some_unchecked n
-configurations_text Signed = codes ", all configurations signed"
+configurations_text (Signed signed) = signed_text signed
 
 abbrev pub configurations_if : Option Configurations → List ℕ
 configurations_if None = []
@@ -63,7 +77,7 @@ abbrev pub details_of : Answer → List ℕ
 details_of (Found found configurations) = found_details found configurations
 details_of (Missing configuration property name) =
     named_if configuration ++ codes " " ++ property.now ++ spaced_name name.now
-details_of (Loose format why place) = named_if place
+details_of (Loose format why place signatures) = named_if place
 details_of (Refused stop) = codes " " ++ stop.message.now
 details_of (Failed stop) = codes " " ++ stop.message.now
 
@@ -76,6 +90,6 @@ answer_line path answer =
 abbrev pub own_text : Answer → List ℕ
 own_text (Found found configurations) = []
 own_text (Missing configuration property name) = property.now
-own_text (Loose format why place) = []
+own_text (Loose format why place signatures) = []
 own_text (Refused stop) = stop.message.now
 own_text (Failed stop) = stop.message.now

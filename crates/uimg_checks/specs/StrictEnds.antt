@@ -1,5 +1,5 @@
 -- What a strict check answers of an image whose hashes or checksums are right.
-use Rattle.std.specs.Prelude.{◌≡◌, ⊤, ℕ, List, Option, Some, None, Result, Ok, Err, false}
+use Rattle.std.specs.Prelude.{◌≡◌, ⊤, ℕ, List, map, Option, Some, None, Result, Ok, Err, false}
 use Rattle.uimg_base.specs.{Device.Device, Honest.IfHonest, Lent.Lent}
 use Rattle.uimg_blob_reading.specs.Faults.{refuses_memory}
 use Rattle.uimg_checks.specs.References.{read_missing}
@@ -17,15 +17,19 @@ use Rattle.uimg_legacy.specs.declared.fault.Fault.{Fault as LegacyFault}
 use Rattle.uimg_strict.specs.{Headers.TellsHeader, Telling.read_loose}
 use Rattle.uimg_strict.specs.declared.loose.Looseness.{Looseness}
 use Rattle.uimg_checks.specs.CheckEnds.{AnswersFault}
-use Rattle.uimg_checks.specs.Verdicts.{Verdict, Finds, Lacks, Refuses, fit_verdict, loosens}
+use Rattle.uimg_checks.specs.Verdicts.{Verdict, Unchecked, Finds, Lacks, Refuses, loosens, signed_finding}
+use Rattle.uimg_verifying.specs.Results.{read_result}
 use Rattle.uimg_checks.specs.declared.judging.Further.{Further}
 use Rattle.uimg_checks.specs.declared.judging.Further.TheVariants as further
 
 -- the verdict by what was found further
 abbrev pub further_verdict : List ℕ → Checked (List ℕ) → Further → Verdict
-further_verdict file found (further.Loose loose) = loosens (read_loose loose)
+further_verdict file found (further.Loose loose signatures) =
+    loosens (map read_result signatures.items) (read_loose loose)
 further_verdict file found (further.Missing missing) = Lacks (read_missing file missing)
-further_verdict file found (further.Right configurations) = Finds found (Some configurations)
+further_verdict file found (further.Unchecked nodes) = Finds found (Some (Unchecked nodes))
+further_verdict file found (further.Signed required signatures) =
+    signed_finding required.now found (map read_result signatures.items)
 
 -- What was found further in a file is this verdict, unless a read failed, memory was refused, or the
 -- file was another one when its signatures were read.

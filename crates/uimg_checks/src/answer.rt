@@ -8,6 +8,7 @@ use uimg_base::Status;
 use uimg_fit_base::word_text;
 use uimg_fit_checking::Finding;
 use uimg_strict::Looseness;
+use uimg_verifying::SignatureResult;
 
 /// The format of an image.
 #[derive(Clone, Copy, Debug, PartialEq, Eq)]
@@ -31,20 +32,31 @@ pub struct Stop<'a> {
     pub offset: Option<u64>,
 }
 
+/// What keys sign of a FIT image.
+#[derive(Clone, Copy, Debug, PartialEq, Eq)]
+pub struct Signed<'a> {
+    /// The name of the only configuration that must be signed, if it is not each one.
+    pub only: Option<&'a [u8]>,
+    /// What the keys are called, empty without a name.
+    pub by: &'a [u8],
+    /// The signature nodes, if they are listed.
+    pub signatures: &'a [SignatureResult],
+}
+
 /// What a strict check says of the configurations of a FIT image whose hashes are right.
 #[derive(Clone, Copy, Debug, PartialEq, Eq)]
-pub enum Configurations {
+pub enum Configurations<'a> {
     /// They have so many nodes, as hash nodes and signatures, which are not checked.
     Unchecked(u64),
-    /// Each is signed by the keys of the check.
-    Signed,
+    /// They are signed.
+    Signed(Signed<'a>),
 }
 
 /// The result of a check. Names are those of nodes, without their NULs.
 #[derive(Clone, Copy, Debug, PartialEq, Eq)]
 pub enum Answer<'a> {
     /// The finding about the image; what a strict check of a FIT image whose hashes are right adds.
-    Found(Checked<&'a [u8]>, Option<Configurations>),
+    Found(Checked<&'a [u8]>, Option<Configurations<'a>>),
 
     /// A name has no image or configuration.
     Missing {
@@ -64,6 +76,8 @@ pub enum Answer<'a> {
         why: Looseness,
         /// The name of the node, none for a legacy image, the root and the blob.
         node: Option<&'a [u8]>,
+        /// The signature nodes, if they are listed.
+        signatures: &'a [SignatureResult],
     },
 
     /// The image is refused.

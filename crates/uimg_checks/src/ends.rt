@@ -1,14 +1,15 @@
 //! Turns the end of a check into its answer.
 
-ghost use Rattle.std.specs.Prelude.{◌≡◌, None, true, take, min, IfSome};
+ghost use Rattle.std.specs.Prelude.{◌≡◌, [], None, true, take, map, min, option_map, IfSome};
 ghost use Rattle.uimg_base.specs.{Device.SameDevice, Honest.IfHonest};
 ghost use Rattle.uimg_checks.specs.{Finding.found_at, ReferenceNames.name_in_span, References.read_missing};
 ghost use Rattle.uimg_fit_checking.specs.Checks.{named_finding};
 ghost use Rattle.uimg_strict.specs.Telling.{read_loose};
-ghost use Rattle.uimg_checks.specs.CheckEnds.{AnswersFault, AnswersLine, IsVerdict, Shows, fit_names, format_of, kept_names, offset_of};
-ghost use Rattle.uimg_checks.specs.Verdicts.{Finds, Lacks, loosens};
+ghost use Rattle.uimg_checks.specs.CheckEnds.{AnswersFault, AnswersLine, IsVerdict, Shows, fit_names, format_of, kept_names, offset_of, read_configurations};
+ghost use Rattle.uimg_checks.specs.Verdicts.{Finds, Lacks, Loosens, loosens, signed_finding};
+ghost use Rattle.uimg_verifying.specs.Results.{read_result};
 
-use crate::answer::{Answer, Configurations, Format, Stop};
+use crate::answer::{Answer, Configurations, Format, Signed, Stop};
 use crate::finding::Checked;
 use crate::references::Missing;
 use crate::statuses::{REFUSED, status_of_fault};
@@ -18,6 +19,7 @@ use uimg_base::{Source, Span};
 use uimg_engine::Fault;
 use uimg_fit_checking::Finding;
 use uimg_strict::{Loose, Looseness};
+use uimg_verifying::{Required, SignatureResult};
 
 /// The longest name of a node, in bytes.
 const NAME_LEN: usize = 255;
@@ -46,13 +48,14 @@ const NO_MEMORY: Answer<'static> = Answer::Failed(Stop {
     offset: None,
 });
 
-/// The names in an answer, and the line of a fault.
+/// The names in an answer, its signature nodes, and the line of a fault.
 #[derive(Drop)]
 pub struct Names {
     alloc: Global,
     image: [u8; NAME_LEN],
     hash: [u8; NAME_LEN],
     missing: Vec<u8>,
+    signatures: Vec<SignatureResult>,
     message: String,
 }
 
@@ -64,6 +67,7 @@ impl Names {
             image: [0; NAME_LEN],
             hash: [0; NAME_LEN],
             missing: Vec::new(alloc),
+            signatures: Vec::new(alloc),
             message: String::new(alloc),
         }
     }
@@ -98,13 +102,14 @@ pub fn answer_of_line<'a, D: Display>(
 /// The names are read from the source; if a read fails, that is the result.
 pub(crate) fn answer_of_found<'a, S: Source>(
     found: Checked<Span>,
-    configurations: Option<Configurations>,
+    configurations: Option<Configurations<'a>>,
     source: &mut S,
     names: &'a mut Names,
 ) -> Answer<'a>
     ensures same { SameDevice (S.device source.old) (S.device source.new) }
     ensures shown { IfHonest S.device source
-        (λ file. Shows result (Finds (found_at file found) configurations)) }
+        (λ file. Shows result (Finds (found_at file found)
+        (option_map read_configurations configurations.entry))) }
 {
     match found {
         Checked::Fit(finding) => answer_of_finding(finding, configurations, source, names),
@@ -117,18 +122,45 @@ pub(crate) fn answer_of_found<'a, S: Source>(
 #[tactic(auto, using(crate::proofs::VerdictLaws::unread_shows))]
 pub(crate) fn answer_of_finding<'a, S: Source>(
     finding: Finding<Span>,
-    configurations: Option<Configurations>,
+    configurations: Option<Configurations<'a>>,
     source: &mut S,
     names: &'a mut Names,
 ) -> Answer<'a>
     ensures same { SameDevice (S.device source.old) (S.device source.new) }
     ensures shown { IfHonest S.device source
-        (λ file. Shows result (Finds (Checked.Fit (named_finding file finding)) configurations)) }
+        (λ file. Shows result (Finds (Checked.Fit (named_finding file finding))
+        (option_map read_configurations configurations.entry))) }
 {
     if !read_names(finding, source, names) {
         return answer_of_fault(Fault::Read, names);
     }
     Answer::Found(Checked::Fit(named(finding, names)), configurations)
+}
+
+#[tactic(auto, using(crate::proofs::VerdictLaws::unread_shows))]
+pub(crate) fn answer_of_signed<'a, S: Source>(
+    finding: Finding<Span>,
+    required: &'a Required<'_>,
+    signatures: Vec<SignatureResult>,
+    source: &mut S,
+    names: &'a mut Names,
+) -> Answer<'a>
+    ensures same { SameDevice (S.device source.old) (S.device source.new) }
+    ensures shown { IfHonest S.device source
+        (λ file. Shows result (signed_finding required.now
+        (Checked.Fit (named_finding file finding)) (map read_result signatures.items))) }
+{
+    if !read_names(finding, source, names) {
+        return answer_of_fault(Fault::Read, names);
+    }
+    names.signatures = signatures;
+    let signed = Signed {
+        only: required.only,
+        by: required.keys.name.as_slice(),
+        signatures: names.signatures.as_slice(),
+    };
+    let found = Checked::Fit(named(finding, names));
+    Answer::Found(found, Some(Configurations::Signed(signed)))
 }
 
 #[tactic(auto, using(crate::proofs::VerdictLaws::unread_shows))]
@@ -165,15 +197,21 @@ pub(crate) fn answer_of_missing<'a, S: Source>(
 }
 
 /// The root, whose name is empty, is reported as `/`.
-pub(crate) fn answer_of_loose<'a>(loose: Loose, names: &'a mut Names) -> Answer<'a>
-    ensures { IsVerdict result (loosens (read_loose loose)) }
+pub(crate) fn answer_of_loose<'a>(
+    loose: Loose,
+    signatures: Vec<SignatureResult>,
+    names: &'a mut Names,
+) -> Answer<'a>
+    ensures { IsVerdict result (loosens (map read_result signatures.items) (read_loose loose)) }
 {
     let Loose { why, node } = loose;
+    names.signatures = signatures;
     let Some(name) = node else {
         return Answer::Loose {
             format: Format::Fit,
             why,
             node: None,
+            signatures: names.signatures.as_slice(),
         };
     };
     names.missing = name;
@@ -182,16 +220,18 @@ pub(crate) fn answer_of_loose<'a>(loose: Loose, names: &'a mut Names) -> Answer<
         format: Format::Fit,
         why,
         node: Some(if node.is_empty() { b"/" } else { node }),
+        signatures: names.signatures.as_slice(),
     }
 }
 
 pub(crate) fn answer_of_header<'a>(why: Looseness) -> Answer<'a>
-    ensures { result ≡ Answer.Loose Format.Legacy why None }
+    ensures { IsVerdict result (Loosens Format.Legacy why None []) }
 {
     Answer::Loose {
         format: Format::Legacy,
         why,
         node: None,
+        signatures: &[],
     }
 }
 

@@ -1,21 +1,21 @@
 //! Answers a check of a source, and checks strictly what was found to be right.
 
-ghost use Rattle.std.specs.Prelude.{◌≡◌, ◌-◌, ◌^◌, ℕ, List, Some, min, length};
+ghost use Rattle.std.specs.Prelude.{◌≡◌, ◌-◌, ◌^◌, ℕ, List, map, min, length};
 ghost use Rattle.std.specs.List.{sum_by};
 ghost use Rattle.uimg_base.specs.{Device.SameDevice, Honest.IfHonest};
-ghost use Rattle.uimg_checks.specs.declared.answer.Configurations.TheVariants.{Signed};
 ghost use Rattle.uimg_checks.specs.Finding.{found_at, told_at};
 ghost use Rattle.uimg_checks.specs.declared.finding.Checked.{Checked};
 ghost use Rattle.uimg_fit_checking.specs.Checks.{named_finding};
 ghost use Rattle.uimg_checks.specs.CheckEnds.{IsVerdict, Shows};
 ghost use Rattle.uimg_checks.specs.StrictEnds.{TellsFurther};
-ghost use Rattle.uimg_checks.specs.Verdicts.{Finds, covered_or, fit_verdict, header_verdict, is_right, signed_verdict, strict_verdict, unsigned_or, verdict_by, verdict_of};
+ghost use Rattle.uimg_checks.specs.Verdicts.{Finds, covered_or, fit_verdict, header_verdict, is_right, listed, signed_finding, signed_verdict, strict_verdict, unsigned_or, verdict_by, verdict_of};
 ghost use Rattle.uimg_strict.specs.Headers.{loose_legacy};
+ghost use Rattle.uimg_verifying.specs.{Configurations.Tells, Results.read_result};
 
 use crate::answer::{Answer, Configurations};
 use crate::ends::{
     CHANGED, Names, answer_of_fault, answer_of_finding, answer_of_found, answer_of_header,
-    answer_of_loose, answer_of_missing,
+    answer_of_loose, answer_of_missing, answer_of_signed,
 };
 use crate::finding::{Checked, check};
 use crate::references::{Missing, find_missing};
@@ -23,36 +23,41 @@ use std::alloc::Global;
 use uimg_base::{Algo, Room, Source, Span};
 use uimg_engine::Fault;
 use uimg_fit_checking::{ConfigurationFacts, Finding, SurveyFault, survey};
-use uimg_keys::Keys;
 use uimg_strict::{Loose, Looseness, find_loose, find_loose_header};
-use uimg_verifying::{find_uncovered, find_unsigned};
+use uimg_verifying::{Required, SignatureResult, find_uncovered, find_unsigned, signature_results};
 
 /// What is asked of an image.
 #[derive(Drop)]
-pub struct Terms {
+pub struct Terms<'a> {
     /// The weakest algorithm that is enough, if one is needed.
     pub need: Option<Algo>,
 
     /// Whether the image is checked strictly.
     pub is_strict: bool,
 
-    /// The keys by which a strict check requires each configuration to be signed, if there are any.
-    pub keys: Option<Keys>,
+    /// What a strict check requires of signatures, if anything.
+    pub required: Option<Required<'a>>,
 
-    /// Whether, with keys, each image must be named by a configuration, too, so that it is signed.
+    /// Whether then each image must be named by a configuration, too, so that it is signed.
     pub covers_images: bool,
+
+    /// Whether the answer then lists the signature nodes.
+    pub lists: bool,
 }
 
 // What is found in a FIT image whose hashes are right.
-enum Further {
-    // Something that strictness refuses.
-    Loose(Loose),
+enum Further<'a> {
+    // Something that strictness refuses, and the signature nodes that are listed.
+    Loose(Loose, Vec<SignatureResult>),
 
     // A name without a node.
     Missing(Missing),
 
-    // Nothing.
-    Right(Configurations),
+    // Nothing. The configurations have so many nodes, which are not checked.
+    Unchecked(u64),
+
+    // Nothing, and what is required is signed. The signature nodes that are listed.
+    Signed(&'a Required<'a>, Vec<SignatureResult>),
 }
 
 /// Checks an image over any source. The answer shows the verdict about the bytes of the source, or that
@@ -60,7 +65,7 @@ enum Further {
 #[tactic(auto, using(crate::proofs::VerdictLaws::check_shown))]
 pub fn answer_of_source<'a, S: Source>(
     alloc: Global,
-    terms: &Terms,
+    terms: &'a Terms<'_>,
     source: &mut S,
     room: &mut Room<Global>,
     names: &'a mut Names,
@@ -74,7 +79,7 @@ pub fn answer_of_source<'a, S: Source>(
 
 fn answer_of_check<'a, S: Source>(
     alloc: Global,
-    terms: &Terms,
+    terms: &'a Terms<'_>,
     end: Result<Checked<Span>, Fault>,
     source: &mut S,
     room: &mut Room<Global>,
@@ -97,7 +102,7 @@ fn answer_of_check<'a, S: Source>(
 
 fn answer_strictly<'a, S: Source>(
     alloc: Global,
-    terms: &Terms,
+    terms: &'a Terms<'_>,
     found: Checked<Span>,
     source: &mut S,
     room: &mut Room<Global>,
@@ -111,14 +116,14 @@ fn answer_strictly<'a, S: Source>(
         Checked::Fit(finding) => answer_fit_strictly(alloc, terms, finding, source, room, names),
         Checked::Right => answer_of_legacy(terms, source, names),
         Checked::Damaged => Answer::Found(Checked::Damaged, None),
-        Checked::Weak => Answer::Found(Checked::Weak, None),
+        Checked::Weak => answer_of_weak(terms),
     }
 }
 
 #[tactic(auto, using(crate::proofs::StrictLaws::right_shown, crate::proofs::StrictLaws::other_shown))]
 fn answer_fit_strictly<'a, S: Source>(
     alloc: Global,
-    terms: &Terms,
+    terms: &'a Terms<'_>,
     finding: Finding<Span>,
     source: &mut S,
     room: &mut Room<Global>,
@@ -147,7 +152,7 @@ fn is_right(finding: Finding<Span>) -> bool
 // The result is the finding, unless a strict check refuses the image.
 fn answer_of_fit<'a, S: Source>(
     alloc: Global,
-    terms: &Terms,
+    terms: &'a Terms<'_>,
     finding: Finding<Span>,
     source: &mut S,
     room: &mut Room<Global>,
@@ -158,27 +163,33 @@ fn answer_of_fit<'a, S: Source>(
         Shows result (fit_verdict terms.now file (Checked.Fit (named_finding file finding)))) }
 {
     match look_further(alloc, terms, source, room) {
-        Ok(Further::Loose(loose)) => answer_of_loose(loose, names),
+        Ok(Further::Loose(loose, signatures)) => answer_of_loose(loose, signatures, names),
         Ok(Further::Missing(missing)) => answer_of_missing(missing, source, names),
-        Ok(Further::Right(it)) => answer_of_finding(finding, Some(it), source, names),
+        Ok(Further::Unchecked(nodes)) => {
+            let found = Some(Configurations::Unchecked(nodes));
+            answer_of_finding(finding, found, source, names)
+        }
+        Ok(Further::Signed(required, signatures)) => {
+            answer_of_signed(finding, required, signatures, source, names)
+        }
         Err(SurveyFault::Stopped(fault)) => answer_of_fault(Fault::from(fault), names),
         Err(SurveyFault::OutOfMemory) => answer_of_fault(Fault::OutOfMemory, names),
         Err(SurveyFault::Changed) => CHANGED,
     }
 }
 
-fn look_further<S: Source>(
+fn look_further<'a, S: Source>(
     alloc: Global,
-    terms: &Terms,
+    terms: &'a Terms<'_>,
     source: &mut S,
     room: &mut Room<Global>,
-) -> Result<Further, SurveyFault>
+) -> Result<Further<'a>, SurveyFault>
     ensures same { SameDevice (S.device source.old) (S.device source.new) }
     ensures told { IfHonest S.device source (λ file. (found : Checked (List ℕ)) →
         TellsFurther (fit_verdict terms.now file found) file found result) }
 {
     if let Some(loose) = find_loose(alloc, source, room)? {
-        return Ok(Further::Loose(loose));
+        return Ok(Further::Loose(loose, Vec::new(alloc)));
     }
     let facts = survey(alloc, source, room)?;
     if let Some(missing) = find_missing(alloc, source, &facts)? {
@@ -189,43 +200,72 @@ fn look_further<S: Source>(
 }
 
 // The configurations have so many nodes.
-fn look_signed<S: Source>(
+fn look_signed<'a, S: Source>(
     alloc: Global,
-    terms: &Terms,
+    terms: &'a Terms<'_>,
     nodes: u64,
     source: &mut S,
     room: &mut Room<Global>,
-) -> Result<Further, SurveyFault>
+) -> Result<Further<'a>, SurveyFault>
     ensures same { SameDevice (S.device source.old) (S.device source.new) }
     ensures told { IfHonest S.device source (λ file. (found : Checked (List ℕ)) →
         TellsFurther (signed_verdict terms.now file found nodes) file found result) }
 {
-    let Some(keys) = &terms.keys else {
-        return Ok(Further::Right(Configurations::Unchecked(nodes)));
+    let Some(required) = &terms.required else {
+        return Ok(Further::Unchecked(nodes));
     };
-    match find_unsigned(alloc, keys, source, room)? {
-        Some(loose) => Ok(Further::Loose(loose)),
-        None => look_covered(alloc, terms.covers_images, source, room),
+    let signatures = list_signatures(alloc, terms.lists, required, source, room)?;
+    match find_unsigned(alloc, required, source, room)? {
+        Some(loose) => Ok(Further::Loose(loose, signatures)),
+        None => look_covered(
+            alloc,
+            terms.covers_images,
+            required,
+            signatures,
+            source,
+            room,
+        ),
     }
 }
 
-// Each configuration is signed.
-fn look_covered<S: Source>(
+// Returns the signature nodes, if they are to be listed.
+fn list_signatures<S: Source>(
     alloc: Global,
-    covers: bool,
+    lists: bool,
+    required: &Required<'_>,
     source: &mut S,
     room: &mut Room<Global>,
-) -> Result<Further, SurveyFault>
+) -> Result<Vec<SignatureResult>, SurveyFault>
+    ensures same { SameDevice (S.device source.old) (S.device source.new) }
+    ensures told { IfHonest S.device source (λ file. Tells
+        (λ all. map read_result all.items) (listed lists required.now file) result) }
+{
+    if !lists {
+        return Ok(Vec::new(alloc));
+    }
+    signature_results(alloc, required, source, room)
+}
+
+// What is required is signed.
+fn look_covered<'a, S: Source>(
+    alloc: Global,
+    covers: bool,
+    required: &'a Required<'_>,
+    signatures: Vec<SignatureResult>,
+    source: &mut S,
+    room: &mut Room<Global>,
+) -> Result<Further<'a>, SurveyFault>
     ensures same { SameDevice (S.device source.old) (S.device source.new) }
     ensures told { IfHonest S.device source (λ file. (found : Checked (List ℕ)) →
-        TellsFurther (covered_or covers file (Finds found (Some Signed))) file found result) }
+        TellsFurther (covered_or covers file (signed_finding required.now found
+        (map read_result signatures.items))) file found result) }
 {
     if !covers {
-        return Ok(Further::Right(Configurations::Signed));
+        return Ok(Further::Signed(required, signatures));
     }
     match find_uncovered(alloc, source, room)? {
-        Some(loose) => Ok(Further::Loose(loose)),
-        None => Ok(Further::Right(Configurations::Signed)),
+        Some(loose) => Ok(Further::Loose(loose, Vec::new(alloc))),
+        None => Ok(Further::Signed(required, signatures)),
     }
 }
 
@@ -240,13 +280,13 @@ fn count_nodes(configurations: &[ConfigurationFacts]) -> u64
 }
 
 fn answer_of_legacy<'a, S: Source>(
-    terms: &Terms,
+    terms: &'a Terms<'_>,
     source: &mut S,
     names: &'a mut Names,
 ) -> Answer<'a>
     ensures same { SameDevice (S.device source.old) (S.device source.new) }
     ensures shown { IfHonest S.device source
-        (λ file. Shows result (header_verdict terms.now.keys (loose_legacy file))) }
+        (λ file. Shows result (header_verdict terms.now.required (loose_legacy file))) }
 {
     match find_loose_header(source) {
         Ok(Some(why)) => answer_of_header(why),
@@ -255,11 +295,21 @@ fn answer_of_legacy<'a, S: Source>(
     }
 }
 
-// A legacy image has no signature.
-fn answer_of_right<'a>(terms: &Terms) -> Answer<'a>
-    ensures { IsVerdict result (unsigned_or terms.now.keys (Finds Checked.Right None)) }
+// A legacy image has no signature, however strong a digest is needed.
+fn answer_of_weak<'a>(terms: &Terms<'_>) -> Answer<'a>
+    ensures { IsVerdict result (unsigned_or terms.now.required (Finds Checked.Weak None)) }
 {
-    match &terms.keys {
+    match &terms.required {
+        Some(_) => answer_of_header(Looseness::Unsigned),
+        None => Answer::Found(Checked::Weak, None),
+    }
+}
+
+// A legacy image has no signature.
+fn answer_of_right<'a>(terms: &Terms<'_>) -> Answer<'a>
+    ensures { IsVerdict result (unsigned_or terms.now.required (Finds Checked.Right None)) }
+{
+    match &terms.required {
         Some(_) => answer_of_header(Looseness::Unsigned),
         None => Answer::Found(Checked::Right, None),
     }

@@ -10,9 +10,10 @@ mod judging;
 mod line;
 mod object;
 mod references;
+mod signatures;
 mod statuses;
 
-pub use answer::{Answer, Configurations, Format, Stop};
+pub use answer::{Answer, Configurations, Format, Signed, Stop};
 pub use counting::count_in_memory;
 pub use ends::{CHANGED, NOT_UTF8, Names, answer_of_fault, answer_of_line};
 pub use finding::{Checked, check};

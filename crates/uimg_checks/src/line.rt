@@ -4,9 +4,9 @@ ghost use Rattle.std.specs.Prelude.{◌≡◌, ◌++◌, Some, codes, true, IfOk
 ghost use Rattle.std.specs.String.{string_bytes};
 ghost use Rattle.uimg_printing.specs.Printing.{is_shown};
 ghost use Rattle.std.specs.Fmt.{WritesOnOk};
-ghost use Rattle.uimg_checks.specs.Lines.{configurations_if, configurations_text, nodes_text, some_unchecked, spaced_name, named_if, finding_details, found_details, details_of, answer_line, own_text};
+ghost use Rattle.uimg_checks.specs.Lines.{by_text, configurations_if, configurations_text, signed_text, nodes_text, some_unchecked, spaced_name, named_if, finding_details, found_details, details_of, answer_line, own_text};
 
-use crate::answer::{Answer, Configurations};
+use crate::answer::{Answer, Configurations, Signed};
 use crate::finding::Checked;
 use std::alloc::{AllocError, Global};
 use std::fmt;
@@ -52,11 +52,11 @@ fn put_details<W: Write>(answer: &Answer<'_>, f: &mut Formatter<W>) -> fmt::Resu
 
 fn put_found<W: Write>(
     found: Checked<&[u8]>,
-    configurations: Option<Configurations>,
+    configurations: Option<Configurations<'_>>,
     f: &mut Formatter<W>,
 ) -> fmt::Result
     ensures { WritesOnOk W.Write.write_str_gives f.old result
-        (found_details found.entry configurations) f.new }
+        (found_details found.entry configurations.entry) f.new }
 {
     match found {
         Checked::Fit(finding) => put_finding(finding, configurations, f),
@@ -68,11 +68,11 @@ fn put_found<W: Write>(
 
 fn put_finding<W: Write>(
     finding: Finding<&[u8]>,
-    configurations: Option<Configurations>,
+    configurations: Option<Configurations<'_>>,
     f: &mut Formatter<W>,
 ) -> fmt::Result
     ensures { WritesOnOk W.Write.write_str_gives f.old result
-        (finding_details finding.entry configurations) f.new }
+        (finding_details finding.entry configurations.entry) f.new }
 {
     match finding {
         Finding::Right { images, hashes } => {
@@ -92,11 +92,11 @@ fn put_finding<W: Write>(
 fn put_counts<W: Write>(
     images: u64,
     hashes: u64,
-    configurations: Option<Configurations>,
+    configurations: Option<Configurations<'_>>,
     f: &mut Formatter<W>,
 ) -> fmt::Result
     ensures { WritesOnOk W.Write.write_str_gives f.old result
-        (finding_details (Finding.Right images hashes) configurations) f.new }
+        (finding_details (Finding.Right images hashes) configurations.entry) f.new }
 {
     let payloads = Counted {
         count: images,
@@ -115,13 +115,33 @@ fn put_counts<W: Write>(
     }
 }
 
-fn put_configurations<W: Write>(it: Configurations, f: &mut Formatter<W>) -> fmt::Result
-    ensures { WritesOnOk W.Write.write_str_gives f.old result (configurations_text it) f.new }
+fn put_configurations<W: Write>(it: Configurations<'_>, f: &mut Formatter<W>) -> fmt::Result
+    ensures { WritesOnOk W.Write.write_str_gives f.old result (configurations_text it.entry) f.new }
 {
     match it {
         Configurations::Unchecked(count) => put_unchecked(count, f),
-        Configurations::Signed => f.write_str(", all configurations signed"),
+        Configurations::Signed(signed) => put_signed(signed, f),
     }
+}
+
+fn put_signed<W: Write>(signed: Signed<'_>, f: &mut Formatter<W>) -> fmt::Result
+    ensures { WritesOnOk W.Write.write_str_gives f.old result (signed_text signed.entry) f.new }
+{
+    match signed.only {
+        Some(name) => write!(f, ", configuration {} signed", PrintedWord(name))?,
+        None => f.write_str(", all configurations signed")?,
+    }
+    put_by(signed.by, f)
+}
+
+#[tactic(auto, unfolding(crate::specs::Lines::by_text))]
+fn put_by<W: Write>(by: &[u8], f: &mut Formatter<W>) -> fmt::Result
+    ensures { WritesOnOk W.Write.write_str_gives f.old result (by_text by.now) f.new }
+{
+    if by.is_empty() {
+        return Ok(());
+    }
+    write!(f, " by {}", Printed(by))
 }
 
 fn put_nodes<W: Write>(count: u64, f: &mut Formatter<W>) -> fmt::Result

@@ -8,14 +8,16 @@ ghost use Rattle.json.specs.Tree.{json_tokens};
 ghost use Rattle.uimg_printing.specs.Members.{tokens_of, string_member, text_members};
 ghost use Rattle.uimg_printing.specs.Objects.{is_one_line};
 ghost use Rattle.uimg_printing.specs.Steps.{Appends};
-ghost use Rattle.uimg_checks.specs.Objects.{format_name, format_if, string_if, name_if, found_format, format_of, stop_members, about_configurations, configurations_if, about_fit, about_found, about, first_members, check_json};
+ghost use Rattle.uimg_checks.specs.Objects.{format_name, format_if, string_if, name_if, found_format, format_of, stop_members, about_configurations, about_loose, about_signed, only_members, configurations_if, about_fit, about_found, about, first_members, check_json};
 
-use crate::answer::{Answer, Configurations, Format, Stop};
+use crate::answer::{Answer, Configurations, Format, Signed, Stop};
 use crate::finding::Checked;
+use crate::signatures::put_signatures_if;
 use json::Writer;
 use std::alloc::{AllocError, Global};
 use uimg_fit_checking::Finding;
 use uimg_printing::{put_number, put_number_if, put_string, put_text};
+use uimg_verifying::SignatureResult;
 
 impl Format {
     fn name(self) -> &'static str
@@ -90,39 +92,63 @@ fn put_stop(writer: &mut Writer, stop: Stop<'_>) -> Result<(), AllocError>
 }
 
 fn put_counts(
+    alloc: Global,
     writer: &mut Writer,
     images: u64,
     hashes: u64,
-    configurations: Option<Configurations>,
+    configurations: Option<Configurations<'_>>,
 ) -> Result<(), AllocError>
     ensures { Appends result writer.old writer.new
-        (tokens_of (about_fit (Finding.Right images hashes) configurations)) }
+        (tokens_of (about_fit (Finding.Right images hashes) configurations.entry)) }
 {
     put_number(writer, "images", images)?;
     put_number(writer, "hashes", hashes)?;
-    put_configurations_if(writer, configurations)?;
+    put_configurations_if(alloc, writer, configurations)?;
     Ok(())
 }
 
 fn put_configurations_if(
+    alloc: Global,
     writer: &mut Writer,
-    configurations: Option<Configurations>,
+    configurations: Option<Configurations<'_>>,
 ) -> Result<(), AllocError>
-    ensures { Appends result writer.old writer.new (tokens_of (configurations_if configurations)) }
+    ensures { Appends result writer.old writer.new
+        (tokens_of (configurations_if configurations.entry)) }
 {
     match configurations {
-        Some(it) => put_configurations(writer, it),
+        Some(it) => put_configurations(alloc, writer, it),
         None => Ok(()),
     }
 }
 
-fn put_configurations(writer: &mut Writer, it: Configurations) -> Result<(), AllocError>
-    ensures { Appends result writer.old writer.new (tokens_of (about_configurations it)) }
+fn put_configurations(
+    alloc: Global,
+    writer: &mut Writer,
+    it: Configurations<'_>,
+) -> Result<(), AllocError>
+    ensures { Appends result writer.old writer.new (tokens_of (about_configurations it.entry)) }
 {
     match it {
         Configurations::Unchecked(count) => put_number(writer, "unchecked", count),
-        Configurations::Signed => put_string(writer, "configurations", "signed"),
+        Configurations::Signed(signed) => put_signed(alloc, writer, signed),
     }
+}
+
+fn put_only(alloc: Global, writer: &mut Writer, only: Option<&[u8]>) -> Result<(), AllocError>
+    ensures { Appends result writer.old writer.new (tokens_of (only_members only.entry)) }
+{
+    match only {
+        Some(name) => put_text(alloc, writer, "signed", name),
+        None => put_string(writer, "configurations", "signed"),
+    }
+}
+
+fn put_signed(alloc: Global, writer: &mut Writer, signed: Signed<'_>) -> Result<(), AllocError>
+    ensures { Appends result writer.old writer.new (tokens_of (about_signed signed.entry)) }
+{
+    put_only(alloc, writer, signed.only)?;
+    put_signatures_if(alloc, writer, signed.signatures)?;
+    Ok(())
 }
 
 fn put_missing(
@@ -160,13 +186,14 @@ fn put_fit(
     alloc: Global,
     writer: &mut Writer,
     finding: Finding<&[u8]>,
-    configurations: Option<Configurations>,
+    configurations: Option<Configurations<'_>>,
 ) -> Result<(), AllocError>
-    ensures { Appends result writer.old writer.new (tokens_of (about_fit finding.entry configurations)) }
+    ensures { Appends result writer.old writer.new
+        (tokens_of (about_fit finding.entry configurations.entry)) }
 {
     match finding {
         Finding::Right { images, hashes } => {
-            put_counts(writer, images as u64, hashes as u64, configurations)
+            put_counts(alloc, writer, images as u64, hashes as u64, configurations)
         }
         Finding::Unhashed(image) | Finding::Weak(image) | Finding::Overlapping(image) => {
             put_text(alloc, writer, "image", image)
@@ -180,9 +207,10 @@ fn put_found(
     alloc: Global,
     writer: &mut Writer,
     found: Checked<&[u8]>,
-    configurations: Option<Configurations>,
+    configurations: Option<Configurations<'_>>,
 ) -> Result<(), AllocError>
-    ensures { Appends result writer.old writer.new (tokens_of (about_found found.entry configurations)) }
+    ensures { Appends result writer.old writer.new
+        (tokens_of (about_found found.entry configurations.entry)) }
 {
     match found {
         Checked::Fit(finding) => put_fit(alloc, writer, finding, configurations),
@@ -190,6 +218,20 @@ fn put_found(
         Checked::Damaged => Ok(()),
         Checked::Weak => put_string(writer, "algo", "crc32"),
     }
+}
+
+fn put_loose(
+    alloc: Global,
+    writer: &mut Writer,
+    node: Option<&[u8]>,
+    signatures: &[SignatureResult],
+) -> Result<(), AllocError>
+    ensures { Appends result writer.old writer.new
+        (tokens_of (about_loose node.entry signatures.now)) }
+{
+    put_name_if(alloc, writer, "node", node)?;
+    put_signatures_if(alloc, writer, signatures)?;
+    Ok(())
 }
 
 fn put_about(alloc: Global, writer: &mut Writer, answer: &Answer<'_>) -> Result<(), AllocError>
@@ -202,7 +244,11 @@ fn put_about(alloc: Global, writer: &mut Writer, answer: &Answer<'_>) -> Result<
             property,
             name,
         } => put_missing(alloc, writer, configuration, property, name),
-        Answer::Loose { node, .. } => put_name_if(alloc, writer, "node", node),
+        Answer::Loose {
+            node,
+            signatures,
+            ..
+        } => put_loose(alloc, writer, node, signatures),
         Answer::Refused(stop) | Answer::Failed(stop) => put_stop(writer, stop),
     }
 }

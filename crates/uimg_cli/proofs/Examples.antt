@@ -8,6 +8,7 @@ use Rattle.uimg_cli.specs.Check.{check}
 use Rattle.uimg_cli.specs.CommandLines.{uimg, words_asked}
 use Rattle.uimg_cli.specs.Dumpimage.{dumpimage}
 use Rattle.uimg_cli.specs.Info.{info}
+use Rattle.uimg_cli.specs.KeyRequests.{named_path}
 use Rattle.uimg_cli.specs.Makings.{parts, plain_making, source}
 use Rattle.uimg_cli.specs.Map.{map_command}
 use Rattle.uimg_cli.specs.Mkimage.{header_rules, mkimage, source_rules}
@@ -15,15 +16,15 @@ use Rattle.uimg_cli.specs.Runs.{plain_run}
 use Rattle.uimg_cli.specs.Unpack.{chosen_rules, unpack, written_rules}
 use Rattle.uimg_cli.specs.Verify.{verify}
 use Rattle.uimg_cli.specs.Wanted.{Wanted, checks, informs, makes, maps, runs, shows, unpacks}
-use Rattle.uimg_cli.specs.Wrong.{Wrong, bad_number, data_with_source, flat_dt_needs_source, no_command, no_data_or_source, no_list_or_outfile, not_number, unknown_algo, unknown_name}
+use Rattle.uimg_cli.specs.Wrong.{Wrong, bad_number, data_with_source, flat_dt_needs_source, no_command, no_data_or_source, no_key, no_list_or_outfile, not_number, unknown_algo, unknown_name}
 use Rattle.uimg_fit_base.specs.declared.placement.Placement.TheVariants.{At}
 use Rattle.uimg_legacy.specs.{Header.padded_name, Parts.has_parts}
 use Rattle.uimg_requests.specs.declared.command.Action.TheVariants as action
 use Rattle.uimg_requests.specs.declared.command.Form.TheVariants as form
-use Rattle.uimg_sums.specs.declared.algo.Algo.TheVariants.{Crc32, Sha256}
+use Rattle.uimg_sums.specs.declared.algo.Algo.TheVariants.{Crc32, Sha1, Sha256}
 
 unfoldable pub uimg_on_literals : ⊤
-unfolding has_parts uimg check dumpimage info map_command mkimage header_rules source_rules unpack chosen_rules written_rules verify
+unfolding has_parts uimg named_path check dumpimage info map_command mkimage header_rules source_rules unpack chosen_rules written_rules verify
 uimg_on_literals = tt
 
 abbrev asked : List Text → List (Result Wanted Wrong)
@@ -113,6 +114,20 @@ a_check : asked (codes "check" ∷ codes "--strict" ∷ codes "a.itb" ∷ codes 
     ≡ Ok (checks (record { need = Some Crc32; is_strict = true; key = None; images = codes "a.itb" ∷ codes "b.itb" ∷ []; files_from = None; has_nuls = false; as_json = true; is_quiet = false; allows_none = false })) ∷ []
 unfolding clap_on_literals uimg_on_literals
 a_check = refl
+
+by_a_key : asked (codes "check" ∷ codes "--key" ∷ codes "dev=keys/dev.pem" ∷ codes "--config=a" ∷ codes "a.itb" ∷ [])
+    ≡ Ok (checks (record { need = Some Sha256; is_strict = true; key = Some (record { path = codes "keys/dev.pem"; name = Some (codes "dev"); config = Some (codes "a"); takes_sha1 = false }); images = codes "a.itb" ∷ []; files_from = None; has_nuls = false; as_json = false; is_quiet = false; allows_none = false })) ∷ []
+unfolding clap_on_literals uimg_on_literals
+by_a_key = refl
+
+a_path_of_keys : asked (codes "unpack" ∷ codes "--key=./a=b.pem" ∷ codes "--allow-sha1" ∷ codes "a.itb" ∷ [])
+    ≡ Ok (unpacks (record { folder = codes "."; only = None; need = Some Sha1; key = Some (record { path = codes "./a=b.pem"; name = None; config = None; takes_sha1 = true }); is_forced = false; keeps_good = false; is_synced = true; as_json = false; cleans = false; most_files = 4096; most_bytes = None; image = Some (codes "a.itb") })) ∷ []
+unfolding clap_on_literals uimg_on_literals
+a_path_of_keys = refl
+
+without_a_key : asked (codes "check" ∷ codes "--config=a" ∷ codes "a.itb" ∷ []) ≡ Err (no_key (codes "config")) ∷ []
+unfolding clap_on_literals uimg_on_literals
+without_a_key = refl
 
 an_unpacking : asked (codes "unpack" ∷ codes "-C" ∷ codes "out" ∷ codes "--need-hash=sha256" ∷ codes "--max-files" ∷ codes "9" ∷ codes "a.itb" ∷ [])
     ≡ Ok (unpacks (record { folder = codes "out"; only = None; need = Some Sha256; key = None; is_forced = false; keeps_good = false; is_synced = true; as_json = false; cleans = false; most_files = 9; most_bytes = None; image = Some (codes "a.itb") })) ∷ []

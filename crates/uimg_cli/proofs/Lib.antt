@@ -2,6 +2,7 @@ pub mod Chains
 pub mod EnteringLaws
 pub mod Examples
 pub mod ImageLaws
+pub mod KeyLaws
 pub mod MakingLaws
 pub mod Numbers
 pub mod ReadingLaws

@@ -3,6 +3,7 @@ pub mod CommandLines
 pub mod Dumpimage
 pub mod FaultTexts
 pub mod Info
+pub mod KeyRequests
 pub mod Makings
 pub mod Map
 pub mod Mkimage

@@ -1,8 +1,9 @@
 -- The arguments of `unpack`.
-use Rattle.std.specs.Prelude.{ℕ, Bool, not, ◌&&◌, List, [], ◌∷◌, Option, Some, None, Result, Ok, Err, codes, if◌then◌else◌, is_none, is_some, option_map, unwrap_or}
+use Rattle.std.specs.Prelude.{ℕ, Bool, not, ◌&&◌, List, [], ◌∷◌, Option, Some, None, Result, Ok, Err, codes, false, if◌then◌else◌, is_none, option_map, unwrap_or}
 use Rattle.std.specs.Option.{option_map_or}
 use Rattle.clap.specs.Simple.{App, new_app, new_rule}
 use Rattle.clap.specs.Walk.{Row, Rule, Text, first_of, is_empty}
+use Rattle.uimg_cli.specs.KeyRequests.{Keying, key_asked, keying_of, without_key}
 use Rattle.uimg_cli.specs.Needs.{least_need, need_asked}
 use Rattle.uimg_cli.specs.Readings.{count_of, is_set, or_wrong, text_or}
 use Rattle.uimg_cli.specs.Rules.{long_rule, switch_rule, value_rule, with_rules}
@@ -17,7 +18,12 @@ need_rule = record (long_rule (codes "need")) { aliases = codes "need-hash" ∷ 
 -- the options of what is unpacked
 unfoldable pub chosen_rules : List Rule
 chosen_rules =
-    value_rule (codes "folder") 67 ∷ long_rule (codes "only") ∷ need_rule ∷ long_rule (codes "key") ∷ []
+    value_rule (codes "folder") 67
+    ∷ long_rule (codes "only")
+    ∷ need_rule
+    ∷ long_rule (codes "key")
+    ∷ switch_rule (codes "allow-sha1")
+    ∷ []
 
 -- the options of how files are written, and of how many
 unfoldable pub written_rules : List Rule
@@ -29,8 +35,8 @@ written_rules =
     ∷ long_rule (codes "max-bytes")
     ∷ []
 
--- unpack [-C FOLDER] [--only NAME] [--need ALGO] [--key FILE] [--force] [--keep-good] [--no-sync]
--- [--max-files NUMBER] [--max-bytes NUMBER] [--json] [--clean] [IMAGE]
+-- unpack [-C FOLDER] [--only NAME] [--need ALGO] [--key [NAME=]FILE] [--allow-sha1] [--force]
+-- [--keep-good] [--no-sync] [--max-files NUMBER] [--max-bytes NUMBER] [--json] [--clean] [IMAGE]
 unfoldable pub unpack : App
 unpack = with_rules (
     switch_rule (codes "json")
@@ -42,7 +48,7 @@ pub record Unpacking : Type 0 where
   pub folder : Text
   pub only : Option Text
   pub need : Option Algo
-  pub key : Option Text
+  pub key : Option Keying
   pub is_forced : Bool
   pub keeps_good : Bool
   pub is_synced : Bool
@@ -57,7 +63,7 @@ unpacking_of request = record {
   folder = request.folder.now;
   only = option_map (λ name. name.now) request.only;
   need = request.need;
-  key = option_map (λ path. path.now) request.key;
+  key = option_map keying_of request.key;
   is_forced = request.is_forced;
   keeps_good = request.keeps_good;
   is_synced = request.is_synced;
@@ -77,13 +83,12 @@ count_by id (Some text) =
 abbrev pub count_asked : Text → List Row → Result (Option ℕ) Wrong
 count_asked id rows = count_by id (first_of id rows)
 
--- with keys, as a strict check needs it
 abbrev pub unpacking_by : List Row → Option Algo → Option ℕ → Option ℕ → Unpacking
 unpacking_by rows need files bytes = record {
   folder = text_or (codes "folder") rows (codes ".");
   only = first_of (codes "only") rows;
-  need = least_need (is_some (first_of (codes "key") rows)) need;
-  key = first_of (codes "key") rows;
+  need = least_need rows false need;
+  key = key_asked rows None;
   is_forced = is_set (codes "force") rows;
   keeps_good = is_set (codes "keep-good") rows;
   is_synced = not (is_set (codes "no-sync") rows);
@@ -94,13 +99,14 @@ unpacking_by rows need files bytes = record {
   image = first_of (codes "image") rows;
 }
 
--- What excludes what: a folder has a name, there is an image or --clean, and --clean has no JSON.
+-- What excludes what: a folder has a name, there is an image or --clean, --clean has no JSON, and
+-- SHA-1 is allowed of keys alone.
 abbrev pub clash : List Row → Option Wrong
 clash rows = if is_empty (text_or (codes "folder") rows (codes ".")) then Some no_folder
     else (if is_none (first_of (codes "image") rows) && not (is_set (codes "clean") rows)
     then Some no_images
     else (if is_set (codes "json") rows && is_set (codes "clean") rows then Some cleans_with_json
-    else None))
+    else without_key rows None))
 
 abbrev pub unpacking_limited : List Row → Option Algo → Result Unpacking Wrong
 unpacking_limited rows need = and_then (count_asked (codes "max-files") rows) (λ files.

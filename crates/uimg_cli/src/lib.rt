@@ -4,5 +4,6 @@
 mod command_line;
 
 pub use command_line::{
-    Asked, CheckRequest, InfoRequest, MapRequest, Request, UnpackRequest, WordsFault, read_words,
+    Asked, CheckRequest, InfoRequest, KeyRequest, MapRequest, Request, UnpackRequest, WordsFault,
+    read_words,
 };

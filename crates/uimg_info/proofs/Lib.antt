@@ -6,5 +6,6 @@ mod ObjectLaws
 mod PieceLaws
 mod PlacingLaws
 mod PropertyLaws
+mod SignatureLaws
 mod SoundLaws
 mod WorkLaws

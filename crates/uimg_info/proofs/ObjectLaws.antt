@@ -7,10 +7,10 @@ use Rattle.uimg_fit_base.specs.declared.fault.FitFault.{FitFault}
 use Rattle.uimg_fit_checking.specs.Survey.{Said, ImageSaid, ConfigurationSaid}
 use Rattle.uimg_fit_reading.specs.PayloadPlaces.{place_said}
 use Rattle.uimg_printing.specs.Members.{Member, array_of, items_of, number_member, string_member}
-use Rattle.uimg_info.specs.{Members.facts_members, declared.reservations.Reservation.Reservation}
+use Rattle.uimg_info.specs.{Members.{Fact, facts_members}, declared.reservations.Reservation.Reservation}
 use Rattle.uimg_info.specs.Reservations.{reservation_json, reservations_members}
 use Rattle.uimg_printing.proofs.LineLaws as line
-use Rattle.uimg_info.specs.Fit.{hash_facts, image_facts, configuration_facts, node_facts, node_json, property_json, root_facts, root_members, place_members, hash_json, configuration_json, configurations_json, image_json, head_members, fit_json}
+use Rattle.uimg_info.specs.Fit.{hash_facts, image_facts, configuration_facts, node_facts, node_json, property_json, root_facts, root_members, place_members, hash_json, configuration_json, configurations_json, image_json, head_members, signature_json, signatures_members, fit_json}
 use Rattle.uimg_printing.proofs.SoundLaws.{Sound, SoundItems, AreSound, append_sound, number_sound, items_sound}
 use Rattle.uimg_info.proofs.SoundLaws.{facts_sound}
 
@@ -64,14 +64,15 @@ reservations_sound : (d : ℕ) (reserved : Option (List Reservation)) → AreSou
 reservations_sound d None = tt
 reservations_sound d (Some entries) = (items_sound (suc d) reservation_json (reservation_sound d) entries, tt)
 
-pub fit_sound : (path : List ℕ) (size : ℕ) (reserved : Option (List Reservation)) (said : Said) (properties : List (List (NamedOf Span))) → Sound 6 (fit_json path size reserved said properties)
-fit_sound path size reserved said properties =
+pub fit_sound : (path : List ℕ) (size : ℕ) (reserved : Option (List Reservation)) (said : Said) (properties : List (List (NamedOf Span))) (signatures : List (List Fact))
+    → Sound 6 (fit_json path size reserved said properties signatures)
+fit_sound path size reserved said properties signatures =
     let images : Json = array_of (map (image_json said.totalsize) said.images) in
     let configurations : Json = array_of (configurations_json said.configurations properties) in
-    let arrays : List Member = (codes "images", images) ∷ (codes "configurations", configurations) ∷ [] in
+    let arrays : List Member = (codes "images", images) ∷ (codes "configurations", configurations) ∷ signatures_members signatures in
     append_sound 5 (head_members path size said.totalsize) (root_members reserved said ++ arrays) (head_sound 5 path size said.totalsize)
     (append_sound 5 (root_members reserved said) arrays
     (append_sound 5 (facts_members (root_facts said)) (reservations_members reserved) (facts_sound 4 (root_facts said)) (reservations_sound 3 reserved)) (
       items_sound 4 (image_json said.totalsize) (image_sound said.totalsize) said.images,
-      (configurations_sound said.configurations properties, tt),
+      (configurations_sound said.configurations properties, (items_sound 4 signature_json (facts_sound 2) signatures, tt)),
     ))

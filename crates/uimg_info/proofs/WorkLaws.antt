@@ -15,7 +15,8 @@ use Rattle.uimg_fit_checking.specs.declared.surveying.facts.FullSurvey.{FullSurv
 use Rattle.uimg_fit_reading.specs.{Heads.span_size, PayloadPlaces.Ends}
 use Rattle.uimg_fit_checking.specs.Survey.{read_name, read_hash, read_image, read_configuration, read_survey}
 use Rattle.uimg_fit_checking.specs.SurveyParts.{NameInside, HashInside, ImageInside, ConfigurationInside, SurveyInside}
-use Rattle.uimg_info.specs.Work.{value_size, hash_said_size, image_said_size, configuration_said_size, said_size, hash_size, image_size, node_size, configuration_size, survey_size, names_size, place_size, list_size}
+use Rattle.uimg_info.specs.Work.{value_size, hash_said_size, image_said_size, configuration_said_size, said_size, hash_size, image_size, node_size, configuration_size, survey_size, names_size, place_size, list_size, signature_said_size, signature_size}
+use Rattle.uimg_info.specs.{Signatures.{SignatureInside, read_signature}, declared.signatures.SignatureFacts.SignatureFacts}
 use Rattle.uimg_info.proofs.InsideLaws.{ends_more, image_more, configuration_more, places_more}
 
 -- one read after another
@@ -101,6 +102,13 @@ survey_sized file s inside =
       sized file s.timestamp (ends_more s.totalsize n s.timestamp inside.blob inside.timestamp),
       sized file s.preferred (ends_more s.totalsize n s.preferred inside.blob inside.preferred),
     )
+
+signature_sized : (file : List ℕ) (s : SignatureFacts) → SignatureInside (length file) s → signature_said_size (read_signature file s) ≡ signature_size s
+signature_sized file s i =
+    omega (arith, sized file (Some s.configuration) i.configuration, sized file (Some s.node) i.node, sized file s.algo i.algo, sized file s.padding i.padding, sized file s.key i.key)
+
+pub signatures_sized : (file : List ℕ) (ss : List SignatureFacts) → All (SignatureInside (length file)) ss → sum_by signature_said_size (map (read_signature file) ss) ≡ sum_by signature_size ss
+signatures_sized file ss inside = summed (SignatureInside (length file)) (read_signature file) signature_said_size signature_size (signature_sized file) ss inside
 
 list_sized : {Z : Type 0} (file : List ℕ) (places : Vec PropertyPlace Z) → PlacesInside (length file) places → names_size (read_properties file places) ≡ list_size places
 list_sized file places inside =

@@ -9,7 +9,7 @@ use Rattle.uimg_fit_checking.specs.Survey.{Said, ImageSaid, HashSaid, Configurat
 use Rattle.uimg_fit_reading.specs.PayloadPlaces.{place_said}
 use Rattle.uimg_info.specs.declared.reservations.Reservation.{Reservation}
 use Rattle.uimg_info.specs.Reservations.{reservations_of, reservations_members}
-use Rattle.uimg_info.specs.{Members.{Fact, facts_members}, Placing.first_fault}
+use Rattle.uimg_info.specs.{Members.{Fact, facts_members}, Placing.first_fault, Signatures.signatures_of}
 use Rattle.uimg_info.specs.declared.forms.Form.TheVariants.{Text, Texts, Digest, Cell, Address}
 use Rattle.uimg_printing.specs.Members.{Member, object_of, array_of, string_member, number_member}
 
@@ -113,6 +113,14 @@ image_members totalsize image =
 abbrev pub image_json : ℕ → ImageSaid → Json
 image_json totalsize image = object_of (image_members totalsize image)
 
+-- the signature nodes of configurations
+abbrev pub signature_json : List Fact → Json
+signature_json facts = object_of (facts_members facts)
+
+abbrev pub signatures_members : List (List Fact) → List Member
+signatures_members signatures =
+    (codes "signatures", array_of (map signature_json signatures)) ∷ []
+
 -- the first members of each image
 abbrev pub head_members : List ℕ → ℕ → ℕ → List Member
 head_members path size totalsize =
@@ -120,18 +128,20 @@ head_members path size totalsize =
     ++ (number_member (codes "status") 0 ++ (string_member (codes "format") (codes "fit")
     ++ (number_member (codes "size") size ++ number_member (codes "totalsize") totalsize)))
 
--- the object of a file of `size` bytes at a path, with its facts and configurations' properties
+-- the object of a file of `size` bytes at a path, with its facts, configurations' properties and
+-- signatures
 abbrev pub fit_members : List ℕ → ℕ → Option (List Reservation) → Said → List (List (NamedOf Span))
-    → List Member
-fit_members path size reserved said properties =
+    → List (List Fact) → List Member
+fit_members path size reserved said properties signatures =
     head_members path size said.totalsize ++ (root_members reserved said
     ++ ((codes "images", array_of (map (image_json said.totalsize) said.images))
-    ∷ (codes "configurations", array_of (configurations_json said.configurations properties)) ∷ []))
+    ∷ (codes "configurations", array_of (configurations_json said.configurations properties))
+    ∷ signatures_members signatures))
 
 abbrev pub fit_json : List ℕ → ℕ → Option (List Reservation) → Said → List (List (NamedOf Span))
-    → Json
-fit_json path size reserved said properties =
-    object_of (fit_members path size reserved said properties)
+    → List (List Fact) → Json
+fit_json path size reserved said properties signatures =
+    object_of (fit_members path size reserved said properties signatures)
 
 -- an object, unless a payload has a fault
 abbrev pub unless_misplaced : Option FitFault → Json → Result Json Fault
@@ -143,7 +153,8 @@ abbrev pub info_of : List ℕ → List ℕ → Result Json Fault
 info_of path file = do
   said ← survey_of file
   unless_misplaced (first_fault (length file) said.totalsize said.images)
-      (fit_json path (length file) (reservations_of file said.totalsize) said (properties_of file))
+      (fit_json path (length file) (reservations_of file said.totalsize) said (properties_of file)
+      (signatures_of file))
 
 abbrev pub ok_of : Result Json Fault → Option Json
 ok_of (Ok j) = Some j

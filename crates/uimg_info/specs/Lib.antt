@@ -5,3 +5,4 @@ pub mod Members
 pub mod Steps
 pub mod Work
 pub mod Reservations
+pub mod Signatures

@@ -1,6 +1,6 @@
 -- What the steps of writing an object do.
 use Rattle.std.specs.Prelude.{◌≡◌, ℕ, ⊤, List, false, Result, Ok, Err, OnOk, IfOk, IsTrue, Option}
-use Rattle.std.specs.{Prelude.{Some, map, Vec}, Borrow.Bor}
+use Rattle.std.specs.{Prelude.{Some, map, Vec}, Borrow.Bor, List.All}
 use Rattle.json.specs.{Json.{Json, document}, Print.print, Token.Token, Tree.json_tokens}
 use Rattle.json.specs.Written.{Written}
 use Rattle.uimg_printing.specs.Steps.{Appends}
@@ -13,11 +13,12 @@ use Rattle.uimg_fit_checking.specs.declared.surveying.fault.SurveyFault.{SurveyF
 use Rattle.uimg_fit_checking.specs.declared.surveying.fault.SurveyFault.TheVariants.{Stopped}
 use Rattle.uimg_fit_checking.specs.declared.surveying.fault.SurveyFault.TheVariants.{OutOfMemory}
 use Rattle.uimg_fit_checking.specs.declared.surveying.fault.SurveyFault.TheVariants.{Changed}
-use Rattle.uimg_fit_checking.specs.FullSurvey.{read_properties}
-use Rattle.uimg_fit_checking.specs.declared.surveying.facts.FullSurvey.{FullSurvey}
+use Rattle.uimg_fit_checking.specs.FullSurvey.{FullInside, read_properties}
+use Rattle.uimg_fit_checking.specs.declared.surveying.facts.Survey.{Survey}
 use Rattle.uimg_fit_reading.specs.PayloadPlaces.{Ends}
 use Rattle.uimg_info.specs.{Fit.{info_of, fit_json}, Reservations.reservations_of, Members.Fact}
-use Rattle.uimg_info.specs.declared.forms.Form.{Form}
+use Rattle.uimg_info.specs.Signatures.{SignatureInside, read_signature}
+use Rattle.uimg_info.specs.declared.{fit.FitFacts.FitFacts, forms.Form.Form}
 
 -- The text is that of an object.
 abbrev pub Prints : {Z : Type 0} → Json → Vec ℕ Z → Type 0
@@ -72,13 +73,24 @@ Informs view path file (Err (Stopped of.Put)) = ⊥
 Informs view path file (Err OutOfMemory) = ⊤
 Informs view path file (Err Changed) = ⊥
 
--- the object of a survey's facts, read in a file of `size` bytes at a path
-abbrev pub read_json : List ℕ → ℕ → List ℕ → FullSurvey → Json
-read_json path size file full =
-    fit_json path size (reservations_of file full.survey.totalsize) (read_survey file full.survey)
-    (map (read_properties file) full.properties.items)
+-- All facts end within `size` bytes.
+pub record FactsInside (size : ℕ) (facts : FitFacts) : Type 0 where
+  pub full : FullInside size facts.full
+  pub signatures : All (SignatureInside size) facts.signatures.items
+
+-- the survey of a result
+abbrev pub survey_in : Result FitFacts SurveyFault → Result Survey SurveyFault
+survey_in (Ok facts) = Ok facts.full.survey
+survey_in (Err fault) = Err fault
+
+-- the object of facts, read in a file of `size` bytes at a path
+abbrev pub read_json : List ℕ → ℕ → List ℕ → FitFacts → Json
+read_json path size file facts =
+    fit_json path size (reservations_of file facts.full.survey.totalsize)
+    (read_survey file facts.full.survey) (map (read_properties file) facts.full.properties.items)
+    (map (read_signature file) facts.signatures.items)
 
 -- P holds for the text of the object of a file of a size with these facts, if there is one.
-abbrev pub OfJson : {Z : Type 0} → (Json → Vec ℕ Z → Type 0) → List ℕ → ℕ → FullSurvey
+abbrev pub OfJson : {Z : Type 0} → (Json → Vec ℕ Z → Type 0) → List ℕ → ℕ → FitFacts
     → Result (Vec ℕ Z) SurveyFault → List ℕ → Type 0
-OfJson P path size full result file = IfOk result (P (read_json path size file full))
+OfJson P path size facts result file = IfOk result (P (read_json path size file facts))

@@ -14,7 +14,8 @@ use Rattle.uimg_fit_checking.specs.declared.surveying.facts.ConfigurationFacts.{
 use Rattle.uimg_fit_checking.specs.declared.surveying.facts.FullSurvey.{FullSurvey}
 use Rattle.uimg_fit_reading.specs.Heads.{span_size}
 use Rattle.uimg_info.specs.Fit.{hash_facts, image_facts, configuration_facts, root_facts}
-use Rattle.uimg_info.specs.{Members.Fact, Steps.MemberRow}
+use Rattle.uimg_info.specs.{Members.Fact, Signatures.signatures_of, Steps.MemberRow}
+use Rattle.uimg_info.specs.declared.{fit.FitFacts.FitFacts, signatures.SignatureFacts.SignatureFacts}
 
 -- the length of a value, or 0
 abbrev pub value_size : Option (List ℕ) → ℕ
@@ -44,6 +45,9 @@ abbrev pub said_size : Said → ℕ
 said_size said =
     (sum_by fact_size (root_facts said) + 65540)
     + (sum_by image_said_size said.images + sum_by configuration_said_size said.configurations)
+
+abbrev pub signature_said_size : List Fact → ℕ
+signature_said_size facts = sum_by fact_size facts
 
 -- the length of the names of properties
 abbrev pub names_size : List (NamedOf Span) → ℕ
@@ -96,6 +100,12 @@ list_size places = sum_by place_size places.items
 abbrev pub full_size : FullSurvey → ℕ
 full_size full = survey_size full.survey + sum_by list_size full.properties.items
 
+abbrev pub signature_size : SignatureFacts → ℕ
+signature_size s = span_sizes (Some s.configuration ∷ Some s.node ∷ s.algo ∷ s.padding ∷ s.key ∷ [])
+
+abbrev pub fit_size : FitFacts → ℕ
+fit_size facts = full_size facts.full + sum_by signature_size facts.signatures.items
+
 -- the most bytes requested after the index, or 0 for a refused file
 abbrev pub facts_size : Result Said Fault → ℕ
 facts_size (Ok said) = said_size said
@@ -106,8 +116,10 @@ abbrev pub payload_count : Result Said Fault → ℕ
 payload_count (Ok said) = length said.images
 payload_count (Err fault) = 0
 
--- the most bytes requested: the index, the configurations' properties and their names, each value
+-- the most bytes requested: the index twice, the configurations' properties and their names, each
+-- value
 abbrev pub info_work : List ℕ → ℕ
 info_work file =
-    index_cost file + properties_cost file + sum_by names_size (properties_of file)
+    2 * index_cost file + properties_cost file + sum_by names_size (properties_of file)
     + 12 * payload_count (survey_of file) + facts_size (survey_of file)
+    + sum_by signature_said_size (signatures_of file)

@@ -3,20 +3,20 @@
 ghost use Rattle.std.specs.Prelude.{◌≤◌, length, map};
 ghost use Rattle.std.specs.List.{All, sum_by};
 ghost use Rattle.json.specs.Tree.{json_tokens};
-ghost use Rattle.uimg_fit_checking.specs.FullSurvey.{FullInside};
 ghost use Rattle.uimg_fit_checking.specs.Survey.{read_hash, read_image, read_survey};
 ghost use Rattle.uimg_fit_checking.specs.SurveyParts.{HashInside, ImageInside, SurveyInside};
 ghost use Rattle.uimg_info.specs.Fit.{place_members, image_facts, root_members, hash_json, image_json, head_members};
 ghost use Rattle.uimg_printing.specs.Members.{array_of, tokens_of};
 ghost use Rattle.uimg_info.specs.{Members.facts_members, Reservations.reservations_of};
-ghost use Rattle.uimg_info.specs.Steps.{PutsTokens, AddsTokens, read_json};
-ghost use Rattle.uimg_info.specs.Work.{hash_size, image_rows_size, image_size, root_size, full_size};
+ghost use Rattle.uimg_info.specs.Steps.{FactsInside, PutsTokens, AddsTokens, read_json};
+ghost use Rattle.uimg_info.specs.Work.{hash_size, image_rows_size, image_size, root_size, fit_size};
 
 use crate::configurations::put_configurations;
 use crate::facts::{put_object, put_rows};
 use crate::forms::Form::{Address, Cell, Digest, Text};
 use crate::placing::find_place;
 use crate::reservations::put_reservations;
+use crate::signatures::{SignatureFacts, put_signatures};
 use json::Writer;
 use std::alloc::{AllocError, Global};
 use uimg_base::{Source, Span};
@@ -170,19 +170,26 @@ fn put_root<S: Source>(
     Ok(())
 }
 
+/// The facts of a FIT image, with the properties and the signature nodes of its configurations.
+#[derive(Drop)]
+pub(crate) struct FitFacts {
+    pub(crate) full: FullSurvey,
+    pub(crate) signatures: Vec<SignatureFacts>,
+}
+
 pub(crate) fn put_fit<S: Source>(
     alloc: Global,
     source: &mut S,
     writer: &mut Writer,
     path: &str,
     size: u64,
-    full: &FullSurvey,
+    facts: &FitFacts,
 ) -> Result<(), SurveyFault>
-    requires { FullInside (length (S.device source.old).bytes) full.now }
-    ensures { PutsTokens (full_size full.now) result S.device source writer
-        (λ file. json_tokens (read_json path.now size file full.now)) }
+    requires { FactsInside (length (S.device source.old).bytes) facts.now }
+    ensures { PutsTokens (fit_size facts.now) result S.device source writer
+        (λ file. json_tokens (read_json path.now size file facts.now)) }
 {
-    let survey = &full.survey;
+    let survey = &facts.full.survey;
     writer.begin_object()?;
     put_head(writer, path, size, survey.totalsize)?;
     put_root(alloc, source, writer, survey)?;
@@ -200,8 +207,9 @@ pub(crate) fn put_fit<S: Source>(
         source,
         writer,
         survey.configurations.as_slice(),
-        full.properties.as_slice(),
+        facts.full.properties.as_slice(),
     )?;
+    put_signatures(alloc, source, writer, facts.signatures.as_slice())?;
     writer.end_object()?;
     Ok(())
 }

@@ -9,6 +9,7 @@ mod legacy;
 mod members;
 mod placing;
 mod reservations;
+mod signatures;
 mod texts;
 
 pub use legacy::legacy_text;

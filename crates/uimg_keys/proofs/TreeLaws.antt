@@ -1,5 +1,5 @@
 -- What is found in a tree, a node or a property at a time.
-use Rattle.std.proofs.Common.{◌≡◌, ℕ, zero, suc, ◌+◌, ◌<◌, ◌≤◌, List, [], ◌∷◌, ◌++◌, length, map, drop, flat_map, Option, Some, None, Bool, true, false, bytes_eq, slice_get, get_or, if◌then◌else◌, refl, ap, sym, ◌∙◌, ◌&&◌, append_assoc, append-nil, codes, subst, arith}
+use Rattle.std.proofs.Common.{◌≡◌, ℕ, zero, suc, ◌+◌, ◌<◌, ◌≤◌, List, [], ◌∷◌, ◌++◌, length, map, drop, flat_map, Option, Some, None, Bool, true, false, bytes_eq, slice_get, get_or, if◌then◌else◌, refl, ap, sym, ◌∙◌, ◌&&◌, append_assoc, append-nil, codes, subst, arith, is_some, true≢false}
 use Rattle.std.proofs.lemmas.List.{drop_more, length-map}
 use Rattle.std.proofs.lemmas.List.Concat.{flat_map-cons}
 use Rattle.std.{specs.{List.All, Option.option_map}, proofs.lemmas.List.Elements.{All-cons, All-nil, All-weaker}}
@@ -7,11 +7,12 @@ use Rattle.uimg_base.specs.declared.spans.Span.{Span}
 use Rattle.uimg_texts.specs.Slices.{slice}
 use Rattle.uimg_blob_reading.specs.declared.{nodes.Blob.Blob, places.PropertyPlace.PropertyPlace}
 use Rattle.uimg_blob_reading.specs.{Grammar.Siblings, Indexed.IsIndexed, Kept.{kept_of, entry_of}, LookUps.first, Places.{EndsBy, read_place}, Roles.top, Rows.{Row, table}}
-use Rattle.uimg_blob_reading.proofs.{LookLaws.length_rows, SoFarLaws.length_kept}
+use Rattle.uimg_blob_reading.proofs.{LookLaws.length_rows, PhaseLaws.some_some, SoFarLaws.length_kept}
 use Rattle.uimg_blob_reading.specs.{Plain.NamedOf, Properties.places_of}
 use Rattle.uimg_signing.specs.{Signatures.rsa_algo, declared.signature.RsaAlgo.RsaAlgo}
 use Rattle.uimg_rsa.specs.RSquared.{is_r_squared}
-use Rattle.uimg_keys.specs.Trees.{Said, IsTaken, IsIndexOf, are_helps, found_in, has_helps, is_inverse, names_signature, is_parent, is_required, is_signature, key_in, name_in, number, or_empty, rows_in, rows_of, says, signature_from, value_named}
+use Rattle.uimg_keys.specs.{Names.{between, joined, key_name}, declared.key.PublicKey.PublicKey}
+use Rattle.uimg_keys.specs.Trees.{Said, IsTaken, IsIndexOf, are_helps, found_in, has_helps, is_inverse, names_signature, is_parent, is_required, is_signature, key_in, modulus_in, name_in, number, or_empty, rows_in, rows_of, says, signature_from, value_named}
 
 drop_at : {X : Type 0} (xs : List X) (k : ℕ) → k < length xs → (x : X) × (slice_get xs k ≡ Some x) × (drop k xs ≡ x ∷ drop (suc k) xs)
 drop_at [] k h = absurd (omega (arith, h))
@@ -104,28 +105,29 @@ not_child file row is = sym (ap (λ (b : Bool). if b then names_signature (name_
 
 pub not_below : (file : List ℕ) (signature : ℕ) (row : Row) → is_parent signature row.parent ≡ false → [] ≡ found_in file signature row
 not_below file signature row is =
-    sym (ap (λ (b : Bool). (let l : List Said = if b then (if is_required file (places_of row) then key_in file (places_of row) ∷ [] else []) else [] in l)) is)
+    sym (ap (λ (b : Bool). (let l : List Said = if b then (if is_required file (places_of row) then key_in file (places_of row) (name_in file row) ∷ [] else []) else [] in l)) is)
 
 -- a key that is required
-pub found_key : (file : List ℕ) (signature : ℕ) (row : Row) (key : Said) → is_parent signature row.parent ≡ true → is_required file (places_of row) ≡ true → key ≡ key_in file (places_of row) → key ∷ [] ≡ found_in file signature row
+pub found_key : (file : List ℕ) (signature : ℕ) (row : Row) (key : Said) → is_parent signature row.parent ≡ true → is_required file (places_of row) ≡ true → key ≡ key_in file (places_of row) (name_in file row) → key ∷ [] ≡ found_in file signature row
 found_key file signature row key below required is =
     ap (λ (k : Said). k ∷ []) is
-    ∙ sym (ap (λ (b : Bool). (let l : List Said = if b then key_in file (places_of row) ∷ [] else [] in l)) required)
-    ∙ sym (ap (λ (b : Bool). (let l : List Said = if b then (if is_required file (places_of row) then key_in file (places_of row) ∷ [] else []) else [] in l)) below)
+    ∙ sym (ap (λ (b : Bool). (let l : List Said = if b then key_in file (places_of row) (name_in file row) ∷ [] else [] in l)) required)
+    ∙ sym (ap (λ (b : Bool). (let l : List Said = if b then (if is_required file (places_of row) then key_in file (places_of row) (name_in file row) ∷ [] else []) else [] in l)) below)
 
 pub says_as : (file : List ℕ) (xs own : List (NamedOf Span)) (name key text said_text : List ℕ) → xs ≡ own → name ≡ key → text ≡ said_text → says (value_named file xs name) text ≡ says (value_named file own key) said_text
 says_as file xs own name key text said_text are named is =
     ap (λ (l : List (NamedOf Span)). says (value_named file l name) text) are ∙ ap (λ (n : List ℕ). says (value_named file own n) text) named ∙ ap (λ (t : List ℕ). says (value_named file own key) t) is
 
-pub key_said : (file : List ℕ) (own : List (NamedOf Span)) (one other third m e a items : List ℕ) (n : ℕ) (r : Option RsaAlgo) → one ≡ codes "rsa,modulus" → other ≡ codes "rsa,exponent" → third ≡ codes "algo"
-    → value_named file own one ≡ Some m → value_named file own other ≡ Some e → value_named file own third ≡ Some a → items ≡ m → n ≡ number e → r ≡ rsa_algo a
-    → ◌≡◌ {A = Said} (items, n, r) (key_in file own)
-key_said file own one other third m e a items n r first second last modulus exponent algo items_are n_is r_is =
+pub key_said : (file : List ℕ) (own : List (NamedOf Span)) (one other third m e a items name told : List ℕ) (n : ℕ) (r : Option RsaAlgo) → one ≡ codes "rsa,modulus" → other ≡ codes "rsa,exponent" → third ≡ codes "algo"
+    → value_named file own one ≡ Some m → value_named file own other ≡ Some e → value_named file own third ≡ Some a → items ≡ m → n ≡ number e → r ≡ rsa_algo a → told ≡ key_name name
+    → ◌≡◌ {A = Said} (items, n, r, told) (key_in file own name)
+key_said file own one other third m e a items name told n r first second last modulus exponent algo items_are n_is r_is told_is =
     let found : or_empty (value_named file own (codes "rsa,modulus")) ≡ m = ap (λ (k : List ℕ). or_empty (value_named file own k)) (sym first) ∙ ap or_empty modulus in
     let counted : or_empty (value_named file own (codes "rsa,exponent")) ≡ e = ap (λ (k : List ℕ). or_empty (value_named file own k)) (sym second) ∙ ap or_empty exponent in
     let named : or_empty (value_named file own (codes "algo")) ≡ a = ap (λ (k : List ℕ). or_empty (value_named file own k)) (sym last) ∙ ap or_empty algo in
-    ap (λ (x : Option RsaAlgo). (items, n, x)) r_is ∙ ap (λ (l : List ℕ). (l, n, rsa_algo a)) (items_are ∙ sym found) ∙ ap (λ (x : ℕ). (or_empty (value_named file own (codes "rsa,modulus")), x, rsa_algo a)) (n_is ∙ ap number (sym counted))
-    ∙ ap (λ (l : List ℕ). (or_empty (value_named file own (codes "rsa,modulus")), number (or_empty (value_named file own (codes "rsa,exponent"))), rsa_algo l)) (sym named)
+    ap (λ (x : Option RsaAlgo). (items, n, x, told)) r_is ∙ ap (λ (l : List ℕ). (items, n, rsa_algo a, l)) told_is
+    ∙ ap (λ (l : List ℕ). (l, n, rsa_algo a, key_name name)) (items_are ∙ sym found) ∙ ap (λ (x : ℕ). (modulus_in file own, x, rsa_algo a, key_name name)) (n_is ∙ ap number (sym counted))
+    ∙ ap (λ (l : List ℕ). (modulus_in file own, number (or_empty (value_named file own (codes "rsa,exponent"))), rsa_algo l, key_name name)) (sym named)
 
 -- what U-Boot's arithmetic begins with
 pub helps_said : (file : List ℕ) (own : List (NamedOf Span)) (one other modulus inverse square : List ℕ) → one ≡ codes "rsa,n0-inverse" → other ≡ codes "rsa,r-squared"
@@ -145,3 +147,19 @@ all_from {X} P x more left all is this rest h = rest (subst (λ (l : List X). Al
 
 pub all_done : {X : Type 0} (P : X → Type 0) (left all : List X) → left ≡ [] → (All P left → All P all) → All P all
 all_done {X} P left all is rest = rest (subst (λ (l : List X). All P l) (sym is) (All-nil P))
+
+-- the name of a key that is not the first one
+abbrev pub next_name : Bool → PublicKey → List ℕ
+next_name is_any key = between is_any ++ key.name.items
+
+flat_joined : (is_any : Bool) (keys : List PublicKey) → flat_map (next_name is_any) keys ≡ flat_map (λ (other : List ℕ). between is_any ++ other) (map (λ (key : PublicKey). key.name.items) keys)
+flat_joined is_any [] = refl
+flat_joined is_any (key ∷ keys) = ap (λ (l : List ℕ). next_name is_any key ++ l) (flat_joined is_any keys)
+
+-- the names of all keys are that of the first one, and those of the others
+pub names_joined : (is_any : Bool) (keys : List PublicKey) (first : PublicKey) (text : List ℕ) → slice_get keys 0 ≡ Some first → text ≡ first.name.items ++ flat_map (next_name is_any) (drop 1 keys)
+    → text ≡ joined is_any (map (λ (key : PublicKey). key.name.items) keys)
+unfolding joined
+names_joined is_any [] first text at is = absurd (true≢false (sym (ap is_some at)))
+names_joined is_any (key ∷ keys) first text at is =
+    is ∙ ap (λ (k : PublicKey). k.name.items ++ flat_map (next_name is_any) keys) (sym (some_some key first at)) ∙ ap (λ (l : List ℕ). key.name.items ++ l) (flat_joined is_any keys)

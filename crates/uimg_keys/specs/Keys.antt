@@ -8,6 +8,7 @@ use Rattle.uimg_keys.specs.declared.keys.Keys.{Keys}
 abbrev pub HasPemKey : List ℕ → Keys → Type 0
 HasPemKey file keys = (key : PublicKey) × (IsPem file key.modulus.items key.exponent)
     × (key.algo ≡ None) × (keys.keys.items ≡ key ∷ []) × (keys.is_any ≡ false)
+    × (keys.name.items ≡ [])
 
 -- A file has these keys, one at least.
 abbrev pub HasKeys : List ℕ → Keys → Type 0

@@ -7,6 +7,7 @@ use Rattle.uimg_texts.specs.{Numbers.be32, Slices.slice}
 use Rattle.uimg_blob_reading.specs.{Blob.tree, Grammar.Siblings, Indexed.IsIndexed, LookUps.first, Plain.NamedOf, Properties.places_of, Reading.Fault, Rows.{Row, table}}
 use Rattle.uimg_blob_reading.specs.declared.nodes.Blob.{Blob}
 use Rattle.uimg_keys.specs.declared.{key.PublicKey.PublicKey, keys.Keys.Keys}
+use Rattle.uimg_keys.specs.Names.{joined, key_name}
 use Rattle.uimg_rsa.specs.RSquared.{is_r_squared}
 use Rattle.uimg_signing.specs.{Signatures.rsa_algo, declared.signature.RsaAlgo.RsaAlgo}
 
@@ -75,19 +76,23 @@ abbrev pub listed : {X : Type 0} → Option X → List X
 listed None = []
 listed (Some x) = x ∷ []
 
--- the modulus and the exponent of a key, and what a signature by it must say
+-- the modulus and the exponent of a key, what a signature by it must say, and its name
 abbrev pub Said : Type 0
-Said = List ℕ × ℕ × Option RsaAlgo
+Said = List ℕ × ℕ × Option RsaAlgo × List ℕ
 
 abbrev pub said : PublicKey → Said
-said key = (key.modulus.items, key.exponent, key.algo)
+said key = (key.modulus.items, key.exponent, key.algo, key.name.items)
 
--- those that a node's properties say
-abbrev pub key_in : List ℕ → List (NamedOf Span) → Said
-key_in file own = (
-  or_empty (value_named file own (codes "rsa,modulus")),
+abbrev pub modulus_in : List ℕ → List (NamedOf Span) → List ℕ
+modulus_in file own = or_empty (value_named file own (codes "rsa,modulus"))
+
+-- those that the properties of a node of a name say
+abbrev pub key_in : List ℕ → List (NamedOf Span) → List ℕ → Said
+key_in file own name = (
+  modulus_in file own,
   number (or_empty (value_named file own (codes "rsa,exponent"))),
   rsa_algo (or_empty (value_named file own (codes "algo"))),
+  key_name name,
 )
 
 -- the modulus times the number of four octets is one less than a multiple of 2 ^ 32
@@ -122,7 +127,8 @@ is_required file own = says (value_named file own (codes "required")) (codes "co
 -- the key of a node, if it is a child of the node of this number and is required
 abbrev pub found_in : List ℕ → ℕ → Row → List Said
 found_in file signature row = if is_parent signature row.parent then
-    (if is_required file (places_of row) then key_in file (places_of row) ∷ [] else []) else []
+    (if is_required file (places_of row) then key_in file (places_of row) (name_in file row) ∷ []
+    else []) else []
 
 -- there is no value, or a NUL in it
 abbrev pub is_ended : Option (List ℕ) → Bool
@@ -131,8 +137,8 @@ is_ended (Some value) = list_any (λ b. b == 0) value
 
 -- The properties of a key are right for its modulus.
 pub record IsRight (file : List ℕ) (own : List (NamedOf Span)) : Type 0 where
-  pub size : has_size (key_in file own).0 (value_named file own (codes "algo")) ≡ true
-  pub helps : has_helps file own (key_in file own).0 ≡ true
+  pub size : has_size (modulus_in file own) (value_named file own (codes "algo")) ≡ true
+  pub helps : has_helps file own (modulus_in file own) ≡ true
 
 -- What a child says of being required ends with a NUL, and a required key is right.
 abbrev pub IsTaken : List ℕ → ℕ → Row → Type 0
@@ -158,3 +164,4 @@ pub record HasTreeKeys (file : List ℕ) (keys : Keys) : Type 0 where
   pub mode : keys.is_any ≡ is_any_in file (slice_get (rows_of file) signature)
   pub taken : All (IsTaken file signature) (rows_of file)
   pub some : 0 < length keys.keys.items
+  pub called : keys.name.items ≡ joined keys.is_any (map (λ key. key.name.items) keys.keys.items)

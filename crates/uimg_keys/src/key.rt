@@ -16,6 +16,9 @@ pub struct PublicKey {
 
     /// What the `algo` of a signature must say, if the file says it.
     pub algo: Option<RsaAlgo>,
+
+    /// Its name, empty if the file does not tell it.
+    pub name: Vec<u8>,
 }
 
 /// Why a file has no key.

@@ -116,6 +116,7 @@ fn key_at(alloc: Global, der: &[u8], start: usize) -> Result<PublicKey, KeyFault
         modulus: Vec::from_slice(alloc, modulus)?,
         exponent: number(exponent),
         algo: None,
+        name: Vec::new(alloc),
     })
 }
 

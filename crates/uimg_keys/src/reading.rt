@@ -45,6 +45,7 @@ fn key_of_text(alloc: Global, text: &[u8]) -> Result<Keys, KeyFault>
     Ok(Keys {
         keys,
         is_any: false,
+        name: Vec::new(alloc),
     })
 }
 

@@ -7,7 +7,7 @@ ghost use Rattle.uimg_blob_reading.specs.{Places.{EndsBy, read_place}, Propertie
 ghost use Rattle.uimg_keys.specs.Trees.{HasTreeKeys, IsIndexOf, IsTaken, found_in, is_any_in, is_parent, is_signature, keys_in, listed, rows_of, said, signature_of};
 
 use crate::key::{KeyFault, PublicKey};
-use crate::keys::Keys;
+use crate::keys::{Keys, joined};
 use crate::reading::is_fit;
 use crate::values::{bytes_at, has_helps, has_size, is_ended, key_in, says};
 use std::alloc::Global;
@@ -107,7 +107,7 @@ fn found_in(
     if !says(file, &places, b"required".as_slice(), b"conf\0".as_slice()) {
         return Ok(None);
     }
-    let key = key_in(alloc, file, &places)?;
+    let key = key_in(alloc, file, &places, bytes_at(file, blob.name(room, node)))?;
     if !is_fit(&key) {
         return Err(KeyFault::Unfit);
     }
@@ -200,5 +200,6 @@ pub(crate) fn keys_of_tree(alloc: Global, file: &[u8]) -> Result<Keys, KeyFault>
         return Err(KeyFault::NoKey);
     }
     let is_any = is_any_in(alloc, file, &blob, &mut room, signature)?;
-    Ok(Keys { keys, is_any })
+    let name = joined(alloc, keys.as_slice(), is_any)?;
+    Ok(Keys { keys, is_any, name })
 }

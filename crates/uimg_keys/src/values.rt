@@ -4,7 +4,7 @@ ghost use Rattle.std.specs.Prelude.{◌≡◌, ◌+◌, ◌≤◌, List, length,
 ghost use Rattle.std.specs.{List.All, Option.MatchOption};
 ghost use Rattle.uimg_texts.specs.Slices.{slice};
 ghost use Rattle.uimg_blob_reading.specs.Places.{EndsBy, read_place};
-ghost use Rattle.uimg_keys.specs.Trees.{has_helps, has_size, is_ended, is_inverse, key_in, number, said, says, value_named};
+ghost use Rattle.uimg_keys.specs.{Names.key_name, Trees.{has_helps, has_size, is_ended, is_inverse, key_in, number, said, says, value_named}};
 
 use crate::key::{KeyFault, PublicKey};
 use std::alloc::Global;
@@ -119,15 +119,27 @@ pub(crate) fn has_helps(file: &[u8], places: &[PropertyPlace], modulus: &[u8]) -
     is_inverse(modulus, inverse) && is_r_squared(modulus, r_squared)
 }
 
-/// Returns the key that a node's properties say.
+// Returns the name of the key of a node, which U-Boot calls `key-` and the key's name.
+fn key_name(name: &[u8]) -> &[u8]
+    ensures { result.now ≡ key_name name.now }
+{
+    if name.starts_with(b"key-") {
+        &name[4..]
+    } else {
+        name
+    }
+}
+
+/// Returns the key that the properties of a node of this name say.
 pub(crate) fn key_in(
     alloc: Global,
     file: &[u8],
     places: &[PropertyPlace],
+    name: &[u8],
 ) -> Result<PublicKey, KeyFault>
     requires { All (EndsBy (length file.now)) places.now }
     ensures { IfOk result (λ key. said key
-        ≡ key_in file.now (map (read_place file.now) places.now)) }
+        ≡ key_in file.now (map (read_place file.now) places.now) name.now) }
 {
     let (Some(modulus), Some(exponent), Some(bits), Some(algo)) = (
         value_named(file, places, b"rsa,modulus".as_slice()),
@@ -144,5 +156,6 @@ pub(crate) fn key_in(
         modulus: Vec::from_slice(alloc, modulus)?,
         exponent: number(exponent),
         algo: rsa_algo(algo),
+        name: Vec::from_slice(alloc, key_name(name))?,
     })
 }

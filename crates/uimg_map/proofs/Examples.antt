@@ -3,41 +3,35 @@ use Rattle.std.proofs.Common.{◌≡◌, [], ◌∷◌, replicate, codes, Some, 
 use Rattle.uimg_fit_base.specs.declared.fault.Fault.TheVariants as of
 use Rattle.uimg_fit_base.specs.declared.fault.FitFault.TheVariants.{DataOutside, NoData}
 use Rattle.uimg_fit_base.specs.Files.{number}
-use Rattle.uimg_fit_checking.specs.Survey.{ImageSaid}
 use Rattle.uimg_legacy.specs.declared.fault.LegacyFault.TheVariants.{TooShort, BadHeaderCrc, NoTableEnd, PartOutside}
 use Rattle.uimg_legacy.specs.Header.{head}
 use Rattle.uimg_map.specs.{declared.fault.MapFault.TheVariants.Fit, Reservations.block_end}
+use Rattle.uimg_map.specs.Images.{ImageTold}
 use Rattle.uimg_map.specs.{FitContents.{is_value, image_told, images_told}, Reservations.end_among}
 use Rattle.uimg_map.specs.Found.{the_header, payload_of, embedded_of, the_table, part_at, the_padding, fault_of, refused_behind}
 use Rattle.uimg_map.specs.LegacyContents.{legacy_fault, refused_header, endless_told, parts_told, legacy_contents}
 
 -- an image whose payload is the value of `data`, and one whose payload stands behind it, both of three bytes; one without a payload
-inner : ImageSaid
+inner : ImageTold
 inner = record {
   name = codes "a";
-  description = None;
-  kind = None;
-  arch = None;
-  os = None;
-  compression = None;
-  load = None;
-  entry = None;
   payload = record { embedded = Some (record { place = 90; length = 3 }); size = None; offset = None; position = None };
-  hashes = [];
+  covered = None;
 }
 
-outer : ImageSaid
+outer : ImageTold
 outer = record inner {
   name = codes "b";
+  covered = Some (codes "c");
   payload = record { embedded = None; size = Some (0 ∷ 0 ∷ 0 ∷ 3 ∷ []); offset = Some (0 ∷ 0 ∷ 0 ∷ 1 ∷ []); position = None };
 }
 
-bare : ImageSaid
+bare : ImageTold
 bare = record inner { payload = record { embedded = None; size = None; offset = None; position = None } }
 
 -- the first fault counts: a payload that ends behind the file, and not that the next image has none
 payloads : images_told 103 97 (inner ∷ outer ∷ bare ∷ []) ≡ record {
-  found = record { what = embedded_of (codes "a"); place = 90; end = 93 } ∷ record { what = payload_of (codes "b"); place = 101; end = 104 } ∷ [];
+  found = record { what = embedded_of (codes "a") None; place = 90; end = 93 } ∷ record { what = payload_of (codes "b") (Some (codes "c")); place = 101; end = 104 } ∷ [];
   fault = Some (Fit (of.Fit DataOutside));
 }
 unfolding inner outer bare is_value refused_behind number

@@ -9,5 +9,8 @@ mod ContentsLaws
 mod TableLaws
 mod PartsLaws
 mod FitLaws
+mod SignatureLaws
+mod SigningLaws
+mod ImageLaws
 mod LegacyLaws
 mod Examples

@@ -1,17 +1,19 @@
 -- What is found in the file of an image.
 use Rattle.std.specs.Prelude.{ℕ, List, [], ◌∷◌, ◌++◌, nat_lt, if◌then◌else◌, Option, Some, None}
 use Rattle.uimg_texts.specs.Slices.{slice}
+use Rattle.uimg_fit_base.specs.Files.{bytes_in}
 use Rattle.uimg_map.specs.declared.{fault.MapFault.MapFault, contents.Label.Label}
 use Rattle.uimg_map.specs.declared.contents.Label.TheVariants as of
 
--- What a thing is. A payload has the name of its image, a part its position.
+-- What a thing is. A payload has the name of its image, and that of the configuration whose
+-- signature covers it; a part its position.
 pub data What : Type 0 where
   the_header : What
   the_reservations : What
   the_structure : What
   the_strings : What
-  payload_of : List ℕ → What
-  embedded_of : List ℕ → What
+  payload_of : List ℕ → Option (List ℕ) → What
+  embedded_of : List ℕ → Option (List ℕ) → What
   the_table : What
   the_data : What
   part_at : ℕ → What
@@ -24,8 +26,10 @@ read_label file of.Header = the_header
 read_label file of.Reservations = the_reservations
 read_label file of.Structure = the_structure
 read_label file of.Strings = the_strings
-read_label file (of.Payload name) = payload_of (slice file name.place name.length)
-read_label file (of.Embedded name) = embedded_of (slice file name.place name.length)
+read_label file (of.Payload name covered) =
+    payload_of (slice file name.place name.length) (bytes_in file covered)
+read_label file (of.Embedded name covered) =
+    embedded_of (slice file name.place name.length) (bytes_in file covered)
 read_label file of.Table = the_table
 read_label file of.Data = the_data
 read_label file (of.Part number) = part_at number

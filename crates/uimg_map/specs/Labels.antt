@@ -28,20 +28,29 @@ word_of of.Strings = codes "strings"
 word_of of.Table = codes "table of sizes"
 word_of of.Data = codes "data"
 word_of of.Padding = codes "padding"
-word_of (of.Payload name) = codes "payload"
-word_of (of.Embedded name) = codes "payload"
+word_of (of.Payload name covered) = codes "payload"
+word_of (of.Embedded name covered) = codes "payload"
 word_of (of.Part number) = codes "part"
 word_of (of.Fault fault) = codes "fault"
 
--- a payload by its image's name in the file, as one word; of a longer name the first 255 bytes
-abbrev pub payload_text : List ℕ → Span → List ℕ
-payload_text file name =
-    codes "payload of " ++ printed true (slice file name.place (min name.length 255))
+-- the name of a node in the file, as one word; of a longer name the first 255 bytes
+abbrev pub name_text : List ℕ → Span → List ℕ
+name_text file name = printed true (slice file name.place (min name.length 255))
+
+-- what is said of a payload that the signature of this configuration covers
+abbrev pub covered_text : List ℕ → Option Span → List ℕ
+covered_text file None = []
+covered_text file (Some name) = codes ", covered by " ++ name_text file name
+
+-- a payload by its image's name
+abbrev pub payload_text : List ℕ → Span → Option Span → List ℕ
+payload_text file name covered =
+    codes "payload of " ++ name_text file name ++ covered_text file covered
 
 -- The text is the name of what has this label in a file.
 abbrev pub Names : List ℕ → Option Label → List ℕ → Type 0
-Names file (Some (of.Payload name)) text = text ≡ payload_text file name
-Names file (Some (of.Embedded name)) text = text ≡ payload_text file name
+Names file (Some (of.Payload name covered)) text = text ≡ payload_text file name covered
+Names file (Some (of.Embedded name covered)) text = text ≡ payload_text file name covered
 Names file (Some (of.Part number)) text = text ≡ codes "part " ++ decimal number
 Names file (Some (of.Fault fault)) text = text ≡ codes "fault " ++ text_of fault
 Names file (Some label) text = text ≡ word_of label
@@ -59,7 +68,7 @@ label_over map (Some over) = label_of map over
 -- structure block is where it should be.
 abbrev pub standing_by : Option Label → Option Label → Standing
 standing_by label None = Alone
-standing_by (Some (of.Embedded name)) (Some of.Structure) = Nested
+standing_by (Some (of.Embedded name covered)) (Some of.Structure) = Nested
 standing_by label (Some other) = Overlapping other
 
 abbrev pub standing_of : Map → Thing → Option Thing → Standing

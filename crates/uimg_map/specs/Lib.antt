@@ -10,6 +10,9 @@ pub mod Faults
 pub mod FaultTexts
 pub mod Found
 pub mod Contents
+pub mod Signing
+pub mod Signatures
+pub mod Images
 pub mod FitContents
 pub mod LegacyContents
 pub mod Tables

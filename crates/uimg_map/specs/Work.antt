@@ -1,9 +1,10 @@
 -- The most bytes that a map requests.
 use Rattle.std.specs.Prelude.{ℕ, ◌+◌, ◌*◌, List, length, if◌then◌else◌, Bool, true, false, Result}
 use Rattle.std.specs.Prelude.{Ok, Err}
-use Rattle.uimg_blob_reading.specs.Counts.{index_cost}
+use Rattle.uimg_blob_reading.specs.{Blob.tree, Counts.index_cost}
 use Rattle.uimg_fit_base.specs.{declared.fault.Fault.Fault, Files.begins_as_blob}
 use Rattle.uimg_fit_checking.specs.Survey.{Said, survey_of}
+use Rattle.uimg_map.specs.Signatures.{covering_work}
 use Rattle.uimg_legacy.specs.declared.{header.Header.Header, fault.LegacyFault.LegacyFault}
 use Rattle.uimg_legacy.specs.{Header.header, Image.payload, Parts.{has_parts, sizes}}
 
@@ -12,9 +13,15 @@ abbrev pub image_count : Result Said Fault → ℕ
 image_count (Ok said) = length said.images
 image_count (Err fault) = 0
 
--- of a FIT image: the header's numbers, the reservation block in the file, the index, 12 an image
+-- of a FIT image's tree: the index, and for each image what its signatures request
+abbrev pub images_work : List ℕ → ℕ
+images_work file =
+    index_cost file + image_count (survey_of file) * covering_work file (tree file)
+
+-- of a FIT image: the header's numbers, the reservation block in the file, the tree, 12 an image
 abbrev pub fit_work : List ℕ → ℕ
-fit_work file = 40 + length file + (index_cost file + 12 * image_count (survey_of file))
+fit_work file =
+    40 + length file + (images_work file + 12 * image_count (survey_of file))
 
 -- of the data of a legacy image: each size twice, and the word after them once
 abbrev pub legacy_table_work : Bool → List ℕ → ℕ

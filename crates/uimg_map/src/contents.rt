@@ -24,11 +24,12 @@ pub enum Label {
     /// Its strings block, which has the names of properties.
     Strings,
 
-    /// The payload of the image whose name is at this span.
-    Payload(Span),
+    /// The payload of the image whose name is at this span. If a signature covers it, the name of
+    /// the configuration is at the other.
+    Payload(Span, Option<Span>),
 
     /// The same, as the value of a property.
-    Embedded(Span),
+    Embedded(Span, Option<Span>),
 
     /// The table of the sizes of a legacy image's parts.
     Table,

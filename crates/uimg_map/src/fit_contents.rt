@@ -1,25 +1,27 @@
 //! What is in the file of a FIT image.
 
 ghost use Rattle.std.specs.Prelude.{◌≡◌, ◌≤◌, ◌<◌, ◌+◌, ◌*◌, ◌^◌, length, map, ℕ, List, Ok, Err, IfErr, IsTrue, OnOk};
-ghost use Rattle.uimg_blob_reading.specs.{Counts.index_cost, Faults.refuses_memory};
-ghost use Rattle.uimg_fit_checking.specs.Survey.{read_image, survey_of};
+ghost use Rattle.uimg_blob_reading.specs.Faults.{refuses_memory};
+ghost use Rattle.uimg_fit_checking.specs.Survey.{survey_of};
 ghost use Rattle.uimg_fit_checking.specs.declared.surveying.facts.Survey.{Survey};
-ghost use Rattle.uimg_fit_checking.specs.SurveyParts.{ImageInside, SurveyInside, is_unread, Surveys};
+ghost use Rattle.uimg_fit_checking.specs.SurveyParts.{is_unread, Surveys};
 ghost use Rattle.uimg_map.specs.{Contents.{GrowsBy, AddsFound, Gathers}, Faults.{is_read, stops}};
 ghost use Rattle.uimg_map.specs.{Found.read_label, FdtHeader.fdt_header_of};
-ghost use Rattle.uimg_map.specs.Work.{image_count, fit_work};
+ghost use Rattle.uimg_map.specs.Images.{ImageInside, ImagesInside, read_image};
+ghost use Rattle.uimg_map.specs.Work.{image_count, images_work, fit_work};
 ghost use Rattle.uimg_map.specs.FitContents.{blocks_told, is_value, what_payload, payload_told, image_told, images_told, survey_told, fit_contents};
 
 use crate::blocks::blocks_of;
 use crate::contents::{Contents, Label};
 use crate::fault::MapFault;
 use crate::fdt_header::read_fdt_header;
+use crate::images::{Image, Images, read_images};
 use crate::reservations::end_of_reservations;
 use std::alloc::Global;
 use uimg_base::{Room, Source, Span};
 use uimg_blob_reading::BlobFault;
 use uimg_fit_base::{Fault, FitFault};
-use uimg_fit_checking::{ImageFacts, Survey, SurveyFault, survey};
+use uimg_fit_checking::SurveyFault;
 use uimg_fit_reading::{PayloadFacts, find_payload};
 
 /// Adds what is in the file of a FIT image: the header and its blocks, if the file has the header
@@ -62,16 +64,13 @@ fn add_surveyed<S: Source>(
     contents: &mut Contents,
 ) -> Result<(), MapFault>
     requires { contents.old.size ≡ length (S.device source.old).bytes }
-    ensures { Gathers (λ file. index_cost file + 12 * image_count (survey_of file))
-        (λ file. survey_told (length file) (survey_of file)) result
+    ensures { Gathers (λ file. images_work file + 12 * image_count (survey_of file))
+        (λ file. survey_told file (survey_of file)) result
         (S.device source.old) (S.device source.new) contents.old contents.new }
 {
     let mut room = Room::new(alloc);
-    match survey(alloc, source, &mut room) {
-        Ok(survey) => {
-            add_payloads(source, &survey, contents)?;
-            Ok(())
-        }
+    match read_images(alloc, source, &mut room) {
+        Ok(found) => add_payloads(source, &found, contents),
         Err(SurveyFault::Stopped(fault)) => {
             add_refused(fault, contents)?;
             Ok(())
@@ -86,7 +85,7 @@ fn add_refused(fault: Fault, contents: &mut Contents) -> Result<(), MapFault>
     ensures size { contents.new.size ≡ contents.old.size }
     ensures read { is_read result ≡ is_unread {X = Survey} (Err (SurveyFault.Stopped fault)) }
     ensures grows { (file : List ℕ) → Surveys file (Err (SurveyFault.Stopped fault)) →
-        OnOk result (GrowsBy file (survey_told contents.old.size (survey_of file)) contents.old contents.new) }
+        OnOk result (GrowsBy file (survey_told file (survey_of file)) contents.old contents.new) }
     ensures stops { (file : List ℕ) → Surveys file (Err (SurveyFault.Stopped fault)) →
         IfErr result (λ fault. IsTrue (stops fault)) }
 {
@@ -118,17 +117,17 @@ fn refuses_memory(fault: BlobFault) -> bool
 
 fn add_payloads<S: Source>(
     source: &mut S,
-    survey: &Survey,
+    found: &Images,
     contents: &mut Contents,
 ) -> Result<(), MapFault>
-    requires survey { SurveyInside (length (S.device source.old).bytes) survey.now }
+    requires found { ImagesInside (length (S.device source.old).bytes) found.now }
     requires size { contents.old.size ≡ length (S.device source.old).bytes }
-    ensures { Gathers (λ _. 12 * length survey.now.images.items)
-        (λ file. images_told (length file) survey.now.totalsize (map (read_image file) survey.now.images.items))
+    ensures { Gathers (λ _. 12 * length found.now.images.items)
+        (λ file. images_told (length file) found.now.totalsize (map (read_image file) found.now.images.items))
         result (S.device source.old) (S.device source.new) contents.old contents.new }
 {
-    for image in &survey.images {
-        add_image(source, survey.totalsize, image, contents)?;
+    for image in &found.images {
+        add_image(source, found.totalsize, image, contents)?;
     }
     Ok(())
 }
@@ -136,7 +135,7 @@ fn add_payloads<S: Source>(
 fn add_image<S: Source>(
     source: &mut S,
     totalsize: u32,
-    image: &ImageFacts,
+    image: &Image,
     contents: &mut Contents,
 ) -> Result<(), MapFault>
     requires image { ImageInside totalsize image.now }
@@ -157,7 +156,7 @@ fn add_image<S: Source>(
     }
 }
 
-fn add_payload(image: &ImageFacts, span: Span, contents: &mut Contents) -> Result<(), MapFault>
+fn add_payload(image: &Image, span: Span, contents: &mut Contents) -> Result<(), MapFault>
     requires { (span.place < 2 ^ 41) × (span.length < 2 ^ 32) }
     ensures { AddsFound (λ file. payload_told contents.old.size (read_image file image.now) (Ok span)) result
         contents.old contents.new }
@@ -168,13 +167,13 @@ fn add_payload(image: &ImageFacts, span: Span, contents: &mut Contents) -> Resul
     Ok(())
 }
 
-fn payload_label(image: &ImageFacts, span: Span) -> Label
+fn payload_label(image: &Image, span: Span) -> Label
     ensures { (file : List ℕ) → read_label file result ≡ what_payload (read_image file image.now) span }
 {
     if is_value(&image.payload, span) {
-        Label::Embedded(image.name)
+        Label::Embedded(image.name, image.covered)
     } else {
-        Label::Payload(image.name)
+        Label::Payload(image.name, image.covered)
     }
 }
 

@@ -62,7 +62,7 @@ impl Map {
             over.and_then(|over| self.label_of(over)),
         ) {
             (_, None) => Standing::Alone,
-            (Some(Label::Embedded(_)), Some(Label::Structure)) => Standing::Nested,
+            (Some(Label::Embedded(_, _)), Some(Label::Structure)) => Standing::Nested,
             (_, Some(other)) => Standing::Overlapping(other),
         }
     }
@@ -70,11 +70,13 @@ impl Map {
 
 /// Returns the map of a file: of a FIT image if it begins as a blob, else of a legacy image. A
 /// refused image has a map too, with what its header says and its fault, at its offset if it has
-/// one. A payload or part that ends after the file is a fault too.
+/// one. A payload or part that ends after the file is a fault too. A payload is told with the first
+/// configuration that has a signature node and names its image; no signature is verified.
 ///
 /// Reads no payload and no part. Requests the four bytes of the format. Of a FIT image it requests
-/// at most the header's numbers, the reservation block, which ends in the file, the index and 12
-/// bytes for each image. Of a legacy image it requests the header, 8 bytes for each size in its
+/// at most the header's numbers, the reservation block, which ends in the file, the index, 12 bytes
+/// for each image, and for each image and each signature node of a configuration what `names_image`
+/// does. Of a legacy image it requests the header, 8 bytes for each size in its
 /// table and 4 for the word after them.
 ///
 /// Returns a fault only if a read failed, or memory was refused for a FIT image's nodes or for the

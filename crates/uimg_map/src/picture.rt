@@ -40,6 +40,7 @@ const TITLE_LETTERS: usize = 72;
 #[derive(Clone, Copy, Debug, PartialEq, Eq)]
 enum Kind {
     Item,
+    Covered,
     Shared,
     Outside,
     Unused,
@@ -50,6 +51,7 @@ impl Kind {
     fn colour(self) -> &'static str {
         match self {
             Kind::Item => "#3465a4",
+            Kind::Covered => "#4e9a06",
             Kind::Shared => "#f57900",
             Kind::Outside => "#75507b",
             Kind::Unused => "#d3d7cf",
@@ -152,6 +154,7 @@ fn put_legend<W: Write>(out: &mut W) -> io::Result<()> {
     put_item(Kind::Outside, "ends outside the file", 410, out)?;
     put_item(Kind::Unused, "unused", 630, out)?;
     put_item(Kind::Fault, "fault", 730, out)?;
+    put_item(Kind::Covered, "covered by a signature", 805, out)?;
     Ok(())
 }
 
@@ -236,6 +239,7 @@ fn kind_of(map: &Map, row: &Row) -> Kind {
             (Some(Label::Fault(_)), _) => Kind::Fault,
             (_, _) if thing.end > map.size => Kind::Outside,
             (_, Standing::Overlapping(_)) => Kind::Shared,
+            (Some(Label::Payload(_, Some(_)) | Label::Embedded(_, Some(_))), _) => Kind::Covered,
             (_, _) => Kind::Item,
         },
         Row::Gap(_, _) | Row::Rest(_, _) => Kind::Unused,

@@ -3,7 +3,7 @@
 ghost use Rattle.std.specs.Prelude.{◌≡◌, IfOk, IfErr, IsTrue};
 ghost use Rattle.std.specs.String.{string_bytes};
 ghost use Rattle.uimg_base.specs.{Device.SameDevice, Honest.HonestSource};
-ghost use Rattle.uimg_map.specs.{Faults.stops, Labels.{ReadsNames, outside_text, word_of, payload_text, Names, TellsThing, Tells}};
+ghost use Rattle.uimg_map.specs.{Faults.stops, Labels.{ReadsNames, name_text, outside_text, word_of, payload_text, Names, TellsThing, Tells}};
 
 use crate::contents::Label;
 use crate::fault::MapFault;
@@ -26,7 +26,7 @@ pub(crate) fn text_of<S: Source>(
     map: &Map,
     row: &Row,
 ) -> Result<String, MapFault>
-    ensures uses { ReadsNames 510 result (S.device source.old) (S.device source.new) }
+    ensures uses { ReadsNames 1020 result (S.device source.old) (S.device source.new) }
     ensures tells { HonestSource S.device source →
         IfOk result (λ text. Tells (S.device source.old).bytes map.now row.now (string_bytes text)) }
     ensures stops { IfErr result (λ fault. IsTrue (stops fault)) }
@@ -45,7 +45,7 @@ fn thing_text<S: Source>(
     thing: Thing,
     over: Option<Thing>,
 ) -> Result<String, MapFault>
-    ensures uses { ReadsNames 510 result (S.device source.old) (S.device source.new) }
+    ensures uses { ReadsNames 1020 result (S.device source.old) (S.device source.new) }
     ensures tells { HonestSource S.device source → IfOk result
         (λ text. TellsThing (S.device source.old).bytes map.now thing over (string_bytes text)) }
     ensures stops { IfErr result (λ fault. IsTrue (stops fault)) }
@@ -78,13 +78,15 @@ fn label_text<S: Source>(
     source: &mut S,
     label: Option<Label>,
 ) -> Result<String, MapFault>
-    ensures uses { ReadsNames 255 result (S.device source.old) (S.device source.new) }
+    ensures uses { ReadsNames 510 result (S.device source.old) (S.device source.new) }
     ensures tells { HonestSource S.device source →
         IfOk result (λ text. Names (S.device source.old).bytes label (string_bytes text)) }
     ensures stops { IfErr result (λ fault. IsTrue (stops fault)) }
 {
     let text = match label {
-        Some(Label::Payload(name) | Label::Embedded(name)) => { payload_text(alloc, source, name)? }
+        Some(Label::Payload(name, covered) | Label::Embedded(name, covered)) => {
+            payload_text(alloc, source, name, covered)?
+        }
         Some(Label::Part(number)) => format!(in alloc; "part {number}")?,
         Some(Label::Fault(fault)) => format!(in alloc; "fault {fault}")?,
         Some(label) => String::from_str(alloc, word_of(label))?,
@@ -93,10 +95,31 @@ fn label_text<S: Source>(
     Ok(text)
 }
 
-fn payload_text<S: Source>(alloc: Global, source: &mut S, name: Span) -> Result<String, MapFault>
+fn payload_text<S: Source>(
+    alloc: Global,
+    source: &mut S,
+    name: Span,
+    covered: Option<Span>,
+) -> Result<String, MapFault>
+    ensures uses { ReadsNames 510 result (S.device source.old) (S.device source.new) }
+    ensures tells { HonestSource S.device source → IfOk result
+        (λ text. string_bytes text ≡ payload_text (S.device source.old).bytes name covered) }
+    ensures stops { IfErr result (λ fault. IsTrue (stops fault)) }
+{
+    let image = name_text(alloc, source, name)?;
+    match covered {
+        Some(covered) => {
+            let configuration = name_text(alloc, source, covered)?;
+            Ok(format!(in alloc; "payload of {image}, covered by {configuration}")?)
+        }
+        None => Ok(format!(in alloc; "payload of {image}")?),
+    }
+}
+
+fn name_text<S: Source>(alloc: Global, source: &mut S, name: Span) -> Result<String, MapFault>
     ensures uses { ReadsNames 255 result (S.device source.old) (S.device source.new) }
     ensures tells { HonestSource S.device source →
-        IfOk result (λ text. string_bytes text ≡ payload_text (S.device source.old).bytes name) }
+        IfOk result (λ text. string_bytes text ≡ name_text (S.device source.old).bytes name) }
     ensures stops { IfErr result (λ fault. IsTrue (stops fault)) }
 {
     let mut bytes = [0; NAME_LEN];
@@ -106,7 +129,7 @@ fn payload_text<S: Source>(alloc: Global, source: &mut S, name: Span) -> Result<
         return Err(MapFault::Read);
     }
     source.fill_at(name.place, &mut bytes[..length])?;
-    Ok(format!(in alloc; "payload of {}", PrintedWord(&bytes[..length]))?)
+    Ok(format!(in alloc; "{}", PrintedWord(&bytes[..length]))?)
 }
 
 fn word_of(label: Label) -> &'static str
@@ -120,7 +143,7 @@ fn word_of(label: Label) -> &'static str
         Label::Table => "table of sizes",
         Label::Data => "data",
         Label::Padding => "padding",
-        Label::Payload(_) | Label::Embedded(_) => "payload",
+        Label::Payload(_, _) | Label::Embedded(_, _) => "payload",
         Label::Part(_) => "part",
         Label::Fault(_) => "fault",
     }

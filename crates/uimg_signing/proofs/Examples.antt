@@ -2,11 +2,11 @@
 use Rattle.std.specs.Prelude.{◌≡◌, [], ◌∷◌, ◌++◌, refl, Ok, Err, Some, None, true, false, codes, ◌==◌, replicate}
 use Rattle.uimg_texts.specs.Nul.{before_nul}
 use Rattle.uimg_texts.specs.Numbers.{be32}
-use Rattle.uimg_blob_reading.specs.Tokens.{begin_node, end_node, last, nop}
+use Rattle.uimg_blob_reading.specs.Tokens.{begin_node, last, nop}
 use Rattle.uimg_signing.specs.declared.faults.SigningFault.TheVariants.{StringsOffset, StringsOutside}
 use Rattle.uimg_signing.specs.{Texts.{count_text, count_from, is_skipped}, Listing.is_over}
-use Rattle.uimg_signing.specs.Covering.{covers, in_nodes, is_deep}
-use Rattle.uimg_signing.specs.{Reach.is_name, Strings.size_in, Signatures.rsa_algo, Turning.ends_early}
+use Rattle.uimg_signing.specs.Covering.{covers, placed_in, begins_deep}
+use Rattle.uimg_signing.specs.{Reach.is_name, Strings.size_in, Signatures.rsa_algo, Turning.ends_early, Refusing.names_size}
 use Rattle.uimg_sums.specs.declared.algo.Algo.TheVariants.{Sha256}
 
 -- a value of three texts, two of which are the same
@@ -58,13 +58,20 @@ pub root_begins : covers (λ at. at == 8) (0 ∷ []) (begin_node 0 (Ok [])) ≡ 
 root_begins = refl
 
 -- a node in 32 others is too deep, one in 31 is not
-pub deep : is_deep (replicate 32 0) (begin_node 8 (Ok []) ∷ []) ≡ true
-unfolding in_nodes
+pub deep : begins_deep (placed_in (replicate 32 0) (begin_node 8 (Ok []))) ≡ true
 deep = refl
 
-pub not_deep : is_deep (replicate 31 0) (begin_node 8 (Ok []) ∷ end_node 16 ∷ []) ≡ false
-unfolding in_nodes
+pub not_deep : begins_deep (placed_in (replicate 31 0) (begin_node 8 (Ok []))) ≡ false
 not_deep = refl
+
+-- strings that end inside a name hold none
+pub two_strings : names_size (97 ∷ 0 ∷ 98 ∷ 0 ∷ 99 ∷ []) 0 4 ≡ 4
+unfolding before_nul
+two_strings = refl
+
+pub cut_string : names_size (97 ∷ 0 ∷ 98 ∷ 0 ∷ 99 ∷ []) 2 3 ≡ 0
+unfolding before_nul
+cut_string = refl
 
 -- FDT_END at 40 ends a block of 44 bytes, not one of 48
 pub whole : ends_early 44 (last 40) ≡ false

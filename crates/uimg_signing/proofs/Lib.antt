@@ -15,8 +15,14 @@ pub mod HashedLaws
 pub mod CostLaws
 pub mod ClimbLaws
 pub mod ReachLaws
+pub mod SignatureNodeLaws
 pub mod FindLaws
 pub mod PieceLaws
 pub mod TokenLaws
+pub mod SignedNameLaws
 pub mod SignedPartLaws
+pub mod WellSignedLaws
+pub mod SignedPathLaws
+pub mod RisingLaws
+pub mod MarkLaws
 pub mod Examples

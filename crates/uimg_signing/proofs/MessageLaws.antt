@@ -8,7 +8,7 @@ use Rattle.uimg_blob_reading.specs.Tokens.{Token, Blocks, tokens}
 use Rattle.uimg_blob_reading.specs.Blob.{blocks, blocks_named, tree, met, met_from, met_in}
 use Rattle.uimg_blob_reading.specs.Extents.{blocks_of}
 use Rattle.uimg_signing.specs.declared.faults.SigningFault.{SigningFault, TheVariants.StringsOutside}
-use Rattle.uimg_signing.specs.{Covering.signed_of, Walking.{Feeds, walk_refusal}, Message.{message, refusal}, Faults.Refuses}
+use Rattle.uimg_signing.specs.{Covering.signed_of, Walking.Feeds, Refusing.{names_size, walk_refusal}, Message.{message, refusal}, Faults.Refuses}
 use Rattle.uimg_signing.proofs.TurnLaws.{less_true, less_false}
 use Rattle.std.proofs.Common.{Option, Some, if◌then◌else◌, ◌<◌, ◌≤◌}
 
@@ -28,6 +28,10 @@ unfolding tree
 tokens_met file b t found is =
     let rooted : root (without_nops (tokens b)) ≡ Ok t = sym (ap (λ (r : Result Blocks Fault). r >>= λ x. root (without_nops (tokens x))) found) ∙ is in
     sym (ap (λ (r : Result Blocks Fault). met_from r) found ∙ ap (λ (r : Result Siblings Fault). met_in r (tokens b)) rooted)
+
+-- two calls leave the device as it was
+pub twice : {d e f : Device} → SameDevice d e → SameDevice e f → SameDevice d f
+twice first second = record { bytes = second.bytes ∙ first.bytes; honest = second.honest ∙ first.honest }
 
 -- the covered tokens and the strings were fed
 pub whole : {T : Type 0} (fed : T → T → List ℕ → Type 0) → ((first between last : T) (xs ys : List ℕ) → fed first between xs → fed between last ys → fed first last (xs ++ ys))
@@ -53,18 +57,25 @@ strings_size file x found = ap (λ (k : Blocks). k.strings_size) (named file (bl
 pub structure_end : (file : List ℕ) (x : Extent) → blocks file ≡ Ok (blocks_of file x) → be32 file 8 + be32 file 36 ≡ x.structure_end
 structure_end file x found = ap (λ (k : Blocks). k.structure_end) (named file (blocks_of file x) found)
 
-pub outside : (file : List ℕ) (strings size : ℕ) → be32 file 32 ≡ size → size < strings → refusal file strings ≡ Some StringsOutside
-outside file strings size is past = ap (λ (x : Bool). (let o : Option SigningFault = if x then Some StringsOutside else walk_refusal (be32 file 8 + be32 file 36) (met file) in o)) (less_true (be32 file 32) strings (omega (arith, is, past)))
+abbrev refusal_in : Bool → Option SigningFault → Option SigningFault
+refusal_in past other = if past then Some StringsOutside else other
+
+pub outside : (listed : ℕ → Bool) (file : List ℕ) (strings size : ℕ) → be32 file 32 ≡ size → size < strings → refusal listed file strings ≡ Some StringsOutside
+outside listed file strings size is past =
+    ap (λ (x : Bool). refusal_in x (walk_refusal listed (blocks_named file) (names_size file (be32 file 12) strings) [] (met file))) (less_true (be32 file 32) strings (omega (arith, is, past)))
 
 -- the refusal is that of the tokens
-pub refuses_tokens : (d e : Device) (x : Extent) (t : Siblings) (strings : ℕ) (result : Result Unit SigningFault) → SameDevice d e → tree d.bytes ≡ Ok t → blocks d.bytes ≡ Ok (blocks_of d.bytes x)
-    → strings ≤ x.strings_size → Refuses (walk_refusal x.structure_end (tokens (blocks_of e.bytes x))) result → Refuses (refusal d.bytes strings) result
-refuses_tokens d e x t strings result same is found within refuses = λ read memory.
+pub refuses_tokens : (listed : ℕ → Bool) (d e : Device) (x : Extent) (t : Siblings) (strings names : ℕ) (result : Result Unit SigningFault) → SameDevice d e → tree d.bytes ≡ Ok t → blocks d.bytes ≡ Ok (blocks_of d.bytes x)
+    → strings ≤ x.strings_size → names ≡ names_size d.bytes x.strings strings → Refuses (walk_refusal listed (blocks_of e.bytes x) names [] (tokens (blocks_of e.bytes x))) result → Refuses (refusal listed d.bytes strings) result
+refuses_tokens listed d e x t strings names result same is found within names_are refuses = λ read memory.
+    let b = blocks_of d.bytes x in
+    let b_is = named d.bytes b found in
     refuses read memory
-    ∙ ap (λ (xs : List ℕ). walk_refusal x.structure_end (tokens (blocks_of xs x))) same.bytes
-    ∙ ap (λ (b : Blocks). walk_refusal b.structure_end (tokens (blocks_of d.bytes x))) (sym (named d.bytes (blocks_of d.bytes x) found))
-    ∙ ap (λ (ts : List Token). walk_refusal (be32 d.bytes 8 + be32 d.bytes 36) ts) (tokens_met d.bytes (blocks_of d.bytes x) t found is)
-    ∙ sym (ap (λ (x : Bool). (let o : Option SigningFault = if x then Some StringsOutside else walk_refusal (be32 d.bytes 8 + be32 d.bytes 36) (met d.bytes) in o)) (less_false (be32 d.bytes 32) strings (omega (arith, strings_size d.bytes x found, within))))
+    ∙ ap (λ (xs : List ℕ). walk_refusal listed (blocks_of xs x) names [] (tokens (blocks_of xs x))) same.bytes
+    ∙ ap (λ (k : Blocks). walk_refusal listed k names [] (tokens b)) (sym b_is)
+    ∙ ap (λ (ts : List Token). walk_refusal listed (blocks_named d.bytes) names [] ts) (tokens_met d.bytes b t found is)
+    ∙ ap (λ (n : ℕ). walk_refusal listed (blocks_named d.bytes) n [] (met d.bytes)) (names_are ∙ ap (λ (k : Blocks). names_size d.bytes k.strings strings) (sym b_is))
+    ∙ sym (ap (λ (c : Bool). refusal_in c (walk_refusal listed (blocks_named d.bytes) (names_size d.bytes (be32 d.bytes 12) strings) [] (met d.bytes))) (less_false (be32 d.bytes 32) strings (omega (arith, strings_size d.bytes x found, within))))
 
 -- the tree is that of the tokens
 pub rooted : (d e : Device) (x : Extent) (t : Siblings) → SameDevice d e → blocks d.bytes ≡ Ok (blocks_of d.bytes x) → tree d.bytes ≡ Ok t → root (without_nops (tokens (blocks_of e.bytes x))) ≡ Ok t

@@ -12,14 +12,14 @@ length_paths above (node at name own below after) =
     ap suc (length-append (paths (name ∷ above) below) (paths above after)) ∙ omega (arith, length_paths (name ∷ above) below, length_paths above after)
 
 -- the element of a number, by what is behind those before
-got : {X : Type 0} (xs ys : List X) (i : ℕ) (x : X) → drop i xs ≡ x ∷ ys → slice_get xs i ≡ Some x
+pub got : {X : Type 0} (xs ys : List X) (i : ℕ) (x : X) → drop i xs ≡ x ∷ ys → slice_get xs i ≡ Some x
 got [] ys zero x h = ap (λ l. slice_get l 0) h
 got [] ys (suc i) x h = ap (λ l. slice_get l 0) h
 got (y ∷ xs) ys zero x h = ap (λ l. slice_get l 0) h
 got (y ∷ xs) ys (suc i) x h = got xs ys i x h
 
 -- what is behind the next ones
-past : {X : Type 0} (all xs ys : List X) (i n : ℕ) → drop i all ≡ xs ++ ys → length xs ≡ n → drop (i + n) all ≡ ys
+pub past : {X : Type 0} (all xs ys : List X) (i n : ℕ) → drop i all ≡ xs ++ ys → length xs ≡ n → drop (i + n) all ≡ ys
 past all [] ys i n h size = ap (λ (m : ℕ). drop m all) (omega (arith, size)) ∙ h
 past [] (x ∷ xs) ys zero n h size = absurd (grind (arith, ap length h))
 past [] (x ∷ xs) ys (suc i) n h size = absurd (grind (arith, ap length h))

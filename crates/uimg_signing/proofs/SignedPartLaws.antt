@@ -7,9 +7,10 @@ use Rattle.uimg_texts.specs.{Nul.before_nul, Slices.slice, Numbers.{be32, up4}}
 use Rattle.uimg_blob_reading.proofs.{NumberLaws.{be32-slice, slice-slice}, PhaseLaws.{some_some, by_bool}}
 use Rattle.uimg_blob_reading.specs.Tokens.{Token, begin_node, end_node, prop, nop, last, stray, Blocks, token_at, next, offset, tokens, tokens_from}
 use Rattle.uimg_blob_reading.specs.{Grammar.{Siblings, root, without_nops}, Blob.{blocks, blocks_named, tree, met}}
+use Rattle.uimg_signing.specs.declared.faults.SigningFault.{SigningFault, TheVariants.StringsOutside}
 use Rattle.uimg_signing.specs.{Covering.{Placed, in_nodes, after, covers, size_of, bytes_of}, Turning.is_last, Going.{GoesWell}}
-use Rattle.uimg_signing.specs.{Message.message, SignedParts.{Part, begins_node, ends_node, says, skips, closes, part_of, signed_part, parts, NameSigned, NamesSigned}}
-use Rattle.uimg_signing.proofs.{GoingLaws.{err_ok, true_false, well_some, well_next, bad, begins_well}, StepLaws.last_next, MessageLaws.{named, tokens_met}, ShortLaws.tree_of}
+use Rattle.uimg_signing.specs.{Message.{message, refusal}, Refusing.{names_size, walk_refusal}, SignedParts.{Part, begins_node, ends_node, says, skips, closes, part_of, signed_part, parts, NameSigned, NamesSigned}}
+use Rattle.uimg_signing.proofs.{GoingLaws.{err_ok, true_false, well_some, well_next, bad, begins_well}, StepLaws.last_next, MessageLaws.{named, tokens_met}, ShortLaws.tree_of, SignedNameLaws.names_signed}
 use Rattle.uimg_signing.proofs.{PieceLaws.{Split, split, name_by, pieces, Whole, comes_apart}, TokenLaws.{Good, right_at, next_is, word_at, node_named, nul_front, nul_take, piece}}
 
 -- the part that bytes with this word say, with these strings
@@ -159,11 +160,23 @@ whole_met file t is =
     subst (λ (ts : List Token). Whole (Good file (be32 file 12)) (in_nodes [] ts)) (tokens_met file b t blocked is)
     (whole_from t b (suc (b.structure_end - b.structure)) b.structure [] (block_inside file b blocked) (begins_well (tokens b) t rooted))
 
+passed : (past : Bool) (other : Option SigningFault) → (let o : Option SigningFault = if past then Some StringsOutside else other in o) ≡ None → other ≡ None
+passed true other h = absurd (grind (arith, h))
+passed false other h = h
+
+-- A message of a tree that is not refused signs the names of its properties.
+pub signed_names : (file : List ℕ) (t : Siblings) (listed : ℕ → Bool) (strings : ℕ) → tree file ≡ Ok t → refusal listed file strings ≡ None → NamesSigned listed file strings
+signed_names file t listed strings is none =
+    let b = blocks_named file in
+    names_signed listed b strings (in_nodes [] (met file)) (goods (Good file (be32 file 12)) (in_nodes [] (met file)) (whole_met file t is))
+    (passed (nat_lt (be32 file 32) strings) (walk_refusal listed b (names_size file (be32 file 12) strings) [] (met file)) none)
+
 -- Two trees whose messages are the same bytes have the same signed parts, whatever nodes and however many
--- bytes of strings each was taken for, if the names of the signed properties of one are signed.
+-- bytes of strings each was taken for, if one of them is not refused.
 pub same_parts : (f g : List ℕ) (t u : Siblings) (listed listed' : ℕ → Bool) (s r : ℕ) → tree f ≡ Ok t → tree g ≡ Ok u
-    → NamesSigned listed f s → message listed f s ≡ message listed' g r → parts listed [] (met f) ≡ parts listed' [] (met g)
-same_parts f g t u listed listed' s r f_tree g_tree names same =
+    → refusal listed f s ≡ None → message listed f s ≡ message listed' g r → parts listed [] (met f) ≡ parts listed' [] (met g)
+same_parts f g t u listed listed' s r f_tree g_tree taken same =
+    let names = signed_names f t listed s f_tree taken in
     let fs = in_nodes [] (met f) in
     let gs = in_nodes [] (met g) in
     let f_whole = whole_met f t f_tree in

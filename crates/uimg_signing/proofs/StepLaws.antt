@@ -1,5 +1,5 @@
 -- A step over a token, and the walk over all of them.
-use Rattle.std.proofs.Common.{◌≡◌, ℕ, zero, suc, ◌+◌, ◌-◌, ◌≤◌, List, [], ◌++◌, Option, Some, None, Result, Ok, Err, Bool, true, false, IsTrue, if◌then◌else◌, refl, ap, sym, subst, ◌∙◌, ◌||◌, ◌&&◌, not, ◌==◌, ◌<◌, inl, append_assoc, append-nil, arith}
+use Rattle.std.proofs.Common.{◌≡◌, ℕ, zero, suc, ◌+◌, ◌-◌, ◌*◌, ◌≤◌, List, [], ◌++◌, Option, Some, None, Result, Ok, Err, Bool, true, false, IsTrue, if◌then◌else◌, refl, ap, sym, subst, ◌∙◌, ◌&&◌, not, ◌==◌, ◌<◌, inl, inr, append_assoc, append-nil, arith}
 use Rattle.std.specs.Prelude.{IsErrAnd}
 use Rattle.uimg_signing.specs.declared.faults.SigningFault.{SigningFault}
 use Rattle.uimg_texts.specs.Slices.{slice}
@@ -8,25 +8,25 @@ use Rattle.uimg_blob_reading.specs.declared.{extent.Extent.Extent, tokens.ReadTo
 use Rattle.uimg_blob_reading.specs.Tokens.{Token, begin_node, end_node, prop, nop, last, stray, Blocks, token_at, next, offset, tokens, tokens_from}
 use Rattle.uimg_blob_reading.specs.{Extents.blocks_of, ReadTokens.IsReadAs}
 use Rattle.uimg_signing.specs.declared.turns.{Walk.Walk, Turn.Turn}
-use Rattle.uimg_signing.specs.Covering.{around, after, covers, size_of, signed_of, in_nodes, is_marked, placed_in, begins_deep, is_deep}
-use Rattle.uimg_signing.specs.Turning.{coded, is_last, ends_early, Turns, IsShallow}
+use Rattle.uimg_signing.specs.Covering.{around, after, covers, size_of, signed_of, in_nodes, is_marked, placed_in, begins_deep}
+use Rattle.uimg_signing.specs.Turning.{coded, is_last, is_property, ends_early, TurnsAt, Turns, IsShallow}
 use Rattle.uimg_blob_reading.specs.Grammar.{Siblings, root, without_nops}
-use Rattle.uimg_signing.specs.Going.{GoesWell, IsBad, RefusesTurn, RefusesToken}
+use Rattle.uimg_signing.specs.{Going.{GoesWell, IsBad, RefusesTurn}, Refusing.{is_named, is_unsigned, token_refusal, or_else, first_refusal, walk_refusal, RefusesToken}}
 use Rattle.uimg_signing.specs.Faults.{is_unread, fault_of, Refuses}
-use Rattle.uimg_signing.specs.declared.faults.SigningFault.TheVariants.{Read, OutOfMemory, Changed, TooLong, TooManyNodes, Unhashed, TooDeep, EarlyEnd, BadStrings, StringsOffset, StringsOutside}
+use Rattle.uimg_signing.specs.declared.faults.SigningFault.TheVariants.{Read, OutOfMemory, Changed, TooLong, TooManyNodes, Unhashed, TooDeep, EarlyEnd, NameUnsigned, BadStrings, StringsOffset, StringsOutside}
 use Rattle.uimg_signing.proofs.GoingLaws.{begins_well, last_size, well_after, bad}
-use Rattle.uimg_signing.specs.Walking.{Feeds, signed_at, GoesOn, Passes, SoFar, is_early, walk_refusal}
+use Rattle.uimg_signing.specs.Walking.{Feeds, lacks_name, signed_at, GoesOn, Passes, SoFar}
 
-now_honest : {d e : Device} → SameDevice d e → IsTrue d.honest → IsTrue e.honest
+pub now_honest : {d e : Device} → SameDevice d e → IsTrue d.honest → IsTrue e.honest
 now_honest same honest = subst (λ (b : Bool). IsTrue b) (sym same.honest) honest
 
 same_piece : (p : List ℕ) (c k : Bool) (xs ys : List ℕ) (a b n m : ℕ) → p ≡ (if c then slice xs a n else []) → c ≡ k → xs ≡ ys → b ≡ a → n ≡ m → p ≡ (if k then slice ys b m else [])
 same_piece p c k xs ys a b n m is covered bytes place size = cc
 
-goes : (listed : ℕ → Bool) (nodes : List ℕ) (t : Token) (at size bits : ℕ) (is_last : Bool) → next t ≡ (if is_last then None else Some (at + size)) → bits ≡ coded listed (after nodes t)
-    → GoesOn listed nodes t (if is_last then None else Some (record { at = at + size; bits = bits }))
-goes listed nodes t at size bits true now is = now
-goes listed nodes t at size bits false now is = (now, is)
+goes : (listed : ℕ → Bool) (nodes : List ℕ) (t : Token) (at size bits names : ℕ) (is_last : Bool) → next t ≡ (if is_last then None else Some (at + size)) → bits ≡ coded listed (after nodes t)
+    → GoesOn listed nodes t (if is_last then None else Some (record { at = at + size; bits = bits; names = names }))
+goes listed nodes t at size bits names true now is = now
+goes listed nodes t at size bits names false now is = (now, is)
 
 false_true : {A : Type 0} → true ≡ false → A
 false_true h = absurd (grind (arith, h))
@@ -35,15 +35,20 @@ none_of : (b : Bool) → (b && false) ≡ false
 none_of true = refl
 none_of false = refl
 
-both_first : (b c : Bool) → (b && c) ≡ true → b ≡ true
-both_first true c h = refl
-both_first false c h = h
-
 equal : (a b : ℕ) → a ≡ b → (a == b) ≡ true
 equal a b h = grind (arith, h)
 
 below : (a b : ℕ) → a < b → (a == b) ≡ false
 below a b h = grind (arith, h)
+
+-- what a property's name offset costs
+pub few : (property : Bool) → (if property then 4 else 0) ≤ 4
+few true = omega arith
+few false = omega arith
+
+pub cost : (property : Bool) (size : ℕ) → 4 ≤ size → (property ≡ true → 12 ≤ size) → 268 + (if property then 4 else 0) + size ≤ 68 * size
+cost true size some head = omega (arith, head refl)
+cost false size some head = omega (arith, some)
 
 -- a token that is not the last, or with which the block ends
 not_early : (t : Token) (at size block_end : ℕ) (ends : Bool) → offset t ≡ at → size ≡ size_of t → ends ≡ is_last t → (ends ≡ true → at + size ≡ block_end) → ends_early block_end t ≡ false
@@ -64,6 +69,71 @@ last_shallow nodes (nop at) h = refl
 last_shallow nodes (last at) h = refl
 last_shallow nodes (stray at fault) h = refl
 
+property_shallow : (nodes : List ℕ) (t : Token) → is_property t ≡ true → begins_deep (placed_in nodes t) ≡ false
+property_shallow nodes (begin_node at name) h = false_true (sym h)
+property_shallow nodes (end_node at) h = refl
+property_shallow nodes (prop at p) h = refl
+property_shallow nodes (nop at) h = refl
+property_shallow nodes (last at) h = refl
+property_shallow nodes (stray at fault) h = refl
+
+property_goes_on : (block_end : ℕ) (t : Token) → is_property t ≡ true → ends_early block_end t ≡ false
+property_goes_on block_end (begin_node at name) h = false_true (sym h)
+property_goes_on block_end (end_node at) h = refl
+property_goes_on block_end (prop at p) h = refl
+property_goes_on block_end (nop at) h = refl
+property_goes_on block_end (last at) h = false_true (sym h)
+property_goes_on block_end (stray at fault) h = refl
+
+-- a token is refused by its first fault
+abbrev refusal_by : Bool → Bool → Bool → Option SigningFault
+refusal_by deep early unsigned = if deep then Some TooDeep else if early then Some EarlyEnd else if unsigned then Some NameUnsigned else None
+
+pub refuses_deep : (listed : ℕ → Bool) (b : Blocks) (names : ℕ) (nodes : List ℕ) (t : Token) → begins_deep (placed_in nodes t) ≡ true → token_refusal listed b names (placed_in nodes t) ≡ Some TooDeep
+refuses_deep listed b names nodes t deep = ap (λ (x : Bool). refusal_by x (ends_early b.structure_end t) (is_unsigned listed b.bytes names (placed_in nodes t))) deep
+
+pub refuses_early : (listed : ℕ → Bool) (b : Blocks) (names : ℕ) (nodes : List ℕ) (t : Token) → is_last t ≡ true → ends_early b.structure_end t ≡ true → token_refusal listed b names (placed_in nodes t) ≡ Some EarlyEnd
+refuses_early listed b names nodes t last_is on =
+    ap (λ (x : Bool). refusal_by x (ends_early b.structure_end t) (is_unsigned listed b.bytes names (placed_in nodes t))) (last_shallow nodes t last_is)
+    ∙ ap (λ (x : Bool). refusal_by false x (is_unsigned listed b.bytes names (placed_in nodes t))) on
+
+named_is : (c : Bool) (property : Bool) (file : List ℕ) (at names : ℕ) → (c && not (is_named property file at names)) ≡ true → property ≡ true
+named_is true true file at names h = refl
+named_is true false file at names h = h
+named_is false true file at names h = refl
+named_is false false file at names h = h
+
+refuses_unsigned : (listed : ℕ → Bool) (b : Blocks) (names : ℕ) (nodes : List ℕ) (t : Token) → is_unsigned listed b.bytes names (placed_in nodes t) ≡ true → token_refusal listed b names (placed_in nodes t) ≡ Some NameUnsigned
+refuses_unsigned listed b names nodes t is =
+    let property = named_is (covers listed (around nodes t) t) (is_property t) b.bytes (offset t) names is in
+    ap (λ (x : Bool). refusal_by x (ends_early b.structure_end t) (is_unsigned listed b.bytes names (placed_in nodes t))) (property_shallow nodes t property)
+    ∙ ap (λ (x : Bool). refusal_by false x (is_unsigned listed b.bytes names (placed_in nodes t))) (property_goes_on b.structure_end t property)
+    ∙ ap (refusal_by false false) is
+
+unrefused : (listed : ℕ → Bool) (b : Blocks) (names : ℕ) (nodes : List ℕ) (t : Token) → begins_deep (placed_in nodes t) ≡ false → ends_early b.structure_end t ≡ false
+    → is_unsigned listed b.bytes names (placed_in nodes t) ≡ false → token_refusal listed b names (placed_in nodes t) ≡ None
+unrefused listed b names nodes t shallow whole named =
+    ap (λ (x : Bool). refusal_by x (ends_early b.structure_end t) (is_unsigned listed b.bytes names (placed_in nodes t))) shallow
+    ∙ ap (λ (x : Bool). refusal_by false x (is_unsigned listed b.bytes names (placed_in nodes t))) whole ∙ ap (refusal_by false false) named
+
+-- what is done at a token tells whether its name is signed
+lacks_as : (listed : ℕ → Bool) (nodes : List ℕ) (t : Token) (file : List ℕ) (walk : Walk) (turn : Turn) → TurnsAt listed walk.at nodes t turn → lacks_name file walk turn ≡ is_unsigned listed file walk.names (placed_in nodes t)
+lacks_as listed nodes t file walk turn does =
+    ap (λ (c : Bool). c && not (is_named turn.is_property file walk.at walk.names)) does.covered
+    ∙ ap (λ (c : Bool). covers listed (around nodes t) t && not (is_named c file walk.at walk.names)) does.property
+    ∙ ap (λ (n : ℕ). covers listed (around nodes t) t && not (is_named (is_property t) file n walk.names)) (sym does.place)
+
+-- a name that is not signed, over a device with the same bytes
+pub unsigned : (marks : List ℕ) (d e : Device) (x : Extent) (walk : Walk) (found : ReadToken) (turn : Turn) → SameDevice d e → (IsTrue d.honest → IsReadAs walk.at (token_at (blocks_of d.bytes x) walk.at) found) → Turns marks walk found turn
+    → (IsTrue e.honest → lacks_name e.bytes walk turn ≡ true) → IsTrue d.honest → (nodes : List ℕ) → walk.bits ≡ coded (is_marked marks) nodes
+    → token_refusal (is_marked marks) (blocks_of d.bytes x) walk.names (placed_in nodes (token_at (blocks_of d.bytes x) walk.at)) ≡ Some NameUnsigned
+unsigned marks d e x walk found turn same read turns lacks honest nodes bits =
+    let b = blocks_of d.bytes x in
+    let t = token_at b walk.at in
+    refuses_unsigned (is_marked marks) b walk.names nodes t
+    (sym (lacks_as (is_marked marks) nodes t d.bytes walk turn (turns nodes t bits (read honest)))
+    ∙ ap (λ (xs : List ℕ). lacks_name xs walk turn) (sym same.bytes) ∙ lacks (now_honest same honest))
+
 pub last_next : (t : Token) → is_last t ≡ true → next t ≡ None
 last_next (begin_node at name) h = false_true (sym h)
 last_next (end_node at) h = false_true (sym h)
@@ -75,32 +145,33 @@ last_next (stray at fault) h = refl
 -- a token's bytes were fed as they are signed
 pub passes : {T : Type 0} (fed : T → T → List ℕ → Type 0) (marks : List ℕ) (d e : Device) (x : Extent) (walk : Walk) (found : ReadToken) (turn : Turn) (o : Option Walk) (old new : T)
     → SameDevice d e → (IsTrue d.honest → IsReadAs walk.at (token_at (blocks_of d.bytes x) walk.at) found) → Turns marks walk found turn → IsShallow walk.at walk.bits found
-    → Feeds fed e.honest (if turn.is_covered then slice e.bytes walk.at turn.size else []) old new
+    → (IsTrue e.honest → lacks_name e.bytes walk turn ≡ false) → Feeds fed e.honest (if turn.is_covered then slice e.bytes walk.at turn.size else []) old new
     → (turn.is_last ≡ true → walk.at + turn.size ≡ x.structure_end)
-    → o ≡ (if turn.is_last then None else Some (record { at = walk.at + turn.size; bits = turn.bits }))
+    → o ≡ (if turn.is_last then None else Some (record { at = walk.at + turn.size; bits = turn.bits; names = walk.names }))
     → Passes fed (is_marked marks) d.honest (blocks_of d.bytes x) walk o old new
-passes fed marks d e x walk found turn o old new same read turns flat feeds whole is = record {
+passes fed marks d e x walk found turn o old new same read turns flat named feeds whole is = record {
   piece = feeds.piece;
   summed = feeds.summed;
   right = λ honest nodes bits.
       let t = token_at (blocks_of d.bytes x) walk.at in
       let does = turns nodes t bits (read honest) in (
         same_piece feeds.piece turn.is_covered (covers (is_marked marks) (around nodes t) t) e.bytes d.bytes walk.at (offset t) turn.size (size_of t) (feeds.right (now_honest same honest)) does.covered same.bytes does.place does.size,
-        subst (GoesOn (is_marked marks) nodes t) (sym is) (goes (is_marked marks) nodes t walk.at turn.size turn.bits turn.is_last does.next does.bits),
+        subst (GoesOn (is_marked marks) nodes t) (sym is) (goes (is_marked marks) nodes t walk.at turn.size turn.bits walk.names turn.is_last does.next does.bits),
       );
-  shallow = λ honest nodes bits. flat (is_marked marks) nodes (token_at (blocks_of d.bytes x) walk.at) bits (read honest);
-  whole = λ honest nodes bits.
+  taken = λ honest nodes bits.
       let t = token_at (blocks_of d.bytes x) walk.at in
       let does = turns nodes t bits (read honest) in
-      not_early t walk.at turn.size x.structure_end turn.is_last does.place does.size does.last whole;
+      unrefused (is_marked marks) (blocks_of d.bytes x) walk.names nodes t (flat (is_marked marks) nodes t bits (read honest))
+      (not_early t walk.at turn.size x.structure_end turn.is_last does.place does.size does.last whole)
+      (sym (lacks_as (is_marked marks) nodes t d.bytes walk turn does) ∙ ap (λ (xs : List ℕ). lacks_name xs walk turn) (sym same.bytes) ∙ named (now_honest same honest));
 }
 
 -- where the walk is after a token
-pub stays : (turn : Turn) (at : ℕ) → turn.is_last ≡ true → (let o : Option Walk = None in o) ≡ (if turn.is_last then None else Some (record { at = at + turn.size; bits = turn.bits }))
-stays turn at is = sym (ap (λ (b : Bool). (let o : Option Walk = if b then None else Some (record { at = at + turn.size; bits = turn.bits }) in o)) is)
+pub stays : (turn : Turn) (at names : ℕ) → turn.is_last ≡ true → (let o : Option Walk = None in o) ≡ (if turn.is_last then None else Some (record { at = at + turn.size; bits = turn.bits; names = names }))
+stays turn at names is = sym (ap (λ (b : Bool). (let o : Option Walk = if b then None else Some (record { at = at + turn.size; bits = turn.bits; names = names }) in o)) is)
 
-pub moves : (turn : Turn) (at : ℕ) → turn.is_last ≡ false → (let o : Option Walk = Some (record { at = at + turn.size; bits = turn.bits }) in o) ≡ (if turn.is_last then None else Some (record { at = at + turn.size; bits = turn.bits }))
-moves turn at is = sym (ap (λ (b : Bool). (let o : Option Walk = if b then None else Some (record { at = at + turn.size; bits = turn.bits }) in o)) is)
+pub moves : (turn : Turn) (at names : ℕ) → turn.is_last ≡ false → (let o : Option Walk = Some (record { at = at + turn.size; bits = turn.bits; names = names }) in o) ≡ (if turn.is_last then None else Some (record { at = at + turn.size; bits = turn.bits; names = names }))
+moves turn at names is = sym (ap (λ (b : Bool). (let o : Option Walk = if b then None else Some (record { at = at + turn.size; bits = turn.bits; names = names }) in o)) is)
 
 -- what passes over a device passes over one with the same bytes
 pub over : {T : Type 0} (fed : T → T → List ℕ → Type 0) (listed : ℕ → Bool) (d e : Device) (x : Extent) (walk : Walk) (o : Option Walk) (old new : T)
@@ -119,8 +190,7 @@ begins fed nothing listed honest b walk old at bits = record {
   fuel = suc (b.structure_end - b.structure);
   bits = λ now. bits;
   well = λ now t is. subst (λ (n : ℕ). GoesWell t [] (tokens_from (suc (b.structure_end - b.structure)) b (Some n))) (sym at) (begins_well (tokens b) t is);
-  shallow = λ now. ap (λ (n : ℕ). is_deep [] (tokens_from (suc (b.structure_end - b.structure)) b (Some n))) at;
-  whole = λ now. ap (λ (n : ℕ). is_early b.structure_end (tokens_from (suc (b.structure_end - b.structure)) b (Some n))) at;
+  taken = λ now. ap (λ (n : ℕ). walk_refusal listed b walk.names [] (tokens_from (suc (b.structure_end - b.structure)) b (Some n))) at;
   enough = omega (arith, at);
   right = λ now. ap (λ (n : ℕ). signed_of listed b.bytes [] (tokens_from (suc (b.structure_end - b.structure)) b (Some n))) at;
 }
@@ -137,36 +207,24 @@ none_left listed file nodes b (suc n) (Some at) is = grind (arith, is)
 none_left listed file nodes b zero None is = refl
 none_left listed file nodes b (suc n) None is = refl
 
-deep_first : (nodes : List ℕ) (b : Blocks) (n at : ℕ) (first : Bool) → begins_deep (placed_in nodes (token_at b at)) ≡ first
-    → is_deep nodes (tokens_from (suc n) b (Some at)) ≡ (first || is_deep (after nodes (token_at b at)) (tokens_from n b (next (token_at b at))))
-unfolding tokens_from in_nodes
-deep_first nodes b n at first is = ap (λ (x : Bool). x || is_deep (after nodes (token_at b at)) (tokens_from n b (next (token_at b at)))) is
+refusal_first : (listed : ℕ → Bool) (b : Blocks) (names : ℕ) (nodes : List ℕ) (n at : ℕ) (first : Option SigningFault) → token_refusal listed b names (placed_in nodes (token_at b at)) ≡ first
+    → walk_refusal listed b names nodes (tokens_from (suc n) b (Some at)) ≡ or_else first (walk_refusal listed b names (after nodes (token_at b at)) (tokens_from n b (next (token_at b at))))
+unfolding tokens_from in_nodes first_refusal
+refusal_first listed b names nodes n at first is = ap (λ (x : Option SigningFault). or_else x (walk_refusal listed b names (after nodes (token_at b at)) (tokens_from n b (next (token_at b at))))) is
 
-none_deep : (nodes : List ℕ) (b : Blocks) (n : ℕ) (o : Option ℕ) → o ≡ None → is_deep nodes (tokens_from n b o) ≡ false
-unfolding tokens_from in_nodes
-none_deep nodes b zero (Some at) is = grind (arith, is)
-none_deep nodes b (suc n) (Some at) is = grind (arith, is)
-none_deep nodes b zero None is = refl
-none_deep nodes b (suc n) None is = refl
-
-early_first : (b : Blocks) (n at : ℕ) (first : Bool) → ends_early b.structure_end (token_at b at) ≡ first
-    → is_early b.structure_end (tokens_from (suc n) b (Some at)) ≡ (first || is_early b.structure_end (tokens_from n b (next (token_at b at))))
-unfolding tokens_from
-early_first b n at first is = ap (λ (x : Bool). x || is_early b.structure_end (tokens_from n b (next (token_at b at)))) is
-
-none_early : (b : Blocks) (n : ℕ) (o : Option ℕ) → o ≡ None → is_early b.structure_end (tokens_from n b o) ≡ false
-unfolding tokens_from
-none_early b zero (Some at) is = grind (arith, is)
-none_early b (suc n) (Some at) is = grind (arith, is)
-none_early b zero None is = refl
-none_early b (suc n) None is = refl
+none_refused : (listed : ℕ → Bool) (b : Blocks) (names : ℕ) (nodes : List ℕ) (n : ℕ) (o : Option ℕ) → o ≡ None → walk_refusal listed b names nodes (tokens_from n b o) ≡ None
+unfolding tokens_from in_nodes first_refusal
+none_refused listed b names nodes zero (Some at) is = grind (arith, is)
+none_refused listed b names nodes (suc n) (Some at) is = grind (arith, is)
+none_refused listed b names nodes zero None is = refl
+none_refused listed b names nodes (suc n) None is = refl
 
 -- the token after those so far
 pub more_so_far : {T : Type 0} (fed : T → T → List ℕ → Type 0) → ((first between last : T) (xs ys : List ℕ) → fed first between xs → fed between last ys → fed first last (xs ++ ys))
     → (listed : ℕ → Bool) (honest : Bool) (b : Blocks) (walk then_at : Walk) (old between new : T) (fuel : ℕ) → (s : SoFar fed listed honest b walk old between) → s.fuel ≡ fuel
-    → Passes fed listed honest b walk (Some then_at) between new → walk.at + 4 ≤ then_at.at → walk.at ≤ b.structure_end → SoFar fed listed honest b then_at old new
-more_so_far fed more listed honest b walk then_at old between new zero s is passed ahead within = absurd (omega (arith, s.enough, is, within))
-more_so_far fed more listed honest b walk then_at old between new (suc n) s is passed ahead within =
+    → Passes fed listed honest b walk (Some then_at) between new → then_at.names ≡ walk.names → walk.at + 4 ≤ then_at.at → walk.at ≤ b.structure_end → SoFar fed listed honest b then_at old new
+more_so_far fed more listed honest b walk then_at old between new zero s is passed same ahead within = absurd (omega (arith, s.enough, is, within))
+more_so_far fed more listed honest b walk then_at old between new (suc n) s is passed same ahead within =
     let t = token_at b walk.at in
     record {
       piece = s.piece ++ passed.piece;
@@ -177,14 +235,12 @@ more_so_far fed more listed honest b walk then_at old between new (suc n) s is p
       well = λ now tree is_tree.
           well_after tree b s.nodes n walk.at then_at.at (passed.right now s.nodes (s.bits now)).1.0
           (subst (λ (m : ℕ). GoesWell tree s.nodes (tokens_from m b (Some walk.at))) is (s.well now tree is_tree));
-      shallow = λ now.
-          ap (λ (o : Option ℕ). is_deep (after s.nodes t) (tokens_from n b o)) (sym (passed.right now s.nodes (s.bits now)).1.0)
-          ∙ sym (deep_first s.nodes b n walk.at false (passed.shallow now s.nodes (s.bits now)))
-          ∙ ap (λ (m : ℕ). is_deep s.nodes (tokens_from m b (Some walk.at))) (sym is) ∙ s.shallow now;
-      whole = λ now.
-          ap (λ (o : Option ℕ). is_early b.structure_end (tokens_from n b o)) (sym (passed.right now s.nodes (s.bits now)).1.0)
-          ∙ sym (early_first b n walk.at false (passed.whole now s.nodes (s.bits now)))
-          ∙ ap (λ (m : ℕ). is_early b.structure_end (tokens_from m b (Some walk.at))) (sym is) ∙ s.whole now;
+      taken = λ now.
+          ap (λ (m : ℕ). walk_refusal listed b m (after s.nodes t) (tokens_from n b (Some then_at.at))) same
+          ∙ ap (λ (o : Option ℕ). walk_refusal listed b walk.names (after s.nodes t) (tokens_from n b o)) (sym (passed.right now s.nodes (s.bits now)).1.0)
+          ∙ sym (refusal_first listed b walk.names s.nodes n walk.at None (passed.taken now s.nodes (s.bits now)))
+          ∙ ap (λ (m : ℕ). walk_refusal listed b walk.names s.nodes (tokens_from m b (Some walk.at))) (sym is) ∙ s.taken now
+          ∙ ap (λ (m : ℕ). walk_refusal listed b m [] (tokens b)) (sym same);
       enough = omega (arith, s.enough, is, ahead);
       right = λ now.
           let goes_on = passed.right now s.nodes (s.bits now) in
@@ -215,45 +271,22 @@ ends fed more listed honest b walk old between new (suc n) s is passed within =
           ∙ s.right now;
     }
 
--- the tokens are refused by neither
-unrefused : (block_end : ℕ) (ts : List Token) → is_deep [] ts ≡ false → is_early block_end ts ≡ false → walk_refusal block_end ts ≡ None
-unrefused block_end ts deep on =
-    ap (λ (x : Bool). (let o : Option SigningFault = if x then Some TooDeep else if is_early block_end ts then Some EarlyEnd else None in o)) deep
-    ∙ ap (λ (x : Bool). (let o : Option SigningFault = if x then Some EarlyEnd else None in o)) on
-
 -- behind the last token nothing is refused
 pub ends_right : {T : Type 0} (fed : T → T → List ℕ → Type 0) (listed : ℕ → Bool) (honest : Bool) (b : Blocks) (walk : Walk) (old between new : T) (fuel : ℕ) (s : SoFar fed listed honest b walk old between) → s.fuel ≡ fuel
-    → Passes fed listed honest b walk None between new → walk.at ≤ b.structure_end → IsTrue honest → walk_refusal b.structure_end (tokens b) ≡ None
+    → Passes fed listed honest b walk None between new → walk.at ≤ b.structure_end → IsTrue honest → walk_refusal listed b walk.names [] (tokens b) ≡ None
 ends_right fed listed honest b walk old between new zero s is passed within now = absurd (omega (arith, s.enough, is, within))
 ends_right fed listed honest b walk old between new (suc n) s is passed within now =
     let t = token_at b walk.at in
-    let ended = (passed.right now s.nodes (s.bits now)).1 in
-    unrefused b.structure_end (tokens b)
-    (sym (s.shallow now) ∙ ap (λ (m : ℕ). is_deep s.nodes (tokens_from m b (Some walk.at))) is
-    ∙ deep_first s.nodes b n walk.at false (passed.shallow now s.nodes (s.bits now)) ∙ none_deep (after s.nodes t) b n (next t) ended)
-    (sym (s.whole now) ∙ ap (λ (m : ℕ). is_early b.structure_end (tokens_from m b (Some walk.at))) is
-    ∙ early_first b n walk.at false (passed.whole now s.nodes (s.bits now)) ∙ none_early b n (next t) ended)
+    sym (s.taken now) ∙ ap (λ (m : ℕ). walk_refusal listed b walk.names s.nodes (tokens_from m b (Some walk.at))) is
+    ∙ refusal_first listed b walk.names s.nodes n walk.at None (passed.taken now s.nodes (s.bits now))
+    ∙ none_refused listed b walk.names (after s.nodes t) n (next t) (passed.right now s.nodes (s.bits now)).1
 
-deep_found : {T : Type 0} (fed : T → T → List ℕ → Type 0) (listed : ℕ → Bool) (honest : Bool) (b : Blocks) (walk : Walk) (old between : T) (fuel : ℕ) (s : SoFar fed listed honest b walk old between) → s.fuel ≡ fuel
-    → walk.at ≤ b.structure_end → IsTrue honest → begins_deep (placed_in s.nodes (token_at b walk.at)) ≡ true → is_deep [] (tokens b) ≡ true
-deep_found fed listed honest b walk old between zero s is within now deep = absurd (omega (arith, s.enough, is, within))
-deep_found fed listed honest b walk old between (suc n) s is within now deep =
-    sym (s.shallow now) ∙ ap (λ (m : ℕ). is_deep s.nodes (tokens_from m b (Some walk.at))) is ∙ deep_first s.nodes b n walk.at true deep
-
--- the block goes on behind the last token, and no node is in 32 others
-early_found : {T : Type 0} (fed : T → T → List ℕ → Type 0) (listed : ℕ → Bool) (honest : Bool) (b : Blocks) (walk : Walk) (old between : T) (fuel : ℕ) (s : SoFar fed listed honest b walk old between) → s.fuel ≡ fuel
-    → walk.at ≤ b.structure_end → IsTrue honest → ends_early b.structure_end (token_at b walk.at) ≡ true → walk_refusal b.structure_end (tokens b) ≡ Some EarlyEnd
-early_found fed listed honest b walk old between zero s is within now on = absurd (omega (arith, s.enough, is, within))
-early_found fed listed honest b walk old between (suc n) s is within now on =
-    let t = token_at b walk.at in
-    let last_is = both_first (is_last t) (not (offset t + 4 == b.structure_end)) on in
-    let deep : is_deep [] (tokens b) ≡ false =
-    sym (s.shallow now) ∙ ap (λ (m : ℕ). is_deep s.nodes (tokens_from m b (Some walk.at))) is
-    ∙ deep_first s.nodes b n walk.at false (last_shallow s.nodes t last_is) ∙ none_deep (after s.nodes t) b n (next t) (last_next t last_is) in
-    let goes_on : is_early b.structure_end (tokens b) ≡ true =
-    sym (s.whole now) ∙ ap (λ (m : ℕ). is_early b.structure_end (tokens_from m b (Some walk.at))) is ∙ early_first b n walk.at true on in
-    ap (λ (x : Bool). (let o : Option SigningFault = if x then Some TooDeep else if is_early b.structure_end (tokens b) then Some EarlyEnd else None in o)) deep
-    ∙ ap (λ (x : Bool). (let o : Option SigningFault = if x then Some EarlyEnd else None in o)) goes_on
+-- a token that is refused, and none before it
+refused_here : {T : Type 0} (fed : T → T → List ℕ → Type 0) (listed : ℕ → Bool) (honest : Bool) (b : Blocks) (walk : Walk) (old between : T) (fuel : ℕ) (s : SoFar fed listed honest b walk old between) → s.fuel ≡ fuel
+    → walk.at ≤ b.structure_end → IsTrue honest → (fault : SigningFault) → token_refusal listed b walk.names (placed_in s.nodes (token_at b walk.at)) ≡ Some fault → walk_refusal listed b walk.names [] (tokens b) ≡ Some fault
+refused_here fed listed honest b walk old between zero s is within now fault why = absurd (omega (arith, s.enough, is, within))
+refused_here fed listed honest b walk old between (suc n) s is within now fault why =
+    sym (s.taken now) ∙ ap (λ (m : ℕ). walk_refusal listed b walk.names s.nodes (tokens_from m b (Some walk.at))) is ∙ refusal_first listed b walk.names s.nodes n walk.at (Some fault) why
 
 -- a token that is none of a tree
 none_bad : {T : Type 0} (fed : T → T → List ℕ → Type 0) (listed : ℕ → Bool) (honest : Bool) (b : Blocks) (walk : Walk) (old between : T) (fuel : ℕ) (s : SoFar fed listed honest b walk old between) → s.fuel ≡ fuel
@@ -264,37 +297,27 @@ none_bad fed listed honest b walk old between (suc n) s is within now wrong t tr
 
 -- why a token of a tree is refused
 pub refused_so_far : {T : Type 0} (fed : T → T → List ℕ → Type 0) (listed : ℕ → Bool) (honest : Bool) (b : Blocks) (walk : Walk) (old between : T) (s : SoFar fed listed honest b walk old between)
-    → walk.at ≤ b.structure_end → IsTrue honest → (t : Siblings) → root (without_nops (tokens b)) ≡ Ok t → (fault : SigningFault) → RefusesToken fault b s.nodes walk.at (token_at b walk.at)
-    → (result : Result Unit SigningFault) → result ≡ Err fault → Refuses (walk_refusal b.structure_end (tokens b)) result
-refused_so_far fed listed honest b walk old between s within now t tree Read why result is = λ read memory. false_true (sym (ap (λ (r : Result Unit SigningFault). is_unread r) is) ∙ read)
-refused_so_far fed listed honest b walk old between s within now t tree Changed why result is = absurd (none_bad fed listed honest b walk old between s.fuel s refl within now why t tree)
-refused_so_far fed listed honest b walk old between s within now t tree TooDeep why result is = λ read memory.
-    ap (λ (r : Result Unit SigningFault). fault_of r) is
-    ∙ ap (λ (x : Bool). (let o : Option SigningFault = if x then Some TooDeep else if is_early b.structure_end (tokens b) then Some EarlyEnd else None in o))
-    (sym (deep_found fed listed honest b walk old between s.fuel s refl within now why))
-refused_so_far fed listed honest b walk old between s within now t tree EarlyEnd why result is = λ read memory.
-    ap (λ (r : Result Unit SigningFault). fault_of r) is ∙ sym (early_found fed listed honest b walk old between s.fuel s refl within now why)
-refused_so_far fed listed honest b walk old between s within now t tree OutOfMemory why result is = absurd why
-refused_so_far fed listed honest b walk old between s within now t tree TooLong why result is = absurd why
-refused_so_far fed listed honest b walk old between s within now t tree TooManyNodes why result is = absurd why
-refused_so_far fed listed honest b walk old between s within now t tree Unhashed why result is = absurd why
-refused_so_far fed listed honest b walk old between s within now t tree BadStrings why result is = absurd why
-refused_so_far fed listed honest b walk old between s within now t tree StringsOffset why result is = absurd why
-refused_so_far fed listed honest b walk old between s within now t tree StringsOutside why result is = absurd why
+    → walk.at ≤ b.structure_end → IsTrue honest → (t : Siblings) → root (without_nops (tokens b)) ≡ Ok t → (fault : SigningFault) → RefusesToken listed b walk.names s.nodes walk.at fault
+    → (result : Result Unit SigningFault) → result ≡ Err fault → Refuses (walk_refusal listed b walk.names [] (tokens b)) result
+refused_so_far fed listed honest b walk old between s within now t tree fault (inl why) result is = λ read memory. false_true (sym (ap (λ (r : Result Unit SigningFault). is_unread r) (is ∙ ap (λ (f : SigningFault). (let r : Result Unit SigningFault = Err f in r)) why)) ∙ read)
+refused_so_far fed listed honest b walk old between s within now t tree fault (inr (inl why)) result is = absurd (none_bad fed listed honest b walk old between s.fuel s refl within now why.1 t tree)
+refused_so_far fed listed honest b walk old between s within now t tree fault (inr (inr why)) result is = λ read memory.
+    ap (λ (r : Result Unit SigningFault). fault_of r) is ∙ sym (refused_here fed listed honest b walk old between s.fuel s refl within now fault why)
 
 -- a turn is refused as its token is
-pub turn_token : (fault : SigningFault) (b : Blocks) (nodes : List ℕ) (at : ℕ) (t : Token) → RefusesTurn fault nodes t → RefusesToken fault b nodes at t
-turn_token Read b nodes at t why = tt
-turn_token Changed b nodes at t why = inl why
-turn_token TooDeep b nodes at t why = why
-turn_token EarlyEnd b nodes at t why = absurd why
-turn_token OutOfMemory b nodes at t why = absurd why
-turn_token TooLong b nodes at t why = absurd why
-turn_token TooManyNodes b nodes at t why = absurd why
-turn_token Unhashed b nodes at t why = absurd why
-turn_token BadStrings b nodes at t why = absurd why
-turn_token StringsOffset b nodes at t why = absurd why
-turn_token StringsOutside b nodes at t why = absurd why
+pub turn_token : (fault : SigningFault) (listed : ℕ → Bool) (b : Blocks) (names : ℕ) (nodes : List ℕ) (at : ℕ) → RefusesTurn fault nodes (token_at b at) → RefusesToken listed b names nodes at fault
+turn_token Changed listed b names nodes at why = inr (inl (refl, inl why))
+turn_token TooDeep listed b names nodes at why = inr (inr (refuses_deep listed b names nodes (token_at b at) why))
+turn_token Read listed b names nodes at why = absurd why
+turn_token EarlyEnd listed b names nodes at why = absurd why
+turn_token NameUnsigned listed b names nodes at why = absurd why
+turn_token OutOfMemory listed b names nodes at why = absurd why
+turn_token TooLong listed b names nodes at why = absurd why
+turn_token TooManyNodes listed b names nodes at why = absurd why
+turn_token Unhashed listed b names nodes at why = absurd why
+turn_token BadStrings listed b names nodes at why = absurd why
+turn_token StringsOffset listed b names nodes at why = absurd why
+turn_token StringsOutside listed b names nodes at why = absurd why
 
 -- a fault passed on
 pub passed_on : (r : Result Unit SigningFault) (fault : SigningFault) → IsErrAnd r (λ f. f ≡ fault) → r ≡ Err fault

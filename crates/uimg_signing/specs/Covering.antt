@@ -52,10 +52,6 @@ in_nodes nodes (t ∷ ts) = placed_in nodes t ∷ in_nodes (after nodes t) ts
 abbrev pub begins_deep : Placed → Bool
 begins_deep p = is_begin p.token && nat_lt 32 (length p.nodes)
 
--- one of these tokens does, with these nodes open before them
-abbrev pub is_deep : List ℕ → List Token → Bool
-is_deep nodes ts = list_any begins_deep (in_nodes nodes ts)
-
 -- the innermost of these nodes is listed
 abbrev pub innermost : (ℕ → Bool) → List ℕ → Bool
 innermost listed [] = false

@@ -1,11 +1,11 @@
 -- A walk over the tokens of a tree never meets a token that is not allowed.
-use Rattle.std.specs.Prelude.{◌≡◌, ℕ, ◌+◌, ◌<◌, ◌≤◌, Some, List, [], ◌∷◌, length, Ok, Err, Bool, true, false, ◌⊎◌, ⊤}
+use Rattle.std.specs.Prelude.{◌≡◌, ℕ, ◌+◌, ◌<◌, ◌≤◌, Some, List, [], ◌∷◌, length, Ok, Err, Bool, true, false, ◌⊎◌}
 use Rattle.uimg_blob_reading.specs.Tokens.{Token, begin_node, end_node, prop, nop, last, stray, next}
 use Rattle.uimg_blob_reading.specs.Tokens.{Blocks}
-use Rattle.uimg_signing.specs.{Covering.{size_of, placed_in, begins_deep}, Turning.{is_last, ends_early}}
+use Rattle.uimg_signing.specs.{Covering.{size_of, placed_in, begins_deep}, Turning.is_last}
 use Rattle.uimg_blob_reading.specs.{Grammar.Siblings, Walk.{Open, walk, begun, finished}}
 use Rattle.uimg_signing.specs.declared.faults.SigningFault.{SigningFault}
-use Rattle.uimg_signing.specs.declared.faults.SigningFault.TheVariants.{Read, Changed, TooDeep, EarlyEnd}
+use Rattle.uimg_signing.specs.declared.faults.SigningFault.TheVariants.{Changed, TooDeep}
 
 -- the token is faulty, or ends no node
 abbrev pub is_wrong : List ℕ → Token → Bool
@@ -39,11 +39,3 @@ abbrev pub RefusesTurn : SigningFault → List ℕ → Token → Type 0
 RefusesTurn Changed nodes t = is_wrong nodes t ≡ true
 RefusesTurn TooDeep nodes t = begins_deep (placed_in nodes t) ≡ true
 RefusesTurn _ nodes t = ⊥
-
--- The same of a token at an offset in blocks, which may also not fit, or not be read.
-abbrev pub RefusesToken : SigningFault → Blocks → List ℕ → ℕ → Token → Type 0
-RefusesToken Read b nodes at t = ⊤
-RefusesToken Changed b nodes at t = IsBad b nodes at t
-RefusesToken TooDeep b nodes at t = begins_deep (placed_in nodes t) ≡ true
-RefusesToken EarlyEnd b nodes at t = ends_early b.structure_end t ≡ true
-RefusesToken _ b nodes at t = ⊥

@@ -14,8 +14,10 @@ pub mod Apart
 pub mod Listing
 pub mod Hashed
 pub mod ImageNaming
+pub mod SignatureNodes
 pub mod Looking
 pub mod Paths
 pub mod Reach
 pub mod Going
+pub mod Refusing
 pub mod SignedParts

@@ -21,6 +21,15 @@ is_last (nop at) = false
 is_last (last at) = true
 is_last (stray at fault) = false
 
+-- the token is a property
+abbrev pub is_property : Token → Bool
+is_property (begin_node at name) = false
+is_property (end_node at) = false
+is_property (prop at p) = true
+is_property (nop at) = false
+is_property (last at) = false
+is_property (stray at fault) = false
+
 -- the token is FDT_END, and its block does not end with it
 abbrev pub ends_early : ℕ → Token → Bool
 ends_early block_end t = is_last t && not (offset t + 4 == block_end)
@@ -32,6 +41,7 @@ pub record TurnsAt (listed : ℕ → Bool) (at : ℕ) (nodes : List ℕ) (t : To
   pub place : offset t ≡ at
   pub bits : turn.bits ≡ coded listed (after nodes t)
   pub last : turn.is_last ≡ is_last t
+  pub property : turn.is_property ≡ is_property t
   pub next : next t ≡ (if turn.is_last then None else Some (at + turn.size))
 
 -- The same for whatever token was read inside whatever nodes have this number.
@@ -46,7 +56,8 @@ IsShallow at bits found =
     (listed : ℕ → Bool) (nodes : List ℕ) (t : Token) → bits ≡ coded listed nodes
     → IsReadAs at t found → begins_deep (placed_in nodes t) ≡ false
 
--- The token has at least a word and ends below 2^33.
+-- The token has at least a word, a property three, and ends below 2^33.
 pub record LiesBefore (walk : Walk) (turn : Turn) : Type 0 where
   pub some : 4 ≤ turn.size
+  pub head : turn.is_property ≡ true → 12 ≤ turn.size
   pub within : walk.at + turn.size < 2 ^ 33

@@ -1,6 +1,7 @@
 //! Why a message cannot be computed.
 
 use thiserror::Error;
+use uimg_blob_reading::PropertiesFault;
 
 /// Why a message cannot be computed.
 #[derive(Clone, Copy, Debug, PartialEq, Eq, Error)]
@@ -31,6 +32,9 @@ pub enum SigningFault {
     /// The structure block goes on behind its last token.
     #[error("the structure block goes on behind its last token")]
     EarlyEnd,
+    /// The name of a signed property is not in the signed strings.
+    #[error("the name of a signed property is not signed")]
+    NameUnsigned,
     /// The value of `hashed-strings` is not two cells.
     #[error("hashed-strings is not two cells")]
     BadStrings,
@@ -40,4 +44,19 @@ pub enum SigningFault {
     /// The strings block has fewer bytes than are signed.
     #[error("hashed-strings is larger than the strings block")]
     StringsOutside,
+}
+
+impl From<PropertiesFault> for SigningFault {
+    ghost use Rattle.std.specs.Prelude.{◌≡◌};
+    ghost use Rattle.uimg_signing.specs.Faults.{of_properties};
+
+    ghost from_gives = { λ f e. e ≡ of_properties f };
+
+    fn from(fault: PropertiesFault) -> SigningFault {
+        match fault {
+            PropertiesFault::Read => SigningFault::Read,
+            PropertiesFault::OutOfMemory => SigningFault::OutOfMemory,
+            PropertiesFault::Changed => SigningFault::Changed,
+        }
+    }
 }

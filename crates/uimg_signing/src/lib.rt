@@ -9,11 +9,15 @@
 //! - `ListedLaws`: a node is listed if and only if its path is.
 //! - `GoingLaws`: the walk over the tokens of a tree meets no token that is not allowed.
 //! - `ShortLaws`: the names of a tree's nodes are short.
+//! - `SignedPartLaws`: a message tells the signed nodes and properties, in order.
+//! - `SignedPathLaws`: it tells the path, the name and the value of each signed property.
+//! - `MarkLaws`: the paths of the listed nodes are signed.
 //!
 //! `Examples` has worked cases.
 #![tactic(auto)]
 
 mod apart;
+mod configuration_signatures;
 mod faults;
 mod hashed;
 mod image_naming;
@@ -29,6 +33,7 @@ mod texts;
 mod turns;
 mod walking;
 
+pub use configuration_signatures::{SignatureNode, signature_nodes};
 pub use faults::SigningFault;
 pub use image_naming::names_image;
 pub use listing::list_nodes;

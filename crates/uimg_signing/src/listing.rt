@@ -16,7 +16,7 @@ use crate::path_sizes::path_size;
 use crate::texts::is_cipher;
 use std::alloc::{Allocator, Global};
 use uimg_base::{Room, Source};
-use uimg_blob_reading::{Blob, PropertiesFault, PropertyPlace, Role, properties_of};
+use uimg_blob_reading::{Blob, PropertyPlace, Role, properties_of};
 
 // The most listed nodes, as in U-Boot (IMAGE_MAX_HASHED_NODES).
 const MOST_NODES: u128 = 100;
@@ -381,9 +381,7 @@ pub fn list_nodes<S: Source, A: Allocator>(
 {
     let places = match properties_of(alloc, source, blob, room, configuration) {
         Ok(places) => places,
-        Err(PropertiesFault::Read) => return Err(SigningFault::Read),
-        Err(PropertiesFault::OutOfMemory) => return Err(SigningFault::OutOfMemory),
-        Err(PropertiesFault::Changed) => return Err(SigningFault::Changed),
+        Err(fault) => return Err(SigningFault::from(fault)),
     };
     if has_long(&places) {
         return Err(SigningFault::TooLong);

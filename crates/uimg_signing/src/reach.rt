@@ -12,7 +12,7 @@ use crate::listing::read_name;
 use crate::path_sizes::path_size;
 use std::alloc::Allocator;
 use uimg_base::{Room, Source, be32_at};
-use uimg_blob_reading::{Blob, PropertiesFault, extent_again};
+use uimg_blob_reading::{Blob, extent_again};
 
 // The longest path with its NUL. U-Boot keeps a path in 200 bytes, and leaves two for the next slash.
 const LONGEST: u64 = 198;
@@ -74,9 +74,7 @@ pub fn is_closed<S: Source>(source: &mut S, blob: &Blob) -> Result<bool, Signing
 {
     let extent = match extent_again(source, blob.totalsize()) {
         Ok(extent) => extent,
-        Err(PropertiesFault::Read) => return Err(SigningFault::Read),
-        Err(PropertiesFault::OutOfMemory) => return Err(SigningFault::OutOfMemory),
-        Err(PropertiesFault::Changed) => return Err(SigningFault::Changed),
+        Err(fault) => return Err(SigningFault::from(fault)),
     };
     if extent.structure_end < 8 {
         return Ok(false);

@@ -1,17 +1,17 @@
 //! How many bytes of the strings block a signature signs.
 
-ghost use Rattle.std.specs.Prelude.{◌≡◌, ◌+◌, ◌^◌, ◌<◌, ◌≤◌, List, length, IfOk};
+ghost use Rattle.std.specs.Prelude.{◌≡◌, ◌+◌, ◌^◌, ◌<◌, ◌≤◌, List, length, is_err, IfOk};
 ghost use Rattle.uimg_base.specs.{Honest.HonestSource, Using.{Asks, Uses}};
 ghost use Rattle.uimg_texts.specs.{Numbers.be32, Slices.slice};
 ghost use Rattle.uimg_blob_reading.specs.Properties.{places_of};
-ghost use Rattle.uimg_signing.specs.{Faults.{is_unread, Decides}, Listing.OfTreeRead};
+ghost use Rattle.uimg_signing.specs.{Faults.{is_unread, Decides}, Listing.OfTreeRead, Refusing.names_size};
 ghost use Rattle.uimg_signing.specs.Strings.{cells_in, strings_of};
 
 use crate::faults::SigningFault;
 use crate::properties::value_named;
 use std::alloc::{Allocator, Global};
-use uimg_base::{Room, Source, Span, be32_at};
-use uimg_blob_reading::{Blob, PropertiesFault, extent_again, properties_of};
+use uimg_base::{Room, Source, SourceFault, Span, be32_at, first_nul};
+use uimg_blob_reading::{Blob, extent_again, properties_of};
 
 // Reads the size in the value of `hashed-strings`, in a strings block of `most` bytes.
 fn read_cells<S: Source>(source: &mut S, value: Span, most: u64) -> Result<u64, SigningFault>
@@ -35,6 +35,32 @@ fn read_cells<S: Source>(source: &mut S, value: Span, most: u64) -> Result<u64, 
         return Err(SigningFault::StringsOutside);
     }
     Ok(size)
+}
+
+/// Returns how many of so many bytes at the start of the strings block hold whole names: all of them,
+/// if the last one is a NUL, else none.
+pub(crate) fn names_size<S: Source>(
+    source: &mut S,
+    start: u64,
+    strings: u64,
+) -> Result<u64, SourceFault>
+    requires inside { start + strings ≤ length (S.device source.old).bytes }
+    requires short { start + strings < 2 ^ 64 }
+    ensures uses { Asks 1 (is_err result) (S.device source.old) (S.device source.new) }
+    ensures told { HonestSource S.device source → IfOk result (λ it.
+        it ≡ names_size (S.device source.old).bytes start strings) }
+{
+    if strings == 0 {
+        return Ok(0);
+    }
+    let mut last = [0; 1];
+    if source.fill_at(start + strings - 1, &mut last).is_err() {
+        return Err(SourceFault);
+    }
+    match first_nul(&last) {
+        Some(_) => Ok(strings),
+        None => Ok(0),
+    }
 }
 
 /// Returns how many bytes at the start of the strings block a signature node says that it signs: the
@@ -64,15 +90,11 @@ pub fn strings_size<S: Source, A: Allocator>(
 {
     let places = match properties_of(alloc, source, blob, room, node) {
         Ok(places) => places,
-        Err(PropertiesFault::Read) => return Err(SigningFault::Read),
-        Err(PropertiesFault::OutOfMemory) => return Err(SigningFault::OutOfMemory),
-        Err(PropertiesFault::Changed) => return Err(SigningFault::Changed),
+        Err(fault) => return Err(SigningFault::from(fault)),
     };
     let extent = match extent_again(source, blob.totalsize()) {
         Ok(extent) => extent,
-        Err(PropertiesFault::Read) => return Err(SigningFault::Read),
-        Err(PropertiesFault::OutOfMemory) => return Err(SigningFault::OutOfMemory),
-        Err(PropertiesFault::Changed) => return Err(SigningFault::Changed),
+        Err(fault) => return Err(SigningFault::from(fault)),
     };
     let Ok(found) = value_named(source, &places, b"hashed-strings".as_slice()) else {
         return Err(SigningFault::Read);

@@ -13,13 +13,14 @@ use uimg_blob_reading::{Key, ReadToken};
 // The least number of open nodes that are too deep.
 const DEEPEST: u64 = 0x4_0000_0000;
 
-/// The state of a walk over the tokens: the offset of the next token, and the open nodes. These are
-/// bits: the lowest says whether the innermost node is listed, the next one whether its parent is,
-/// and so on. Above them is 4.
+/// The state of a walk over the tokens: the offset of the next token, the open nodes, and how many
+/// bytes of strings hold signed names. The open nodes are bits: the lowest says whether the innermost
+/// node is listed, the next one whether its parent is, and so on. Above them is 4.
 #[derive(Clone, Copy)]
 pub(crate) struct Walk {
     pub(crate) at: u64,
     pub(crate) bits: u64,
+    pub(crate) names: u64,
 }
 
 /// What is done at a token.
@@ -33,6 +34,8 @@ pub(crate) struct Turn {
     pub(crate) bits: u64,
     /// Whether it ends the tree.
     pub(crate) is_last: bool,
+    /// Whether it is a property.
+    pub(crate) is_property: bool,
 }
 
 // Returns whether the innermost node is listed.
@@ -100,6 +103,7 @@ pub(crate) fn turn_at(marks: &[u64], walk: Walk, token: ReadToken) -> Result<Tur
                 size: 4 + up4(length as u64 + 1),
                 bits,
                 is_last: false,
+                is_property: false,
             })
         }
         ReadToken::EndNode => {
@@ -111,6 +115,7 @@ pub(crate) fn turn_at(marks: &[u64], walk: Walk, token: ReadToken) -> Result<Tur
                 size: 4,
                 bits: walk.bits / 2,
                 is_last: false,
+                is_property: false,
             })
         }
         ReadToken::Prop { length, key } => Ok(Turn {
@@ -118,18 +123,21 @@ pub(crate) fn turn_at(marks: &[u64], walk: Walk, token: ReadToken) -> Result<Tur
             size: 12 + up4(length as u64),
             bits: walk.bits,
             is_last: false,
+            is_property: true,
         }),
         ReadToken::Nop => Ok(Turn {
             is_covered: is_inside(walk.bits),
             size: 4,
             bits: walk.bits,
             is_last: false,
+            is_property: false,
         }),
         ReadToken::End => Ok(Turn {
             is_covered: true,
             size: 4,
             bits: walk.bits,
             is_last: true,
+            is_property: false,
         }),
         _ => Err(SigningFault::Changed),
     }

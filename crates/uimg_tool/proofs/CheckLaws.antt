@@ -35,12 +35,12 @@ failed_bytes : (asked : Keyed) (file : Option (List ℕ)) (answer : Answer) → 
 failed_bytes asked None (Failed stop) told = refl
 failed_bytes asked None (Found found more) told = absurd told
 failed_bytes asked None (Missing configuration property name) told = absurd told
-failed_bytes asked None (Loose shown why name) told = absurd told
+failed_bytes asked None (Loose shown why name signatures) told = absurd told
 failed_bytes asked None (Refused stop) told = absurd (true≢false (sym told))
 failed_bytes asked (Some file) (Failed stop) told = tt
 failed_bytes asked (Some file) (Found found more) told = absurd told
 failed_bytes asked (Some file) (Missing configuration property name) told = absurd told
-failed_bytes asked (Some file) (Loose shown why name) told = absurd told
+failed_bytes asked (Some file) (Loose shown why name signatures) told = absurd told
 failed_bytes asked (Some file) (Refused stop) told = absurd (true≢false (sym told))
 
 -- an answer that is a failure
@@ -150,7 +150,7 @@ exit_is NotRight = λ is. omega (arith, is)
 answer_is : (answer : Answer) → answer_status answer ≢ 2
 answer_is (Found found more) = exit_is (status_of found)
 answer_is (Missing configuration property name) = λ is. omega (arith, is)
-answer_is (Loose format why place) = λ is. omega (arith, is)
+answer_is (Loose format why place signatures) = λ is. omega (arith, is)
 answer_is (Refused stop) = λ is. omega (arith, is)
 answer_is (Failed stop) = λ is. omega (arith, is)
 
@@ -208,8 +208,8 @@ all_same old_files new_files asked old new same all =
 
 -- the end of all checks by keys that were read before
 pub keys_told : (files then_files : FileMap) (asked : CheckRequest) (keyed : Keyed) (status : ℕ) (before after : Option (List ℕ)) (trace noted last : List Deed) → keyed.request.now ≡ asked
-    → keyed.terms ≡ terms_of asked keyed.terms.keys
-    → SameFiles files then_files → KeysAt files asked.key keyed.terms.keys → noted ≡ keys_read asked.key trace → AnswersKeyed then_files keyed status before after noted last
+    → keyed.terms ≡ terms_of asked keyed.terms.required
+    → SameFiles files then_files → KeysAt files asked.key keyed.terms.required → noted ≡ keys_read asked.key trace → AnswersKeyed then_files keyed status before after noted last
     → AnswersRequest files asked status before after trace last
 keys_told files then_files asked keyed status before after trace noted last is terms same keys noted_so (inl failed) = inl failed
 keys_told files then_files asked keyed status before after trace noted last is terms same keys noted_so (inr told) =

@@ -138,7 +138,7 @@ refusal_told path facts fault (answer.Refused why) status text told (inr same) i
 refusal_told path facts fault (answer.Failed why) status text told given is spells = inl is
 refusal_told path facts fault (answer.Found found more) status text told given is spells = absurd told
 refusal_told path facts fault (answer.Missing _ property name) status text told given is spells = absurd told
-refusal_told path facts fault (answer.Loose form why _) status text told given is spells = absurd told
+refusal_told path facts fault (answer.Loose form why _ _) status text told given is spells = absurd told
 
 -- one that has none
 pub refused_told : {Z E : Type 0} (path : List ℕ) (facts : Result Json Fault) (fault : Fault) (told : Answer) (r : Result (Vec ℕ Z × ℕ) E) → AnswersFault fault told
@@ -153,7 +153,7 @@ line_fails (answer.Refused why) line = absurd (true≢false (sym line))
 line_fails (answer.Failed why) line = refl
 line_fails (answer.Found found more) line = absurd line
 line_fails (answer.Missing _ property name) line = absurd line
-line_fails (answer.Loose form why _) line = absurd line
+line_fails (answer.Loose form why _ _) line = absurd line
 
 pub unread_told : {Z E : Type 0} (files : FileMap) (path : List ℕ) (told : Answer) (r : Result (Vec ℕ Z × ℕ) E) → AnswersLine false told
     → IfOk r (λ found. found.1 ≡ answer_status told) → IfOk r (λ found. IsObjectOf files path found.1 found.0.items)

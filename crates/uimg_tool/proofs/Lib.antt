@@ -8,6 +8,7 @@ pub mod DrawingLaws
 pub mod ExtractLaws
 pub mod FolderLaws
 pub mod InfoLaws
+pub mod KeyLaws
 pub mod MakingLaws
 pub mod MapLaws
 pub mod MemoryLaws

@@ -11,7 +11,7 @@ use Rattle.uimg_base.specs.Named.{FileMap, SameFiles}
 use Rattle.uimg_cli.specs.declared.command_line.unpack.UnpackRequest.{UnpackRequest}
 use Rattle.uimg_unpacking.specs.Places.{ChangesWithin, Obeys, Terms, may_change, terms_of}
 use Rattle.uimg_checks.specs.Answers.{answer_status}
-use Rattle.uimg_keys.specs.declared.keys.Keys.{Keys}
+use Rattle.uimg_verifying.specs.declared.required.Required.{Required}
 use Rattle.uimg_checks.specs.declared.answer.Answer.{Answer, TheVariants.{Failed, Refused}}
 use Rattle.uimg_tool.specs.{Checking.keys_read, UnpackEnds.AnswersEnding, Unpackings.{HoldsPayloads, IsRight, KeepsAt, KeepsBy, KeepsImage, RightAt, SignedBy, UnpacksRight, unpacking_of}}
 use Rattle.uimg_tool.specs.declared.unpack_answers.Ending.{Ending}
@@ -76,7 +76,7 @@ pub nothing_called : (terms : Terms) (old new : List Deed) → new ≡ old → O
 nothing_called terms old new same = no_more terms true old new same
 
 -- an image that was opened and looked at before
-pub right_at : (asked : UnpackRequest) (keys : Option Keys) (path : Bor (List ℕ)) (image : Option FileId) (file : List ℕ) (old middle new : List Deed) → middle ≡ Identifies path.now image ∷ Opens path.now true ∷ old
+pub right_at : (asked : UnpackRequest) (keys : Option Required) (path : Bor (List ℕ)) (image : Option FileId) (file : List ℕ) (old middle new : List Deed) → middle ≡ Identifies path.now image ∷ Opens path.now true ∷ old
     → Obeys (terms_of (unpacking_of asked image path).folder) true middle new → IsRight (unpacking_of asked image path) file → HoldsPayloads (unpacking_of asked image path) file new → SignedBy keys file → UnpacksRight asked keys path file old new
 right_at asked keys path image file old middle new looked obeys right holds signed =
     record {
@@ -88,12 +88,12 @@ right_at asked keys path image file old middle new looked obeys right holds sign
     }
 
 -- the same after it was told
-pub right_told : (files : FileMap) (asked : UnpackRequest) (keys : Option Keys) (path : Bor (List ℕ)) (old middle new : List Deed) → RightAt files asked keys (Some path) old middle → new ≡ middle
+pub right_told : (files : FileMap) (asked : UnpackRequest) (keys : Option Required) (path : Bor (List ℕ)) (old middle new : List Deed) → RightAt files asked keys (Some path) old middle → new ≡ middle
     → RightAt files asked keys (Some path) old new
 right_told files asked keys path old middle new right same = subst (λ (t : List Deed). RightAt files asked keys (Some path) old t) (sym same) right
 
 -- the same of files that are the same, by keys that were read before
-pub keys_right : (old_files new_files : FileMap) (asked : UnpackRequest) (keys : Option Keys) (image : Option (Bor (List ℕ))) (old middle new : List Deed) → SameFiles old_files new_files → middle ≡ keys_read asked.key old
+pub keys_right : (old_files new_files : FileMap) (asked : UnpackRequest) (keys : Option Required) (image : Option (Bor (List ℕ))) (old middle new : List Deed) → SameFiles old_files new_files → middle ≡ keys_read asked.key old
     → RightAt new_files asked keys image middle new → RightAt old_files asked keys image (keys_read asked.key old) new
 keys_right old_files new_files asked keys None old middle new same noted right = tt
 keys_right old_files new_files asked keys (Some path) old middle new same noted right = (
@@ -102,7 +102,7 @@ keys_right old_files new_files asked keys (Some path) old middle new same noted 
   subst (λ (t : List Deed). UnpacksRight asked keys path right.0 t new) noted right.2,
 )
 
-pub keys_kept : (old_files new_files : FileMap) (asked : UnpackRequest) (keys : Option Keys) (image : Option (Bor (List ℕ))) (old middle new : List Deed) → SameFiles old_files new_files → middle ≡ keys_read asked.key old
+pub keys_kept : (old_files new_files : FileMap) (asked : UnpackRequest) (keys : Option Required) (image : Option (Bor (List ℕ))) (old middle new : List Deed) → SameFiles old_files new_files → middle ≡ keys_read asked.key old
     → KeepsImage new_files keys image middle new → KeepsImage old_files keys image (keys_read asked.key old) new
 keys_kept old_files new_files asked keys None old middle new same noted kept = kept ∙ ap changes noted
 keys_kept old_files new_files asked keys (Some path) old middle new same noted (inl signed) =
@@ -110,12 +110,12 @@ keys_kept old_files new_files asked keys (Some path) old middle new same noted (
 keys_kept old_files new_files asked keys (Some path) old middle new same noted (inr kept) = inr (kept ∙ ap changes noted)
 
 -- an image that was opened and looked at before
-pub kept_at : (files : FileMap) (keys : Option Keys) (path file : List ℕ) (image : Option FileId) (old middle new : List Deed) → files.bytes path ≡ Some file → middle ≡ Identifies path image ∷ Opens path true ∷ old → KeepsBy keys file middle new
+pub kept_at : (files : FileMap) (keys : Option Required) (path file : List ℕ) (image : Option FileId) (old middle new : List Deed) → files.bytes path ≡ Some file → middle ≡ Identifies path image ∷ Opens path true ∷ old → KeepsBy keys file middle new
     → KeepsAt files keys path old new
 kept_at files keys path file image old middle new found looked (inl signed) = inl (file, found, signed)
 kept_at files keys path file image old middle new found looked (inr kept) = inr (kept ∙ ap changes looked)
 
 -- the same after it was told
-pub kept_told : (files : FileMap) (keys : Option Keys) (path : List ℕ) (old middle new : List Deed) → KeepsAt files keys path old middle → changes new ≡ changes middle → KeepsAt files keys path old new
+pub kept_told : (files : FileMap) (keys : Option Required) (path : List ℕ) (old middle new : List Deed) → KeepsAt files keys path old middle → changes new ≡ changes middle → KeepsAt files keys path old new
 kept_told files keys path old middle new (inl signed) same = inl signed
 kept_told files keys path old middle new (inr kept) same = inr (same ∙ kept)

@@ -5,7 +5,7 @@ use Rattle.uimg_base.specs.Named.{FileMap, SameFiles}
 use Rattle.uimg_cli.specs.declared.command_line.unpack.UnpackRequest.{UnpackRequest}
 use Rattle.uimg_checks.specs.declared.judging.Terms.{Terms}
 use Rattle.uimg_engine.specs.Headline.{is_fit}
-use Rattle.uimg_keys.specs.declared.keys.Keys.{Keys}
+use Rattle.uimg_verifying.specs.declared.required.Required.{Required}
 use Rattle.uimg_requests.specs.declared.command.Form.TheVariants as form
 use Rattle.uimg_tool.specs.{Complaints.ComplainsBetween, EndingStatuses.{HasEndingStatus, ending_status}, Unpackings.{signed_terms, unpacking_of}}
 use Rattle.uimg_tool.specs.UnpackComplaints.{ComplainsImage, EndsAsked, EndsAt, EndsIn, EndsOver, EndsSigned, EndsUnsigned, told_of_unpacking}
@@ -25,7 +25,7 @@ over_at files asked path image file end found (inr ends) = inr (file, found, any
 
 -- an image that was opened
 pub ended_at : (files : FileMap) (asked : UnpackRequest) (terms : Terms) (path : Bor (List ℕ)) (image : Option FileId) (file : List ℕ) (unpacking : Unpacking) (end : Ending) → unpacking ≡ unpacking_of asked image path
-    → terms ≡ signed_terms asked terms.keys → files.bytes path.now ≡ Some file → EndsSigned unpacking terms file end → EndsAsked files asked terms.keys path end
+    → terms ≡ signed_terms asked terms.required → files.bytes path.now ≡ Some file → EndsSigned unpacking terms file end → EndsAsked files asked terms.required path end
 ended_at files asked terms path image file unpacking end is are found (inl ends) =
     inl (over_at files asked path image file end found (subst (λ (it : Unpacking). EndsOver it file end) is ends))
 ended_at files asked terms path image file unpacking end is are found (inr unsigned) =
@@ -43,7 +43,7 @@ by_json json false end status is has = without (has_status end status (has is)) 
   without (inl failed) = inl failed
   without (inr same) = inr (λ _. same)
 
-module _ {V : Type 0} (contents : V → Option (List ℕ)) (files : FileMap) (asked : UnpackRequest) (keys : Option Keys) (path : Bor (List ℕ)) (end : Ending) (status : ℕ) (old new : Complaints V) where
+module _ {V : Type 0} (contents : V → Option (List ℕ)) (files : FileMap) (asked : UnpackRequest) (keys : Option Required) (path : Bor (List ℕ)) (end : Ending) (status : ℕ) (old new : Complaints V) where
   both : EndsAsked files asked keys path end → (status ≡ 3) ⊎ (asked.as_json ≡ false → status ≡ ending_status end)
       → (status ≡ 3) ⊎ ComplainsBetween contents (told_of_unpacking path.now asked.as_json end) old new → ComplainsImage contents files asked keys (Some path) status old new
   both ends (inl failed) told = inl failed
@@ -55,14 +55,14 @@ module _ {V : Type 0} (contents : V → Option (List ℕ)) (files : FileMap) (as
   image_told ends has told = both ends (by_json asked.as_json asked.as_json end status refl has) told
 
 -- the same of files that are the same
-ends_same : (old_files new_files : FileMap) (asked : UnpackRequest) (keys : Option Keys) (path : Bor (List ℕ)) (end : Ending) → SameFiles old_files new_files → EndsAsked new_files asked keys path end → EndsAsked old_files asked keys path end
+ends_same : (old_files new_files : FileMap) (asked : UnpackRequest) (keys : Option Required) (path : Bor (List ℕ)) (end : Ending) → SameFiles old_files new_files → EndsAsked new_files asked keys path end → EndsAsked old_files asked keys path end
 ends_same old_files new_files asked keys path end same (inl (inl failed)) = inl (inl failed)
 ends_same old_files new_files asked keys path end same (inl (inr ends)) =
     inl (inr (ends.0, sym (ap (λ (bytes : List ℕ → Option (List ℕ)). bytes path.now) same.bytes) ∙ ends.1, ends.2))
 ends_same old_files new_files asked keys path end same (inr ends) =
     inr (ends.0, sym (ap (λ (bytes : List ℕ → Option (List ℕ)). bytes path.now) same.bytes) ∙ ends.1, ends.2)
 
-files_same : {V : Type 0} (contents : V → Option (List ℕ)) (old_files new_files : FileMap) (asked : UnpackRequest) (keys : Option Keys) (image : Option (Bor (List ℕ))) (status : ℕ) (old new : Complaints V) → SameFiles old_files new_files
+files_same : {V : Type 0} (contents : V → Option (List ℕ)) (old_files new_files : FileMap) (asked : UnpackRequest) (keys : Option Required) (image : Option (Bor (List ℕ))) (status : ℕ) (old new : Complaints V) → SameFiles old_files new_files
     → ComplainsImage contents new_files asked keys image status old new → ComplainsImage contents old_files asked keys image status old new
 files_same contents old_files new_files asked keys None status old new same told = told
 files_same contents old_files new_files asked keys (Some path) status old new same (inl failed) = inl failed
@@ -70,7 +70,7 @@ files_same contents old_files new_files asked keys (Some path) status old new sa
     inr (record { end = told.end; ends = ends_same old_files new_files asked keys path told.end same told.ends; is = told.is; told = told.told })
 
 -- .. and where nothing was told before
-pub image_same : {V : Type 0} (contents : V → Option (List ℕ)) (old_files new_files : FileMap) (asked : UnpackRequest) (keys : Option Keys) (image : Option (Bor (List ℕ))) (status : ℕ) (old middle new : Complaints V) → SameFiles old_files new_files
+pub image_same : {V : Type 0} (contents : V → Option (List ℕ)) (old_files new_files : FileMap) (asked : UnpackRequest) (keys : Option Required) (image : Option (Bor (List ℕ))) (status : ℕ) (old middle new : Complaints V) → SameFiles old_files new_files
     → middle ≡ old → ComplainsImage contents new_files asked keys image status middle new → ComplainsImage contents old_files asked keys image status old new
 image_same {V} contents old_files new_files asked keys image status old middle new same silent told =
     subst (λ (before : Complaints V). ComplainsImage contents old_files asked keys image status before new) silent (files_same contents old_files new_files asked keys image status middle new same told)

@@ -6,7 +6,7 @@ use Rattle.uimg_cli.specs.declared.command_line.unpack.UnpackRequest.{UnpackRequ
 use Rattle.uimg_engine.specs.{FaultTexts.text_of, Headline.is_fit}
 use Rattle.uimg_requests.specs.declared.command.Form.TheVariants as form
 use Rattle.uimg_checks.specs.{CheckEnds.Shows, Lines.answer_line, Verdicts.verdict_of, declared.{answer.Answer.Answer, judging.Terms.Terms}}
-use Rattle.uimg_keys.specs.declared.keys.Keys.{Keys}
+use Rattle.uimg_verifying.specs.declared.required.Required.{Required}
 use Rattle.uimg_tool.specs.{Checking.{KeysAt, KeysFail}, Complaints.ComplainsBetween, EndingStatuses.ending_status, Statuses.is_of_command, UnpackEnds.{end_of, end_of_parts}, Unpackings.{signed_terms, unpacking_of}}
 use Rattle.uimg_tool.specs.declared.complaints.Complaints.{Complaints}
 use Rattle.uimg_tool.specs.declared.unpack_answers.Ending.{Ending}
@@ -32,7 +32,7 @@ EndsAt files asked path end =
 
 -- The end is the answer of a check by keys, if there are any.
 pub record EndsUnsigned (terms : Terms) (file : List ℕ) (end : Ending) : Type 0 where
-  pub keyed : IsTrue (is_some terms.keys)
+  pub keyed : IsTrue (is_some terms.required)
   pub answer : Answer
   pub is : end ≡ ending.Unsigned answer
   pub shows : Shows answer (verdict_of terms file)
@@ -42,7 +42,7 @@ abbrev pub EndsSigned : Unpacking → Terms → List ℕ → Ending → Type 0
 EndsSigned asked terms file end = EndsOver asked file end ⊎ EndsUnsigned terms file end
 
 -- the same of the file at a path
-abbrev pub EndsAsked : FileMap → UnpackRequest → Option Keys → Bor (List ℕ) → Ending → Type 0
+abbrev pub EndsAsked : FileMap → UnpackRequest → Option Required → Bor (List ℕ) → Ending → Type 0
 EndsAsked files asked keys path end = EndsAt files (unpacking_of asked None path) path.now end
     ⊎ ((file : List ℕ) × (files.bytes path.now ≡ Some file) × EndsUnsigned (signed_terms asked keys) file end)
 
@@ -68,14 +68,14 @@ told_of_unpacking path false end = told_of_ending path end
 
 -- What is told is that of how the unpacking of the file at a path ended. Without JSON the status is that of it, too.
 pub record ComplainsUnpacked {V : Type 0} (contents : V → Option (List ℕ)) (files : FileMap) (asked : UnpackRequest)
-    (keys : Option Keys) (path : Bor (List ℕ)) (status : ℕ) (old new : Complaints V) : Type 0 where
+    (keys : Option Required) (path : Bor (List ℕ)) (status : ℕ) (old new : Complaints V) : Type 0 where
   pub end : Ending
   pub ends : EndsAsked files asked keys path end
   pub is : asked.as_json ≡ false → status ≡ ending_status end
   pub told : ComplainsBetween contents (told_of_unpacking path.now asked.as_json end) old new
 
 -- the same of the image of a request, unless the status is 3; without an image nothing is told
-abbrev pub ComplainsImage : {V : Type 0} → (V → Option (List ℕ)) → FileMap → UnpackRequest → Option Keys → Option (Bor (List ℕ)) → ℕ → (old new : Complaints V) → Type 0
+abbrev pub ComplainsImage : {V : Type 0} → (V → Option (List ℕ)) → FileMap → UnpackRequest → Option Required → Option (Bor (List ℕ)) → ℕ → (old new : Complaints V) → Type 0
 ComplainsImage contents files asked keys None status old new = ComplainsBetween contents None old new
 ComplainsImage contents files asked keys (Some path) status old new =
     (status ≡ 3) ⊎ ComplainsUnpacked contents files asked keys path status old new
@@ -84,5 +84,5 @@ ComplainsImage contents files asked keys (Some path) status old new =
 -- before, this is not said.
 abbrev pub ComplainsUnpack : {V : Type 0} → (V → Option (List ℕ)) → FileMap → UnpackRequest → ℕ → (old new : Complaints V) → Type 0
 ComplainsUnpack contents files asked status old new =
-    asked.cleans ≡ false → KeysFail asked.key status ⊎ ((keys : Option Keys) × KeysAt files asked.key keys
+    asked.cleans ≡ false → KeysFail asked.key status ⊎ ((keys : Option Required) × KeysAt files asked.key keys
     × ComplainsImage contents files asked keys asked.image status old new)

@@ -7,10 +7,9 @@ use Rattle.uimg_engine.specs.Headline.{is_fit}
 use Rattle.uimg_checks.specs.declared.answer.Answer.{Answer, TheVariants.{Found}}
 use Rattle.uimg_checks.specs.declared.answer.Configurations.TheVariants.{Signed}
 use Rattle.uimg_checks.specs.declared.judging.Terms.{Terms}
-use Rattle.uimg_keys.specs.declared.keys.Keys.{Keys}
 use Rattle.uimg_requests.specs.declared.command.Form.TheVariants as form
 use Rattle.uimg_tool.specs.Checking.{KeysAt, KeysFail, keys_read}
-use Rattle.uimg_verifying.specs.{Configurations.unsigned_of, Covering.uncovered_of}
+use Rattle.uimg_verifying.specs.{Configurations.unsigned_of, Covering.uncovered_of, declared.required.Required.Required}
 use Rattle.uimg_unpacking.specs.{Deeds.{Deed, Identifies, Opens, changes}, Ends.{asked_name, end_of_file}, Filling.{FillsIf, takes_of}, PartEnds.KeepsRight, PartFilling.FillsParts, Places.{Obeys, terms_of}}
 use Rattle.uimg_unpacking.specs.declared.file_id.FileId.{FileId}
 use Rattle.uimg_unpacking.specs.declared.part_unpacking.PartsEnded.TheVariants as legacy
@@ -52,53 +51,59 @@ unpacking_of asked image path = record {
 }
 
 -- what a check by keys asks, before anything is written
-abbrev pub signed_terms : UnpackRequest → Option Keys → Terms
-signed_terms asked keys = record { need = asked.need; is_strict = true; keys = keys; covers_images = true }
+abbrev pub signed_terms : UnpackRequest → Option Required → Terms
+signed_terms asked required = record {
+  need = asked.need;
+  is_strict = true;
+  required = required;
+  covers_images = true;
+  lists = false;
+}
 
 -- a check by keys finds each configuration signed
 abbrev pub is_signed : Answer → Bool
-is_signed (Found found (Some Signed)) = true
+is_signed (Found found (Some (Signed signed))) = true
 is_signed answer = false
 
 -- The keys sign each configuration of a FIT image, and a configuration names each of its images.
-pub record IsSignedWhole (keys : Keys) (file : List ℕ) : Type 0 where
+pub record IsSignedWhole (keys : Required) (file : List ℕ) : Type 0 where
   pub signed : unsigned_of keys file ≡ Ok None
   pub covered : uncovered_of file ≡ Ok None
 
 -- the same, if there are keys
-abbrev pub SignedBy : Option Keys → List ℕ → Type 0
+abbrev pub SignedBy : Option Required → List ℕ → Type 0
 SignedBy None file = ⊤
 SignedBy (Some keys) file = IsSignedWhole keys file
 
 -- The image at a path was opened, and it was looked for which file it is. Then files were written as requested, all that
 -- is asked for is right, and files of the folder hold it. The keys sign this file, if there are any.
-pub record UnpacksRight (asked : UnpackRequest) (keys : Option Keys) (path : Bor (List ℕ)) (file : List ℕ) (before after : List Deed) : Type 0 where
+pub record UnpacksRight (asked : UnpackRequest) (keys : Option Required) (path : Bor (List ℕ)) (file : List ℕ) (before after : List Deed) : Type 0 where
   pub image : Option FileId
   pub obeys : Obeys (terms_of (unpacking_of asked image path).folder) true (Identifies path.now image ∷ Opens path.now true ∷ before) after
   pub right : IsRight (unpacking_of asked image path) file
   pub holds : HoldsPayloads (unpacking_of asked image path) file after
   pub signed : SignedBy keys file
 
-abbrev pub RightAt : FileMap → UnpackRequest → Option Keys → Option (Bor (List ℕ)) → (before after : List Deed) → Type 0
+abbrev pub RightAt : FileMap → UnpackRequest → Option Required → Option (Bor (List ℕ)) → (before after : List Deed) → Type 0
 RightAt files asked keys None before after = ⊤
 RightAt files asked keys (Some path) before after =
     (file : List ℕ) × (files.bytes path.now ≡ Some file) × UnpacksRight asked keys path file before after
 
 -- Files are changed only if the keys sign this file.
-abbrev pub KeepsBy : Option Keys → List ℕ → (before after : List Deed) → Type 0
+abbrev pub KeepsBy : Option Required → List ℕ → (before after : List Deed) → Type 0
 KeepsBy keys file before after = SignedBy keys file ⊎ (changes after ≡ changes before)
 
 -- the same of the file at a path
-abbrev pub KeepsAt : FileMap → Option Keys → List ℕ → (before after : List Deed) → Type 0
+abbrev pub KeepsAt : FileMap → Option Required → List ℕ → (before after : List Deed) → Type 0
 KeepsAt files keys path before after =
     ((file : List ℕ) × (files.bytes path ≡ Some file) × SignedBy keys file) ⊎ (changes after ≡ changes before)
 
-abbrev pub KeepsImage : FileMap → Option Keys → Option (Bor (List ℕ)) → (before after : List Deed) → Type 0
+abbrev pub KeepsImage : FileMap → Option Required → Option (Bor (List ℕ)) → (before after : List Deed) → Type 0
 KeepsImage files keys None before after = changes after ≡ changes before
 KeepsImage files keys (Some path) before after = KeepsAt files keys path.now before after
 
 -- Files are changed only if the keys sign the image. The status is 0 only if all that is asked for is right.
-pub record UnpacksBy (files : FileMap) (asked : UnpackRequest) (keys : Option Keys) (status : ℕ) (before after : List Deed) : Type 0 where
+pub record UnpacksBy (files : FileMap) (asked : UnpackRequest) (keys : Option Required) (status : ℕ) (before after : List Deed) : Type 0 where
   pub kept : KeepsImage files keys asked.image before after
   pub right : status ≡ 0 → RightAt files asked keys asked.image before after
 
@@ -107,4 +112,4 @@ pub record UnpacksBy (files : FileMap) (asked : UnpackRequest) (keys : Option Ke
 abbrev pub AnswersUnpacking : FileMap → UnpackRequest → ℕ → (before after : List Deed) → Type 0
 AnswersUnpacking files asked status before after = asked.cleans ≡ false
     → (KeysFail asked.key status × (changes after ≡ changes before))
-    ⊎ ((keys : Option Keys) × KeysAt files asked.key keys × UnpacksBy files asked keys status (keys_read asked.key before) after)
+    ⊎ ((keys : Option Required) × KeysAt files asked.key keys × UnpacksBy files asked keys status (keys_read asked.key before) after)

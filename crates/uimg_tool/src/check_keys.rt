@@ -1,53 +1,94 @@
 //! The keys of a check or of an unpacking.
 
 ghost use Rattle.std.specs.Prelude.{◌≡◌, ◌+◌, ◌≤◌, IfErr, IfOk, OnOk, option_map};
-ghost use Rattle.uimg_base.specs.Named.{SameFiles};
-ghost use Rattle.uimg_tool.specs.Checking.{KeysAt, KeysFail, keys_read};
+ghost use Rattle.uimg_base.specs.{Honest.IfHonest, Named.SameFiles};
+ghost use Rattle.uimg_keys.specs.{Keys.HasKeys, declared.keys.Keys.Keys};
+ghost use Rattle.uimg_tool.specs.Checking.{AreNamed, IsRequired, KeysAt, KeysFail, keys_read};
 ghost use Rattle.uimg_unpacking.specs.Deeds.{changes};
 
 use crate::complaints::Complaints;
 use crate::request_fault::FAILED;
+use std::alloc::{AllocError, Global};
 use std::io::Write;
+use uimg_base::Source;
 use uimg_checks::Terms;
-use uimg_cli::CheckRequest;
-use uimg_keys::{Keys, read_keys};
+use uimg_cli::{CheckRequest, KeyRequest};
+use uimg_keys::{KeyFault, Keys, read_keys};
 use uimg_printing::Printed;
 use uimg_unpacking::World;
+use uimg_verifying::Required;
 
 /// A requested check, and what it asks of each image.
 #[derive(Drop)]
 pub(crate) struct Keyed<'a, 'b> {
     pub(crate) request: &'a CheckRequest<'b>,
-    pub(crate) terms: Terms,
+    pub(crate) terms: Terms<'b>,
 }
 
-/// Reads the keys of a file, if there is one. If they cannot be read, that is told, and the status is
-/// returned.
-pub(crate) fn keys_of<D: World, V: Write>(
+/// Reads the requested keys, if there are any. If they cannot be read, that is told, and the status
+/// is returned.
+pub(crate) fn keys_of<'a, D: World, V: Write>(
     world: &mut D,
-    path: Option<&str>,
+    asked: Option<KeyRequest<'a>>,
     complaints: &mut Complaints<'_, V>,
-) -> Result<Option<Keys>, u8>
+) -> Result<Option<Required<'a>>, u8>
     ensures failed { IfErr result (λ status. status ≡ 3) }
-    ensures keyed { IfErr result (KeysFail path.entry) }
+    ensures keyed { IfErr result (KeysFail asked.entry) }
     ensures once { complaints.new.count ≤ complaints.old.count + 1 }
     ensures silent { OnOk result (complaints.new ≡ complaints.old) }
-    ensures keys { IfOk result (KeysAt (D.map world.old) path.entry) }
-    ensures noted { OnOk result (D.trace world.new ≡ keys_read path.entry (D.trace world.old)) }
+    ensures keys { IfOk result (KeysAt (D.map world.old) asked.entry) }
+    ensures noted { OnOk result (D.trace world.new ≡ keys_read asked.entry (D.trace world.old)) }
     ensures same { SameFiles (D.map world.old) (D.map world.new) }
     ensures changes { changes (D.trace world.new) ≡ changes (D.trace world.old) }
 {
-    let Some(path) = path else {
+    let Some(asked) = asked else {
         return Ok(None);
     };
-    let Ok(mut source) = world.open(path) else {
-        return Err(complaints.tell_unread(world, path));
+    let Ok(mut source) = world.open(asked.path) else {
+        return Err(complaints.tell_unread(world, asked.path));
     };
-    match read_keys(world.alloc(), &mut source) {
-        Ok(keys) => Ok(Some(keys)),
+    match required_by(world.alloc(), asked, &mut source) {
+        Ok(required) => Ok(Some(required)),
         Err(fault) => {
-            let path = Printed(path.as_bytes());
+            let path = Printed(asked.path.as_bytes());
             Err(complaints.tell(&format_args!("{path}: {fault}"), FAILED))
         }
     }
+}
+
+// Returns what a request asks, by the keys of a source.
+fn required_by<'a, S: Source>(
+    alloc: Global,
+    asked: KeyRequest<'a>,
+    source: &mut S,
+) -> Result<Required<'a>, KeyFault>
+    ensures { IfOk result (λ required. (read : Keys) × IsRequired asked.entry read required
+        × IfHonest S.device source (λ file. HasKeys file read)) }
+{
+    let keys = read_keys(alloc, source)?;
+    let keys = named(alloc, asked.name, keys)?;
+    Ok(Required {
+        keys,
+        takes_sha1: asked.takes_sha1,
+        only: bytes_of(asked.config),
+    })
+}
+
+fn bytes_of(name: Option<&str>) -> Option<&[u8]>
+    ensures { option_map (λ bytes. bytes.now) result ≡ option_map (λ text. text.now) name.entry }
+{
+    match name {
+        Some(name) => Some(name.as_bytes()),
+        None => None,
+    }
+}
+
+// Returns the keys, by this name, if one is given.
+fn named(alloc: Global, name: Option<&str>, mut keys: Keys) -> Result<Keys, AllocError>
+    ensures { IfOk result (AreNamed name.entry keys) }
+{
+    if let Some(name) = name {
+        keys.name = Vec::from_slice(alloc, name.as_bytes())?;
+    }
+    Ok(keys)
 }

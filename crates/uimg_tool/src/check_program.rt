@@ -48,15 +48,16 @@ pub(crate) fn check_images<D: World, W: Write + Drop, V: Write>(
     ensures changes { changes (D.trace world.new) ≡ changes (D.trace world.old) }
     ensures line { ComplainsCheck V.contents result.0 complaints.old complaints.new }
 {
-    let keys = match keys_of(world, request.key, complaints) {
-        Ok(keys) => keys,
+    let required = match keys_of(world, request.key, complaints) {
+        Ok(required) => required,
         Err(status) => return (status, out),
     };
     let terms = Terms {
         need: request.need,
         is_strict: request.is_strict,
-        keys,
+        required,
         covers_images: false,
+        lists: request.as_json,
     };
     check_by(world, &Keyed { request, terms }, out, complaints)
 }
@@ -288,7 +289,7 @@ impl<W: Write + Drop> Checks<W> {
     fn answer<'n, D: World>(
         &mut self,
         world: &mut D,
-        asked: &Keyed<'_, '_>,
+        asked: &'n Keyed<'_, '_>,
         path: &[u8],
         names: &'n mut Names,
     ) -> Answer<'n>
@@ -309,7 +310,7 @@ impl<W: Write + Drop> Checks<W> {
     fn answer_text<'n, D: World>(
         &mut self,
         world: &mut D,
-        asked: &Keyed<'_, '_>,
+        asked: &'n Keyed<'_, '_>,
         path: &str,
         names: &'n mut Names,
     ) -> Answer<'n>

@@ -43,15 +43,16 @@ pub(crate) fn unpack_image<D: World, W: Write + Drop, V: Write>(
     ensures line { IsTrue (D.map world.old).honest → ComplainsUnpack V.contents
         (D.map world.old) request.now result complaints.old complaints.new }
 {
-    let keys = match keys_of(world, request.key, complaints) {
-        Ok(keys) => keys,
+    let required = match keys_of(world, request.key, complaints) {
+        Ok(required) => required,
         Err(status) => return status,
     };
     let terms = Terms {
         need: request.need,
         is_strict: true,
-        keys,
+        required,
         covers_images: true,
+        lists: false,
     };
     unpack_by(world, request, &terms, out, complaints)
 }
@@ -61,23 +62,23 @@ pub(crate) fn unpack_image<D: World, W: Write + Drop, V: Write>(
 fn unpack_by<D: World, W: Write + Drop, V: Write>(
     world: &mut D,
     request: &UnpackRequest<'_>,
-    terms: &Terms,
+    terms: &Terms<'_>,
     out: &mut BufWriter<W, Global>,
     complaints: &mut Complaints<'_, V>,
 ) -> u8
     requires covers { terms.now.covers_images ≡ true }
-    requires terms { terms.now ≡ signed_terms request.now terms.now.keys }
+    requires terms { terms.now ≡ signed_terms request.now terms.now.required }
     ensures ends { Ends result complaints.old.count complaints.new.count }
     ensures within { ChangesWithin request.now.folder.now true (D.trace world.old)
         (D.trace world.new) }
     ensures told { IsTrue (D.map world.old).honest → request.now.cleans ≡ false → result ≡ 0 →
-        RightAt (D.map world.old) request.now terms.now.keys request.now.image
+        RightAt (D.map world.old) request.now terms.now.required request.now.image
         (D.trace world.old) (D.trace world.new) }
     ensures kept { IsTrue (D.map world.old).honest → request.now.cleans ≡ false →
-        KeepsImage (D.map world.old) terms.now.keys request.now.image (D.trace world.old)
+        KeepsImage (D.map world.old) terms.now.required request.now.image (D.trace world.old)
         (D.trace world.new) }
     ensures line { IsTrue (D.map world.old).honest → request.now.cleans ≡ false →
-        ComplainsImage V.contents (D.map world.old) request.now terms.now.keys
+        ComplainsImage V.contents (D.map world.old) request.now terms.now.required
         request.now.image result complaints.old complaints.new }
 {
     match (clean_if(world, request, out), request.image) {
@@ -110,21 +111,21 @@ fn unpack_and_tell<D: World, W: Write + Drop, V: Write>(
     world: &mut D,
     path: &str,
     request: &UnpackRequest<'_>,
-    terms: &Terms,
+    terms: &Terms<'_>,
     out: &mut BufWriter<W, Global>,
     complaints: &mut Complaints<'_, V>,
 ) -> u8
     requires covers { terms.now.covers_images ≡ true }
-    requires terms { terms.now ≡ signed_terms request.now terms.now.keys }
+    requires terms { terms.now ≡ signed_terms request.now terms.now.required }
     ensures ends { Ends result complaints.old.count complaints.new.count }
     ensures within { ChangesWithin request.now.folder.now true (D.trace world.old)
         (D.trace world.new) }
     ensures done { IsTrue (D.map world.old).honest → result ≡ 0 → RightAt (D.map world.old)
-        request.now terms.now.keys (Some path.entry) (D.trace world.old) (D.trace world.new) }
+        request.now terms.now.required (Some path.entry) (D.trace world.old) (D.trace world.new) }
     ensures kept { IsTrue (D.map world.old).honest → KeepsAt (D.map world.old)
-        terms.now.keys path.now (D.trace world.old) (D.trace world.new) }
+        terms.now.required path.now (D.trace world.old) (D.trace world.new) }
     ensures line { IsTrue (D.map world.old).honest → ComplainsImage V.contents
-        (D.map world.old) request.now terms.now.keys (Some path.entry) result complaints.old
+        (D.map world.old) request.now terms.now.required (Some path.entry) result complaints.old
         complaints.new }
 {
     let mut names = Names::new(world.alloc());
@@ -173,21 +174,21 @@ fn unpack_at<'a, 'n, D: World, W: Write + Drop>(
     world: &mut D,
     path: &'a str,
     request: &UnpackRequest<'a>,
-    terms: &Terms,
+    terms: &'n Terms<'_>,
     names: &'n mut Names,
     out: &mut W,
 ) -> Ending<'n>
     requires covers { terms.now.covers_images ≡ true }
-    requires terms { terms.now ≡ signed_terms request.now terms.now.keys }
+    requires terms { terms.now ≡ signed_terms request.now terms.now.required }
     ensures within { ChangesWithin request.now.folder.now true (D.trace world.old)
         (D.trace world.new) }
     ensures done { IsTrue (D.map world.old).honest → result ≡ Ending.Told Status.Done →
-        RightAt (D.map world.old) request.now terms.now.keys (Some path.entry)
+        RightAt (D.map world.old) request.now terms.now.required (Some path.entry)
         (D.trace world.old) (D.trace world.new) }
     ensures kept { IsTrue (D.map world.old).honest → KeepsAt (D.map world.old)
-        terms.now.keys path.now (D.trace world.old) (D.trace world.new) }
+        terms.now.required path.now (D.trace world.old) (D.trace world.new) }
     ensures ended { IsTrue (D.map world.old).honest → EndsAsked (D.map world.old)
-        request.now terms.now.keys path.entry result }
+        request.now terms.now.required path.entry result }
 {
     let Ok(mut source) = world.open(path) else {
         return Ending::Unread;
@@ -205,7 +206,7 @@ fn unpack_at<'a, 'n, D: World, W: Write + Drop>(
 fn unpack_signed<'n, D: World, S: Source, W: Write + Drop>(
     world: &mut D,
     asked: &Unpacking<'_>,
-    terms: &Terms,
+    terms: &'n Terms<'_>,
     names: &'n mut Names,
     source: &mut S,
     out: W,
@@ -217,8 +218,8 @@ fn unpack_signed<'n, D: World, S: Source, W: Write + Drop>(
     ensures done { IfHonest S.device source (λ file. result ≡ Ending.Told Status.Done →
         IsRight asked.now file) }
     ensures signed { IfHonest S.device source (λ file. result ≡ Ending.Told Status.Done →
-        SignedBy terms.now.keys file) }
-    ensures kept { IfHonest S.device source (λ file. KeepsBy terms.now.keys file
+        SignedBy terms.now.required file) }
+    ensures kept { IfHonest S.device source (λ file. KeepsBy terms.now.required file
         (D.trace world.old) (D.trace world.new)) }
     ensures holds { IfHonest S.device source (λ file. IsTrue D.knows →
         result ≡ Ending.Told Status.Done →
@@ -235,18 +236,18 @@ fn unpack_signed<'n, D: World, S: Source, W: Write + Drop>(
 #[tactic(auto, using(crate::proofs::SignedLaws::signed_shown))]
 fn unsigned<'n, S: Source>(
     alloc: Global,
-    terms: &Terms,
+    terms: &'n Terms<'_>,
     source: &mut S,
     names: &'n mut Names,
 ) -> Option<Answer<'n>>
     requires { terms.now.covers_images ≡ true }
     ensures same { SameDevice (S.device source.old) (S.device source.new) }
     ensures signed { IfHonest S.device source (λ file. result ≡ None →
-        SignedBy terms.now.keys file) }
+        SignedBy terms.now.required file) }
     ensures refused { IfHonest S.device source (λ file. IfSome result (λ answer.
-        IsTrue (is_some terms.now.keys) × Shows answer (verdict_of terms.now file))) }
+        IsTrue (is_some terms.now.required) × Shows answer (verdict_of terms.now file))) }
 {
-    if terms.keys.is_none() {
+    if terms.required.is_none() {
         return None;
     }
     let mut room = Room::new(alloc);
@@ -262,7 +263,7 @@ fn is_signed(answer: Answer<'_>) -> bool
     ensures { result ≡ is_signed answer.entry }
 {
     match answer {
-        Answer::Found(_, Some(Configurations::Signed)) => true,
+        Answer::Found(_, Some(Configurations::Signed(_))) => true,
         _ => false,
     }
 }

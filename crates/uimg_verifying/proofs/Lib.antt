@@ -1,3 +1,4 @@
 mod RefusalLaws
 mod ConfigurationLaws
 mod CoveringLaws
+pub mod ResultLaws

@@ -49,44 +49,45 @@ stopped X P signing.TooManyNodes result expected stops refuses is = rw stops (is
 stopped X P signing.Unhashed result expected stops refuses is = rw stops (is (refuses refl refl))
 stopped X P signing.TooDeep result expected stops refuses is = rw stops (is (refuses refl refl))
 stopped X P signing.EarlyEnd result expected stops refuses is = rw stops (is (refuses refl refl))
+stopped X P signing.NameUnsigned result expected stops refuses is = rw stops (is (refuses refl refl))
 stopped X P signing.BadStrings result expected stops refuses is = rw stops (is (refuses refl refl))
 stopped X P signing.StringsOffset result expected stops refuses is = rw stops (is (refuses refl refl))
 stopped X P signing.StringsOutside result expected stops refuses is = rw stops (is (refuses refl refl))
 
-module _ (key : PublicKey) (file : List ℕ) (rows : List Row) (configuration : ℕ) (its node : Row) where
-  by_strings : (strings : Result ℕ SigningFault) → strings ≡ strings_of file (places_of node) → strings_refusal key file rows configuration its (signature_of key file node) strings ≡ signature_refusal key file rows configuration its node
+module _ (sha1 : Bool) (key : PublicKey) (file : List ℕ) (rows : List Row) (configuration : ℕ) (its node : Row) where
+  by_strings : (strings : Result ℕ SigningFault) → strings ≡ strings_of file (places_of node) → strings_refusal sha1 key file rows configuration its (signature_of key file node) strings ≡ signature_refusal sha1 key file rows configuration its node
   unfolding signature_refusal
-  by_strings strings are = ap (strings_refusal key file rows configuration its (signature_of key file node)) are
+  by_strings strings are = ap (strings_refusal sha1 key file rows configuration its (signature_of key file node)) are
 
-  pub strings_stop : (fault : SigningFault) → Err fault ≡ strings_of file (places_of node) → Some (why_of fault) ≡ signature_refusal key file rows configuration its node
+  pub strings_stop : (fault : SigningFault) → Err fault ≡ strings_of file (places_of node) → Some (why_of fault) ≡ signature_refusal sha1 key file rows configuration its node
   strings_stop fault stops = by_strings (Err fault) stops
 
   module _ (strings : ℕ) (are : Ok strings ≡ strings_of file (places_of node)) where
-    said : (found : Option Signature) → found ≡ signature_of key file node → said_refusal key file rows configuration its strings found ≡ signature_refusal key file rows configuration its node
-    said found is = ap (said_refusal key file rows configuration its strings) is ∙ by_strings (Ok strings) are
+    said : (found : Option Signature) → found ≡ signature_of key file node → said_refusal sha1 key file rows configuration its strings found ≡ signature_refusal sha1 key file rows configuration its node
+    said found is = ap (said_refusal sha1 key file rows configuration its strings) is ∙ by_strings (Ok strings) are
 
-    pub unknown : None ≡ signature_of key file node → Some loose.UnknownSignature ≡ signature_refusal key file rows configuration its node
+    pub unknown : None ≡ signature_of key file node → Some loose.UnknownSignature ≡ signature_refusal sha1 key file rows configuration its node
     unknown is = said None is
 
     module _ (it : Signature) (is : Some it ≡ signature_of key file node) where
-      pub weak : is_weak it.algo ≡ true → Some loose.WeakSignature ≡ signature_refusal key file rows configuration its node
+      pub weak : is_weak sha1 it.algo ≡ true → Some loose.WeakSignature ≡ signature_refusal sha1 key file rows configuration its node
       weak found = sym (ap (λ (b : Bool). if b then Some loose.WeakSignature else fault_or (listing_refusal (places_of its) (are_many file (places_of its) rows configuration) (are_hashed file (places_of its) rows)) (message_refusal key file it (marks_of file (places_of its) rows configuration) strings)) found) ∙ said (Some it) is
 
-      strong : is_weak it.algo ≡ false → fault_or (listing_refusal (places_of its) (are_many file (places_of its) rows configuration) (are_hashed file (places_of its) rows)) (message_refusal key file it (marks_of file (places_of its) rows configuration) strings) ≡ signature_refusal key file rows configuration its node
+      strong : is_weak sha1 it.algo ≡ false → fault_or (listing_refusal (places_of its) (are_many file (places_of its) rows configuration) (are_hashed file (places_of its) rows)) (message_refusal key file it (marks_of file (places_of its) rows configuration) strings) ≡ signature_refusal sha1 key file rows configuration its node
       strong found = sym (ap (λ (b : Bool). if b then Some loose.WeakSignature else fault_or (listing_refusal (places_of its) (are_many file (places_of its) rows configuration) (are_hashed file (places_of its) rows)) (message_refusal key file it (marks_of file (places_of its) rows configuration) strings)) found) ∙ said (Some it) is
 
-      pub nodes_stop : is_weak it.algo ≡ false → (fault : SigningFault) → Some fault ≡ listing_refusal (places_of its) (are_many file (places_of its) rows configuration) (are_hashed file (places_of its) rows) → Some (why_of fault) ≡ signature_refusal key file rows configuration its node
+      pub nodes_stop : is_weak sha1 it.algo ≡ false → (fault : SigningFault) → Some fault ≡ listing_refusal (places_of its) (are_many file (places_of its) rows configuration) (are_hashed file (places_of its) rows) → Some (why_of fault) ≡ signature_refusal sha1 key file rows configuration its node
       nodes_stop found fault stops = ap (λ (o : Option SigningFault). fault_or o (message_refusal key file it (marks_of file (places_of its) rows configuration) strings)) stops ∙ strong found
 
-      listed : is_weak it.algo ≡ false → None ≡ listing_refusal (places_of its) (are_many file (places_of its) rows configuration) (are_hashed file (places_of its) rows) → message_refusal key file it (marks_of file (places_of its) rows configuration) strings ≡ signature_refusal key file rows configuration its node
+      listed : is_weak sha1 it.algo ≡ false → None ≡ listing_refusal (places_of its) (are_many file (places_of its) rows configuration) (are_hashed file (places_of its) rows) → message_refusal key file it (marks_of file (places_of its) rows configuration) strings ≡ signature_refusal sha1 key file rows configuration its node
       listed found none = ap (λ (o : Option SigningFault). fault_or o (message_refusal key file it (marks_of file (places_of its) rows configuration) strings)) none ∙ strong found
 
-      pub message_stop : is_weak it.algo ≡ false → None ≡ listing_refusal (places_of its) (are_many file (places_of its) rows configuration) (are_hashed file (places_of its) rows) → (fault : SigningFault) → Some fault ≡ refusal file strings → Some (why_of fault) ≡ signature_refusal key file rows configuration its node
-      message_stop found none fault stops = ap (λ (o : Option SigningFault). fault_or o (value_refusal key file it (message (is_marked (marks_of file (places_of its) rows configuration)) file strings))) stops ∙ listed found none
+      pub message_stop : is_weak sha1 it.algo ≡ false → None ≡ listing_refusal (places_of its) (are_many file (places_of its) rows configuration) (are_hashed file (places_of its) rows) → (marks : List ℕ) → marks ≡ marks_of file (places_of its) rows configuration → (fault : SigningFault) → Some fault ≡ refusal (is_marked marks) file strings → Some (why_of fault) ≡ signature_refusal sha1 key file rows configuration its node
+      message_stop found none marks listed_are fault stops = ap (λ (o : Option SigningFault). fault_or o (value_refusal key file it (message (is_marked (marks_of file (places_of its) rows configuration)) file strings))) (stops ∙ ap (λ (ms : List ℕ). refusal (is_marked ms) file strings) listed_are) ∙ listed found none
 
-      pub judged : is_weak it.algo ≡ false → None ≡ listing_refusal (places_of its) (are_many file (places_of its) rows configuration) (are_hashed file (places_of its) rows)
-          → None ≡ refusal file strings → (marks : List ℕ) → marks ≡ marks_of file (places_of its) rows configuration → (why : Option Looseness) → why ≡ value_refusal key file it (message (is_marked marks) file strings)
-          → why ≡ signature_refusal key file rows configuration its node
-      judged found none fine marks listed_are why is_why =
+      pub judged : is_weak sha1 it.algo ≡ false → None ≡ listing_refusal (places_of its) (are_many file (places_of its) rows configuration) (are_hashed file (places_of its) rows)
+          → (marks : List ℕ) → marks ≡ marks_of file (places_of its) rows configuration → None ≡ refusal (is_marked marks) file strings → (why : Option Looseness) → why ≡ value_refusal key file it (message (is_marked marks) file strings)
+          → why ≡ signature_refusal sha1 key file rows configuration its node
+      judged found none marks listed_are fine why is_why =
           is_why ∙ ap (λ (ms : List ℕ). value_refusal key file it (message (is_marked ms) file strings)) listed_are
-          ∙ ap (λ (o : Option SigningFault). fault_or o (value_refusal key file it (message (is_marked (marks_of file (places_of its) rows configuration)) file strings))) fine ∙ listed found none
+          ∙ ap (λ (o : Option SigningFault). fault_or o (value_refusal key file it (message (is_marked (marks_of file (places_of its) rows configuration)) file strings))) (fine ∙ ap (λ (ms : List ℕ). refusal (is_marked ms) file strings) listed_are) ∙ listed found none

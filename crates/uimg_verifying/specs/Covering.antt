@@ -1,7 +1,7 @@
 -- Whether each image is named by a configuration. The signature of a configuration covers the images
 -- that it names, and no other.
 use Rattle.std.specs.Prelude.{◌≡◌, ℕ, List, [], ◌∷◌, Option, Some, None, Result, Ok, Err, IfErr, Bool, true, false, not, if◌then◌else◌}
-use Rattle.std.specs.List.{list_any}
+use Rattle.std.specs.{List.list_any, Option.option_map}
 use Rattle.uimg_blob_reading.specs.{Blob.tree, Grammar.Siblings, Reading.Fault as BlobFaultAt}
 use Rattle.uimg_blob_reading.specs.{Rows.{Row, table}, declared.roles.Role.Role}
 use Rattle.uimg_blob_reading.specs.declared.roles.Role.TheVariants as role
@@ -12,7 +12,7 @@ use Rattle.uimg_fit_checking.specs.declared.surveying.fault.SurveyFault.TheVaria
 use Rattle.uimg_signing.specs.{ImageNaming.names_image, Listing.name_in}
 use Rattle.uimg_signing.specs.declared.faults.SigningFault.{SigningFault}
 use Rattle.uimg_signing.specs.declared.faults.SigningFault.TheVariants as signing
-use Rattle.uimg_strict.specs.Looseness.{LooseSaid}
+use Rattle.uimg_strict.specs.{Looseness.LooseSaid, Telling.read_loose}
 use Rattle.uimg_strict.specs.declared.loose.Loose.{Loose}
 use Rattle.uimg_strict.specs.declared.loose.Looseness.TheVariants.{Unsigned}
 use Rattle.uimg_verifying.specs.Configurations.{Tells}
@@ -70,4 +70,4 @@ abbrev pub IsOuter : {X : Type 0} → Result X SurveyFault → Type 0
 IsOuter result = IfErr result (λ fault. is_outer fault ≡ true)
 
 abbrev pub TellsUncovered : List ℕ → Result (Option Loose) SurveyFault → Type 0
-TellsUncovered file = Tells (uncovered_of file)
+TellsUncovered file = Tells (option_map read_loose) (uncovered_of file)

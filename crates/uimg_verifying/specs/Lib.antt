@@ -1,3 +1,4 @@
 pub mod Signatures
 pub mod Configurations
 pub mod Covering
+pub mod Results

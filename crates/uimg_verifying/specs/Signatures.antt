@@ -1,6 +1,6 @@
 -- Why a signature of a configuration is refused (U-Boot 2023.01+dfsg-2+deb12u3:
 -- fit_config_check_sig and fit_image_setup_verify in boot/image-fit-sig.c, lib/rsa/rsa-verify.c).
-use Rattle.std.specs.Prelude.{◌≡◌, ⊤, ℕ, ◌==◌, ◌/◌, List, Option, Some, None, Result, Ok, Err, Bool, true, false, length, nat_lt, if◌then◌else◌}
+use Rattle.std.specs.Prelude.{◌≡◌, ⊤, ℕ, ◌==◌, ◌/◌, List, Option, Some, None, Result, Ok, Err, Bool, true, false, not, length, nat_lt, if◌then◌else◌}
 use Rattle.std.specs.{List.slice_get, Option.option_map, Str.bytes_eq}
 use Rattle.uimg_texts.specs.Slices.{slice}
 use Rattle.uimg_base.specs.{Device.Device, Held.Held, declared.spans.Span.Span}
@@ -69,6 +69,7 @@ why_of signing.TooManyNodes = loose.SignedNodes
 why_of signing.Unhashed = loose.SignedNodes
 why_of signing.TooDeep = loose.SignedNodes
 why_of signing.EarlyEnd = loose.SignedNodes
+why_of signing.NameUnsigned = loose.SignedStrings
 why_of signing.BadStrings = loose.SignedStrings
 why_of signing.StringsOffset = loose.SignedStrings
 why_of signing.StringsOutside = loose.SignedStrings
@@ -103,33 +104,34 @@ fault_or None later = later
 
 -- why a signature is refused that covers the nodes at these offsets, with so many bytes of strings
 abbrev pub message_refusal : PublicKey → List ℕ → Signature → List ℕ → ℕ → Option Looseness
-message_refusal key file it marks strings = fault_or (refusal file strings)
+message_refusal key file it marks strings = fault_or (refusal (is_marked marks) file strings)
     (value_refusal key file it (message (is_marked marks) file strings))
 
-abbrev pub is_weak : Algo → Bool
-is_weak Sha1 = true
-is_weak algo = false
+-- SHA-1 is too weak, unless it is taken
+abbrev pub is_weak : Bool → Algo → Bool
+is_weak sha1 Sha1 = not sha1
+is_weak sha1 algo = false
 
--- why a signature with so many bytes of strings is refused by what its node says; SHA-1 is too weak
-abbrev pub said_refusal : PublicKey → List ℕ → List Row → ℕ → Row → ℕ → Option Signature
+-- why a signature with so many bytes of strings is refused by what its node says
+abbrev pub said_refusal : Bool → PublicKey → List ℕ → List Row → ℕ → Row → ℕ → Option Signature
     → Option Looseness
-said_refusal key file rows configuration its strings None = Some loose.UnknownSignature
-said_refusal key file rows configuration its strings (Some it) =
-    if is_weak it.algo then Some loose.WeakSignature
+said_refusal sha1 key file rows configuration its strings None = Some loose.UnknownSignature
+said_refusal sha1 key file rows configuration its strings (Some it) =
+    if is_weak sha1 it.algo then Some loose.WeakSignature
     else fault_or (listing_refusal (places_of its) (are_many file (places_of its) rows configuration)
     (are_hashed file (places_of its) rows))
     (message_refusal key file it (marks_of file (places_of its) rows configuration) strings)
 
 -- the same, first by its strings
-abbrev pub strings_refusal : PublicKey → List ℕ → List Row → ℕ → Row → Option Signature
+abbrev pub strings_refusal : Bool → PublicKey → List ℕ → List Row → ℕ → Row → Option Signature
     → Result ℕ SigningFault → Option Looseness
-strings_refusal key file rows configuration its found (Ok strings) =
-    said_refusal key file rows configuration its strings found
-strings_refusal key file rows configuration its found (Err fault) = Some (why_of fault)
+strings_refusal sha1 key file rows configuration its found (Ok strings) =
+    said_refusal sha1 key file rows configuration its strings found
+strings_refusal sha1 key file rows configuration its found (Err fault) = Some (why_of fault)
 
 -- why the signature of a node is refused, of the configuration of a number and a row
-unfoldable pub signature_refusal : PublicKey → List ℕ → List Row → ℕ → Row → Row → Option Looseness
-signature_refusal key file rows configuration its node = strings_refusal key file rows configuration
+unfoldable pub signature_refusal : Bool → PublicKey → List ℕ → List Row → ℕ → Row → Row → Option Looseness
+signature_refusal sha1 key file rows configuration its node = strings_refusal sha1 key file rows configuration
     its (signature_of key file node) (strings_of file (places_of node))
 
 -- P holds of the rows of two nodes in the tree of an honest device's bytes, if that was indexed.

@@ -6,21 +6,22 @@ ghost use Rattle.uimg_base.specs.{Honest.{HonestSource, IfHonest}, Using.Uses};
 ghost use Rattle.uimg_blob_reading.specs.{Grammar.Siblings, Indexed.TakesNodes, Rows.{Row, table}};
 ghost use Rattle.uimg_fit_checking.specs.SurveyParts.{IsOwn, is_unread, lacks_room};
 ghost use Rattle.uimg_fit_reading.specs.Nodes.{InFile, Opened};
-ghost use Rattle.uimg_verifying.specs.Configurations.{OfNode, TellsUnsigned, blob_refusal, configuration_refusal, decides, is_configuration, is_parent, is_signature_of, judged_node, judged_of, keys_refusal, tried_node, tried_of, unsigned_from, unsigned_within};
+ghost use Rattle.uimg_verifying.specs.Configurations.{OfNode, TellsUnsigned, blob_refusal, configuration_refusal, decides, is_asked, is_configuration, is_parent, is_signature_of, judged_node, judged_of, keys_refusal, tried_node, tried_of, unsigned_from, unsigned_within};
 ghost use Rattle.uimg_signing.specs.Listing.{name_in};
-ghost use Rattle.uimg_strict.specs.Telling.{read_loose};
+ghost use Rattle.uimg_strict.specs.{Telling.read_loose, declared.loose.Looseness.TheVariants.Unsigned};
 ghost use Rattle.uimg_texts.specs.Numbers.{be32};
 ghost use Rattle.uimg_verifying.specs.Signatures.{OfPair};
 
+use crate::names::read_name;
 use crate::refusals::stop;
-use crate::signatures::{Signed, signature_refusal};
+use crate::required::{ByKey, Required};
+use crate::signatures::signature_refusal;
 use std::alloc::{Allocator, Global};
 use uimg_base::{Room, Source};
 use uimg_blob_reading::{Blob, Role};
-use uimg_fit_checking::{SurveyFault, read_bytes};
+use uimg_fit_checking::SurveyFault;
 use uimg_fit_reading::read_tree;
-use uimg_keys::{Keys, PublicKey};
-use uimg_signing::{is_closed, is_reached};
+use uimg_signing::{SignatureNode, is_closed, is_reached};
 use uimg_strict::{Loose, Looseness};
 
 /// The largest blob whose signatures U-Boot verifies (FIT_SIGNATURE_MAX_SIZE).
@@ -63,7 +64,7 @@ fn is_parent(parent: Option<usize>, number: usize) -> bool
     }
 }
 
-fn is_signature_of<A: Allocator>(blob: &Blob, room: &Room<A>, at: Signed) -> bool
+fn is_signature_of<A: Allocator>(blob: &Blob, room: &Room<A>, at: SignatureNode) -> bool
     requires { at.node < length room.now.entries }
     ensures { OfNode blob.now room.now at.node
         (λ row. result ≡ is_signature_of at.configuration row) }
@@ -89,8 +90,8 @@ fn try_node<S: Source, A: Allocator>(
     source: &mut S,
     blob: &Blob,
     room: &mut Room<A>,
-    key: &PublicKey,
-    at: Signed,
+    by: ByKey<'_>,
+    at: SignatureNode,
 ) -> Result<Tried, SurveyFault>
     requires configuration { at.configuration < length room.old.entries }
     requires node { at.node < length room.old.entries }
@@ -100,12 +101,13 @@ fn try_node<S: Source, A: Allocator>(
     ensures own { IsOwn result }
     ensures told { OfPair (S.device source.old) blob.now room.old at.configuration at.node
         (λ file rows its node. IfOk result
-        (λ tried. tried ≡ tried_node key.now file rows at.configuration its node)) }
+        (λ tried. tried ≡ tried_node by.entry.takes_sha1 by.entry.key.now file rows
+        at.configuration its node)) }
 {
     if !is_signature_of(blob, room, at) {
         return Ok(Tried::Other);
     }
-    let refusal = signature_refusal(alloc, source, blob, room, key, at)?;
+    let refusal = signature_refusal(alloc, source, blob, room, by, at)?;
     Ok(tried_of(refusal))
 }
 
@@ -115,7 +117,7 @@ fn configuration_refusal<S: Source, A: Allocator>(
     source: &mut S,
     blob: &Blob,
     room: &mut Room<A>,
-    key: &PublicKey,
+    by: ByKey<'_>,
     configuration: usize,
 ) -> Result<Option<Looseness>, SurveyFault>
     requires configuration { configuration < length room.old.entries }
@@ -125,18 +127,18 @@ fn configuration_refusal<S: Source, A: Allocator>(
     ensures own { IsOwn result }
     ensures told { (t : Siblings) → Opened (S.device source.old) blob.now room.old t →
         (its : Row) → slice_get (table t) configuration ≡ Some its → IfOk result
-        (λ why. why ≡ configuration_refusal key.now (S.device source.old).bytes (table t)
-        configuration its) }
+        (λ why. why ≡ configuration_refusal by.entry.takes_sha1 by.entry.key.now
+        (S.device source.old).bytes (table t) configuration its) }
 {
     let mut why = Looseness::Unsigned;
     let mut left = MOST;
     let mut node = 0;
     while node < room.count() {
-        let at = Signed {
+        let at = SignatureNode {
             configuration,
             node,
         };
-        match try_node(alloc, source, blob, room, key, at)? {
+        match try_node(alloc, source, blob, room, by, at)? {
             Tried::Other => {}
             Tried::Outside => return Ok(Some(Looseness::SignedStrings)),
             Tried::Valid if left > 0 => return Ok(None),
@@ -151,8 +153,8 @@ fn configuration_refusal<S: Source, A: Allocator>(
     Ok(Some(why))
 }
 
-// Returns whether what a key says of a configuration decides.
-fn decides(is_any: bool, found: Option<Looseness>) -> bool
+/// Returns whether what a key says of a configuration decides.
+pub(crate) fn decides(is_any: bool, found: Option<Looseness>) -> bool
     ensures { result ≡ decides is_any found }
 {
     match found {
@@ -168,7 +170,7 @@ fn keys_refusal<S: Source, A: Allocator>(
     source: &mut S,
     blob: &Blob,
     room: &mut Room<A>,
-    keys: &Keys,
+    required: &Required<'_>,
     configuration: usize,
 ) -> Result<Option<Looseness>, SurveyFault>
     requires configuration { configuration < length room.old.entries }
@@ -178,12 +180,17 @@ fn keys_refusal<S: Source, A: Allocator>(
     ensures own { IsOwn result }
     ensures told { (t : Siblings) → Opened (S.device source.old) blob.now room.old t →
         (its : Row) → slice_get (table t) configuration ≡ Some its → IfOk result
-        (λ why. why ≡ keys_refusal keys.now (S.device source.old).bytes (table t) configuration its) }
+        (λ why. why ≡ keys_refusal required.now (S.device source.old).bytes (table t) configuration
+        its) }
 {
     let mut found = Some(Looseness::Unsigned);
-    for key in keys.keys.as_slice() {
-        found = configuration_refusal(alloc, source, blob, room, key, configuration)?;
-        if decides(keys.is_any, found) {
+    for key in required.keys.keys.as_slice() {
+        let by = ByKey {
+            key,
+            takes_sha1: required.takes_sha1,
+        };
+        found = configuration_refusal(alloc, source, blob, room, by, configuration)?;
+        if decides(required.keys.is_any, found) {
             return Ok(found);
         }
     }
@@ -200,6 +207,53 @@ fn is_configuration<A: Allocator>(blob: &Blob, room: &Room<A>, node: usize) -> b
     }
 }
 
+// Returns whether a configuration must be signed.
+fn is_asked<S: Source, A: Allocator>(
+    alloc: Global,
+    source: &mut S,
+    blob: &Blob,
+    room: &Room<A>,
+    only: Option<&[u8]>,
+    node: usize,
+) -> Result<bool, SurveyFault>
+    requires node { node < length room.now.entries }
+    requires file { InFile (length (S.device source.old).bytes) blob.now room.now.entries }
+    ensures uses { Uses (is_unread result) (S.device source.old) (S.device source.new) }
+    ensures own { IsOwn result }
+    ensures told { HonestSource S.device source → OfNode blob.now room.now node (λ row. IfOk result
+        (λ it. it ≡ is_asked (option_map (λ name. name.now) only.entry) (S.device source.old).bytes
+        row)) }
+{
+    if !is_configuration(blob, room, node) {
+        return Ok(false);
+    }
+    let Some(only) = only else {
+        return Ok(true);
+    };
+    let name = read_name(alloc, source, blob, room, node)?;
+    Ok(name.as_slice() == only)
+}
+
+// No configuration is signed.
+fn none_signed(alloc: Global, only: Option<&[u8]>) -> Result<Loose, SurveyFault>
+    ensures own { IsOwn result }
+    ensures unread { is_unread result ≡ false }
+    ensures told { IfOk result (λ loose. read_loose loose ≡ record {
+      why = Unsigned;
+      node = option_map (λ name. name.now) only.entry;
+    }) }
+{
+    let why = Looseness::Unsigned;
+    let Some(only) = only else {
+        return Ok(Loose { why, node: None });
+    };
+    let name = Vec::from_slice(alloc, only)?;
+    Ok(Loose {
+        why,
+        node: Some(name),
+    })
+}
+
 fn judged_of(refusal: Option<Looseness>) -> Judged
     ensures { result ≡ judged_of refusal }
 {
@@ -214,7 +268,7 @@ fn judge<S: Source, A: Allocator>(
     source: &mut S,
     blob: &Blob,
     room: &mut Room<A>,
-    keys: &Keys,
+    required: &Required<'_>,
     node: usize,
 ) -> Result<Judged, SurveyFault>
     requires node { node < length room.old.entries }
@@ -224,17 +278,17 @@ fn judge<S: Source, A: Allocator>(
     ensures own { IsOwn result }
     ensures told { (t : Siblings) → Opened (S.device source.old) blob.now room.old t →
         (row : Row) → slice_get (table t) node ≡ Some row → IfOk result
-        (λ it. it ≡ judged_node keys.now (S.device source.old).bytes (table t) node row) }
+        (λ it. it ≡ judged_node required.now (S.device source.old).bytes (table t) node row) }
 {
-    if !is_configuration(blob, room, node) {
+    if !is_asked(alloc, source, blob, room, required.only, node)? {
         return Ok(Judged::Other);
     }
-    let refusal = keys_refusal(alloc, source, blob, room, keys, node)?;
+    let refusal = keys_refusal(alloc, source, blob, room, required, node)?;
     Ok(judged_of(refusal))
 }
 
-// The name of the node is read from the source.
-fn refused<S: Source, A: Allocator>(
+/// Returns why a node is refused, with its name.
+pub(crate) fn refused<S: Source, A: Allocator>(
     alloc: Global,
     source: &mut S,
     blob: &Blob,
@@ -252,7 +306,7 @@ fn refused<S: Source, A: Allocator>(
           node = Some (name_in (S.device source.old).bytes row);
         })) }
 {
-    let name = read_bytes(alloc, source, blob.name(room, node))?;
+    let name = read_name(alloc, source, blob, room, node)?;
     Ok(Loose {
         why,
         node: Some(name),
@@ -265,20 +319,20 @@ fn first_unsigned<S: Source, A: Allocator>(
     source: &mut S,
     blob: &Blob,
     room: &mut Room<A>,
-    keys: &Keys,
+    required: &Required<'_>,
 ) -> Result<Option<Loose>, SurveyFault>
     requires { InFile (length (S.device source.old).bytes) blob.now room.old.entries }
     ensures uses { Uses (is_unread result) (S.device source.old) (S.device source.new) }
     ensures room { room.new ≡ room.old }
     ensures own { IsOwn result }
     ensures told { (t : Siblings) → Opened (S.device source.old) blob.now room.old t → IfOk result
-        (λ found. option_map read_loose found ≡ unsigned_from keys.now
+        (λ found. option_map read_loose found ≡ unsigned_from required.now
         (S.device source.old).bytes (table t) 0 false (table t)) }
 {
     let mut has_any = false;
     let mut node = 0;
     while node < room.count() {
-        match judge(alloc, source, blob, room, keys, node)? {
+        match judge(alloc, source, blob, room, required, node)? {
             Judged::Other => {}
             Judged::Signed => has_any = true,
             Judged::Refused(why) => {
@@ -291,8 +345,8 @@ fn first_unsigned<S: Source, A: Allocator>(
     if has_any {
         return Ok(None);
     }
-    let why = Looseness::Unsigned;
-    Ok(Some(Loose { why, node: None }))
+    let found = none_signed(alloc, required.only)?;
+    Ok(Some(found))
 }
 
 // Returns why U-Boot verifies no signature of a blob.
@@ -329,28 +383,28 @@ fn unsigned_within<S: Source, A: Allocator>(
     source: &mut S,
     blob: &Blob,
     room: &mut Room<A>,
-    keys: &Keys,
+    required: &Required<'_>,
 ) -> Result<Option<Loose>, SurveyFault>
     requires { InFile (length (S.device source.old).bytes) blob.now room.old.entries }
     ensures uses { Uses (is_unread result) (S.device source.old) (S.device source.new) }
     ensures room { room.new ≡ room.old }
     ensures own { IsOwn result }
     ensures told { (t : Siblings) → Opened (S.device source.old) blob.now room.old t → IfOk result
-        (λ found. option_map read_loose found ≡ unsigned_within keys.now
+        (λ found. option_map read_loose found ≡ unsigned_within required.now
         (S.device source.old).bytes (table t) (be32 (S.device source.old).bytes 4)) }
 {
     match blob_refusal(source, blob, room)? {
         Some(why) => Ok(Some(Loose { why, node: None })),
-        None => first_unsigned(alloc, source, blob, room, keys),
+        None => first_unsigned(alloc, source, blob, room, required),
     }
 }
 
-/// Returns the first configuration of a FIT image that is not signed by the keys: by each of them, or
-/// by one if one is enough. With it comes the word for its last signature node by the first key that
+/// Returns the first configuration of a FIT image that is not signed by the keys, by each of them or
+/// by one if one is enough; or whether that of the name that is asked for is. With it comes the word for its last signature node by the first key that
 /// did not sign it, or by the last key if none of them did; or `SignedStrings`, if a node that is
 /// tried says strings that are not the first ones of their block, since U-Boot reads what it says. At
 /// most sixteen signature nodes of a configuration are tried for each key; if there are more, the word
-/// is `SignedNodes`. Without a name: the image has no configuration (`Unsigned`), or U-Boot verifies
+/// is `SignedNodes`. Without a name: the image has no configuration (`Unsigned`; with the name that is asked for, if there is none of it), or U-Boot verifies
 /// no signature of it, since it has more than 256 MiB, or `is_closed` or `is_reached` is false
 /// (`SignedNodes`).
 ///
@@ -364,15 +418,15 @@ fn unsigned_within<S: Source, A: Allocator>(
 #[tactic(auto, unfolding(crate::specs::Configurations::unsigned_of))]
 pub fn find_unsigned<S: Source, A: Allocator>(
     alloc: Global,
-    keys: &Keys,
+    required: &Required<'_>,
     source: &mut S,
     room: &mut Room<A>,
 ) -> Result<Option<Loose>, SurveyFault>
     ensures uses { Uses (is_unread result) (S.device source.old) (S.device source.new) }
     ensures room { TakesNodes (S.device source.old) (lacks_room result) room.old room.new }
-    ensures told { IfHonest S.device source (λ file. TellsUnsigned keys.now file result) }
+    ensures told { IfHonest S.device source (λ file. TellsUnsigned required.now file result) }
 {
     let blob = read_tree(source, room)?;
-    let found = unsigned_within(alloc, source, &blob, room, keys)?;
+    let found = unsigned_within(alloc, source, &blob, room, required)?;
     Ok(found)
 }

@@ -2,22 +2,21 @@
 
 ghost use Rattle.std.specs.Prelude.{◌≡◌, ◌<◌, length, IfOk, Some, true};
 ghost use Rattle.std.specs.{List.slice_get, Option.option_map};
-ghost use Rattle.uimg_base.specs.{Honest.{HonestSource, IfHonest}, Using.Uses};
+ghost use Rattle.uimg_base.specs.{Honest.IfHonest, Using.Uses};
 ghost use Rattle.uimg_blob_reading.specs.{Grammar.Siblings, Indexed.TakesNodes, Rows.{Row, table}};
 ghost use Rattle.uimg_fit_checking.specs.SurveyParts.{is_unread, lacks_room};
 ghost use Rattle.uimg_fit_reading.specs.Nodes.{InFile, Opened};
-ghost use Rattle.uimg_signing.specs.Listing.{name_in};
 ghost use Rattle.uimg_strict.specs.Telling.{read_loose};
-ghost use Rattle.uimg_strict.specs.declared.loose.Looseness.TheVariants.{Unsigned};
 ghost use Rattle.uimg_verifying.specs.Configurations.{OfNode};
 ghost use Rattle.uimg_verifying.specs.Covering.{IsOuter, TellsUncovered, covers, is_covered, is_outer, is_uncovered, stopped, uncovered_from};
 ghost use Rattle.uimg_verifying.specs.Signatures.{OfPair};
 
+use crate::configurations::refused;
 use std::alloc::{Allocator, Global};
 use uimg_base::{Room, Source};
 use uimg_blob_reading::{Blob, Role};
 use uimg_fit_base::Fault;
-use uimg_fit_checking::{SurveyFault, read_bytes};
+use uimg_fit_checking::SurveyFault;
 use uimg_fit_reading::read_tree;
 use uimg_signing::{SigningFault, names_image};
 use uimg_strict::{Loose, Looseness};
@@ -113,32 +112,7 @@ fn is_uncovered<S: Source, A: Allocator>(
     }
 }
 
-// The name of the node is read from the source.
 #[tactic(auto, using(crate::proofs::CoveringLaws::own_outer))]
-fn unsigned<S: Source, A: Allocator>(
-    alloc: Global,
-    source: &mut S,
-    blob: &Blob,
-    room: &Room<A>,
-    node: usize,
-) -> Result<Loose, SurveyFault>
-    requires node { node < length room.now.entries }
-    requires file { InFile (length (S.device source.old).bytes) blob.now room.now.entries }
-    ensures uses { Uses (is_unread result) (S.device source.old) (S.device source.new) }
-    ensures outer { IsOuter result }
-    ensures told { HonestSource S.device source → OfNode blob.now room.now node (λ row. IfOk result
-        (λ loose. read_loose loose ≡ record {
-          why = Unsigned;
-          node = Some (name_in (S.device source.old).bytes row);
-        })) }
-{
-    let name = read_bytes(alloc, source, blob.name(room, node))?;
-    Ok(Loose {
-        why: Looseness::Unsigned,
-        node: Some(name),
-    })
-}
-
 fn first_uncovered<S: Source, A: Allocator>(
     alloc: Global,
     source: &mut S,
@@ -157,7 +131,7 @@ fn first_uncovered<S: Source, A: Allocator>(
     while node < room.count() {
         let is_it = is_uncovered(alloc, source, blob, room, node)?;
         if is_it {
-            let found = unsigned(alloc, source, blob, room, node)?;
+            let found = refused(alloc, source, blob, room, node, Looseness::Unsigned)?;
             return Ok(Some(found));
         }
         node += 1;

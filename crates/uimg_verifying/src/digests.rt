@@ -27,7 +27,8 @@ pub(crate) fn message_digest<S: Source, A: Allocator>(
     ensures uses { Uses (is_unread result) (S.device source.old) (S.device source.new) }
     ensures room { room.new ≡ room.old }
     ensures refused { IfHonest S.device source (λ file. (t : Siblings) → tree file ≡ Ok t →
-        blob.now.totalsize ≡ be32 file 4 → Refuses (refusal file strings) result) }
+        blob.now.totalsize ≡ be32 file 4 → Refuses (refusal (is_marked marks.now) file strings)
+        result) }
     ensures digest { IfHonest S.device source (λ file. (t : Siblings) → tree file ≡ Ok t →
         blob.now.totalsize ≡ be32 file 4 → IfOk result (λ digest. digest
         ≡ (padded_digest (digest_by algo (message (is_marked marks.now) file strings))).0)) }

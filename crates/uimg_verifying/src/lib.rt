@@ -5,8 +5,13 @@
 mod configurations;
 mod covering;
 mod digests;
+mod names;
 mod refusals;
+mod required;
+mod results;
 mod signatures;
 
 pub use configurations::find_unsigned;
 pub use covering::find_uncovered;
+pub use required::Required;
+pub use results::{SignatureResult, signature_results};

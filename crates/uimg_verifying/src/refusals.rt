@@ -20,9 +20,10 @@ fn why_of(fault: SigningFault) -> Looseness
         | SigningFault::Unhashed
         | SigningFault::TooDeep
         | SigningFault::EarlyEnd => Looseness::SignedNodes,
-        SigningFault::BadStrings | SigningFault::StringsOffset | SigningFault::StringsOutside => {
-            Looseness::SignedStrings
-        }
+        SigningFault::NameUnsigned
+        | SigningFault::BadStrings
+        | SigningFault::StringsOffset
+        | SigningFault::StringsOutside => Looseness::SignedStrings,
         _ => Looseness::UnknownSignature,
     }
 }

@@ -11,6 +11,7 @@ ghost use Rattle.uimg_verifying.specs.Signatures.{OfPair, is_sum, is_weak, signa
 
 use crate::digests::message_digest;
 use crate::refusals::{stop, why_judged};
+use crate::required::ByKey;
 use std::alloc::{Allocator, Global};
 use uimg_base::{Room, Source, SourceFault, Span};
 use uimg_blob_reading::{Blob, Key};
@@ -18,7 +19,7 @@ use uimg_fit_checking::SurveyFault;
 use uimg_keys::PublicKey;
 use uimg_rsa::{Refusal, verify_pkcs1, verify_pss};
 use uimg_signing::{
-    RsaAlgo, RsaPadding, list_nodes, read_rsa_algo, read_rsa_padding, strings_size,
+    RsaAlgo, RsaPadding, SignatureNode, list_nodes, read_rsa_algo, read_rsa_padding, strings_size,
 };
 use uimg_strict::Looseness;
 use uimg_sums::Algo;
@@ -35,13 +36,6 @@ pub(crate) struct Signature {
     pub(crate) padding: RsaPadding,
     /// Where the value is.
     pub(crate) value: Span,
-}
-
-/// A configuration and one of its signature nodes, by their numbers.
-#[derive(Clone, Copy)]
-pub(crate) struct Signed {
-    pub(crate) configuration: usize,
-    pub(crate) node: usize,
 }
 
 fn is_sum(named: Option<RsaAlgo>, sum: Algo) -> bool
@@ -133,11 +127,11 @@ fn value_refusal<S: Source>(
     Ok(why_judged(verify(key, it, value, &digest[..it.algo.len()])))
 }
 
-fn is_weak(algo: Algo) -> bool
-    ensures { result ≡ is_weak algo }
+fn is_weak(takes_sha1: bool, algo: Algo) -> bool
+    ensures { result ≡ is_weak takes_sha1 algo }
 {
     match algo {
-        Algo::Sha1 => true,
+        Algo::Sha1 => !takes_sha1,
         _ => false,
     }
 }
@@ -149,8 +143,8 @@ pub(crate) fn signature_refusal<S: Source, A: Allocator>(
     source: &mut S,
     blob: &Blob,
     room: &mut Room<A>,
-    key: &PublicKey,
-    at: Signed,
+    by: ByKey<'_>,
+    at: SignatureNode,
 ) -> Result<Option<Looseness>, SurveyFault>
     requires configuration { at.configuration < length room.old.entries }
     requires node { at.node < length room.old.entries }
@@ -160,16 +154,17 @@ pub(crate) fn signature_refusal<S: Source, A: Allocator>(
     ensures own { IsOwn result }
     ensures told { OfPair (S.device source.old) blob.now room.old at.configuration at.node
         (λ file rows its node. IfOk result
-        (λ why. why ≡ signature_refusal key.now file rows at.configuration its node)) }
+        (λ why. why ≡ signature_refusal by.entry.takes_sha1 by.entry.key.now file rows
+        at.configuration its node)) }
 {
     let strings = match strings_size(alloc, source, blob, room, at.node) {
         Ok(strings) => strings,
         Err(fault) => return stop(fault),
     };
-    let Some(it) = read_signature(source, blob, room, at.node, key)? else {
+    let Some(it) = read_signature(source, blob, room, at.node, by.key)? else {
         return Ok(Some(Looseness::UnknownSignature));
     };
-    if is_weak(it.algo) {
+    if is_weak(by.takes_sha1, it.algo) {
         return Ok(Some(Looseness::WeakSignature));
     }
     let marks = match list_nodes(alloc, source, blob, room, at.configuration) {
@@ -180,5 +175,5 @@ pub(crate) fn signature_refusal<S: Source, A: Allocator>(
         Ok(digest) => digest,
         Err(fault) => return stop(fault),
     };
-    Ok(value_refusal(source, key, it, &digest)?)
+    Ok(value_refusal(source, by.key, it, &digest)?)
 }

@@ -4,15 +4,18 @@ ghost use Rattle.std.specs.Prelude.{◌≡◌, IfOk, codes, false};
 ghost use Rattle.clap.specs.Simple.{app_of};
 ghost use Rattle.clap.specs.Walk.{rule_of, texts};
 ghost use Rattle.clap.specs.declared.builder.command.Command.TheViews.{out-Command as fields_of};
-ghost use Rattle.uimg_cli.specs.Check.{check, check_asked, checking_of, checking_with, images_rule};
+ghost use Rattle.uimg_cli.specs.Needs.{least_need};
+ghost use Rattle.uimg_cli.specs.Check.{check, check_asked, checking_by, checking_of, checking_with, is_to_be_strict};
+ghost use Rattle.uimg_cli.specs.Check.{images_rule};
 ghost use Rattle.uimg_cli.specs.Readings.{given, texts_given};
 ghost use Rattle.uimg_cli.specs.Wrong.{Tells};
 
-use super::WordsFault;
 use super::arguments::{titled, with, with_flag, with_long, with_switch};
 use super::help_notes::CHECK_NOTES;
+use super::keys::{key_of, without_key};
 use super::needs::{least_need, need_of};
 use super::readings::{is_missing, is_set, text_of, values_of};
+use super::{KeyRequest, WordsFault};
 use clap::{Arg, ArgAction, ArgMatches};
 use std::alloc::{AllocError, Global};
 use uimg_base::Algo;
@@ -26,8 +29,8 @@ pub struct CheckRequest<'a> {
     /// Whether each image needs a hash, and each name in a configuration its image.
     pub is_strict: bool,
 
-    /// The path of a file with keys, by which each configuration must be signed.
-    pub key: Option<&'a str>,
+    /// The keys by which configurations must be signed, if they must.
+    pub key: Option<KeyRequest<'a>>,
 
     /// The paths of the images.
     pub images: Vec<&'a str>,
@@ -57,6 +60,10 @@ const STRICT: &str = "Require hashes, images for all names, and a tree that U-Bo
 
 const KEY: &str = "Require each configuration to be signed by the key in this file";
 
+const CONFIG: &str = "With --key: require only this configuration to be signed";
+
+const SHA1: &str = "With --key: accept signatures over SHA-1";
+
 const JSON: &str = "Print a JSON object for each image";
 
 const QUIET: &str = "Print no line for images that are ok";
@@ -74,7 +81,9 @@ pub(super) fn command<'a>(alloc: Global) -> Result<clap::Command<'a>, AllocError
     let command = titled(alloc, "check", ABOUT, CHECK_NOTES);
     let command = with_long(command, alloc, "need", "algo", NEED)?;
     let command = with_switch(command, alloc, "strict", STRICT)?;
-    let command = with_long(command, alloc, "key", "file", KEY)?;
+    let command = with_long(command, alloc, "key", "[name=]file", KEY)?;
+    let command = with_long(command, alloc, "config", "name", CONFIG)?;
+    let command = with_switch(command, alloc, "allow-sha1", SHA1)?;
     let command = with_long(command, alloc, "files-from", "file", FILES_FROM)?;
     let command = with_flag(command, alloc, "nuls", '0', NULS)?;
     let command = with_switch(command, alloc, "json", JSON)?;
@@ -119,19 +128,43 @@ fn request_with<'a>(
     if images.as_slice().is_empty() & is_missing(files_from) {
         return Err(WordsFault::NoImages);
     }
-    let key = text_of(matches, "key");
-    let is_strict = is_set(matches, "strict") || !is_missing(key);
-    Ok(CheckRequest {
-        need: least_need(is_strict, need),
-        is_strict,
-        key,
+    match without_key(matches, text_of(matches, "config")) {
+        Some(fault) => Err(fault),
+        None => Ok(request_for(matches, need, images)),
+    }
+}
+
+fn is_to_be_strict(matches: &ArgMatches<'_>) -> bool
+    ensures { result ≡ is_to_be_strict (given matches.now) }
+{
+    is_set(matches, "strict") || !is_missing(text_of(matches, "key"))
+}
+
+fn check_need(matches: &ArgMatches<'_>, need: Option<Algo>) -> Option<Algo>
+    ensures { result ≡ least_need (given matches.now) (is_to_be_strict (given matches.now)) need }
+{
+    least_need(matches, is_to_be_strict(matches), need)
+}
+
+fn request_for<'a>(
+    matches: &ArgMatches<'a>,
+    need: Option<Algo>,
+    images: Vec<&'a str>,
+) -> CheckRequest<'a>
+    requires { texts images.items ≡ texts_given (codes "image") (given matches.now) }
+    ensures { checking_of result ≡ checking_by (given matches.now) need }
+{
+    CheckRequest {
+        need: check_need(matches, need),
+        is_strict: is_to_be_strict(matches),
+        key: key_of(matches, text_of(matches, "config")),
         images,
-        files_from,
+        files_from: text_of(matches, "files-from"),
         has_nuls: is_set(matches, "nuls"),
         as_json: is_set(matches, "json"),
         is_quiet: is_set(matches, "quiet"),
         allows_none: is_set(matches, "allow-empty"),
-    })
+    }
 }
 
 fn images_of<'a>(alloc: Global, matches: &ArgMatches<'a>) -> Result<Vec<&'a str>, AllocError>

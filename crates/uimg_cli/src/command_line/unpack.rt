@@ -11,11 +11,12 @@ ghost use Rattle.uimg_cli.specs.Unpack.{unpack_asked, unpacking_limited, unpacki
 ghost use Rattle.uimg_cli.specs.Unpack.{unpacking_with, written_rules};
 ghost use Rattle.uimg_cli.specs.Wrong.{IsWrong, Tells, Wrong, not_number, wrong_of};
 
-use super::WordsFault;
 use super::arguments::{titled, with, with_long, with_switch, with_value};
 use super::help_notes::UNPACK_NOTES;
+use super::keys::{key_of, without_key};
 use super::needs::{least_need, need_of};
 use super::readings::{count, is_missing, is_set, text_of, text_or};
+use super::{KeyRequest, WordsFault};
 use clap::{Arg, ArgAction, ArgMatches};
 use std::alloc::{AllocError, Global};
 use uimg_base::Algo;
@@ -32,8 +33,8 @@ pub struct UnpackRequest<'a> {
     /// The weakest algorithm that is enough, if one is needed.
     pub need: Option<Algo>,
 
-    /// The path of a file with keys, by which each configuration must be signed.
-    pub key: Option<&'a str>,
+    /// The keys by which each configuration must be signed, if they must.
+    pub key: Option<KeyRequest<'a>>,
 
     /// Whether existing files are replaced.
     pub is_forced: bool,
@@ -71,6 +72,8 @@ const ONLY: &str = "Unpack only the payload of the image of this name, or one pa
 const NEED: &str = "Require a hash by this algorithm or a stronger one";
 
 const KEY: &str = "Unpack only if each configuration is signed by the key in this file";
+
+const SHA1: &str = "With --key: accept signatures over SHA-1";
 
 const FORCE: &str = "Replace files that exist";
 
@@ -120,7 +123,8 @@ fn chosen_options<'a>(
     let command = with_value(command, alloc, "folder", 'C', FOLDER)?;
     let command = with_long(command, alloc, "only", "name", ONLY)?;
     let command = with(command, need(alloc)?)?;
-    with_long(command, alloc, "key", "file", KEY)
+    let command = with_long(command, alloc, "key", "[name=]file", KEY)?;
+    with_switch(command, alloc, "allow-sha1", SHA1)
 }
 
 fn written_options<'a>(
@@ -184,7 +188,7 @@ fn clash(matches: &ArgMatches<'_>) -> Option<WordsFault>
     } else if is_set(matches, "json") & cleans {
         Some(WordsFault::CleansWithJson)
     } else {
-        None
+        without_key(matches, None)
     }
 }
 
@@ -195,14 +199,13 @@ fn limited<'a>(
 ) -> Result<UnpackRequest<'a>, WordsFault>
     ensures { Tells unpacking_of (unpacking_limited (given matches.now) need) result }
 {
-    let key = text_of(matches, "key");
     let files = number_of(alloc, matches, "max-files")?;
     let bytes = number_of(alloc, matches, "max-bytes")?;
     Ok(UnpackRequest {
         folder: text_or(matches, "folder", "."),
         only: text_of(matches, "only"),
-        need: least_need(!is_missing(key), need),
-        key,
+        need: least_need(matches, false, need),
+        key: key_of(matches, None),
         is_forced: is_set(matches, "force"),
         keeps_good: is_set(matches, "keep-good"),
         is_synced: !is_set(matches, "no-sync"),

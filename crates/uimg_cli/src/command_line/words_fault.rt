@@ -42,6 +42,9 @@ pub enum WordsFault {
     /// The lines of --clean are no JSON.
     CleansWithJson,
 
+    /// This option is given without --key.
+    WithoutKey(&'static str),
+
     /// Both data and a source are named.
     DataWithSource,
 
@@ -95,6 +98,7 @@ impl Display for WordsFault {
                 "--svg -: standard output is not supported; for a file of that name use ./-",
             ),
             WordsFault::CleansWithJson => f.write_str("--clean with --json"),
+            WordsFault::WithoutKey(option) => write!(f, "--{option} without --key"),
             WordsFault::DataWithSource => f.write_str("-d with -f"),
             WordsFault::UnknownName => f.write_str("unknown name"),
             WordsFault::FlatDtNeedsSource => f.write_str("flat_dt needs -f"),

@@ -14,7 +14,7 @@ returns-clause-reads_back c =
     let j = check_json c.args.path.now c.args.answer.now in
     let text : c.into_inner.result.items ≡ print c.put_object.new.writer.tokens = search rules in
     let written : c.put_object.new.writer.tokens ≡ json_tokens j = search rules in
-    reads_back 1 j c.into_inner.result.items (check_sound c.args.path.now c.args.answer.now) (omega arith) (ap tokens text ∙ c.into_inner.ensures.reads_back ∙ written)
+    reads_back 3 j c.into_inner.result.items (check_sound c.args.path.now c.args.answer.now) (omega arith) (ap tokens text ∙ c.into_inner.ensures.reads_back ∙ written)
 
 pub returns-clause-utf8 : goal.returns-clause-utf8
 returns-clause-utf8 c =
@@ -26,4 +26,4 @@ returns-clause-one_line c =
     let j = check_json c.args.path.now c.args.answer.now in
     let text : c.into_inner.result.items ≡ print c.put_object.new.writer.tokens = search rules in
     let written : c.put_object.new.writer.tokens ≡ json_tokens j = search rules in
-    ap is_one_line (text ∙ ap print written) ∙ one_line 1 j (check_sound c.args.path.now c.args.answer.now)
+    ap is_one_line (text ∙ ap print written) ∙ one_line 3 j (check_sound c.args.path.now c.args.answer.now)

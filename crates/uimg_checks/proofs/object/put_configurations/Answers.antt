@@ -9,4 +9,4 @@ returns-in-Unchecked c =
 
 pub returns-in-Signed : goal.returns-in-Signed
 returns-in-Signed c =
-    subst (λ (it : Configurations). Appends c.put_string.result c.args.writer.now c.put_string.new.writer (tokens_of (about_configurations it))) (sym c.in-Signed.is) c.put_string.ensures
+    subst (λ (it : Configurations). Appends c.put_signed.result c.args.writer.now c.put_signed.new.writer (tokens_of (about_configurations it))) (sym c.in-Signed.is) c.put_signed.ensures

@@ -7,7 +7,7 @@ use std::alloc::Global;
 use uimg_base::{MemSource, Room};
 use uimg_keys::{KeyFault, Keys, PublicKey, key_of_pem, read_keys};
 use uimg_strict::Looseness;
-use uimg_verifying::find_unsigned;
+use uimg_verifying::{Required, find_unsigned};
 
 fn read(alloc: Global, file: &[u8]) -> Result<Keys, KeyFault> {
     read_keys(alloc, &mut MemSource::new(file))
@@ -32,9 +32,14 @@ fn are_keys(alloc: Global, keys: &Keys, texts: &[&str]) -> bool {
 }
 
 // Returns the word for the first configuration of the signed image that these keys refuse.
-fn refused(alloc: Global, keys: &Keys) -> Option<Looseness> {
+fn refused(alloc: Global, keys: Keys) -> Option<Looseness> {
+    let required = Required {
+        keys,
+        takes_sha1: false,
+        only: None,
+    };
     let mut source = MemSource::new(&SIGNED);
-    match find_unsigned(alloc, keys, &mut source, &mut Room::new(alloc)) {
+    match find_unsigned(alloc, &required, &mut source, &mut Room::new(alloc)) {
         Ok(found) => found.map(|loose| loose.why),
         Err(_) => Some(Looseness::Unsigned),
     }
@@ -46,8 +51,9 @@ fn by_mkimage(rt: HostRuntime) {
         panic!(rt; "no key");
     };
     assert!(rt; are_keys(rt.alloc(), &keys, &[MADE_KEY]));
+    assert!(rt; keys.name.as_slice() == b"dev".as_slice());
     assert!(rt; !keys.is_any);
-    assert!(rt; refused(rt.alloc(), &keys) == Some(Looseness::BadSignature));
+    assert!(rt; refused(rt.alloc(), keys) == Some(Looseness::BadSignature));
 }
 
 // Returns the tree of two keys with these bytes at these offsets.
@@ -65,8 +71,8 @@ fn two_keys(rt: HostRuntime) {
         panic!(rt; "no key");
     };
     assert!(rt; are_keys(rt.alloc(), &keys, &[DEV, OTHER]));
-    assert!(rt; !keys.is_any);
-    assert!(rt; refused(rt.alloc(), &keys) == Some(Looseness::BadSignature));
+    assert!(rt; !keys.is_any && keys.name.as_slice() == b"dev, other".as_slice());
+    assert!(rt; refused(rt.alloc(), keys) == Some(Looseness::BadSignature));
 }
 
 #[test]
@@ -75,8 +81,8 @@ fn any_of_two_keys(rt: HostRuntime) {
         panic!(rt; "no key");
     };
     assert!(rt; are_keys(rt.alloc(), &keys, &[DEV, OTHER]));
-    assert!(rt; keys.is_any);
-    assert!(rt; refused(rt.alloc(), &keys).is_none());
+    assert!(rt; keys.is_any && keys.name.as_slice() == b"dev or other".as_slice());
+    assert!(rt; refused(rt.alloc(), keys).is_none());
 }
 
 #[test]
@@ -89,7 +95,7 @@ fn one_required(rt: HostRuntime) {
             panic!(rt; "no key");
         };
         assert!(rt; are_keys(rt.alloc(), &keys, &[text]));
-        assert!(rt; refused(rt.alloc(), &keys) == why);
+        assert!(rt; refused(rt.alloc(), keys) == why);
     }
 }
 

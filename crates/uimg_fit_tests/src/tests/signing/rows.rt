@@ -153,6 +153,22 @@ fn hashed_strings(rt: HostRuntime) {
     assert!(rt; outside == Err(SigningFault::StringsOutside));
 }
 
+#[test]
+fn names_of_properties(rt: HostRuntime) {
+    // the last name of a signed property is `value`, from 147 to the NUL at 152
+    let (nodes, _, _) = SIGNATURES[0];
+    for strings in [0, 147, 148, 152, 154] {
+        let found = digest_of(rt.alloc(), &SIGNED, nodes, strings);
+        assert!(rt; found == Err(SigningFault::NameUnsigned), "{strings} bytes");
+    }
+    for strings in [153, 165, 208] {
+        let found = digest_of(rt.alloc(), &SIGNED, nodes, strings);
+        assert!(rt; found.is_ok(), "{strings} bytes");
+    }
+    // no property is signed
+    assert!(rt; digest_of(rt.alloc(), &SIGNED, &[], 5).is_ok());
+}
+
 // The tokens of the structure block, of names of at most 3 bytes.
 const NAMELESS: [u8; 8] = [0, 0, 0, 1, 0, 0, 0, 0];
 

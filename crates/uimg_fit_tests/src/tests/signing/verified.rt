@@ -7,21 +7,34 @@ use uimg_base::{MemSource, Room};
 use uimg_fit_checking::SurveyFault;
 use uimg_keys::{KeyFault, Keys, key_of_pem, read_keys};
 use uimg_strict::{Loose, Looseness};
-use uimg_verifying::find_unsigned;
+use uimg_verifying::{Required, find_unsigned, signature_results};
 
 type Refused<'a> = (Looseness, Option<&'a [u8]>);
 
-fn found_by(alloc: Global, keys: &Keys, file: &[u8]) -> Result<Option<Loose>, SurveyFault> {
+fn found_by(
+    alloc: Global,
+    required: &Required<'_>,
+    file: &[u8],
+) -> Result<Option<Loose>, SurveyFault> {
     find_unsigned(
         alloc,
-        keys,
+        required,
         &mut MemSource::new(file),
         &mut Room::new(alloc),
     )
 }
 
-// Returns the keys of these texts.
-fn keys_of(alloc: Global, texts: &[&str], is_any: bool) -> Result<Keys, KeyFault> {
+// Requires signatures by these keys.
+fn by(keys: Keys) -> Required<'static> {
+    Required {
+        keys,
+        takes_sha1: false,
+        only: None,
+    }
+}
+
+// Requires signatures by the keys of these texts.
+fn keys_of(alloc: Global, texts: &[&str], is_any: bool) -> Result<Required<'static>, KeyFault> {
     let mut keys = Vec::new(alloc);
     for text in texts {
         let key = key_of_pem(alloc, text.as_bytes())?;
@@ -29,7 +42,8 @@ fn keys_of(alloc: Global, texts: &[&str], is_any: bool) -> Result<Keys, KeyFault
             return Err(KeyFault::OutOfMemory);
         }
     }
-    Ok(Keys { keys, is_any })
+    let name = Vec::new(alloc);
+    Ok(by(Keys { keys, is_any, name }))
 }
 
 fn is_found(found: Result<Option<Loose>, SurveyFault>, wanted: Option<Refused<'_>>) -> bool {
@@ -89,6 +103,7 @@ fn by_the_key(rt: HostRuntime) {
     let Ok(keys) = read_keys(rt.alloc(), &mut MemSource::new(DEV.as_bytes())) else {
         panic!(rt; "no key");
     };
+    let keys = by(keys);
     assert!(rt; is_found(found_by(rt.alloc(), &keys, &SIGNED), None));
     for (at, byte, wanted) in CHANGED {
         let mut file = SIGNED;
@@ -98,6 +113,51 @@ fn by_the_key(rt: HostRuntime) {
             "offset {at}"
         );
     }
+}
+
+// The hash of the image that the first of two configurations names is another one.
+fn with_another_hash() -> [u8; 3105] {
+    let mut file = SIGNED;
+    file[292] = 0;
+    file
+}
+
+#[test]
+fn by_the_name_of_a_configuration(rt: HostRuntime) {
+    let file = with_another_hash();
+    for (only, wanted) in [
+        (b"conf".as_slice(), Some(Looseness::BadSignature)),
+        (b"other", None),
+        (b"third", Some(Looseness::Unsigned)),
+    ] {
+        let Ok(mut required) = keys_of(rt.alloc(), &[DEV], false) else {
+            panic!(rt; "no key");
+        };
+        required.only = Some(only);
+        let wanted = wanted.map(|why| (why, Some(only)));
+        assert!(rt; is_found(found_by(rt.alloc(), &required, &file), wanted));
+    }
+}
+
+#[test]
+fn results_of_signature_nodes(rt: HostRuntime) {
+    let Ok(required) = keys_of(rt.alloc(), &[OTHER, DEV], false) else {
+        panic!(rt; "no key");
+    };
+    let file = with_another_hash();
+    let mut source = MemSource::new(&file);
+    let mut room = Room::new(rt.alloc());
+    let Ok(results) = signature_results(rt.alloc(), &required, &mut source, &mut room) else {
+        panic!(rt; "no results");
+    };
+    assert!(rt; results.len() == 2);
+    let (first, second) = (&results[0], &results[1]);
+    assert!(rt; first.configuration.as_slice() == b"conf".as_slice());
+    assert!(rt; first.refusal == Some(Looseness::BadSignature));
+    assert!(rt; second.configuration.as_slice() == b"other".as_slice());
+    assert!(rt; second.refusal.is_none());
+    let algo = second.algo.as_ref().map(|text| text.as_slice());
+    assert!(rt; algo == Some(b"sha256,rsa2048\0".as_slice()));
 }
 
 #[test]

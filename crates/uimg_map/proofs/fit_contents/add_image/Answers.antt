@@ -1,7 +1,7 @@
 use Rattle.std.proofs.Common.{length, Err, Result, le_refl, ◌∙◌, ap, sym}
 use Rattle.uimg_base.specs.declared.spans.Span.{Span}
 use Rattle.uimg_fit_base.specs.declared.fault.FitFault.{FitFault}
-use Rattle.uimg_fit_checking.specs.Survey.{read_image}
+use Rattle.uimg_map.specs.Images.{read_image}
 use Rattle.uimg_map.specs.FitContents.{payload_told}
 use Rattle.uimg_map.proofs.ContentsLaws.{reads_and_grows, gathers_as, at_most}
 use Rattle.uimg_map.proofs.fit_contents.add_image.Goals as goal

@@ -1,6 +1,6 @@
 use Rattle.std.proofs.Common.{◌≡◌, ◌≤◌, ◌+◌, ◌*◌, length, map, drop, IsTrue}
 use Rattle.uimg_base.specs.Device.{SameDevice}
-use Rattle.uimg_fit_checking.specs.Survey.{read_image}
+use Rattle.uimg_map.specs.Images.{read_image}
 use Rattle.uimg_map.specs.{declared.contents.Contents.Contents, Contents.GrowsBy}
 use Rattle.uimg_map.specs.FitContents.{images_told}
 use Rattle.uimg_map.proofs.fit_contents.add_payloads.Given as goal
@@ -16,6 +16,6 @@ invariant-loop-image g l =
       failures : (device l.source).failures ≡ (device l.fn.source).failures;
       size : l.contents.size ≡ l.fn.contents.size;
       left : IsTrue (device l.fn.source).honest → (all : Contents)
-          → GrowsBy file (images_told (length file) l.survey.totalsize (map (read_image file) (drop l.image-index l.survey.images.items))) l.contents all
-          → GrowsBy file (images_told (length file) l.survey.totalsize (map (read_image file) l.survey.images.items)) l.fn.contents all;
+          → GrowsBy file (images_told (length file) l.found.totalsize (map (read_image file) (drop l.image-index l.found.images.items))) l.contents all
+          → GrowsBy file (images_told (length file) l.found.totalsize (map (read_image file) l.found.images.items)) l.fn.contents all;
     }

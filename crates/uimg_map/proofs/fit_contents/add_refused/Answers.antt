@@ -11,7 +11,7 @@ returns-in_ok-refuse_at-in-Blob-clause-grows c file told =
     let arm = c.in-Blob in
     let kept : refuses_memory arm.blob ≡ false = sym c.refuses_memory.ensures ∙ c.if-refuses_memory.false in
     let says : survey_of file ≡ Err (Blob arm.blob arm.at) = (subst (λ (fault : Fault). Surveys file (Err (Stopped fault))) arm.is told) kept in
-    subst (λ (said : Result Said Fault). GrowsBy file (survey_told c.args.contents.now.size said) c.args.contents.now c.refuse_at.new.self) (sym says) (c.in_ok-refuse_at-in-Blob.ensures.grows file)
+    subst (λ (said : Result Said Fault). GrowsBy file (survey_told file said) c.args.contents.now c.refuse_at.new.self) (sym says) (c.in_ok-refuse_at-in-Blob.ensures.grows file)
 
 pub returns-in-Fit-clause-size : goal.returns-in-Fit-clause-size
 returns-in-Fit-clause-size c = (c.refuse.ensures []).size
@@ -19,4 +19,4 @@ returns-in-Fit-clause-size c = (c.refuse.ensures []).size
 pub returns-in-Fit-clause-grows : goal.returns-in-Fit-clause-grows
 returns-in-Fit-clause-grows c file told =
     let says : survey_of file ≡ Err (Fit c.in-Fit.fault) = subst (λ (fault : Fault). Surveys file (Err (Stopped fault))) c.in-Fit.is told in
-    subst (λ (said : Result Said Fault). GrowsBy file (survey_told c.args.contents.now.size said) c.args.contents.now c.refuse.new.self) (sym says) (c.refuse.ensures file)
+    subst (λ (said : Result Said Fault). GrowsBy file (survey_told file said) c.args.contents.now c.refuse.new.self) (sym says) (c.refuse.ensures file)

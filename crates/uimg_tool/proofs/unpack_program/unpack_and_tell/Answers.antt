@@ -3,5 +3,5 @@ use Rattle.uimg_tool.proofs.unpack_program.unpack_and_tell.Goals as goal
 
 pub returns-clause-line : goal.returns-clause-line
 returns-clause-line g c = λ honest.
-    image_told g.V.Write.contents (g.D.World.map c.args.world.now) c.args.request.now c.args.terms.now.keys c.args.path c.unpack_at-ending.result c.tell_ending.result c.args.complaints.now c.tell_ending.new.complaints
+    image_told g.V.Write.contents (g.D.World.map c.args.world.now) c.args.request.now c.args.terms.now.required c.args.path c.unpack_at-ending.result c.tell_ending.result c.args.complaints.now c.tell_ending.new.complaints
     (c.unpack_at-ending.ensures.ended honest) c.tell_ending.ensures.status c.tell_ending.ensures.line

@@ -26,7 +26,7 @@ returns-clause-done g c = λ honest told.
     (c.unpack_signed-else-request.ensures.holds (opened.honest honest) (g.D.World.known c.args.world.now honest) told) in (
       device.bytes,
       opened.bytes honest,
-      right_at c.args.request.now c.args.terms.now.keys c.args.path c.file_at.result device.bytes (g.D.World.trace c.args.world.now) middle after looked obeys right holds
+      right_at c.args.request.now c.args.terms.now.required c.args.path c.file_at.result device.bytes (g.D.World.trace c.args.world.now) middle after looked obeys right holds
           (c.unpack_signed-else-request.ensures.signed (opened.honest honest) told),
     )
 
@@ -48,12 +48,12 @@ pub returns-then-request-clause-kept : goal.returns-then-request-clause-kept
 returns-then-request-clause-kept g c = λ honest.
     let opened : Opens (g.D.World.map c.args.world.now) c.args.path.now (g.D.Opened.Source.device c.in-Ok.source) = c.in-Ok.ensures.opened in
     let looked : g.D.World.trace c.file_at.new.self ≡ Identifies c.args.path.now c.file_at.result ∷ Opened c.args.path.now true ∷ g.D.World.trace c.args.world.now = search rules in
-    kept_at (g.D.World.map c.args.world.now) c.args.terms.now.keys c.args.path.now (g.D.Opened.Source.device c.in-Ok.source).bytes c.file_at.result (g.D.World.trace c.args.world.now) (g.D.World.trace c.file_at.new.self) (g.D.World.trace c.unpack_signed.new.world)
+    kept_at (g.D.World.map c.args.world.now) c.args.terms.now.required c.args.path.now (g.D.Opened.Source.device c.in-Ok.source).bytes c.file_at.result (g.D.World.trace c.args.world.now) (g.D.World.trace c.file_at.new.self) (g.D.World.trace c.unpack_signed.new.world)
     (opened.bytes honest) looked (c.unpack_signed.ensures.kept (opened.honest honest))
 
 pub returns-clause-kept : goal.returns-clause-kept
 returns-clause-kept g c = λ honest.
     let opened : Opens (g.D.World.map c.args.world.now) c.args.path.now (g.D.Opened.Source.device c.in-Ok.source) = c.in-Ok.ensures.opened in
     let looked : g.D.World.trace c.file_at.new.self ≡ Identifies c.args.path.now c.file_at.result ∷ Opened c.args.path.now true ∷ g.D.World.trace c.args.world.now = search rules in
-    kept_at (g.D.World.map c.args.world.now) c.args.terms.now.keys c.args.path.now (g.D.Opened.Source.device c.in-Ok.source).bytes c.file_at.result (g.D.World.trace c.args.world.now) (g.D.World.trace c.file_at.new.self) (g.D.World.trace c.unpack_signed-else-request.new.world)
+    kept_at (g.D.World.map c.args.world.now) c.args.terms.now.required c.args.path.now (g.D.Opened.Source.device c.in-Ok.source).bytes c.file_at.result (g.D.World.trace c.args.world.now) (g.D.World.trace c.file_at.new.self) (g.D.World.trace c.unpack_signed-else-request.new.world)
     (opened.bytes honest) looked (c.unpack_signed-else-request.ensures.kept (opened.honest honest))

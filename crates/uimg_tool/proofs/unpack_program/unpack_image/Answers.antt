@@ -19,11 +19,11 @@ returns-clause-told g c = λ honest cleans.
     let middle = g.D.World.trace c.keys_of.new.world in
     let last = g.D.World.trace c.unpack_by.new.world in
     inr (
-      c.in-Ok.keys,
+      c.in-Ok.required,
       c.in-Ok.ensures.keys,
       record {
-        kept = keys_kept old new c.args.request.now c.in-Ok.keys image first middle last same c.in-Ok.ensures.noted (c.unpack_by.ensures.kept still cleans);
-        right = λ done. keys_right old new c.args.request.now c.in-Ok.keys image first middle last same c.in-Ok.ensures.noted (c.unpack_by.ensures.told still cleans done);
+        kept = keys_kept old new c.args.request.now c.in-Ok.required image first middle last same c.in-Ok.ensures.noted (c.unpack_by.ensures.kept still cleans);
+        right = λ done. keys_right old new c.args.request.now c.in-Ok.required image first middle last same c.in-Ok.ensures.noted (c.unpack_by.ensures.told still cleans done);
       },
     )
 
@@ -32,8 +32,8 @@ returns-clause-line g c = λ honest kept.
     let same = c.keys_of.ensures.same in
     let still = subst (λ (b : Bool). IsTrue b) (sym same.honest) honest in
     inr (
-      c.in-Ok.keys,
+      c.in-Ok.required,
       c.in-Ok.ensures.keys,
-      image_same g.V.Write.contents (g.D.World.map c.args.world.now) (g.D.World.map c.keys_of.new.world) c.args.request.now c.in-Ok.keys c.args.request.now.image c.unpack_by.result
+      image_same g.V.Write.contents (g.D.World.map c.args.world.now) (g.D.World.map c.keys_of.new.world) c.args.request.now c.in-Ok.required c.args.request.now.image c.unpack_by.result
           c.args.complaints.now c.keys_of.new.complaints c.unpack_by.new.complaints same c.in-Ok.ensures.silent (c.unpack_by.ensures.line still kept),
     )

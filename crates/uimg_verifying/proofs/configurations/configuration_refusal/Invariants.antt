@@ -14,8 +14,8 @@ invariant-loop-node g l =
       uses : Uses false d (g.S.Source.device l.source);
       room : l.room ≡ l.fn.room;
       left : (t : Siblings) → Opened d l.blob l.fn.room t → (its : Row) → slice_get (table t) l.configuration ≡ Some its →
-          refused_from l.key d.bytes (table t) l.configuration its l.why l.left (drop l.node (table t))
-          ≡ configuration_refusal l.key d.bytes (table t) l.configuration its;
+          refused_from l.by.takes_sha1 l.by.key.now d.bytes (table t) l.configuration its l.why l.left (drop l.node (table t))
+          ≡ configuration_refusal l.by.takes_sha1 l.by.key.now d.bytes (table t) l.configuration its;
     }
 
 abbrev pub decreases-loop-node : goal.decreases-loop-node

@@ -13,8 +13,8 @@ invariant-loop-node g l =
       uses : Uses false d (g.S.Source.device l.source);
       room : l.room ≡ l.fn.room;
       left : (t : Siblings) → Opened d l.blob l.fn.room t →
-          unsigned_from l.keys d.bytes (table t) l.node l.has_any (drop l.node (table t))
-          ≡ unsigned_from l.keys d.bytes (table t) 0 false (table t);
+          unsigned_from l.required d.bytes (table t) l.node l.has_any (drop l.node (table t))
+          ≡ unsigned_from l.required d.bytes (table t) 0 false (table t);
     }
 
 abbrev pub decreases-loop-node : goal.decreases-loop-node
