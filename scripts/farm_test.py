@@ -143,6 +143,19 @@ def settings_cases(program, few, folder):
     yield "a wrong NEED", Farm(program, few, os.path.join(folder, "wrong"), NEED="sha2").run() == 2
 
 
+def key_cases(program, few, folder):
+    """KEY is a path, also one with what looks like a name; and a file that is what it was."""
+    key, here = os.path.join(folder, "a=b.pem"), os.getcwd()
+    shutil.copy(KEY, key)
+    os.chdir(folder)
+    farm = Farm(program, few, os.path.join(folder, "named"), KEY="a=b.pem")
+    farm.run()
+    yield "the results with a key a=b.pem", farm.results() == one_process(program, few, "--key", key)
+    shutil.copy(os.path.join(TOP, "cases", "files", "newer.pem"), key)
+    yield "no other key than that", farm.run() == 2
+    os.chdir(here)
+
+
 def cases(program, folder):
     """Each case, and whether it passed."""
     paths = [os.path.join(folder, f"{number}.itb") for number in range(IMAGES)]
@@ -164,6 +177,7 @@ def cases(program, folder):
     yield "another list is refused", Farm(program, names, missing.folder).run() == 2
     yield "a list without a path is refused", Farm(program, none, os.path.join(folder, "empty")).run() == 2
     write(paths[25], image(7))
+    yield from key_cases(program, few, folder)
     yield from settings_cases(program, few, folder)
 
 
