@@ -132,12 +132,12 @@ def shape_rows(uimg, folder):
     called = os.path.join(folder, "mkimage")
     os.symlink(os.path.abspath(uimg), called)
     commands = {"list": [uimg, "dumpimage", "-l"], "verify": [uimg, "verify"], "check": [uimg, "check"]}
-    commands["make"] = [called, "-q", "-f"]
+    commands["make"], commands["make -E"] = [called, "-q", "-f"], [called, "-q", "-E", "-f"]
     for command, shape, *files in shapes.shapes():
         paths = [os.path.join(folder, name) for name in ("costly", "ordinary")]
         for path, parts in zip(paths, files):
             shapes.write(path, parts)
-        made = [os.path.join(folder, "made")] if command == "make" else []
+        made = [os.path.join(folder, "made")] if command.startswith("make") else []
         costly, ordinary = ([*commands[command], path, *made] for path in paths)
         yield Row(f"{command} {shape}", costly, "an ordinary file", ordinary)
 

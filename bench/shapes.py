@@ -83,6 +83,16 @@ def labels(count):
     return beside(source(f"s {{ {nodes}}};", "".join(f" &l{number} {{ b; }};" for number in range(count))))
 
 
+def images(count):
+    """So many images, each with a payload in the source and a hash node."""
+    rest = 'type = "kernel"; compression = "none"; hash { algo = "sha256"; };'
+    nodes = "".join(f'i{number} {{ description = "k"; data = "p{number}"; {rest} }};' for number in range(count))
+    head, tail = b'/dts-v1/; / { images { ', b' }; };'
+    costly = head + nodes.encode() + tail
+    ordinary = head + b'k { data = "p"; };' + tail
+    return [costly], [ordinary, b"/*", b" " * (len(costly) - len(ordinary) - 4), b"*/"]
+
+
 def shapes():
     """Yields for each shape the command, its name, and in parts its file and an ordinary one of the
     same length."""
@@ -91,3 +101,4 @@ def shapes():
     yield "list", "1,000,000 parts of a multi image", *many_parts(1000000)
     yield "make", "500,000 operators in a row", *operators(500000)
     yield "make", "20,000 nodes with labels and references", *labels(20000)
+    yield "make -E", "80,000 images", *images(80000)

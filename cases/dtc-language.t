@@ -44,6 +44,9 @@ Included files, roots and nodes given again, references, expressions, other widt
    Configuration 0 (c)
     Description:  c
     Kernel:       kernel
+  $ mkimage -q -f whole.its /dev/null
+  mkimage: /dev/null: L1 too short
+  [1]
   $ dumpimage -p 0 -o part whole.itb && cat part; echo
   bc
   $ python3 - << 'END'

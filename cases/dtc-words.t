@@ -102,6 +102,11 @@ A file is looked for in the folder of the source, then in those of -i in order. 
   [2]
   $ ls first
   abc.bin
+  $ echo old > sources/abc.bin && mkimage -q -D '-i first' -f sources/kernel.its sources/abc.bin
+  mkimage: sources/abc.bin would be written while it is read
+  [2]
+  $ cat sources/abc.bin && rm sources/abc.bin
+  old
 
 Warnings about names that dtc's checks name are silenced:
 
@@ -119,6 +124,9 @@ A source from standard input has its files in the current folder:
   mkimage: -: I5 no file at line 8
   [3]
   $ made -D '-i first' -f - < sources/kernel.its && cat whole.its | made -f -
+  $ mkimage -q -D '-i first' -f - /dev/null < sources/kernel.its
+  mkimage: /dev/null: L1 too short
+  [1]
   $ cd first && mkimage -q -E -f - ../out < ../sources/kernel.its && cd .. && uimg mkimage -E -f whole.its wanted > /dev/null && cmp out wanted
   $ printf nothing | mkimage -f - out
   mkimage: -: I2 bad syntax at line 1

@@ -52,7 +52,7 @@ No memory for the tree of a source of 50000 images, and with a little more none 
   [3]
   $ test -e none.itb
   [1]
-  $ size=40000
+  $ size=20000
   $ until within $size mkimage -f many.its made.itb > listing 2> fault; do
   >     echo "$? $(cat fault)"
   >     size=$((size * 102 / 100))

@@ -256,6 +256,9 @@ The source that mkimage makes itself, as a file and as the image made from it:
   $ mkimage -q -E -B 40 -f auto.its aligned 2> /dev/null && auto -q -E -B 40 -b ./my.board.dtb -b abc.bin -i ram -d d made/out && cmp made/out aligned
   $ cmp -s aligned by-hand || echo $(($(stat -c %s aligned) % 64)); auto -q -E -b ./my.board.dtb -b abc.bin -i ram -d d made/out
   0
+  $ auto -q -d d /dev/null
+  mkimage: /dev/null: L1 too short
+  [1]
   $ auto -q -d nothing made/out
   mkimage: cannot read nothing: No such file or directory (os error 2)
   [3]

@@ -41,7 +41,7 @@ map leaves a temporary file, and no picture that is half; unpack's --clean does 
   new.svg.uimg-new1
   old
 
-So do the old names, with -f auto also the source that they generate:
+So do the old names:
 
   $ for name in mkimage dumpimage; do ln -s "$(command -v uimg)" $name; done
   $ left() { ls -A out && cat out/image && rm out/*; }
@@ -56,7 +56,6 @@ So do the old names, with -f auto also the source that they generate:
   $ left
   image
   image.uimg-new1
-  image.uimg-new2
   old
   $ echo old > out/image && limited 100 ./dumpimage -T flat_dt -p 1 -o out/image k.itb
   [153]

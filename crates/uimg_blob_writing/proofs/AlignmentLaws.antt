@@ -4,7 +4,7 @@ use Rattle.std.proofs.lemmas.{Bool.cases_lt, Nat.{and_le_r, and_mask, pow_pos, d
 use Rattle.std.proofs.lemmas.List.{length-replicate}
 use lib.Bits.{bit_and, and_self}
 use Rattle.uimg_texts.specs.Numbers.{up4}
-use Rattle.uimg_blob_writing.specs.Alignment.{rounded, aligned, padded_by}
+use Rattle.uimg_blob_writing.specs.{Alignment.{rounded, aligned, padded_by, sized, filling, filled}, declared.blob_end.BlobEnd.BlobEnd}
 
 -- nothing is rounded down
 pub aligned-least : (align n : ℕ) → n ≤ aligned align n
@@ -32,13 +32,22 @@ length-padded_by align bytes =
     let n = length bytes in
     omega (arith, length-append bytes (replicate (aligned align n - n) 0), length-replicate {A = ℕ} (aligned align n - n) 0, aligned-least align n)
 
-large-step : (align a b : ℕ) → (b < 2 ^ 36) ⊎ (2 ^ 36 ≤ b) → (b < 2 ^ 36 → a ≡ b) → 4294967295 < aligned align a → 4294967295 < aligned align b
-large-step align a b (inl small) same large = subst (λ (n : ℕ). 4294967295 < aligned align n) (same small) large
-large-step align a b (inr most) same large = omega (arith, most, aligned-least align b)
+-- a blob is not cut
+pub sized-least : (ending : BlobEnd) (n : ℕ) → n ≤ sized ending n
+sized-least ending n = omega (arith, aligned-least ending.align n)
+
+pub length-filled : (ending : BlobEnd) (bytes : List ℕ) → length (filled ending bytes) ≡ sized ending (length bytes)
+length-filled ending bytes =
+    let n = length bytes in
+    omega (arith, length-append bytes (filling ending n), length-replicate {A = ℕ} (sized ending n - n) 0, sized-least ending n)
+
+large-step : (ending : BlobEnd) (a b : ℕ) → (b < 2 ^ 36) ⊎ (2 ^ 36 ≤ b) → (b < 2 ^ 36 → a ≡ b) → 4294967295 < sized ending a → 4294967295 < sized ending b
+large-step ending a b (inl small) same large = subst (λ (n : ℕ). 4294967295 < sized ending n) (same small) large
+large-step ending a b (inr most) same large = omega (arith, most, sized-least ending b)
 
 -- a size that is counted up to 2^36 is too large where the size is
-pub large-by : (align a b : ℕ) → (b < 2 ^ 36 → a ≡ b) → 4294967295 < aligned align a → 4294967295 < aligned align b
-large-by align a b same large = large-step align a b (cases_lt b (2 ^ 36)) same large
+pub large-by : (ending : BlobEnd) (a b : ℕ) → (b < 2 ^ 36 → a ≡ b) → 4294967295 < sized ending a → 4294967295 < sized ending b
+large-by ending a b same large = large-step ending a b (cases_lt b (2 ^ 36)) same large
 
 none-step : (mask all : ℕ) → all ≡ mask → all - bit_and all mask ≡ 0
 none-step mask all e = ap (λ (n : ℕ). n - bit_and n mask) e ∙ ap (λ (n : ℕ). mask - n) (and_self mask) ∙ omega arith

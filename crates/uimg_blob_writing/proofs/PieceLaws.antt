@@ -3,7 +3,8 @@ use Rattle.std.proofs.Common.{◌≡◌, ◌+◌, ◌++◌, ℕ, List, [], ◌�
 use Rattle.std.specs.List.{flat_map, AllByRecursion}
 use Rattle.uimg_blob_reading.specs.Plain.{NamedOf, no_node, a_node, with_value, with_values, AllValues}
 use Rattle.uimg_blob_writing.specs.Content.{Content, Unread, bytes, size_of, content_bytes, file_of, files_in, in_full, IsKept, AreKept}
-use Rattle.uimg_blob_writing.specs.{Alignment.padding_by, Layouts.{nodes_size, plan_with, plan_end}}
+use Rattle.uimg_blob_writing.specs.{Alignment.filling, Layouts.{nodes_size, plan_with, plan_end}}
+use Rattle.uimg_blob_writing.specs.declared.blob_end.BlobEnd.{BlobEnd}
 use Rattle.uimg_blob_writing.specs.declared.reservation.Reservation.{Reservation}
 use Rattle.uimg_blob_writing.specs.Encoding.{word, padded, reserved, structure_offset, header, strings, blob_size, blob, encode_with, with_nul, names_of, name_offset, property_bytes, nodes_bytes}
 use Rattle.uimg_blob_writing.specs.Pieces.{padding, begin_bytes, head_bytes, property_pieces, nodes_pieces, blob_pieces}
@@ -42,12 +43,12 @@ module _ (P : Content → Type 0) (of-bytes : (b : List ℕ) → P (bytes b)) (n
       let rest = all-second P own_pieces (below_pieces ++ end) h.1 in
       (own-values own (all-first P own_pieces (below_pieces ++ end) h.1), all-values below (all-first P below_pieces end rest), all-values after (all-second P below_pieces end rest).1)
 
-module _ (P : Content → Type 0) (of-bytes : (b : List ℕ) → P (bytes b)) (align : ℕ) (rs : List Reservation) (t : Unread) where
-  pub blob-holds : AllValues P t → AllByRecursion P (blob_pieces (plan_with align rs t) t)
+module _ (P : Content → Type 0) (of-bytes : (b : List ℕ) → P (bytes b)) (ending : BlobEnd) (rs : List Reservation) (t : Unread) where
+  pub blob-holds : AllValues P t → AllByRecursion P (blob_pieces (plan_with ending rs t) t)
   unfolding blob_pieces
   blob-holds h = (of-bytes _, (of-bytes _, all-both P (nodes_pieces (names_of t) t) _ (all-pieces P of-bytes (names_of t) t h) (of-bytes _, (of-bytes _, (of-bytes _, tt)))))
 
-  pub blob-held : AllByRecursion P (blob_pieces (plan_with align rs t) t) → AllValues P t
+  pub blob-held : AllByRecursion P (blob_pieces (plan_with ending rs t) t) → AllValues P t
   unfolding blob_pieces
   blob-held h = all-values P of-bytes (names_of t) t (all-first P (nodes_pieces (names_of t) t) _ h.1.1)
 
@@ -69,9 +70,9 @@ nodes-files names (a_node name own below after) =
     ∙ ap (λ (l : List (List ℕ)). l ++ flat_map file_of end) (nodes-files names below)
     ∙ ap (λ (l : List (List ℕ)). files_in below ++ l) (nodes-files names after))
 
-pub blob-files : (align : ℕ) (rs : List Reservation) (t : Unread) → flat_map file_of (blob_pieces (plan_with align rs t) t) ≡ files_in t
+pub blob-files : (ending : BlobEnd) (rs : List Reservation) (t : Unread) → flat_map file_of (blob_pieces (plan_with ending rs t) t) ≡ files_in t
 unfolding blob_pieces
-blob-files align rs t =
+blob-files ending rs t =
     flat_map-both file_of (nodes_pieces (names_of t) t) _ ∙ append-nil (flat_map file_of (nodes_pieces (names_of t) t)) ∙ nodes-files (names_of t) t
 
 module _ (files : List ℕ → Option (List ℕ)) where
@@ -114,37 +115,37 @@ module _ (files : List ℕ → Option (List ℕ)) where
       ∙ sym (right (word 1) (padded (with_nul name)) own_bytes below_bytes (word 2) after_bytes)
 
   -- the pieces of a blob
-  blob-whole : (align : ℕ) (rs : List Reservation) (nodes strings : List ℕ) (size strings_size : ℕ) → length nodes + 4 ≡ size → length strings ≡ strings_size →
-      header (blob_size align (structure_offset rs) size strings_size) (structure_offset rs) size strings_size ++ reserved rs ++ nodes ++ word 9 ++ strings ++ padding_by align (structure_offset rs + size + strings_size) ≡ blob align rs (nodes ++ word 9) strings
+  blob-whole : (ending : BlobEnd) (rs : List Reservation) (nodes strings : List ℕ) (size strings_size : ℕ) → length nodes + 4 ≡ size → length strings ≡ strings_size →
+      header (blob_size ending (structure_offset rs) size strings_size) (structure_offset rs) size strings_size ++ reserved rs ++ nodes ++ word 9 ++ strings ++ filling ending (structure_offset rs + size + strings_size) ≡ blob ending rs (nodes ++ word 9) strings
   unfolding blob
-  blob-whole align rs nodes strings size strings_size e f =
+  blob-whole ending rs nodes strings size strings_size e f =
       let o = structure_offset rs in
-      let header_by : ℕ → ℕ → List ℕ = λ a b. header (blob_size align o a b) o a b in
+      let header_by : ℕ → ℕ → List ℕ = λ a b. header (blob_size ending o a b) o a b in
       let s = nodes ++ word 9 in
       let len : size ≡ length s = omega (arith, length-append nodes (word 9)) in
       let front = header_by (length s) (length strings) ++ reserved rs in
       let n : o + size + strings_size ≡ length (front ++ s ++ strings) = omega (arith, len, f, length-append (reserved rs ++ s) strings, length-append (reserved rs) s, length-reserved rs) in
-      ap (λ (k : ℕ). header_by size strings_size ++ reserved rs ++ nodes ++ word 9 ++ strings ++ padding_by align k) n
-      ∙ ap (λ (k : ℕ). header_by k strings_size ++ reserved rs ++ nodes ++ word 9 ++ strings ++ padding_by align (length (front ++ s ++ strings))) len
-      ∙ ap (λ (k : ℕ). header_by (length s) k ++ reserved rs ++ nodes ++ word 9 ++ strings ++ padding_by align (length (front ++ s ++ strings))) (sym f)
-      ∙ ap (λ (w : List ℕ). w ++ strings ++ padding_by align (length (front ++ s ++ strings))) (append_assoc front nodes (word 9))
+      ap (λ (k : ℕ). header_by size strings_size ++ reserved rs ++ nodes ++ word 9 ++ strings ++ filling ending k) n
+      ∙ ap (λ (k : ℕ). header_by k strings_size ++ reserved rs ++ nodes ++ word 9 ++ strings ++ filling ending (length (front ++ s ++ strings))) len
+      ∙ ap (λ (k : ℕ). header_by (length s) k ++ reserved rs ++ nodes ++ word 9 ++ strings ++ filling ending (length (front ++ s ++ strings))) (sym f)
+      ∙ ap (λ (w : List ℕ). w ++ strings ++ filling ending (length (front ++ s ++ strings))) (append_assoc front nodes (word 9))
 
   nest : (a b c d e f : List ℕ) → a ++ (b ++ (c ++ (d ++ (e ++ (f ++ []))))) ≡ a ++ b ++ c ++ d ++ e ++ f
   nest a b c d e f = simp (append_assoc, append-nil)
 
-  pub blob-joined : (align : ℕ) (rs : List Reservation) (t : Unread) → AreKept files t → joined (blob_pieces (plan_with align rs t) t) ≡ encode_with align rs (in_full files t)
+  pub blob-joined : (ending : BlobEnd) (rs : List Reservation) (t : Unread) → AreKept files t → joined (blob_pieces (plan_with ending rs t) t) ≡ encode_with ending rs (in_full files t)
   unfolding blob_pieces
-  blob-joined align rs t kept =
+  blob-joined ending rs t kept =
       let names = names_of t in
       let u = in_full files t in
       let nodes = nodes_bytes names u in
       let size = nodes_size t + 4 in
       let o = structure_offset rs in
-      let begin = header (blob_size align o size (length (strings names))) o size (length (strings names)) in
-      let pad = padding_by align (plan_end (plan_with align rs t)) in
+      let begin = header (blob_size ending o size (length (strings names))) o size (length (strings names)) in
+      let pad = filling ending (plan_end (plan_with ending rs t)) in
       let end : List Content = bytes (word 9) ∷ bytes (strings names) ∷ bytes pad ∷ [] in
       let sized : length nodes + 4 ≡ size = ap (λ (n : ℕ). n + 4) (length-nodes files names t kept) in
       ap (λ (w : List ℕ). begin ++ (reserved rs ++ w)) (flat_map-both (content_bytes files) (nodes_pieces names t) end ∙ ap (λ (w : List ℕ). w ++ joined end) (nodes-joined names t kept))
       ∙ nest begin (reserved rs) nodes (word 9) (strings names) pad
-      ∙ blob-whole align rs nodes (strings names) size (length (strings names)) sized refl
-      ∙ ap (λ (ns : List (List ℕ)). blob align rs (nodes_bytes ns u ++ word 9) (strings ns)) (sym (names_of-values (content_bytes files) t))
+      ∙ blob-whole ending rs nodes (strings names) size (length (strings names)) sized refl
+      ∙ ap (λ (ns : List (List ℕ)). blob ending rs (nodes_bytes ns u ++ word 9) (strings ns)) (sym (names_of-values (content_bytes files) t))

@@ -8,13 +8,13 @@ use Rattle.uimg_blob_reading.specs.{Reading.Fault, Grammar.{root, without_nops}}
 use Rattle.uimg_blob_reading.specs.Tokens.{Token, Blocks, last, token_at, tokens_from, tokens}
 use Rattle.uimg_blob_reading.specs.Blob.{magic, blocks, tree}
 use Rattle.uimg_blob_reading.specs.Plain.{Named, Nodes, no_node, a_node, IsName, AreNamed, unplaced_in}
-use Rattle.uimg_blob_writing.specs.Alignment.{aligned, padding_by}
+use Rattle.uimg_blob_writing.specs.{Alignment.{filling, sized}, declared.blob_end.BlobEnd.BlobEnd}
 use Rattle.uimg_blob_writing.specs.declared.reservation.Reservation.{Reservation}
 use Rattle.uimg_blob_writing.specs.Encoding.{word, reserved, structure_offset, header, blob_size, blob, structure, strings, names_of, nodes_bytes, name_offset, encode_with}
 use Rattle.uimg_blob_writing.proofs.Spelling.{placed, past, past_name, past_property, past_properties, spelled, fuel, fuel_properties}
 use Rattle.uimg_blob_writing.proofs.GrammarLaws.{root-spelled, without_nops-spelled, unplaced-placed}
 use Rattle.uimg_blob_writing.proofs.TokenLaws.{be32-word, drop-piece, IsFound, AreFound, tokens-spelled, token-last, past-length}
-use Rattle.uimg_blob_writing.proofs.AlignmentLaws.{aligned-least, length-padded_by}
+use Rattle.uimg_blob_writing.proofs.AlignmentLaws.{sized-least, length-filled}
 use Rattle.uimg_blob_writing.proofs.NameLaws.{Stands, stands, AllNames, all_names}
 
 -- each token has a byte at least
@@ -70,41 +70,41 @@ length-reserved (r ∷ rs) = omega (arith, length-reserved rs)
 regroup : (a b c d e : List ℕ) → a ++ b ++ c ++ d ++ e ≡ a ++ ((b ++ c) ++ (d ++ e))
 regroup a b c d e = simp append_assoc
 
-module _ (align : ℕ) (rs : List Reservation) (s g more : List ℕ) where
+module _ (ending : BlobEnd) (rs : List Reservation) (s g more : List ℕ) where
   -- where the structure block begins
   abbrev at : ℕ
   at = structure_offset rs
 
   pub size : ℕ
-  size = blob_size align at (length s) (length g)
+  size = blob_size ending at (length s) (length g)
 
   -- all but what stands behind the strings
   pub front : List ℕ
-  front = header (blob_size align at (length s) (length g)) at (length s) (length g) ++ reserved rs ++ s ++ g
+  front = header (blob_size ending at (length s) (length g)) at (length s) (length g) ++ reserved rs ++ s ++ g
 
   pub slack : List ℕ
-  slack = padding_by align (length front)
+  slack = filling ending (length front)
 
   front-length : length front ≡ at + length s + length g
   unfolding front
   front-length = omega (arith, length-append (reserved rs ++ s) g, length-append (reserved rs) s, length-reserved rs)
 
-  from_structure : drop at (blob align rs s g ++ more) ≡ (s ++ g) ++ (slack ++ more)
+  from_structure : drop at (blob ending rs s g ++ more) ≡ (s ++ g) ++ (slack ++ more)
   unfolding blob slack front
   from_structure =
-      drop-piece (blob align rs s g ++ more) 40 (reserved rs) ((s ++ g) ++ (slack ++ more)) (16 * suc (length rs)) (length-reserved rs) (regroup (reserved rs) s g slack more)
+      drop-piece (blob ending rs s g ++ more) 40 (reserved rs) ((s ++ g) ++ (slack ++ more)) (16 * suc (length rs)) (length-reserved rs) (regroup (reserved rs) s g slack more)
 
-  blob-length : length (blob align rs s g) ≡ size
+  blob-length : length (blob ending rs s g) ≡ size
   unfolding size blob front
-  blob-length = length-padded_by align front ∙ ap (aligned align) front-length
+  blob-length = length-filled ending front ∙ ap (sized ending) front-length
 
-  blob-blocks : length (blob align rs s g) < 2 ^ 32 → blocks (blob align rs s g ++ more) ≡ Ok (record { bytes = blob align rs s g ++ more; structure = at; structure_end = at + length s; strings = at + length s; strings_size = length g })
+  blob-blocks : length (blob ending rs s g) < 2 ^ 32 → blocks (blob ending rs s g ++ more) ≡ Ok (record { bytes = blob ending rs s g ++ more; structure = at; structure_end = at + length s; strings = at + length s; strings_size = length g })
   unfolding size blob
   blob-blocks fits =
-      let file = blob align rs s g ++ more in
+      let file = blob ending rs s g ++ more in
       let short : size < 2 ^ 32 = omega (arith, blob-length, fits) in
-      let end : at + length s + length g ≤ size = aligned-least align (at + length s + length g) in
-      accepted file size at (length s) (length g) (omega arith) (omega arith) (omega (arith, blob-length, length-append (blob align rs s g) more)) end
+      let end : at + length s + length g ≤ size = sized-least ending (at + length s + length g) in
+      accepted file size at (length s) (length g) (omega arith) (omega arith) (omega (arith, blob-length, length-append (blob ending rs s g) more)) end
       (be32-word file 0 magic (drop 4 file) (omega arith) refl)
       (be32-word file 4 size (drop 8 file) short refl)
       (be32-word file 8 at (drop 12 file) (omega (arith, end, short)) refl)
@@ -115,20 +115,20 @@ module _ (align : ℕ) (rs : List Reservation) (s g more : List ℕ) where
       (be32-word file 36 (length s) (drop 40 file) (omega (arith, end, short)) refl)
 
   -- the number at 4 is the length
-  blob-totalsize : length (blob align rs s g) < 2 ^ 32 → be32 (blob align rs s g ++ more) 4 ≡ length (blob align rs s g)
+  blob-totalsize : length (blob ending rs s g) < 2 ^ 32 → be32 (blob ending rs s g ++ more) 4 ≡ length (blob ending rs s g)
   unfolding size blob
   blob-totalsize fits =
-      let file = blob align rs s g ++ more in
+      let file = blob ending rs s g ++ more in
       let short : size < 2 ^ 32 = omega (arith, blob-length, fits) in
       be32-word file 4 size (drop 8 file) short refl ∙ sym blob-length
 
 -- how many bytes a blob has
-pub length-encode : (align : ℕ) (rs : List Reservation) (t : Nodes) → length (encode_with align rs t) ≡ blob_size align (structure_offset rs) (length (structure t)) (length (strings (names_of t)))
+pub length-encode : (ending : BlobEnd) (rs : List Reservation) (t : Nodes) → length (encode_with ending rs t) ≡ blob_size ending (structure_offset rs) (length (structure t)) (length (strings (names_of t)))
 unfolding size
-length-encode align rs t = blob-length align rs (structure t) (strings (names_of t)) []
+length-encode ending rs t = blob-length ending rs (structure t) (strings (names_of t)) []
 
 -- the blob of a tree reads as the tree
-module _ (align : ℕ) (rs : List Reservation) (name : List ℕ) (own : List Named) (below : Nodes) (named : AreNamed (a_node name own below no_node)) (fits : length (encode_with align rs (a_node name own below no_node)) < 2 ^ 32) (more : List ℕ) where
+module _ (ending : BlobEnd) (rs : List Reservation) (name : List ℕ) (own : List Named) (below : Nodes) (named : AreNamed (a_node name own below no_node)) (fits : length (encode_with ending rs (a_node name own below no_node)) < 2 ^ 32) (more : List ℕ) where
   abbrev t : Nodes
   t = a_node name own below no_node
 
@@ -146,24 +146,24 @@ module _ (align : ℕ) (rs : List Reservation) (name : List ℕ) (own : List Nam
   g = strings names
 
   abbrev end : List ℕ
-  end = slack align rs s g more ++ more
+  end = slack ending rs s g more ++ more
 
   abbrev file : List ℕ
-  file = encode_with align rs t ++ more
+  file = encode_with ending rs t ++ more
 
   abbrev b : Blocks
   b = record { bytes = file; structure = o; structure_end = o + length s; strings = o + length s; strings_size = length g }
 
-  encode-length : length (encode_with align rs t) ≡ blob_size align o (length s) (length g)
+  encode-length : length (encode_with ending rs t) ≡ blob_size ending o (length s) (length g)
   unfolding size
-  encode-length = blob-length align rs s g more
+  encode-length = blob-length ending rs s g more
 
   -- the strings end in the blob
-  enough : o + length s + length g ≤ length (encode_with align rs t)
-  enough = omega (arith, encode-length, aligned-least align (o + length s + length g))
+  enough : o + length s + length g ≤ length (encode_with ending rs t)
+  enough = omega (arith, encode-length, sized-least ending (o + length s + length g))
 
   from_strings : drop (o + length s) file ≡ g ++ end
-  from_strings = drop-piece file o s (g ++ end) (length s) refl (from_structure align rs s g more ∙ append_assoc s g end)
+  from_strings = drop-piece file o s (g ++ end) (length s) refl (from_structure ending rs s g more ∙ append_assoc s g end)
 
   found_at : (n : List ℕ) → IsName n → Stands names n → IsFound b names n
   found_at n is_name stands_there =
@@ -207,7 +207,7 @@ module _ (align : ℕ) (rs : List Reservation) (name : List ℕ) (own : List Nam
       let fuels : suc (o + length s - o) ≡ fuel t (suc left) =
       ap suc block ∙ sym whole ∙ fuel-more t 1 left ∙ ap (λ (n : ℕ). fuel t n) one_more in
       let here : drop o file ≡ nodes ++ (word 9 ++ (g ++ end)) =
-      from_structure align rs s g more ∙ append_assoc s g end ∙ append_assoc nodes (word 9) (g ++ end) in
+      from_structure ending rs s g more ∙ append_assoc s g end ∙ append_assoc nodes (word 9) (g ++ end) in
       let there : drop (past o t) file ≡ word 9 ++ (g ++ end) =
       ap (λ (k : ℕ). drop k file) past_is ∙ drop-piece file o nodes _ (length nodes) refl here in
       let at_last : token_at b (past o t) ≡ last (past o t) = token-last b names (past o t) (g ++ end) (omega (arith, past_is, structure_length)) there in
@@ -219,20 +219,20 @@ module _ (align : ℕ) (rs : List Reservation) (name : List ℕ) (own : List Nam
   pub encode-tree : tree file ≡ Ok (placed o t)
   unfolding tree without_nops
   encode-tree =
-      ap (λ (r : Result Blocks Fault). r >>= λ found. root (without_nops (tokens found))) (blob-blocks align rs s g more fits)
+      ap (λ (r : Result Blocks Fault). r >>= λ found. root (without_nops (tokens found))) (blob-blocks ending rs s g more fits)
       ∙ ap (λ (ts : List Token). root (without_nops ts)) encode-tokens
       ∙ ap root (without_nops-spelled o t (last (past o t) ∷ []))
       ∙ root-spelled o name own below (past o t)
 
-  pub totalsize : be32 file 4 ≡ length (encode_with align rs t)
-  totalsize = blob-totalsize align rs s g more fits
+  pub totalsize : be32 file 4 ≡ length (encode_with ending rs t)
+  totalsize = blob-totalsize ending rs s g more fits
 
   -- where the nodes stand
   pub from_nodes : drop o file ≡ nodes_bytes names t ++ (word 9 ++ (g ++ end))
-  from_nodes = from_structure align rs s g more ∙ append_assoc s g end ∙ append_assoc (nodes_bytes names t) (word 9) (g ++ end)
+  from_nodes = from_structure ending rs s g more ∙ append_assoc s g end ∙ append_assoc (nodes_bytes names t) (word 9) (g ++ end)
 
   pub long : o ≤ length file
-  long = omega (arith, enough, length-append (encode_with align rs t) more)
+  long = omega (arith, enough, length-append (encode_with ending rs t) more)
 
   pub reads_back : unplaced_in (tree file) ≡ Ok t
   reads_back = ap unplaced_in encode-tree ∙ ap (λ (u : Nodes). let y : Result Nodes Fault = Ok u in y) (unplaced-placed o t)

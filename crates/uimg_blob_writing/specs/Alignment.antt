@@ -1,5 +1,6 @@
 -- Sizes rounded up to an alignment: the end of a blob, and the offsets of payloads after it.
-use Rattle.std.specs.Prelude.{ℕ, ◌+◌, ◌-◌, ◌*◌, ◌/◌, List, ◌++◌, length, replicate, bit_and}
+use Rattle.std.specs.Prelude.{ℕ, ◌+◌, ◌-◌, ◌*◌, ◌/◌, max, List, ◌++◌, length, replicate, bit_and}
+use Rattle.uimg_blob_writing.specs.declared.blob_end.BlobEnd.{BlobEnd}
 
 -- A number rounded up by a mask, like ALIGN of U-Boot's tools: (n + mask) & ~mask.
 abbrev pub rounded : ℕ → ℕ → ℕ
@@ -17,3 +18,19 @@ padding_by align n = replicate (aligned align n - n) 0
 -- bytes followed by that padding
 abbrev pub padded_by : ℕ → List ℕ → List ℕ
 padded_by align bytes = bytes ++ padding_by align (length bytes)
+
+-- the size of a blob whose strings block ends at n: rounded up, and not less than is asked
+abbrev pub sized : BlobEnd → ℕ → ℕ
+sized ending n = max (aligned ending.align n) ending.least
+
+-- the zeros behind n bytes of a blob
+abbrev pub filling : BlobEnd → ℕ → List ℕ
+filling ending n = replicate (sized ending n - n) 0
+
+-- bytes followed by these zeros
+abbrev pub filled : BlobEnd → List ℕ → List ℕ
+filled ending bytes = bytes ++ filling ending (length bytes)
+
+-- the end at an alignment, without free room
+abbrev pub ends_at : ℕ → BlobEnd
+ends_at align = record { align = align; least = 0 }

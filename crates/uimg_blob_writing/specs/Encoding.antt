@@ -4,8 +4,9 @@ use Rattle.std.specs.{Int.{to_be_bytes, w32, w64}, List.{flat_map, list_any}, St
 use Rattle.uimg_texts.specs.Numbers.{up4}
 use Rattle.uimg_blob_reading.specs.Blob.{magic}
 use Rattle.uimg_blob_reading.specs.Plain.{NamedOf, NodesOf, Named, Nodes, no_node, a_node}
+use Rattle.uimg_blob_writing.specs.declared.blob_end.BlobEnd.{BlobEnd}
 use Rattle.uimg_blob_writing.specs.declared.reservation.Reservation.{Reservation}
-use Rattle.uimg_blob_writing.specs.Alignment.{aligned, padded_by}
+use Rattle.uimg_blob_writing.specs.Alignment.{ends_at, filled, sized}
 
 -- a number in four bytes, big-endian
 abbrev pub word : ℕ → List ℕ
@@ -87,29 +88,24 @@ header total offset structure_size strings_size =
     word magic ++ word total ++ word offset ++ word (offset + structure_size) ++ word 40
     ++ word 17 ++ word 16 ++ word 0 ++ word strings_size ++ word structure_size
 
--- the size in bytes of a blob with this offset of the structure block and these sizes of blocks,
--- rounded up to an alignment
-abbrev pub blob_size : ℕ → ℕ → ℕ → ℕ → ℕ
-blob_size align offset structure_size strings_size =
-    aligned align (offset + structure_size + strings_size)
+-- the size in bytes of a blob with this end, offset of the structure block and sizes of blocks
+abbrev pub blob_size : BlobEnd → ℕ → ℕ → ℕ → ℕ
+blob_size ending offset structure_size strings_size =
+    sized ending (offset + structure_size + strings_size)
 
 -- a blob: the header, the reservation block, the structure and strings blocks, and padding
-unfoldable pub blob : ℕ → List Reservation → List ℕ → List ℕ → List ℕ
-blob align rs structure strings =
-    padded_by align
-    (header (blob_size align (structure_offset rs) (length structure) (length strings))
+unfoldable pub blob : BlobEnd → List Reservation → List ℕ → List ℕ → List ℕ
+blob ending rs structure strings =
+    filled ending
+    (header (blob_size ending (structure_offset rs) (length structure) (length strings))
     (structure_offset rs) (length structure) (length strings) ++ reserved rs
     ++ structure
     ++ strings)
 
--- the blob of a tree with reservations, padded to an alignment
-abbrev pub encode_with : ℕ → List Reservation → Nodes → List ℕ
-encode_with align rs t = blob align rs (structure t) (strings (names_of t))
+-- the blob of a tree with reservations and an end
+abbrev pub encode_with : BlobEnd → List Reservation → Nodes → List ℕ
+encode_with ending rs t = blob ending rs (structure t) (strings (names_of t))
 
--- the blob of a tree without reservations, padded to an alignment
-abbrev pub encode_by : ℕ → Nodes → List ℕ
-encode_by align t = encode_with align [] t
-
--- the blob of a tree
+-- the blob of a tree without reservations and free room
 abbrev pub encode : Nodes → List ℕ
-encode t = encode_by 4 t
+encode = encode_with (ends_at 4) []

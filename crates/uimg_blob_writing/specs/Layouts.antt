@@ -3,16 +3,17 @@ use Rattle.std.specs.Prelude.{ℕ, ◌+◌, List, [], ◌∷◌, length}
 use Rattle.uimg_texts.specs.Numbers.{up4}
 use Rattle.uimg_blob_reading.specs.Plain.{NamedOf, no_node, a_node}
 use Rattle.uimg_blob_writing.specs.Content.{Content, Unread, size_of}
+use Rattle.uimg_blob_writing.specs.declared.blob_end.BlobEnd.{BlobEnd}
 use Rattle.uimg_blob_writing.specs.declared.reservation.Reservation.{Reservation}
 use Rattle.uimg_blob_writing.specs.Encoding.{names_of, strings, structure_offset, blob_size}
 
 -- The names of the strings block, the reservations, the structure block's size in bytes, and the
--- end's alignment.
+-- blob's end.
 pub record Plan : Type 0 where
   pub names : List (List ℕ)
   pub reservations : List Reservation
   pub structure : ℕ
-  pub align : ℕ
+  pub ending : BlobEnd
 
 -- the size in bytes of a property's token, with its value
 abbrev pub property_size : NamedOf Content → ℕ
@@ -29,19 +30,15 @@ nodes_size no_node = 0
 nodes_size (a_node name own below after) =
     4 + up4 (length name + 1) + properties_size own + nodes_size below + 4 + nodes_size after
 
--- the plan of a tree with reservations for an alignment; the structure block ends with FDT_END
-abbrev pub plan_with : ℕ → List Reservation → Unread → Plan
-plan_with align rs t =
+-- the plan of a tree with reservations for an end; the structure block ends with FDT_END
+abbrev pub plan_with : BlobEnd → List Reservation → Unread → Plan
+plan_with ending rs t =
     record {
       names = names_of t;
       reservations = rs;
       structure = nodes_size t + 4;
-      align = align;
+      ending = ending;
     }
-
--- the plan of a tree without reservations
-abbrev pub plan_of : ℕ → Unread → Plan
-plan_of align t = plan_with align [] t
 
 -- where a planned blob's strings block ends
 abbrev pub plan_end : Plan → ℕ
@@ -50,4 +47,4 @@ plan_end p = structure_offset p.reservations + p.structure + length (strings p.n
 -- the size in bytes of a planned blob
 abbrev pub totalsize : Plan → ℕ
 totalsize p =
-    blob_size p.align (structure_offset p.reservations) p.structure (length (strings p.names))
+    blob_size p.ending (structure_offset p.reservations) p.structure (length (strings p.names))

@@ -7,8 +7,9 @@ use Rattle.uimg_blob_reading.specs.declared.fault.BlobFault.{BlobFault, TheVaria
 use Rattle.uimg_blob_reading.specs.declared.fault.BlobFault.TheVariants.{BadPropertyName, TooLarge}
 use Rattle.uimg_blob_reading.specs.declared.fault.BlobFault.TheVariants.{OutOfMemory}
 use Rattle.uimg_blob_reading.specs.Plain.{NamedOf, NodesOf, no_node, a_node}
+use Rattle.uimg_blob_writing.specs.declared.blob_end.BlobEnd.{BlobEnd}
 use Rattle.uimg_blob_writing.specs.declared.reservation.Reservation.{Reservation}
-use Rattle.uimg_blob_writing.specs.{Content.Unread, Layouts.{Plan, plan_with, totalsize}}
+use Rattle.uimg_blob_writing.specs.{Alignment.ends_at, Content.Unread, Layouts.{Plan, plan_with, totalsize}}
 
 -- whether a name has at most 255 bytes and no NUL
 abbrev pub is_name : List ℕ → Bool
@@ -31,14 +32,13 @@ abbrev pub measured_with : Option BlobFault → Plan → Result Plan BlobFault
 measured_with (Some fault) p = Err fault
 measured_with None p = if nat_lt 4294967295 (totalsize p) then Err TooLarge else Ok p
 
--- the plan of a tree with reservations for an alignment, or the fault of its first bad name, or
--- TooLarge
-abbrev pub measured_by : ℕ → List Reservation → Unread → Result Plan BlobFault
-measured_by align rs t = measured_with (bad_name t) (plan_with align rs t)
+-- the plan of a tree with reservations for an end, or the fault of its first bad name, or TooLarge
+abbrev pub measured_by : BlobEnd → List Reservation → Unread → Result Plan BlobFault
+measured_by ending rs t = measured_with (bad_name t) (plan_with ending rs t)
 
--- the same without reservations
-abbrev pub measured : ℕ → Unread → Result Plan BlobFault
-measured align t = measured_by align [] t
+-- the same without reservations and free room
+abbrev pub measured : Unread → Result Plan BlobFault
+measured = measured_by (ends_at 4) []
 
 -- the fault of a result, if it is one
 abbrev pub fault_in : {X : Type 0} → Result X BlobFault → Option BlobFault

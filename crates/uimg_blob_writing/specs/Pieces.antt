@@ -9,7 +9,7 @@ use Rattle.uimg_blob_writing.specs.{declared.fault.TreeFault.TreeFault, Content.
 use Rattle.uimg_blob_writing.specs.Content.{Content, Unread, bytes, size_of, content_bytes, file_of, IsKept}
 use Rattle.uimg_blob_writing.specs.Encoding.{word, padded, with_nul, name_offset, strings, header}
 use Rattle.uimg_blob_writing.specs.Encoding.{reserved, structure_offset}
-use Rattle.uimg_blob_writing.specs.{Alignment.padding_by, Layouts.{Plan, plan_end, totalsize}}
+use Rattle.uimg_blob_writing.specs.{Alignment.filling, Layouts.{Plan, plan_end, totalsize}}
 use Rattle.uimg_blob_writing.specs.{Faults.{is_put, is_no_file, is_read}, UsingFiles.{UsesFiles, OpensEach}}
 
 -- the zeros that pad n bytes to a multiple of 4
@@ -45,7 +45,7 @@ blob_pieces p t =
     (length (strings p.names)))
     ∷ bytes (reserved p.reservations)
     ∷ (nodes_pieces p.names t ++ bytes (word 9) ∷ bytes (strings p.names)
-    ∷ bytes (padding_by p.align (plan_end p)) ∷ [])
+    ∷ bytes (filling p.ending (plan_end p)) ∷ [])
 
 -- What a call that writes pieces does to files and output. At success over honest files, each piece
 -- that is a file has the stored size and all was appended; otherwise a prefix was.

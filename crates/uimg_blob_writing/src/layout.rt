@@ -1,9 +1,9 @@
 //! The result of measuring: the names and sizes of a blob.
 
-ghost use Rattle.std.specs.Prelude.{◌≡◌};
+ghost use Rattle.std.specs.Prelude.{◌≡◌, ◌-◌};
 ghost use Rattle.uimg_blob_writing.specs.{Encoding.structure_offset, Layouts.{plan_end, totalsize}};
 
-use crate::alignment::aligned;
+use crate::blob_end::BlobEnd;
 use crate::reservation::Reservation;
 use std::alloc::Allocator;
 use std::marker::Model;
@@ -15,8 +15,7 @@ pub(crate) const RESERVATION_OFFSET: u32 = 40;
 const ENTRY: u32 = 16;
 
 /// The layout of a tree's blob, known before it is written: the names of the strings block and the
-/// reservations, both borrowed, the sizes of the two other blocks, and the alignment of the blob's
-/// end.
+/// reservations, both borrowed, the sizes of the two other blocks, and the blob's end.
 ///
 /// Contracts see it as a `Plan`. `measure_with` makes it.
 #[derive(Drop)]
@@ -25,7 +24,7 @@ pub struct Layout<'a, A: Allocator> {
     pub(crate) reservations: &'a [Reservation],
     pub(crate) structure_size: u32,
     pub(crate) strings_size: u32,
-    pub(crate) align: u32,
+    pub(crate) ending: BlobEnd,
 }
 
 impl<'a, A: Allocator> Model for Layout<'a, A> {
@@ -42,7 +41,7 @@ impl<'a, A: Allocator> Model for Layout<'a, A> {
       names = name_texts l.names.items;
       reservations = l.reservations.now;
       structure = l.structure_size;
-      align = l.align;
+      ending = l.ending;
     } };
 
     ghost invariant = { λ l. (l.strings_size ≡ length (strings (name_texts l.names.items)))
@@ -50,7 +49,7 @@ impl<'a, A: Allocator> Model for Layout<'a, A> {
           names = name_texts l.names.items;
           reservations = l.reservations.now;
           structure = l.structure_size;
-          align = l.align;
+          ending = l.ending;
         }) < 2 ^ 32)
         × (structure_offset l.reservations.now + l.structure_size + l.strings_size < 2 ^ 32) };
 }
@@ -61,7 +60,15 @@ impl<'a, A: Allocator> Layout<'a, A> {
     pub fn totalsize(&self) -> u32
         ensures { result ≡ totalsize self.now }
     {
-        aligned(self.end(), self.align) as u32
+        self.ending.sized(self.end()) as u32
+    }
+
+    // How many zeros there are behind the strings block.
+    pub(crate) fn room(&self) -> u64
+        ensures { result ≡ totalsize self.now - plan_end self.now }
+    {
+        let end = self.end();
+        (self.ending.sized(end) - end as u128) as u64
     }
 
     // The block follows the reservation block, which a pair of zeros ends.

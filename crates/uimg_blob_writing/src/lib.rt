@@ -5,6 +5,7 @@
 #![tactic(auto)]
 
 mod alignment;
+mod blob_end;
 mod byte_list;
 mod checking;
 mod copying;
@@ -24,11 +25,12 @@ mod tree;
 mod writing;
 
 pub use alignment::{WORD_ALIGNMENT, aligned, put_zeros};
+pub use blob_end::BlobEnd;
 pub use byte_list::ByteList;
 pub use copying::{copy_bytes, copy_node, copy_nodes, copy_properties, copy_property, copy_value};
 pub use fault::TreeFault;
 pub use layout::Layout;
-pub use measuring::{measure, measure_by, measure_with};
+pub use measuring::{measure, measure_with};
 pub use payloads::{put_aligned, value_size};
 pub use props::{Prop, Props, Value};
 pub use reservation::Reservation;

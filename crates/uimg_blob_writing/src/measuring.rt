@@ -4,10 +4,11 @@ ghost use Rattle.std.specs.Prelude.{◌≡◌, ◌≢◌, ℕ, List, [], length,
 ghost use Rattle.uimg_blob_reading.specs.Plain.{AreNamed};
 ghost use Rattle.uimg_blob_reading.specs.declared.fault.BlobFault.TheVariants.{OutOfMemory};
 ghost use Rattle.uimg_blob_writing.specs.Content.{in_full, AreKept};
-ghost use Rattle.uimg_blob_writing.specs.{Encoding.{names_of, encode_by, encode_with}, Layouts.totalsize};
+ghost use Rattle.uimg_blob_writing.specs.{Encoding.{names_of, encode, encode_with}, Layouts.totalsize};
 ghost use Rattle.uimg_blob_writing.specs.{Measured.{measured, measured_by, Measures}, Trees.node_of};
 
-use crate::alignment::{WORD_ALIGNMENT, aligned};
+use crate::alignment::WORD_ALIGNMENT;
+use crate::blob_end::BlobEnd;
 use crate::checking::check_names;
 use crate::layout::{Layout, RESERVATION_OFFSET};
 use crate::names::add_all_names;
@@ -33,46 +34,35 @@ const LARGEST: u128 = 0xffff_ffff;
 ///   counted by its stored size.
 /// - `OutOfMemory`: only if memory for the names was refused.
 pub fn measure<'a, A: Allocator>(alloc: A, tree: &'a Tree<A>) -> Result<Layout<'a, A>, BlobFault>
-    ensures measured { Measures result (measured 4 (node_of tree.now.root)) }
+    ensures measured { Measures result (measured (node_of tree.now.root)) }
     ensures memory { result ≡ Err OutOfMemory → names_of (node_of tree.now.root) ≢ [] }
     ensures named { OnOk result (AreNamed (node_of tree.now.root)) }
     ensures sized { IfOk result (λ layout. (files : List ℕ → Option (List ℕ)) →
         AreKept files (node_of tree.now.root) →
-        length (encode_by 4 (in_full files (node_of tree.now.root))) ≡ totalsize layout) }
+        length (encode (in_full files (node_of tree.now.root))) ≡ totalsize layout) }
 {
-    measure_by(alloc, tree, WORD_ALIGNMENT)
+    let ending = BlobEnd {
+        align: WORD_ALIGNMENT,
+        least: 0,
+    };
+    measure_with(alloc, tree, ending, &[])
 }
 
-/// Measures the blob of a tree as `measure` does, with its end rounded up to an alignment.
-pub fn measure_by<'a, A: Allocator>(
-    alloc: A,
-    tree: &'a Tree<A>,
-    align: u32,
-) -> Result<Layout<'a, A>, BlobFault>
-    ensures measured { Measures result (measured align (node_of tree.now.root)) }
-    ensures memory { result ≡ Err OutOfMemory → names_of (node_of tree.now.root) ≢ [] }
-    ensures named { OnOk result (AreNamed (node_of tree.now.root)) }
-    ensures sized { IfOk result (λ layout. (files : List ℕ → Option (List ℕ)) →
-        AreKept files (node_of tree.now.root) →
-        length (encode_by align (in_full files (node_of tree.now.root))) ≡ totalsize layout) }
-{
-    measure_with(alloc, tree, align, &[])
-}
-
-/// Measures the blob of a tree as `measure_by` does, with these entries in its reservation block.
+/// Measures the blob of a tree as `measure` does, with this end and these entries in its reservation
+/// block.
 pub fn measure_with<'a, A: Allocator>(
     alloc: A,
     tree: &'a Tree<A>,
-    align: u32,
+    ending: BlobEnd,
     reservations: &'a [Reservation],
 ) -> Result<Layout<'a, A>, BlobFault>
     ensures measured { Measures result
-        (measured_by align reservations.now (node_of tree.now.root)) }
+        (measured_by ending reservations.now (node_of tree.now.root)) }
     ensures memory { result ≡ Err OutOfMemory → names_of (node_of tree.now.root) ≢ [] }
     ensures named { OnOk result (AreNamed (node_of tree.now.root)) }
     ensures sized { IfOk result (λ layout. (files : List ℕ → Option (List ℕ)) →
         AreKept files (node_of tree.now.root) →
-        length (encode_with align reservations.now (in_full files (node_of tree.now.root)))
+        length (encode_with ending reservations.now (in_full files (node_of tree.now.root)))
         ≡ totalsize layout) }
 {
     check_names(ThisNode { node: &tree.root })?;
@@ -83,7 +73,7 @@ pub fn measure_with<'a, A: Allocator>(
     let structure = node_size(ThisNode { node: &tree.root }) + 4;
     let strings = strings_size(names.as_slice());
     let offset = RESERVATION_OFFSET as u64 + block_size(reservations);
-    if aligned(offset + structure + strings, align) > LARGEST {
+    if ending.sized(offset + structure + strings) > LARGEST {
         return Err(BlobFault::TooLarge);
     }
     Ok(Layout {
@@ -91,6 +81,6 @@ pub fn measure_with<'a, A: Allocator>(
         reservations,
         structure_size: structure as u32,
         strings_size: strings as u32,
-        align,
+        ending,
     })
 }

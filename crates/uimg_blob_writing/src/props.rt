@@ -43,10 +43,12 @@ impl<A: Allocator> Model for Props<A> {
 }
 
 impl<A: Allocator> Props<A> {
-    /// Creates a list of these properties. Takes no memory.
+    /// Creates a list of these properties. Takes no memory, and gives back what the `Vec` has spare.
     pub fn of(props: Vec<Prop<A>, A>) -> Props<A>
         ensures { result ≡ map property props.items }
     {
+        let mut props = props;
+        props.shrink_to_fit();
         Props { props }
     }
 

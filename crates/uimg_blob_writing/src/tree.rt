@@ -45,10 +45,12 @@ impl<A: Allocator> Model for Nodes<A> {
 }
 
 impl<A: Allocator> Nodes<A> {
-    /// Creates a list of these nodes. Takes no memory.
+    /// Creates a list of these nodes. Takes no memory, and gives back what the `Vec` has spare.
     pub fn of(nodes: Vec<Node<A>, A>) -> Nodes<A>
         ensures { result ≡ siblings nodes.items }
     {
+        let mut nodes = nodes;
+        nodes.shrink_to_fit();
         Nodes { nodes }
     }
 

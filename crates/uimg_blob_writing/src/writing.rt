@@ -7,7 +7,7 @@ ghost use Rattle.uimg_blob_writing.specs.{Names.name_texts, TreeWriting.WritesTr
 ghost use Rattle.uimg_blob_writing.specs.Layouts.{plan_with, totalsize};
 ghost use Rattle.uimg_blob_writing.specs.{Pieces.{blob_pieces, WritesPieces}, Trees.node_of};
 
-use crate::alignment::put_gap;
+use crate::alignment::put_zeros;
 use crate::fault::TreeFault;
 use crate::layout::{Layout, RESERVATION_OFFSET};
 use crate::nodes::{ThisNode, put_node};
@@ -69,7 +69,7 @@ fn put_blob<F: Files, W: Write, A: Allocator>(
     files: &mut F,
     out: &mut Out<W>,
 ) -> Result<(), TreeFault>
-    requires { layout.now ≡ plan_with layout.now.align layout.now.reservations (node_of tree.now.root) }
+    requires { layout.now ≡ plan_with layout.now.ending layout.now.reservations (node_of tree.now.root) }
     ensures fits { totalsize layout.now < 2 ^ 32 }
     ensures writes { WritesPieces F.Opened.steady result (F.map files.old) (F.map files.new)
         out.old out.new
@@ -88,7 +88,7 @@ fn put_blob<F: Files, W: Write, A: Allocator>(
     )?;
     put_end(out)?;
     put_strings(names, out)?;
-    put_gap(layout.end(), layout.align, out)?;
+    put_zeros(layout.room(), out)?;
     Ok(())
 }
 
@@ -96,7 +96,7 @@ fn put_blob<F: Files, W: Write, A: Allocator>(
 /// reservation block, the nodes and properties in order, each property's name once, and zeros up to
 /// the end of the blob.
 ///
-/// The layout must be the one that `measure`, `measure_by` or `measure_with` made of this tree. A
+/// The layout must be the one that `measure` or `measure_with` made of this tree. A
 /// file is opened when its value is written, and copied through a window of 8192 bytes; it is never
 /// held in memory as a whole. If its size is not the one that the tree stores, that counts as a
 /// failed read, before any of its bytes is written.
@@ -115,8 +115,8 @@ pub fn write_tree<F: Files, W: Write, A: Allocator>(
     files: &mut F,
     out: &mut Out<W>,
 ) -> Result<(), TreeFault>
-    requires { layout.now ≡ plan_with layout.now.align layout.now.reservations (node_of tree.now.root) }
-    ensures { WritesTree F.Opened.steady F.map layout.now.align layout.now.reservations
+    requires { layout.now ≡ plan_with layout.now.ending layout.now.reservations (node_of tree.now.root) }
+    ensures { WritesTree F.Opened.steady F.map layout.now.ending layout.now.reservations
         (node_of tree.now.root) result files out }
 {
     put_blob(tree, layout, files, out)

@@ -140,8 +140,8 @@ fn line_of(text: &[u8], left: usize) -> u64 {
 /// refused, is tested against dtc.
 ///
 /// The time grows with the text and the files that are read, and n nodes, properties or labels take
-/// n log n, unless many that are deleted have one name. Memory is the words, the tables and the
-/// tree.
+/// n log n, unless many that are deleted have one name, or a node with many children is deleted many
+/// times. Memory is the words, the tables and the tree.
 ///
 /// - `NoFile`: if and only if an open was refused.
 /// - `ReadFailed`: only if a read of an opened file failed.

@@ -16,6 +16,8 @@ use uimg_fit_base::AlignedPlacement;
 use uimg_fit_building::{build_by, fill};
 use uimg_its::compile;
 
+// Not inlined, so that its window is in no stack frame below which the source is compiled.
+#[inline(never)]
 fn whole_text<S: Source, A: Allocator>(alloc: A, source: &mut S) -> Result<Vec<u8, A>, Fault>
     ensures text { HonestSource S.device source →
         ReadsSourceText (λ text. text.items) (Some (S.device source.old).bytes) result }
@@ -34,7 +36,12 @@ fn whole_text<S: Source, A: Allocator>(alloc: A, source: &mut S) -> Result<Vec<u
     }
 }
 
-fn read_text<F: Files, A: Allocator>(
+/// Reads the text of a source: all bytes of the file with this name.
+///
+/// - `NoFile(0)`: the open was refused.
+/// - `Read`: a read failed.
+/// - `OutOfMemory`: memory for the text was refused.
+pub fn read_text<F: Files, A: Allocator>(
     alloc: A,
     name: &[u8],
     files: &mut F,
@@ -74,6 +81,7 @@ fn filled_tree<F: Files, A: Allocator + Copy>(
 {
     let text = read_text(alloc, name, files)?;
     let tree = compile(alloc, &text, files)?;
+    drop(text);
     let filled = fill(alloc, tree, time, files)?;
     Ok(filled)
 }

@@ -1,7 +1,7 @@
 //! Where the payloads of an image to be built go.
 
 ghost use Rattle.std.specs.Prelude.{◌≡◌};
-ghost use Rattle.uimg_fit_base.specs.Placements.{align_of, aligned_by};
+ghost use Rattle.uimg_fit_base.specs.Placements.{align_of, aligned_by, least_of};
 
 /// The alignment of a blob's own values, and the least of a payload after it.
 pub const WORD_ALIGNMENT: u32 = 4;
@@ -23,7 +23,7 @@ impl Placement {
         ensures { result ≡ aligned_by self align }
     {
         match self {
-            Placement::Inside => AlignedPlacement::Inside,
+            Placement::Inside => AlignedPlacement::Inside { least: 0 },
             Placement::After => AlignedPlacement::After { align },
             Placement::At(position) => AlignedPlacement::At { position, align },
         }
@@ -36,8 +36,9 @@ impl Placement {
 /// `uimg_blob_writing::aligned`.
 #[derive(Clone, Copy)]
 pub enum AlignedPlacement {
-    /// In the blob, as the values of `data`.
-    Inside,
+    /// In the blob, as the values of `data`. The blob has at least so many bytes: zeros behind its
+    /// strings block are free room.
+    Inside { least: u32 },
     /// After the blob, each given by `data-offset`, which counts from the blob's end.
     After { align: u32 },
     /// After the blob, each given by `data-position`, the first at this offset of the file.
@@ -50,9 +51,23 @@ impl AlignedPlacement {
         ensures { result ≡ align_of self }
     {
         match self {
-            AlignedPlacement::Inside => WORD_ALIGNMENT,
+            AlignedPlacement::Inside { least: _ } => WORD_ALIGNMENT,
             AlignedPlacement::After { align } => align,
             AlignedPlacement::At { position: _, align } => align,
+        }
+    }
+
+    /// Returns the least size of the blob in bytes.
+    pub fn least(self) -> u32
+        ensures { result ≡ least_of self }
+    {
+        match self {
+            AlignedPlacement::Inside { least } => least,
+            AlignedPlacement::After { align: _ } => 0,
+            AlignedPlacement::At {
+                position: _,
+                align: _,
+            } => 0,
         }
     }
 }

@@ -93,14 +93,14 @@ module _ (files : List ℕ → Option (List ℕ)) (align : ℕ) where
 module _ (files : List ℕ → Option (List ℕ)) where
   -- the files of what is written behind the blob are kept where those of the tree are
   pub behind-kept : (size : ℕ) (t : Unread) (placement : AlignedPlacement) → AreKept files t → AllByRecursion (IsKept files) (behind_pieces size t placement)
-  behind-kept size t Inside kept = tt
+  behind-kept size t (Inside least) kept = tt
   behind-kept size t (After align) kept = images-kept files align (images t) (images-has (IsKept files) t kept)
   behind-kept size t (At p align) kept = (tt, images-kept files align (images t) (images-has (IsKept files) t kept))
 
   -- what is written behind the blob of a tree
   pub behind-joined : (rs : List Reservation) (size : ℕ) (t : Unread) (placement : AlignedPlacement) → AreKept files t → length (placed_with rs (in_full files t) placement) ≡ size
       → flat_map (content_bytes files) (behind_pieces size t placement) ≡ behind_with rs (in_full files t) placement
-  behind-joined rs size t Inside kept is = refl
+  behind-joined rs size t (Inside least) kept is = refl
   behind-joined rs size t (After align) kept is = payloads-joined files align t kept
   behind-joined rs size t (At p align) kept is =
       ap (λ (w : List ℕ). replicate (p - size) 0 ++ w) (payloads-joined files align t kept)
@@ -108,7 +108,7 @@ module _ (files : List ℕ → Option (List ℕ)) where
 
   length-built : (rs : List Reservation) (size : ℕ) (t : Unread) (placement : AlignedPlacement) → AreKept files t → length (placed_with rs (in_full files t) placement) ≡ size → is_low size placement ≡ false
       → length (built_with rs (in_full files t) placement) ≡ file_size size (padded_sizes (align_of placement) (images_in t)) placement
-  length-built rs size t Inside kept is high = ap (λ (w : List ℕ). length w) (append-nil (placed_with rs (in_full files t) Inside)) ∙ is
+  length-built rs size t (Inside least) kept is high = ap (λ (w : List ℕ). length w) (append-nil (placed_with rs (in_full files t) (Inside least))) ∙ is
   length-built rs size t (After align) kept is high =
       omega (arith, length-append (placed_with rs (in_full files t) (After align)) (payloads align (in_full files t)), is, length-payloads files align t kept)
   length-built rs size t (At p align) kept is high =
@@ -146,7 +146,7 @@ same-test : (n a b : ℕ) → (n < a → n < b) → (n < b → n < a) → nat_lt
 same-test n a b h k = test-step n a b (nat_lt n a) (nat_lt n b) refl refl h k
 
 size-capped : (size room : ℕ) (placement : AlignedPlacement) → nat_lt 4294967295 (file_size size (min room (2 ^ 36)) placement) ≡ nat_lt 4294967295 (file_size size room placement)
-size-capped size room Inside = refl
+size-capped size room (Inside least) = refl
 size-capped size room (After align) = same-test 4294967295 (size + min room (2 ^ 36)) (size + room) (λ h. omega (arith, h)) (λ h. omega (arith, h))
 size-capped size room (At p align) = same-test 4294967295 (p + min room (2 ^ 36)) (p + room) (λ h. omega (arith, h)) (λ h. omega (arith, h))
 

@@ -7,6 +7,7 @@ use Rattle.uimg_blob_reading.specs.declared.fault.BlobFault.{BlobFault}
 use Rattle.uimg_blob_reading.specs.Plain.{NamedOf, NodesOf, no_node, a_node}
 use Rattle.uimg_blob_reading.specs.declared.fault.BlobFault.TheVariants as blob
 use Rattle.uimg_blob_writing.specs.{declared.fault.TreeFault.TreeFault, Encoding.encode_with}
+use Rattle.uimg_blob_writing.specs.declared.blob_end.BlobEnd.{BlobEnd}
 use Rattle.uimg_blob_writing.specs.declared.reservation.Reservation.{Reservation}
 use Rattle.uimg_blob_writing.specs.Content.{Unread, AreKept, IsKept, content_bytes, in_full}
 use Rattle.uimg_blob_writing.specs.Layouts.{Plan, plan_with, totalsize}
@@ -19,7 +20,7 @@ use Rattle.uimg_fit_base.specs.declared.placement.AlignedPlacement.{AlignedPlace
 use Rattle.uimg_fit_base.specs.declared.fault.FitFault.TheVariants.{NoImages, NoData, DataOutside, NoSuchImage, UnknownAlgo, PositionTooLow, TooLarge, OutOfMemory, NoFile, ReadFailed}
 use Rattle.uimg_fit_building.specs.Behind.{images_in, padded_sizes, file_size, end_fault}
 use Rattle.uimg_fit_building.specs.{BuildAnswers.{CanBuildWith, AnswersWith}, Filling.IsFilled}
-use Rattle.uimg_fit_building.specs.{Building.{placed_with, built_with}, ReadsBack.ReadsBack}
+use Rattle.uimg_fit_building.specs.{Building.{end_of, placed_with, built_with}, ReadsBack.ReadsBack}
 use Rattle.uimg_fit_building.specs.{Refusing.{is_low, fault_with}, UnreadTrees.moved_unread}
 use Rattle.uimg_fit_building.specs.BuildSteps.{of_measure, of_writing, MeasuresTree, WritesTextBetween, BuildsBetween}
 use Rattle.uimg_fit_building.proofs.{BehindLaws.fault-same, BuiltLaw.reads_back}
@@ -78,18 +79,18 @@ large-told : (o : Option BlobFault) (p : Plan) → large_in o ≡ false → answ
 large-told None p small e = (refl, ltb-true _ _ (large-step (nat_lt 4294967295 (totalsize p)) p e))
 large-told (Some g) p small e = absurd (let same : g ≡ blob.TooLarge = cc in let told : is_large g ≡ true = ap is_large same in cc)
 
-pub measured-err : (align : ℕ) (rs : List Reservation) (t : Unread) (f : BlobFault) → Measures (Err f) (measured_by align rs t) → MeasuresTree align rs (Err (of_measure f)) t
-measured-err align rs t blob.TooShort e = (bad-told (bad_name t) (plan_with align rs t) blob.TooShort refl e, refl)
-measured-err align rs t blob.BadMagic e = (bad-told (bad_name t) (plan_with align rs t) blob.BadMagic refl e, refl)
-measured-err align rs t blob.BadVersion e = (bad-told (bad_name t) (plan_with align rs t) blob.BadVersion refl e, refl)
-measured-err align rs t blob.BlockOutside e = (bad-told (bad_name t) (plan_with align rs t) blob.BlockOutside refl e, refl)
-measured-err align rs t blob.BadToken e = (bad-told (bad_name t) (plan_with align rs t) blob.BadToken refl e, refl)
-measured-err align rs t blob.Truncated e = (bad-told (bad_name t) (plan_with align rs t) blob.Truncated refl e, refl)
-measured-err align rs t blob.BadNodeName e = (bad-told (bad_name t) (plan_with align rs t) blob.BadNodeName refl e, refl)
-measured-err align rs t blob.BadNesting e = (bad-told (bad_name t) (plan_with align rs t) blob.BadNesting refl e, refl)
-measured-err align rs t blob.BadPropertyName e = (bad-told (bad_name t) (plan_with align rs t) blob.BadPropertyName refl e, refl)
-measured-err align rs t blob.TooLarge e = large-told (bad_name t) (plan_with align rs t) (name-large t) e
-measured-err align rs t blob.OutOfMemory e = tt
+pub measured-err : (ending : BlobEnd) (rs : List Reservation) (t : Unread) (f : BlobFault) → Measures (Err f) (measured_by ending rs t) → MeasuresTree ending rs (Err (of_measure f)) t
+measured-err ending rs t blob.TooShort e = (bad-told (bad_name t) (plan_with ending rs t) blob.TooShort refl e, refl)
+measured-err ending rs t blob.BadMagic e = (bad-told (bad_name t) (plan_with ending rs t) blob.BadMagic refl e, refl)
+measured-err ending rs t blob.BadVersion e = (bad-told (bad_name t) (plan_with ending rs t) blob.BadVersion refl e, refl)
+measured-err ending rs t blob.BlockOutside e = (bad-told (bad_name t) (plan_with ending rs t) blob.BlockOutside refl e, refl)
+measured-err ending rs t blob.BadToken e = (bad-told (bad_name t) (plan_with ending rs t) blob.BadToken refl e, refl)
+measured-err ending rs t blob.Truncated e = (bad-told (bad_name t) (plan_with ending rs t) blob.Truncated refl e, refl)
+measured-err ending rs t blob.BadNodeName e = (bad-told (bad_name t) (plan_with ending rs t) blob.BadNodeName refl e, refl)
+measured-err ending rs t blob.BadNesting e = (bad-told (bad_name t) (plan_with ending rs t) blob.BadNesting refl e, refl)
+measured-err ending rs t blob.BadPropertyName e = (bad-told (bad_name t) (plan_with ending rs t) blob.BadPropertyName refl e, refl)
+measured-err ending rs t blob.TooLarge e = large-told (bad_name t) (plan_with ending rs t) (name-large t) e
+measured-err ending rs t blob.OutOfMemory e = tt
 
 -- a tree that is placed and one whose files are read, of the same tree
 module _ (rs : List Reservation) (t : Unread) (placement : AlignedPlacement) where
@@ -99,10 +100,10 @@ module _ (rs : List Reservation) (t : Unread) (placement : AlignedPlacement) whe
   pub placed-kept : (files : List ℕ → Option (List ℕ)) → AreKept files t → AreKept files (moved_unread t placement)
   placed-kept files kept = placed-values (IsKept files) (λ b. tt) t placement kept
 
-  pub placed-size : (files : List ℕ → Option (List ℕ)) → AreKept files t → length (placed_with rs (in_full files t) placement) ≡ totalsize (plan_with (align_of placement) rs (moved_unread t placement))
-  placed-size files kept = ap (λ u. length (encode_with (align_of placement) rs u)) (moved-unread files t placement kept) ∙ encode-size files (align_of placement) rs (moved_unread t placement) (placed-kept files kept)
+  pub placed-size : (files : List ℕ → Option (List ℕ)) → AreKept files t → length (placed_with rs (in_full files t) placement) ≡ totalsize (plan_with (end_of placement) rs (moved_unread t placement))
+  placed-size files kept = ap (λ u. length (encode_with (end_of placement) rs u)) (moved-unread files t placement kept) ∙ encode-size files (end_of placement) rs (moved_unread t placement) (placed-kept files kept)
 
-  pub large-fault : (files : List ℕ → Option (List ℕ)) → AreKept files t → 4294967295 < totalsize (plan_with (align_of placement) rs (moved_unread t placement)) → fault_with rs (in_full files t) placement ≡ Some TooLarge
+  pub large-fault : (files : List ℕ → Option (List ℕ)) → AreKept files t → 4294967295 < totalsize (plan_with (end_of placement) rs (moved_unread t placement)) → fault_with rs (in_full files t) placement ≡ Some TooLarge
   unfolding fault_with
   large-fault files kept large =
       let over : nat_lt 4294967295 (length (placed_with rs (in_full files t) placement)) ≡ true = ap (λ (n : ℕ). nat_lt 4294967295 n) (placed-size files kept) ∙ lt-ltb _ _ large in
@@ -135,7 +136,7 @@ module _ (steady : Bool) (rs : List Reservation) (t : Unread) (placement : Align
   }
 
   -- the tree can't be measured
-  pub unmeasured : (e : Fault) → (let r : Result Plan Fault = Err e in MeasuresTree (align_of placement) rs r (moved_unread t placement)) → BuildsBetween steady rs t placement (failed e) m m s s
+  pub unmeasured : (e : Fault) → (let r : Result Plan Fault = Err e in MeasuresTree (end_of placement) rs r (moved_unread t placement)) → BuildsBetween steady rs t placement (failed e) m m s s
   unmeasured (Blob fault at) h = record {
     files = record { same = same-map m; refusals = refl };
     found = λ complete kept. refl;
@@ -166,7 +167,7 @@ module _ (steady : Bool) (rs : List Reservation) (t : Unread) (placement : Align
   unmeasured Read h = absurd h
   unmeasured Put h = absurd h
 
-  module _ (p : Plan) (is : (let r : Result Plan Fault = Ok p in MeasuresTree (align_of placement) rs r (moved_unread t placement))) (small : totalsize p ≤ 4294967295) where
+  module _ (p : Plan) (is : (let r : Result Plan Fault = Ok p in MeasuresTree (end_of placement) rs r (moved_unread t placement))) (small : totalsize p ≤ 4294967295) where
     sized : (files : List ℕ → Option (List ℕ)) → AreKept files t → length (placed_with rs (in_full files t) placement) ≡ totalsize p
     sized files kept = placed-size rs t placement files kept ∙ ap totalsize is.1
 

@@ -8,7 +8,7 @@ use Rattle.uimg_blob_writing.proofs.MeasuredLaws.{are_named}
 use Rattle.uimg_fit_base.specs.declared.fault.FitFault.TheVariants.{PositionTooLow, TooLarge}
 use Rattle.uimg_fit_base.specs.declared.placement.AlignedPlacement.{AlignedPlacement}
 use Rattle.uimg_fit_base.specs.declared.placement.AlignedPlacement.TheVariants.{Inside, After, At}
-use Rattle.uimg_fit_building.specs.{Filling.IsFilled, Building.{placed_with, built_with}}
+use Rattle.uimg_fit_building.specs.{Filling.IsFilled, Building.{end_of, placed_with, built_with}}
 use Rattle.uimg_fit_building.specs.{Refusing.{is_low, fault_with}, ReadsBack.ReadsBack}
 use Rattle.uimg_fit_building.proofs.{InsideLaw.built-inside, OutsideLaw.{built-after, built-at}}
 
@@ -37,8 +37,8 @@ module _ (rs : List Reservation) (name : List ℕ) (own : List Named) (below : N
 
   -- a filled tree that can be built is what is read of its file again
   pub reads_back : (placement : AlignedPlacement) → bad_name t ≡ None → IsFilled t → fault_with rs t placement ≡ None → ReadsBack (built_with rs t placement) t
-  reads_back Inside good filled ok =
-      let small : length (encode_with 4 rs t) < 2 ^ 32 = omega (arith, fits Inside ok, length-append (encode_with 4 rs t) []) in
-      built-inside rs name own below (are_named t good) small filled
+  reads_back (Inside least) good filled ok =
+      let small : length (encode_with (end_of (Inside least)) rs t) < 2 ^ 32 = omega (arith, fits (Inside least) ok, length-append (encode_with (end_of (Inside least)) rs t) []) in
+      built-inside least rs name own below (are_named t good) small filled
   reads_back (After align) good filled ok = built-after align rs name own below (are_named t good) filled (fits (After align) ok)
   reads_back (At p align) good filled ok = built-at align rs name own below (are_named t good) filled p (high p align ok) (fits (At p align) ok)

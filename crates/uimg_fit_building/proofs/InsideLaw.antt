@@ -8,6 +8,7 @@ use Rattle.uimg_blob_reading.specs.Plain.{Named, Nodes, no_node, a_node, AllValu
 use Rattle.uimg_blob_reading.specs.{LookUps.{NodeOf, first, images}, Indexed.value_span}
 use Rattle.uimg_blob_writing.specs.Encoding.{structure_offset, encode_with}
 use Rattle.uimg_blob_writing.proofs.Spelling.{placed}
+use Rattle.uimg_blob_writing.specs.declared.blob_end.BlobEnd.{BlobEnd}
 use Rattle.uimg_blob_writing.specs.declared.reservation.Reservation.{Reservation}
 use Rattle.uimg_blob_writing.proofs.ReadsBackLaw.{encode-tree}
 use Rattle.uimg_fit_base.specs.{declared.fault.FitFault.FitFault, Places.{embedded, bytes_at}}
@@ -15,7 +16,7 @@ use Rattle.uimg_fit_base.specs.{declared.placement.AlignedPlacement.TheVariants.
 use Rattle.uimg_fit_base.specs.Files.{listed_or, images_of, number, cell}
 use Rattle.uimg_fit_base.proofs.{ReadLaws.tree-lies, FileLaws.images_are}
 use Rattle.uimg_base.specs.Results.{◌>>=◌}
-use Rattle.uimg_fit_building.specs.{Filling.{IsFilledImage, IsFilled}, Building.{data_of, built_with}}
+use Rattle.uimg_fit_building.specs.{Filling.{IsFilledImage, IsFilled}, Building.{data_of, built_with, end_of}}
 use Rattle.uimg_fit_building.specs.ReadsBack.{ReadsBack}
 use Rattle.uimg_fit_building.proofs.SpotLaws.{Lies, lies-spots, bytes-placed}
 use Rattle.uimg_fit_building.proofs.SoundLaws.{plain, IsSound, AreSound, reads_back-sound}
@@ -34,16 +35,16 @@ read-from file None found e h is = absurd (cc)
 read-from file (Some l) found e h is = record { placed = l; are = is; same = cc; lie = h }
 
 -- the images of a file that begins with the blob of a tree are those of the tree
-pub images-read : (align : ℕ) (rs : List Reservation) (name : List ℕ) (own : List Named) (below : Nodes) (more : List ℕ) (found : List (NodeOf (List ℕ)))
+pub images-read : (ending : BlobEnd) (rs : List Reservation) (name : List ℕ) (own : List Named) (below : Nodes) (more : List ℕ) (found : List (NodeOf (List ℕ)))
     → (let u : Nodes = a_node name own below no_node in AreNamed u)
-    → (let u : Nodes = a_node name own below no_node in length (encode_with align rs u)) < 2 ^ 32
+    → (let u : Nodes = a_node name own below no_node in length (encode_with ending rs u)) < 2 ^ 32
     → (let u : Nodes = a_node name own below no_node in images u ≡ Some found)
-    → (let u : Nodes = a_node name own below no_node in IsRead (encode_with align rs u ++ more) found)
-images-read align rs name own below more found named fits are =
+    → (let u : Nodes = a_node name own below no_node in IsRead (encode_with ending rs u ++ more) found)
+images-read ending rs name own below more found named fits are =
     let u : Nodes = a_node name own below no_node in
-    let file = encode_with align rs u ++ more in
+    let file = encode_with ending rs u ++ more in
     let o = structure_offset rs in
-    let read : tree file ≡ Ok (placed o u) = encode-tree align rs name own below named fits more in
+    let read : tree file ≡ Ok (placed o u) = encode-tree ending rs name own below named fits more in
     let s = spots (placed o u) in
     let lie : AllValues (Lies file) s = lies-spots file (placed o u) (subst (λ (r : Result Siblings Fault). IfOk r (Lie file)) read (tree-lies file)) in
     let views : option_map (λ (l : List (NodeOf Spot)). map plain l) (images s) ≡ Some found =
@@ -77,15 +78,15 @@ inside-images : (file : List ℕ) (is : List (NodeOf Spot)) → AllByRecursion (
 inside-images file [] lie f = tt
 inside-images file (i ∷ is) lie f = (inside-image file i lie.0 f.0, inside-images file is lie.1 f.1)
 
-pub built-inside : (rs : List Reservation) (name : List ℕ) (own : List Named) (below : Nodes)
+pub built-inside : (least : ℕ) (rs : List Reservation) (name : List ℕ) (own : List Named) (below : Nodes)
     → (let t : Nodes = a_node name own below no_node in AreNamed t)
-    → (let t : Nodes = a_node name own below no_node in length (encode_with 4 rs t)) < 2 ^ 32
+    → (let t : Nodes = a_node name own below no_node in length (encode_with (end_of (Inside least)) rs t)) < 2 ^ 32
     → (let t : Nodes = a_node name own below no_node in IsFilled t)
-    → (let t : Nodes = a_node name own below no_node in ReadsBack (built_with rs t Inside) t)
-built-inside rs name own below named fits f =
+    → (let t : Nodes = a_node name own below no_node in ReadsBack (built_with rs t (Inside least)) t)
+built-inside least rs name own below named fits f =
     let t : Nodes = a_node name own below no_node in
-    let file = encode_with 4 rs t ++ [] in
-    let r = images-read 4 rs name own below [] f.found named fits f.are_images in
+    let file = encode_with (end_of (Inside least)) rs t ++ [] in
+    let r = images-read (end_of (Inside least)) rs name own below [] f.found named fits f.are_images in
     let filled : AllByRecursion (IsFilledImage Profile) (map plain r.placed) = subst (λ (l : List (NodeOf (List ℕ))). AllByRecursion (IsFilledImage Profile) l) (sym r.same) f.each_filled in
     let sound : AreSound file r.placed (map (λ (i : NodeOf (List ℕ)). data_of i.own) f.found) =
     subst (λ (l : List (NodeOf (List ℕ))). AreSound file r.placed (map (λ (i : NodeOf (List ℕ)). data_of i.own) l)) r.same (inside-images file r.placed r.lie filled) in

@@ -73,7 +73,7 @@ module _ (files : List ℕ → Option (List ℕ)) where
 
   -- the files of a tree are kept where those of its blob are, and those of what stands behind it
   pub both-kept : (size : ℕ) (t : Unread) (placement : AlignedPlacement) → AreKept files (moved_unread t placement) → all_pieces (behind_pieces size t placement) → AreKept files t
-  both-kept size t Inside placed behind = placed
+  both-kept size t (Inside least) placed behind = placed
   both-kept size t (After align) placed behind = tree-kept align (codes "data-offset") 0 t placed behind
   both-kept size t (At p align) placed behind = tree-kept align (codes "data-position") p t placed behind.1
 

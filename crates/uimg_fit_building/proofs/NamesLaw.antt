@@ -89,7 +89,7 @@ module _ (align : ℕ) (key : List ℕ) (good : is_name key ≡ true) where
 
 -- the bad name of a tree whose payloads are placed
 pub placed-names : (t : Unread) (placement : AlignedPlacement) → bad_name (moved_unread t placement) ≡ bad_name t
-placed-names t Inside = refl
+placed-names t (Inside least) = refl
 placed-names t (After align) = images-names align (codes "data-offset") offset_is_good 0 t
 placed-names t (At p align) = images-names align (codes "data-position") position_is_good p t
 
@@ -130,6 +130,6 @@ module _ (P : Content → Type 0) (of-bytes : (b : List ℕ) → P (bytes b)) wh
 
   -- a fact on all values is one on those of the tree whose payloads are placed
   pub placed-values : (t : Unread) (placement : AlignedPlacement) → AllValues P t → AllValues P (moved_unread t placement)
-  placed-values t Inside h = h
+  placed-values t (Inside least) h = h
   placed-values t (After align) h = kept-images align (codes "data-offset") 0 t h
   placed-values t (At p align) h = kept-images align (codes "data-position") p t h

@@ -70,6 +70,6 @@ payloads-files align (i ∷ is) =
     ∙ ap (λ (l : List (List ℕ)). payload_file (first i.own (codes "data")) ++ l) (payloads-files align is)
 
 pub behind-files : (size : ℕ) (t : Unread) (placement : AlignedPlacement) → flat_map file_of (behind_pieces size t placement) ≡ files_behind t placement
-behind-files size t Inside = refl
+behind-files size t (Inside least) = refl
 behind-files size t (After align) = payloads-files align (images_in t)
 behind-files size t (At p align) = payloads-files align (images_in t)

@@ -7,7 +7,7 @@ use Rattle.uimg_names.specs.declared.naming.Naming.TheVariants.{Profile}
 use Rattle.uimg_texts.specs.Numbers.{be32, up4}
 use Rattle.uimg_blob_reading.specs.{Plain.{Named, Nodes, no_node, a_node, AreNamed}, Spots.Spot}
 use Rattle.uimg_blob_reading.specs.LookUps.{NodeOf, first, images, hashes}
-use Rattle.uimg_blob_writing.{specs.Alignment.{padding_by, padded_by}, proofs.TokenLaws.drop-piece}
+use Rattle.uimg_blob_writing.{specs.Alignment.{ends_at, padding_by, padded_by}, proofs.TokenLaws.drop-piece}
 use Rattle.uimg_blob_writing.specs.Encoding.{word, structure, structure_offset, strings, names_of, encode_with}
 use Rattle.uimg_blob_writing.specs.declared.reservation.Reservation.{Reservation}
 use Rattle.uimg_blob_writing.proofs.AlignmentLaws.{aligned-words}
@@ -99,8 +99,8 @@ payloads-found align t found are =
     ap (λ (o : Option (List (NodeOf (List ℕ)))). stored align (unwrap_or o [])) are ∙ sym (append-nil (stored align found))
 
 -- the length of a blob is a multiple of 4
-encode-aligned : (align : ℕ) (rs : List Reservation) (t : Nodes) → up4 (length (encode_with align rs t)) ≡ length (encode_with align rs t)
-encode-aligned align rs t = let end = structure_offset rs + length (structure t) + length (strings (names_of t)) in omega (arith, length-encode align rs t, aligned-words align end)
+encode-aligned : (align : ℕ) (rs : List Reservation) (t : Nodes) → up4 (length (encode_with (ends_at align) rs t)) ≡ length (encode_with (ends_at align) rs t)
+encode-aligned align rs t = let end = structure_offset rs + length (structure t) + length (strings (names_of t)) in omega (arith, length-encode (ends_at align) rs t, aligned-words align end)
 
 module _ (align : ℕ) (rs : List Reservation) (name : List ℕ) (own : List Named) (below : Nodes)
     (named : let t : Nodes = a_node name own below no_node in AreNamed t) (filled : let t : Nodes = a_node name own below no_node in IsFilled t) where
@@ -114,17 +114,17 @@ module _ (align : ℕ) (rs : List Reservation) (name : List ℕ) (own : List Nam
       let moved_below = in_first (codes "images") (moved_from align key 0) below in
       let u : Nodes = a_node name own moved_below no_node in
       let more = payloads align t in
-      let file = encode_with align rs u ++ more in
-      let all : length file ≡ length (encode_with align rs u) + length more = length-append (encode_with align rs u) more in
-      let blob_fits : length (encode_with align rs u) < 2 ^ 32 = omega (arith, all, fits) in
+      let file = encode_with (ends_at align) rs u ++ more in
+      let all : length file ≡ length (encode_with (ends_at align) rs u) + length more = length-append (encode_with (ends_at align) rs u) more in
+      let blob_fits : length (encode_with (ends_at align) rs u) < 2 ^ 32 = omega (arith, all, fits) in
       let named_u : AreNamed u = named-images align key 0 t offset_is_name named in
       let are_u : images u ≡ Some (moved_nodes align key 0 filled.found) = images-moved align key 0 t ∙ ap (λ (o : Option (List (NodeOf (List ℕ)))). option_map (moved_nodes align key 0) o) filled.are_images in
-      let r = images-read align rs name own moved_below more (moved_nodes align key 0 filled.found) named_u blob_fits are_u in
-      let total : up4 (be32 file 4) ≡ length (encode_with align rs u) = ap (λ (n : ℕ). up4 n) (totalsize align rs name own moved_below named_u blob_fits more) ∙ encode-aligned align rs u in
-      let none : length (encode_with align rs u) + 0 ≡ length (encode_with align rs u) = omega arith in
-      let here : drop (length (encode_with align rs u) + 0) file ≡ stored align filled.found ++ [] =
-      ap (λ (k : ℕ). drop k file) none ∙ drop-append_seam (encode_with align rs u) more ∙ payloads-found align t filled.found filled.are_images in
-      let sound = outside-images align key other (length (encode_with align rs u)) file refl refl refl refl (λ i f. f.no_offset) (λ i f. f.no_position)
+      let r = images-read (ends_at align) rs name own moved_below more (moved_nodes align key 0 filled.found) named_u blob_fits are_u in
+      let total : up4 (be32 file 4) ≡ length (encode_with (ends_at align) rs u) = ap (λ (n : ℕ). up4 n) (totalsize (ends_at align) rs name own moved_below named_u blob_fits more) ∙ encode-aligned align rs u in
+      let none : length (encode_with (ends_at align) rs u) + 0 ≡ length (encode_with (ends_at align) rs u) = omega arith in
+      let here : drop (length (encode_with (ends_at align) rs u) + 0) file ≡ stored align filled.found ++ [] =
+      ap (λ (k : ℕ). drop k file) none ∙ drop-append_seam (encode_with (ends_at align) rs u) more ∙ payloads-found align t filled.found filled.are_images in
+      let sound = outside-images align key other (length (encode_with (ends_at align) rs u)) file refl refl refl refl (λ i f. f.no_offset) (λ i f. f.no_position)
       (λ i at size at_cell size_cell other_cell. rw (other_cell, at_cell, size_cell, total) refl)
       fits r.placed filled.found 0 [] r.same filled.each_filled (omega (arith, all)) here in
       reads_back-sound file t r.placed filled.found r.are filled.are_images sound
@@ -135,21 +135,21 @@ module _ (align : ℕ) (rs : List Reservation) (name : List ℕ) (own : List Nam
       let other = codes "data-offset" in
       let moved_below = in_first (codes "images") (moved_from align key p) below in
       let u : Nodes = a_node name own moved_below no_node in
-      let gap : List ℕ = replicate (p - length (encode_with align rs u)) 0 in
+      let gap : List ℕ = replicate (p - length (encode_with (ends_at align) rs u)) 0 in
       let more = gap ++ payloads align t in
-      let file = encode_with align rs u ++ more in
-      let all : length file ≡ length (encode_with align rs u) + length more = length-append (encode_with align rs u) more in
+      let file = encode_with (ends_at align) rs u ++ more in
+      let all : length file ≡ length (encode_with (ends_at align) rs u) + length more = length-append (encode_with (ends_at align) rs u) more in
       let all_more : length more ≡ length gap + length (payloads align t) = length-append gap (payloads align t) in
-      let gap_length : length gap ≡ p - length (encode_with align rs u) = length-replicate {A = ℕ} (p - length (encode_with align rs u)) 0 in
-      let front : length (encode_with align rs u ++ gap) ≡ p = omega (arith, length-append (encode_with align rs u) gap, gap_length, above) in
-      let from_start : 0 + p ≡ length (encode_with align rs u ++ gap) = omega (arith, front) in
-      let blob_fits : length (encode_with align rs u) < 2 ^ 32 = omega (arith, all, fits) in
+      let gap_length : length gap ≡ p - length (encode_with (ends_at align) rs u) = length-replicate {A = ℕ} (p - length (encode_with (ends_at align) rs u)) 0 in
+      let front : length (encode_with (ends_at align) rs u ++ gap) ≡ p = omega (arith, length-append (encode_with (ends_at align) rs u) gap, gap_length, above) in
+      let from_start : 0 + p ≡ length (encode_with (ends_at align) rs u ++ gap) = omega (arith, front) in
+      let blob_fits : length (encode_with (ends_at align) rs u) < 2 ^ 32 = omega (arith, all, fits) in
       let named_u : AreNamed u = named-images align key p t position_is_name named in
       let are_u : images u ≡ Some (moved_nodes align key p filled.found) = images-moved align key p t ∙ ap (λ (o : Option (List (NodeOf (List ℕ)))). option_map (moved_nodes align key p) o) filled.are_images in
-      let r = images-read align rs name own moved_below more (moved_nodes align key p filled.found) named_u blob_fits are_u in
+      let r = images-read (ends_at align) rs name own moved_below more (moved_nodes align key p filled.found) named_u blob_fits are_u in
       let here : drop (0 + p) file ≡ stored align filled.found ++ [] =
-      ap (λ (k : ℕ). drop k file) from_start ∙ ap (λ (w : List ℕ). drop (length (encode_with align rs u ++ gap)) w) (sym (append_assoc (encode_with align rs u) gap (payloads align t)))
-      ∙ drop-append_seam (encode_with align rs u ++ gap) (payloads align t) ∙ payloads-found align t filled.found filled.are_images in
+      ap (λ (k : ℕ). drop k file) from_start ∙ ap (λ (w : List ℕ). drop (length (encode_with (ends_at align) rs u ++ gap)) w) (sym (append_assoc (encode_with (ends_at align) rs u) gap (payloads align t)))
+      ∙ drop-append_seam (encode_with (ends_at align) rs u ++ gap) (payloads align t) ∙ payloads-found align t filled.found filled.are_images in
       let sound = outside-images align key other 0 file refl refl refl refl (λ i f. f.no_position) (λ i f. f.no_offset)
       (λ i at size at_cell size_cell other_cell. rw (at_cell, size_cell) refl)
       fits r.placed filled.found p [] r.same filled.each_filled (omega (arith, all, all_more, gap_length, above)) here in

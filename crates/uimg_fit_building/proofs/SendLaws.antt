@@ -9,8 +9,7 @@ use Rattle.uimg_blob_writing.specs.{Content.{Unread, AreKept, in_full}, UsingFil
 use Rattle.uimg_blob_writing.specs.{Faults.{is_no_file, is_put, is_read}, Pieces.WritesPieces}
 use Rattle.uimg_blob_writing.{specs.Layouts.{plan_with, totalsize}, proofs.WritesLaws.rises-then}
 use Rattle.uimg_fit_base.specs.declared.placement.AlignedPlacement.{AlignedPlacement}
-use Rattle.uimg_fit_base.specs.Placements.{align_of}
-use Rattle.uimg_fit_building.specs.{Behind.behind_pieces, Building.{placed_with, behind_with}}
+use Rattle.uimg_fit_building.specs.{Behind.behind_pieces, Building.{end_of, placed_with, behind_with}}
 use Rattle.uimg_fit_building.specs.{BuildSteps.WritesTextBetween, UnreadTrees.moved_unread}
 use Rattle.uimg_fit_building.proofs.BehindLaws.{behind-kept, behind-joined}
 use Rattle.uimg_fit_building.proofs.{BuildLaws.{placed-kept, placed-size}, UnreadLaws.moved-unread}
@@ -67,7 +66,7 @@ module _ (steady : Bool) (t : Unread) where
     pub blob-sent : (placed : Unread) → placed ≡ moved_unread t placement → UsesFiles (is_no_file r) m n → RisesIf (is_put r) s.faults u.faults
         → (IsTrue m.complete → AreKept m.bytes placed → is_no_file r ≡ false)
         → (IsTrue steady → IsTrue m.honest → AreKept m.bytes placed → is_read r ≡ false)
-        → (IsTrue m.honest → AreKept m.bytes placed → Written (is_err r) s u (encode_with (align_of placement) rs (in_full m.bytes placed)))
+        → (IsTrue m.honest → AreKept m.bytes placed → Written (is_err r) s u (encode_with (end_of placement) rs (in_full m.bytes placed)))
         → WritesTextBetween steady t r m n s u (λ files. placed_with rs (in_full files t) placement)
     blob-sent placed is files faults found reads written = record {
       files = files;
@@ -75,7 +74,7 @@ module _ (steady : Bool) (t : Unread) where
       found = λ complete kept. found complete (all_kept kept);
       reads = λ always honest kept. reads always honest (all_kept kept);
       written = λ honest kept.
-          subst (λ (w : List ℕ). Written (is_err r) s u w) (ap (λ (p : Unread). encode_with (align_of placement) rs (in_full m.bytes p)) is ∙ ap (encode_with (align_of placement) rs) (sym (moved-unread m.bytes t placement kept)))
+          subst (λ (w : List ℕ). Written (is_err r) s u w) (ap (λ (p : Unread). encode_with (end_of placement) rs (in_full m.bytes p)) is ∙ ap (encode_with (end_of placement) rs) (sym (moved-unread m.bytes t placement kept)))
           (written honest (all_kept kept));
     }
       where
@@ -83,7 +82,7 @@ module _ (steady : Bool) (t : Unread) where
         all_kept kept = subst (λ (p : Unread). AreKept m.bytes p) (sym is) (placed-kept rs t placement m.bytes kept)
 
     -- what stands behind it
-    pub behind-sent : (size : ℕ) → totalsize (plan_with (align_of placement) rs (moved_unread t placement)) ≡ size → WritesPieces steady r m n s u (behind_pieces size t placement) → WritesTextBetween steady t r m n s u (λ files. behind_with rs (in_full files t) placement)
+    pub behind-sent : (size : ℕ) → totalsize (plan_with (end_of placement) rs (moved_unread t placement)) ≡ size → WritesPieces steady r m n s u (behind_pieces size t placement) → WritesTextBetween steady t r m n s u (λ files. behind_with rs (in_full files t) placement)
     behind-sent size is p = record {
       files = p.files;
       faults = p.faults;

@@ -71,6 +71,6 @@ module _ (files : List ℕ → Option (List ℕ)) where
   images-moved align key at (a_node name own below after) kept = ap (λ (u : Nodes). a_node name (map (with_value read) own) u (with_values read after)) (in-moved align (codes "images") key at below kept.1)
 
   pub moved-unread : (t : Unread) (placement : AlignedPlacement) → AllValues (IsKept files) t → moved (with_values read t) placement ≡ with_values read (moved_unread t placement)
-  moved-unread t Inside kept = refl
+  moved-unread t (Inside least) kept = refl
   moved-unread t (After align) kept = images-moved align (codes "data-offset") 0 t kept
   moved-unread t (At p align) kept = images-moved align (codes "data-position") p t kept

@@ -34,14 +34,14 @@ padded_sizes align (i ∷ is) = padded_size_of align i.own + padded_sizes align 
 
 -- what follows a blob of a size
 abbrev pub behind_pieces : ℕ → Unread → AlignedPlacement → List Content
-behind_pieces size t Inside = []
+behind_pieces size t (Inside least) = []
 behind_pieces size t (After align) = flat_map (payload_pieces align) (images_in t)
 behind_pieces size t (At p align) =
     bytes (replicate (p - size) 0) ∷ flat_map (payload_pieces align) (images_in t)
 
 -- the size of the file
 abbrev pub file_size : ℕ → ℕ → AlignedPlacement → ℕ
-file_size size padded Inside = size
+file_size size padded (Inside least) = size
 file_size size padded (After align) = size + padded
 file_size size padded (At p align) = p + padded
 

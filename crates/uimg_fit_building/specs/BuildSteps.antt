@@ -7,6 +7,7 @@ use Rattle.uimg_blob_reading.specs.declared.fault.BlobFault.TheVariants as blob
 use Rattle.uimg_blob_writing.specs.{declared.fault.TreeFault.TreeFault, Measured.bad_name}
 use Rattle.uimg_blob_writing.specs.{Content.{Unread, AreKept, in_full}, UsingFiles.UsesFiles}
 use Rattle.uimg_blob_writing.specs.Layouts.{Plan, plan_with, totalsize}
+use Rattle.uimg_blob_writing.specs.declared.blob_end.BlobEnd.{BlobEnd}
 use Rattle.uimg_blob_writing.specs.declared.reservation.Reservation.{Reservation}
 use Rattle.uimg_blob_writing.specs.declared.fault.TreeFault.TheVariants as tree
 use Rattle.uimg_blob_writing.specs.Faults as writing
@@ -29,16 +30,16 @@ of_writing tree.Put = Put
 of_writing tree.Read = Read
 of_writing tree.NoFile = Fit NoFile
 
--- What the result of measuring says of a tree, with an alignment and reservations.
-abbrev pub MeasuresTree : ℕ → List Reservation → Result Plan Fault → Unread → Type 0
-MeasuresTree align rs (Ok p) t = (bad_name t ≡ None) × (plan_with align rs t ≡ p)
-MeasuresTree align rs (Err (Blob fault at)) t = (bad_name t ≡ Some fault) × (at ≡ 0)
-MeasuresTree align rs (Err (Fit TooLarge)) t =
-    (bad_name t ≡ None) × (4294967295 < totalsize (plan_with align rs t))
-MeasuresTree align rs (Err (Fit OutOfMemory)) t = ⊤
-MeasuresTree align rs (Err (Fit fault)) t = ⊥
-MeasuresTree align rs (Err Read) t = ⊥
-MeasuresTree align rs (Err Put) t = ⊥
+-- What the result of measuring says of a tree, with an end and reservations.
+abbrev pub MeasuresTree : BlobEnd → List Reservation → Result Plan Fault → Unread → Type 0
+MeasuresTree ending rs (Ok p) t = (bad_name t ≡ None) × (plan_with ending rs t ≡ p)
+MeasuresTree ending rs (Err (Blob fault at)) t = (bad_name t ≡ Some fault) × (at ≡ 0)
+MeasuresTree ending rs (Err (Fit TooLarge)) t =
+    (bad_name t ≡ None) × (4294967295 < totalsize (plan_with ending rs t))
+MeasuresTree ending rs (Err (Fit OutOfMemory)) t = ⊤
+MeasuresTree ending rs (Err (Fit fault)) t = ⊥
+MeasuresTree ending rs (Err Read) t = ⊥
+MeasuresTree ending rs (Err Put) t = ⊥
 
 -- What a call does that writes a text, which depends on files, if those of a tree are kept.
 pub record WritesTextBetween {X : Type 0} (steady : Bool) (t : Unread) (answer : Result X TreeFault)

@@ -4,10 +4,11 @@ use Rattle.std.specs.{Prelude.{codes, unwrap_or}, List.flat_map, Option.option_m
 use Rattle.uimg_blob_reading.specs.Plain.{NamedOf, NodesOf, Named, Nodes, no_node, a_node}
 use Rattle.uimg_blob_reading.specs.LookUps.{first, images}
 use Rattle.uimg_blob_writing.specs.{Alignment.{aligned, padded_by}, Encoding.{word, encode_with}}
+use Rattle.uimg_blob_writing.specs.declared.blob_end.BlobEnd.{BlobEnd}
 use Rattle.uimg_blob_writing.specs.declared.reservation.Reservation.{Reservation}
 use Rattle.uimg_fit_base.specs.declared.placement.AlignedPlacement.{AlignedPlacement}
 use Rattle.uimg_fit_base.specs.declared.placement.AlignedPlacement.TheVariants.{Inside, After, At}
-use Rattle.uimg_fit_base.specs.Placements.{align_of}
+use Rattle.uimg_fit_base.specs.Placements.{align_of, least_of}
 use Rattle.uimg_fit_building.specs.Filling.{with_images}
 
 -- the first `data` of an image, or nothing
@@ -45,7 +46,7 @@ moved_from_by size made align key at (a_node name own below after) =
 -- end; or at `data-position`, which counts from the file's start
 abbrev pub moved_by : {V : Type 0} → (V → ℕ) → (List ℕ → V) → NodesOf V → AlignedPlacement
     → NodesOf V
-moved_by size made t Inside = t
+moved_by size made t (Inside least) = t
 moved_by size made t (After align) =
     with_images (moved_from_by size made align (codes "data-offset") 0) t
 moved_by size made t (At p align) =
@@ -68,13 +69,17 @@ moved = moved_by (λ value. length value) (λ value. value)
 abbrev pub payloads : ℕ → Nodes → List ℕ
 payloads align t = flat_map (λ image. padded_by align (data_of image.own)) (unwrap_or (images t) [])
 
+-- the end of a tree's blob
+abbrev pub end_of : AlignedPlacement → BlobEnd
+end_of placement = record { align = align_of placement; least = least_of placement }
+
 -- the blob of a tree with its payloads placed, with reservations
 abbrev pub placed_with : List Reservation → Nodes → AlignedPlacement → List ℕ
-placed_with rs t placement = encode_with (align_of placement) rs (moved t placement)
+placed_with rs t placement = encode_with (end_of placement) rs (moved t placement)
 
 -- what follows the blob
 abbrev pub behind_with : List Reservation → Nodes → AlignedPlacement → List ℕ
-behind_with rs t Inside = []
+behind_with rs t (Inside least) = []
 behind_with rs t (After align) = payloads align t
 behind_with rs t (At p align) =
     replicate (p - length (placed_with rs t (At p align))) 0 ++ payloads align t

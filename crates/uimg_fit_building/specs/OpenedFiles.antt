@@ -36,7 +36,7 @@ summed_files (Some images) = flat_map summed_file images
 
 -- the files that are written after a blob: the payloads of all images, in order
 abbrev pub files_behind : Unread → AlignedPlacement → List (List ℕ)
-files_behind t Inside = []
+files_behind t (Inside least) = []
 files_behind t (After align) =
     flat_map (λ i. payload_file (first i.own (codes "data"))) (images_in t)
 files_behind t (At position align) =

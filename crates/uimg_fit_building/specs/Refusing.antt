@@ -43,7 +43,7 @@ fill_of time t = fill_by Profile time t
 
 -- the payloads would begin before the blob's end
 abbrev pub is_low : ℕ → AlignedPlacement → Bool
-is_low size Inside = Bool.false
+is_low size (Inside least) = Bool.false
 is_low size (After align) = Bool.false
 is_low size (At p align) = nat_lt p size
 

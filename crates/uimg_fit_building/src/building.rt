@@ -4,10 +4,10 @@ ghost use Rattle.std.specs.Prelude.{◌≡◌, OnOk, false};
 ghost use Rattle.uimg_blob_writing.specs.{Content.{AreKept, in_full}, Layouts.{plan_with, totalsize}};
 ghost use Rattle.uimg_blob_writing.specs.{Trees.node_of, LentFiles.{OfHonest, IfInFull}};
 ghost use Rattle.uimg_fit_building.specs.BuildSteps.{of_measure, of_writing, MeasuresTree, WritesText, BuildsWith, Builds};
-ghost use Rattle.uimg_fit_building.specs.{Building.{built, built_with}, Filling.IsFilled, ReadsBack.ReadsBack};
+ghost use Rattle.uimg_fit_building.specs.{Building.{built, built_with, end_of}, Filling.IsFilled, ReadsBack.ReadsBack};
 ghost use Rattle.uimg_fit_building.specs.{Refusing.is_low, UnreadTrees.moved_unread};
 ghost use Rattle.uimg_fit_building.specs.OpenedFiles.{OpensNamed, built_files};
-ghost use Rattle.uimg_fit_base.specs.Placements.{align_of, aligned_by};
+ghost use Rattle.uimg_fit_base.specs.Placements.{aligned_by};
 
 mod behind;
 mod payload_sizes;
@@ -19,7 +19,7 @@ use std::alloc::Allocator;
 use std::io::Write;
 use uimg_base::{Files, Out, Source};
 use uimg_blob_reading::BlobFault;
-use uimg_blob_writing::{Layout, Reservation, Tree, TreeFault, measure_with, write_tree};
+use uimg_blob_writing::{BlobEnd, Layout, Reservation, Tree, TreeFault, measure_with, write_tree};
 use uimg_fit_base::{AlignedPlacement, Fault, FitFault, Placement, WORD_ALIGNMENT};
 
 /// What a FIT image has beside its tree.
@@ -52,15 +52,24 @@ fn of_writing(fault: TreeFault) -> Fault
     }
 }
 
+fn end_of(placement: AlignedPlacement) -> BlobEnd
+    ensures { result ≡ end_of placement }
+{
+    BlobEnd {
+        align: placement.align(),
+        least: placement.least(),
+    }
+}
+
 fn measure_placed<'a, A: Allocator>(
     alloc: A,
     placed: &'a Tree<A>,
-    align: u32,
+    ending: BlobEnd,
     reservations: &'a [Reservation],
 ) -> Result<Layout<'a, A>, Fault>
-    ensures { MeasuresTree align reservations.now result (node_of placed.now.root) }
+    ensures { MeasuresTree ending reservations.now result (node_of placed.now.root) }
 {
-    match measure_with(alloc, placed, align, reservations) {
+    match measure_with(alloc, placed, ending, reservations) {
         Ok(layout) => Ok(layout),
         Err(fault) => Err(of_measure(fault)),
     }
@@ -76,7 +85,7 @@ fn write_file<F: Files, W: Write, A: Allocator>(
     out: &mut Out<W>,
 ) -> Result<(), TreeFault>
     requires plan { layout.now
-        ≡ plan_with (align_of placement) layout.now.reservations (node_of placed.now.root) }
+        ≡ plan_with (end_of placement) layout.now.reservations (node_of placed.now.root) }
     requires placed { node_of placed.now.root ≡ moved_unread (node_of tree.now.root) placement }
     requires high { is_low (totalsize layout.now) placement ≡ false }
     ensures opened { OpensNamed F.map (built_files (node_of tree.now.root) placement)
@@ -108,7 +117,7 @@ fn build_placed<F: Files, W: Write, A: Allocator>(
         (node_of tree.now.root) frame.entry.placement result files out }
 {
     let placement = frame.placement;
-    let layout = measure_placed(alloc, placed, placement.align(), frame.reservations)?;
+    let layout = measure_placed(alloc, placed, end_of(placement), frame.reservations)?;
     check_payloads(layout.totalsize(), tree, placement)?;
     match write_file(placed, &layout, tree, placement, files, out) {
         Ok(()) => Ok(()),
@@ -130,7 +139,7 @@ fn place_and_build<F: Files, W: Write, A: Allocator + Copy>(
         (node_of tree.now.root) frame.entry.placement result files out }
 {
     match frame.placement {
-        AlignedPlacement::Inside => build_placed(alloc, tree, tree, frame, files, out),
+        AlignedPlacement::Inside { least: _ } => build_placed(alloc, tree, tree, frame, files, out),
         AlignedPlacement::After { align } => {
             let Ok(placed) = place(alloc, tree, align, b"data-offset", 0) else {
                 return Err(Fault::Fit(FitFault::OutOfMemory));

@@ -4,7 +4,7 @@ use Rattle.std.specs.Prelude.{nat_le, if◌then◌else◌}
 use Rattle.uimg_names.specs.declared.naming.Naming.TheVariants.{All}
 use Rattle.uimg_texts.specs.Numbers.{be32}
 use Rattle.uimg_blob_reading.specs.{Blob.tree, Grammar.Siblings, Spots.spots}
-use Rattle.uimg_blob_writing.specs.{Content.{Unread, bytes}, Layouts.{plan_with, totalsize}}
+use Rattle.uimg_blob_writing.specs.{Alignment.ends_at, Content.{Unread, bytes}, Layouts.{plan_with, totalsize}}
 use Rattle.uimg_blob_writing.specs.declared.reservation.Reservation.{Reservation}
 use Rattle.uimg_fit_building.specs.Filling.{each, with_images, filled_image_by}
 use Rattle.uimg_fit_building.specs.{PayloadSums.{no_files, in_memory}, UnreadTrees.filled_unread}
@@ -26,7 +26,7 @@ updated file time t = refilled time (whole file t)
 
 -- the size in bytes of the blob of a tree with reservations, without free room
 abbrev pub packed_size : List Reservation → Unread → ℕ
-packed_size rs t = totalsize (plan_with 4 rs t)
+packed_size rs t = totalsize (plan_with (ends_at 4) rs t)
 
 -- the size of a blob that was packed and then needs another, with room: if it needs more, it gets as
 -- many times 1024 bytes, as mkimage gives them; if it needs less, it has what it needs

@@ -14,7 +14,9 @@ use crate::reading::read_fit;
 use std::alloc::{Allocator, Global};
 use uimg_base::{MemFiles, Room, Source};
 use uimg_blob_reading::BlobFault;
-use uimg_blob_writing::{Node, Reservation, Tree, WORD_ALIGNMENT, copy_properties, measure_with};
+use uimg_blob_writing::{
+    BlobEnd, Node, Reservation, Tree, WORD_ALIGNMENT, copy_properties, measure_with,
+};
 use uimg_fit_base::{Fault, FitFault};
 use uimg_fit_building::fill_by;
 use uimg_names::Naming;
@@ -93,7 +95,11 @@ fn packed_size(
     ensures { IfOk result (λ size.
         size ≡ packed_size reservations.now (node_of tree.now.root)) }
 {
-    match measure_with(alloc, tree, WORD_ALIGNMENT, reservations) {
+    let ending = BlobEnd {
+        align: WORD_ALIGNMENT,
+        least: 0,
+    };
+    match measure_with(alloc, tree, ending, reservations) {
         Ok(layout) => Ok(layout.totalsize()),
         Err(BlobFault::TooLarge) => Err(UpdateFault::Fit(Fault::Fit(FitFault::TooLarge))),
         Err(BlobFault::OutOfMemory) => Err(UpdateFault::OutOfMemory),

@@ -13,5 +13,5 @@ mod FilesLaws
 mod PassingLaws
 mod IncludedLaws
 mod SoundLaws
-mod CompileLaws
+pub mod CompileLaws
 mod Examples

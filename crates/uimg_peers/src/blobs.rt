@@ -6,7 +6,7 @@ use std::rt::Files;
 use std::{fs, io};
 use uimg_base::{Out, Room, Source};
 use uimg_blob_reading::index;
-use uimg_blob_writing::{Reservation, Tree, WORD_ALIGNMENT, measure_with, write_tree};
+use uimg_blob_writing::{BlobEnd, Reservation, Tree, WORD_ALIGNMENT, measure_with, write_tree};
 use uimg_dts::compile_all;
 use uimg_engine::DiskFiles;
 use uimg_its::compile;
@@ -41,7 +41,11 @@ fn write_blob<R: Files + Print + AllocGlobal>(
     path: &str,
 ) -> io::Result<()> {
     let mut files = DiskFiles::new(rt, folder_of(path));
-    let Ok(layout) = measure_with(rt.alloc(), tree, WORD_ALIGNMENT, reservations) else {
+    let ending = BlobEnd {
+        align: WORD_ALIGNMENT,
+        least: 0,
+    };
+    let Ok(layout) = measure_with(rt.alloc(), tree, ending, reservations) else {
         return Err(io::Error::from(ErrorKind::InvalidData));
     };
     match write_tree(tree, &layout, &mut files, &mut Out::new(io::writer(rt))) {

@@ -13,7 +13,7 @@ ghost use Rattle.uimg_blob_reading.specs.Indexed.{Finds, KeepsWithin, TakesNodes
 ghost use Rattle.uimg_blob_reading.specs.Indexed.{OfRow, WhereIndexed, name_span, value_span, value_of};
 ghost use Rattle.uimg_blob_reading.specs.{Texts.GivesShort, Plain.AreNamed};
 ghost use Rattle.uimg_blob_reading.specs.declared.fault.BlobFault.TheVariants.{OutOfMemory};
-ghost use Rattle.uimg_blob_writing.specs.{Content.{in_full, AreKept}, Encoding.{names_of, encode_by}};
+ghost use Rattle.uimg_blob_writing.specs.{Content.{in_full, AreKept}, Encoding.{names_of, encode}};
 ghost use Rattle.uimg_blob_writing.specs.{Layouts.{plan_with, totalsize}, Measured.{measured, Measures}};
 ghost use Rattle.uimg_blob_writing.specs.{Properties.property, Trees.{node_of, siblings}};
 ghost use Rattle.uimg_blob_writing.specs.TreeWriting.{WritesTree};
@@ -240,12 +240,12 @@ pub fn nodes_from<A: Allocator>(list: Nodes<A>) -> Vec<Node<A>, A>
 /// - `TooLarge`: no name is bad, and the blob has more than 4294967295 bytes.
 /// - `OutOfMemory`: memory for the names was refused.
 pub fn measure<'a, A: Allocator>(alloc: A, tree: &'a Tree<A>) -> Result<Layout<'a, A>, BlobFault>
-    ensures measured { Measures result (measured 4 (node_of tree.now.root)) }
+    ensures measured { Measures result (measured (node_of tree.now.root)) }
     ensures memory { result ≡ Err OutOfMemory → names_of (node_of tree.now.root) ≢ [] }
     ensures named { OnOk result (AreNamed (node_of tree.now.root)) }
     ensures sized { IfOk result (λ layout. (files : List ℕ → Option (List ℕ)) →
         AreKept files (node_of tree.now.root) →
-        length (encode_by 4 (in_full files (node_of tree.now.root))) ≡ totalsize layout) }
+        length (encode (in_full files (node_of tree.now.root))) ≡ totalsize layout) }
 {
     uimg_blob::measure(alloc, tree)
 }
@@ -271,8 +271,8 @@ pub fn write_tree<F: Files, W: Write, A: Allocator>(
     files: &mut F,
     out: &mut Out<W>,
 ) -> Result<(), TreeFault>
-    requires { layout.now ≡ plan_with layout.now.align layout.now.reservations (node_of tree.now.root) }
-    ensures { WritesTree F.Opened.steady F.map layout.now.align layout.now.reservations
+    requires { layout.now ≡ plan_with layout.now.ending layout.now.reservations (node_of tree.now.root) }
+    ensures { WritesTree F.Opened.steady F.map layout.now.ending layout.now.reservations
         (node_of tree.now.root) result files out }
 {
     uimg_blob::write_tree(tree, layout, files, out)

@@ -9,6 +9,8 @@ pub mod ExtractLaws
 pub mod FolderLaws
 pub mod InfoLaws
 pub mod KeyLaws
+pub mod KnownLaws
+pub mod LeaveLaws
 pub mod MakingLaws
 pub mod MapLaws
 pub mod MemoryLaws
@@ -21,6 +23,7 @@ pub mod SearchedLaws
 pub mod StatusLaws
 pub mod TreeLaws
 pub mod SignedLaws
+pub mod SpelledLaws
 pub mod UnpackLaws
 pub mod UnpackTells
 pub mod WritingLaws

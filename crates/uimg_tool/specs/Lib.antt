@@ -18,13 +18,13 @@ pub mod InfoEnds
 pub mod JsonLines
 pub mod KnownSources
 pub mod LeavingOut
+pub mod Leavings
 pub mod MadeEnds
 pub mod Makings
 pub mod MapAnswers
 pub mod MapEnds
 pub mod OldMakings
 pub mod OldTexts
-pub mod OtherAlgos
 pub mod Paths
 pub mod Programs
 pub mod RequestEnds
@@ -32,7 +32,6 @@ pub mod Running
 pub mod SearchedNames
 pub mod SourceStatuses
 pub mod Statuses
-pub mod TreeSizes
 pub mod TreesMade
 pub mod UnpackComplaints
 pub mod UnpackEnds

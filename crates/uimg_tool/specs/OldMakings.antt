@@ -4,7 +4,6 @@ use Rattle.std.specs.Prelude.{◌≡◌, ⊤, ◌⊎◌, ◌≤◌, ℕ, List, [
 use Rattle.std.specs.Io.KnownBytes.{Keeps}
 use Rattle.uimg_base.specs.{Device.Device, Named.FileMap, Sink.Sink}
 use Rattle.uimg_base.specs.declared.status.Status.{Status}
-use Rattle.uimg_compat.specs.declared.request.FitRequest.{FitRequest}
 use Rattle.uimg_requests.specs.declared.requests.MakeRequest.{MakeRequest}
 use Rattle.uimg_tool.specs.{Finishing.FinishesBy, Makings.{AnswersMade, MakesAt}, Statuses.end_status}
 use Rattle.uimg_tool.specs.Writings.{CreatesNew, CreatesNone, IsAt, IsInPlace, StopsTrying}
@@ -12,15 +11,6 @@ use Rattle.uimg_tool.specs.declared.{old_files.{Begun.Begun, How.How}, request_f
 use Rattle.uimg_unpacking.specs.Deeds.{Deed, Done, Explains, Finds, LendsShelf, Opens, Renames, changes}
 use Rattle.uimg_unpacking.specs.declared.file_id.FileId.{FileId}
 use Rattle.uimg_unpacking.specs.declared.kind.Target.TheVariants as target
-
--- how the image of a request is made
-abbrev pub IsHowFor : FitRequest → How → Type 0
-IsHowFor asked how = (how.is_quiet ≡ asked.is_quiet) × (how.outfile ≡ asked.outfile)
-
--- an image that is written to a path, with its header before the data
-pub record IsWrittenTo (making : MakeRequest) (path : List ℕ) : Type 0 where
-  pub outfile : making.outfile.now ≡ path
-  pub whole : making.is_xip ≡ false
 
 -- A shelf is lent in the file at a path, and no file is changed otherwise; or a making failed before that.
 abbrev pub LendsAt : List ℕ → (has_failed : Bool) → (before after : List Deed) → Type 0
@@ -64,10 +54,6 @@ MakesWithin path status before after = ((1 ≤ status) × (changes after ≡ cha
 abbrev pub UpdatesFor : List ℕ → ℕ → (before after : List Deed) → Type 0
 UpdatesFor image status before after = ((status ≡ 3) × (after ≡ Explains image ∷ Opens image false ∷ before))
     ⊎ MakesWithin image status (Opens image true ∷ before) after
-
--- The image is a whole file, and its files are looked for in one folder.
-abbrev pub IsWholeOfFolder : How → MakeRequest → Type 0
-IsWholeOfFolder how asked = (how.folders.now ≡ []) × (asked.is_xip ≡ false)
 
 -- Nothing was written to a new file, if there is one.
 abbrev pub IsNew : {F : Type 0} → (F → Option (List ℕ)) → Option (Begun F) → Type 0

@@ -8,7 +8,7 @@ use Rattle.uimg_checks.specs.declared.answer.Answer.{Answer, TheVariants.{Found}
 use Rattle.uimg_checks.specs.declared.answer.Configurations.TheVariants.{Signed}
 use Rattle.uimg_checks.specs.declared.judging.Terms.{Terms}
 use Rattle.uimg_requests.specs.declared.command.Form.TheVariants as form
-use Rattle.uimg_tool.specs.Checking.{KeysAt, KeysFail, keys_read}
+use Rattle.uimg_tool.specs.{Checking.{KeysAt, KeysFail, keys_read}, Leavings.LeavesImage}
 use Rattle.uimg_verifying.specs.{Configurations.unsigned_of, Covering.uncovered_of, declared.required.Required.Required}
 use Rattle.uimg_unpacking.specs.{Deeds.{Deed, Identifies, Opens, changes}, Ends.{asked_name, end_of_file}, Filling.{FillsIf, takes_of}, PartEnds.KeepsRight, PartFilling.FillsParts, Places.{Obeys, terms_of}}
 use Rattle.uimg_unpacking.specs.declared.file_id.FileId.{FileId}
@@ -102,10 +102,12 @@ abbrev pub KeepsImage : FileMap → Option Required → Option (Bor (List ℕ)) 
 KeepsImage files keys None before after = changes after ≡ changes before
 KeepsImage files keys (Some path) before after = KeepsAt files keys path.now before after
 
--- Files are changed only if the keys sign the image. The status is 0 only if all that is asked for is right.
+-- Files are changed only if the keys sign the image. The status is 0 only if all that is asked for is right. At status 1
+-- or 2 a FIT image leaves the folder as it was.
 pub record UnpacksBy (files : FileMap) (asked : UnpackRequest) (keys : Option Required) (status : ℕ) (before after : List Deed) : Type 0 where
   pub kept : KeepsImage files keys asked.image before after
   pub right : status ≡ 0 → RightAt files asked keys asked.image before after
+  pub left : LeavesImage files asked asked.image status before after
 
 -- The keys are those of the file of keys, which is opened before, if there is one. Or it cannot be read, and no file is
 -- changed. Where the folder is cleaned before, this is not said.

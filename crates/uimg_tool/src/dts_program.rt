@@ -1,8 +1,9 @@
 //! Makes a FIT image from a source that the profile refuses, in the whole language of dtc.
 
-ghost use Rattle.std.specs.Prelude.{◌≡◌, [], None};
-ghost use Rattle.uimg_blob_writing.specs.{Content.FilesAtData, Trees.node_of};
-ghost use Rattle.uimg_tool.specs.{Complaints.Ends, OldMakings.MakesWithin, SourceStatuses.refused_status};
+ghost use Rattle.std.specs.Prelude.{◌≡◌, [], IsTrue};
+ghost use Rattle.uimg_blob_writing.specs.{Content.FilesAtData, LentFiles.IfInFull, Trees.node_of};
+ghost use Rattle.uimg_fit_base.specs.Placements.{aligned_by};
+ghost use Rattle.uimg_tool.specs.{Complaints.Ends, OldMakings.MakesWithin, SourceStatuses.refused_status, TreesMade.KeepsEither};
 ghost use Rattle.uimg_unpacking.specs.Deeds.{changes};
 
 use crate::complaints::Complaints;
@@ -11,7 +12,7 @@ use crate::old_files::{about_end, tell_end};
 use crate::request_fault::{FAILED, REFUSED, RequestFault};
 use crate::tree_program::{TreeRequest, write_image};
 use std::alloc::Global;
-use std::io::{Seek, Write};
+use std::io::Write;
 use uimg_base::Files;
 use uimg_blob_writing::Tree;
 use uimg_compat::{FitRequest, warn};
@@ -35,15 +36,13 @@ pub(crate) struct Beyond<'a> {
 /// The profile refuses the source.
 pub(crate) fn make_beyond<'x, 'p, D: MakingWorld<'p>, W: Write, V: Write>(
     world: &mut D,
-    request: &'x FitRequest<'x>,
+    request: &'x FitRequest<'p>,
     beyond: &'x Beyond<'x>,
     out: &mut W,
     complaints: &mut Complaints<'_, V>,
 ) -> u8
-where
-    D::File: Seek,
     ensures ends { Ends result complaints.old.count complaints.new.count }
-    ensures made { MakesWithin beyond.now.making.outfile.now result (D.trace world.old)
+    ensures made { MakesWithin request.now.outfile.now result (D.trace world.old)
         (D.trace world.new) }
 {
     let alloc = world.alloc();
@@ -65,13 +64,8 @@ where
     match compiled {
         Ok(Compiled { tree, reservations }) => {
             let making = TreeRequest {
-                source: making.source,
-                image: making.outfile,
-                placement: request.placement,
                 reservations: reservations.as_slice(),
-                roomy_size: None,
-                manner: request.manner,
-                is_quiet: request.is_quiet,
+                ..tree_request(request, making.source)
             };
             warn(alloc, &tree, request.dtc.silenced, complaints.err);
             make_compiled(world, making, tree, &mut files, out, complaints)
@@ -86,22 +80,18 @@ where
     }
 }
 
-pub(crate) fn tree_request<'a>(
-    request: &FitRequest<'_>,
-    source: &'a str,
-    image: &'a str,
-) -> TreeRequest<'a>
-    ensures made { (result.source ≡ source.entry) × (result.image ≡ image.entry) }
-    ensures placed { (result.placement ≡ request.now.placement)
+pub(crate) fn tree_request<'a, 'p>(request: &FitRequest<'p>, source: &'a str) -> TreeRequest<'a, 'p>
+    ensures made { result.image ≡ request.now.outfile }
+    ensures placed { (result.placement ≡ aligned_by request.now.placement request.now.manner.align)
         × (result.manner ≡ request.now.manner) }
-    ensures bare { (result.reservations.now ≡ []) × (result.roomy_size ≡ None) }
+    ensures bare { result.reservations.now ≡ [] }
 {
     TreeRequest {
         source,
-        image,
-        placement: request.placement,
+        image: request.outfile,
+        in_place: true,
+        placement: request.placement.aligned_by(request.manner.align),
         reservations: &[],
-        roomy_size: None,
         manner: request.manner,
         is_quiet: request.is_quiet,
     }
@@ -110,17 +100,18 @@ pub(crate) fn tree_request<'a>(
 /// Fills the tree by all algorithms.
 pub(crate) fn make_compiled<'p, D: MakingWorld<'p>, F: Files, W: Write, V: Write>(
     world: &mut D,
-    making: TreeRequest<'_>,
+    making: TreeRequest<'_, 'p>,
     tree: Tree<Global>,
     files: &mut F,
     out: &mut W,
     complaints: &mut Complaints<'_, V>,
 ) -> u8
-where
-    D::File: Seek,
     requires { FilesAtData (node_of tree.root) }
     ensures ends { Ends result complaints.old.count complaints.new.count }
     ensures made { MakesWithin making.entry.image.now result (D.trace world.old) (D.trace world.new) }
+    ensures kept { IsTrue D.knows → making.entry.reservations.now ≡ [] → result ≡ 0 →
+        IfInFull F.map files (node_of tree.root) (λ t. KeepsEither D.Shelf.Kept.device
+        D.NewShelf.Kept.device t making.entry.manner.time making.entry.placement) }
 {
     match fill_by(world.alloc(), tree, making.manner.time, Naming::All, files) {
         Ok(tree) => write_image(world, making, &tree, files, out, complaints),

@@ -1,52 +1,95 @@
 //! The source of an image, before the image is made.
 
-ghost use Rattle.std.specs.Prelude.{◌≡◌, not};
+ghost use Rattle.std.specs.Prelude.{◌≡◌, ◌==◌, ◌&&◌, [], IfOk, IsTrue, false, length, not};
 ghost use Rattle.uimg_its.specs.Answers.{is_outside_text};
-ghost use Rattle.uimg_tool.specs.KnownSources.{HasFilesAtData};
+ghost use Rattle.uimg_tool.specs.{KnownSources.{HasFilesAtData, HasText, KnowsText}, LeavingOut.in_folder};
 
+use crate::request_fault::RequestFault;
 use crate::searched_files::SearchedFiles;
 use std::alloc::Global;
-use uimg_base::{Files, Out, Source, WINDOW, copy_through};
+use uimg_base::Files;
 use uimg_blob_writing::Tree;
-use uimg_compat::{DtcWords, has_labels};
+use uimg_compat::DtcWords;
+use uimg_engine::{Fault, read_text};
 use uimg_its::{FaultKind, ItsFault, compile};
 use uimg_requests::{MakeCommand, MakeRequest};
 use uimg_unpacking::Reader;
 
-/// The source of a request, as far as it is known before its image is made.
+/// What is known of the text of a source before its image is made.
 #[derive(Drop)]
-pub(crate) enum Known {
+pub(crate) enum Known<'a> {
     /// It is compiled.
     Tree(Tree<Global>),
-    /// The profile refuses its text with a fault.
-    Beyond(Vec<u8>, ItsFault),
-    /// There is no source, it or a file of it cannot be read, or there is no memory for it: the
-    /// build reports that.
-    Unread,
+    /// The profile refuses it with a fault.
+    Beyond(ItsFault),
+    /// A file of it cannot be read or is the image's, or there is no memory for it.
+    Unread(RequestFault<'a>),
 }
 
-pub(crate) fn known_source<R: Reader>(
+/// Reads the text of the source of a request.
+pub(crate) fn source_text<'a, R: Reader>(
     reader: R,
     alloc: Global,
-    request: &MakeRequest<'_>,
-    dtc: &DtcWords<'_>,
-) -> Known
-    ensures { HasFilesAtData result }
+    request: &MakeRequest<'a>,
+    dtc: &'a DtcWords<'_>,
+) -> Result<Vec<u8>, RequestFault<'a>>
+    ensures { IsTrue (R.map reader).honest → length dtc.now.folders.items ≡ 0 →
+        IfOk result (λ text. HasText (in_folder request.now.folder.now (R.map reader).bytes)
+        request.now.command text.items) }
 {
     let MakeCommand::Tree { source, .. } = &request.command else {
-        return Known::Unread;
+        return Err(RequestFault::CannotRead(request.source));
     };
     let mut files = files_of(reader, alloc, request, dtc);
-    let Ok(mut source) = files.open(source) else {
-        return Known::Unread;
-    };
-    let Some(text) = text_of(alloc, &mut source) else {
-        return Known::Unread;
-    };
-    match compile(alloc, &text, &mut files) {
+    match read_text(alloc, source, &mut files) {
+        Ok(text) => Ok(text),
+        Err(fault) => Err(unread(
+            request.source,
+            request.outfile,
+            files.has_met_left_out(),
+            fault,
+        )),
+    }
+}
+
+/// Compiles the text of a source in the language of the profile.
+pub(crate) fn known_text<'a, R: Reader>(
+    reader: R,
+    alloc: Global,
+    request: &MakeRequest<'a>,
+    dtc: &'a DtcWords<'_>,
+    text: &[u8],
+) -> Known<'a>
+    ensures at_data { HasFilesAtData result }
+    ensures known { IsTrue (R.map reader).honest → length dtc.now.folders.items ≡ 0 →
+        KnowsText (in_folder request.now.folder.now (R.map reader).bytes) text.now result }
+{
+    let mut files = files_of(reader, alloc, request, dtc);
+    match compile(alloc, text, &mut files) {
         Ok(tree) => Known::Tree(tree),
-        Err(fault) if is_of_text(fault.kind) => Known::Beyond(text, fault),
-        Err(_) => Known::Unread,
+        Err(fault) if is_of_text(fault.kind) => Known::Beyond(fault),
+        Err(fault) => Known::Unread(unread(
+            request.source,
+            request.outfile,
+            files.has_met_left_out(),
+            Fault::Its(fault),
+        )),
+    }
+}
+
+/// Returns why a source is not read: the image would be written while it is read, or a fault.
+pub(crate) fn unread<'a>(
+    source: &'a str,
+    outfile: &'a str,
+    has_met_outfile: bool,
+    fault: Fault,
+) -> RequestFault<'a> {
+    if has_met_outfile {
+        return RequestFault::WritesWhatIsRead(outfile);
+    }
+    match fault {
+        Fault::NoFile(_) => RequestFault::CannotRead(source),
+        fault => RequestFault::Stopped(fault),
     }
 }
 
@@ -55,7 +98,15 @@ pub(crate) fn files_of<'a, R: Reader>(
     alloc: Global,
     request: &MakeRequest<'a>,
     dtc: &'a DtcWords<'_>,
-) -> SearchedFiles<'a, R> {
+) -> SearchedFiles<'a, R>
+    ensures { ⟦<SearchedFiles<'a, R> as Files>⟧.map result ≡ record {
+      bytes = in_folder request.now.folder.now (R.map reader).bytes;
+      honest = (R.map reader).honest && length dtc.now.folders.items == 0;
+      complete = false;
+      refusals = 0;
+      opened = [];
+    } }
+{
     let others = dtc.folders.as_slice();
     SearchedFiles::new(reader, alloc, request.folder, others, request.outfile)
 }
@@ -68,34 +119,5 @@ fn is_of_text(kind: FaultKind) -> bool
         FaultKind::BadToken | FaultKind::BadSyntax | FaultKind::BadNumber => true,
         FaultKind::OutOfProfile(_) => true,
         FaultKind::NoFile | FaultKind::ReadFailed | FaultKind::OutOfMemory => false,
-    }
-}
-
-/// A source that cannot be read has none.
-pub(crate) fn source_has_labels<R: Reader>(
-    reader: R,
-    alloc: Global,
-    request: &MakeRequest<'_>,
-    dtc: &DtcWords<'_>,
-) -> bool {
-    let MakeCommand::Tree { source, .. } = &request.command else {
-        return false;
-    };
-    let mut files = files_of(reader, alloc, request, dtc);
-    match files.open(source) {
-        Ok(mut source) => text_of(alloc, &mut source).is_some_and(|text| has_labels(&text)),
-        Err(_) => false,
-    }
-}
-
-// The window is in no stack frame below which the source is compiled.
-#[inline(never)]
-fn text_of<S: Source>(alloc: Global, source: &mut S) -> Option<Vec<u8>> {
-    let size = source.size().ok()?;
-    let mut window = [0; WINDOW];
-    let mut text = Out::new(Vec::new(alloc));
-    match copy_through(source, &mut window, 0, size, &mut text) {
-        Ok(()) => Some(text.into_inner()),
-        Err(_) => None,
     }
 }

@@ -2,7 +2,6 @@
 #![tactic(auto)]
 
 mod auto_program;
-mod blob_room;
 mod body_source;
 mod check_keys;
 mod check_program;
@@ -23,7 +22,6 @@ mod moments;
 mod old_files;
 mod old_program;
 mod old_tools;
-mod other_algos;
 mod path_list;
 mod progress;
 mod reasons;

@@ -3,7 +3,7 @@
 ghost use Rattle.std.specs.Prelude.{◌≡◌, ◌∷◌, ◌⊎◌, [], Some, IsTrue, false, is_err, true};
 ghost use Rattle.uimg_engine.specs.{Commands.{HonestFiles, MakesCommand, OpensToBuild}, OpenedFiles.OpensCommand};
 ghost use Rattle.uimg_tool.specs.{LeavingOut.leads_to, Makings.MakesAt, Statuses.end_status};
-ghost use Rattle.uimg_tool.specs.OldMakings.{IsNew, IsWholeOfFolder, MakesIn, path_for};
+ghost use Rattle.uimg_tool.specs.OldMakings.{IsNew, MakesIn, path_for};
 ghost use Rattle.uimg_tool.specs.RequestEnds.{AsMade, IsFileAt, MakeEnds, StoppedAs};
 ghost use Rattle.uimg_unpacking.specs.Deeds.{Deed};
 
@@ -77,7 +77,7 @@ pub(crate) fn make_command<'a, 'p, D: MakingWorld<'p>, W: Write>(
     ensures lent { D.trace world.new
         ≡ Deed.LendsShelf (path_for how.entry.outfile.now begun.entry) ∷ D.trace world.old }
     ensures told { IsTrue D.knows → IsTrue (D.Reader.map reader).honest →
-        IsNew D.File.contents begun.entry → IsWholeOfFolder how.entry request.now →
+        IsNew D.File.contents begun.entry → request.now.is_xip ≡ false →
         MakesIn begun.entry D.Shelf.Kept.device D.NewShelf.Kept.device
         (D.Reader.identities reader) request.now (D.Reader.map reader) result out.old out.new }
 {
@@ -87,41 +87,34 @@ pub(crate) fn make_command<'a, 'p, D: MakingWorld<'p>, W: Write>(
         Some(Begun { file, path }) => match world.shelf_in(path.new.as_str(), file) {
             Ok(shelf) => {
                 let shelf = Watched::new(shelf, &code);
-                make_image(alloc, request, reader, how.folders, shelf, out)
+                make_image(alloc, request, reader, shelf, out)
             }
             Err(_) => Err(RequestFault::OutOfMemory),
         },
         None => {
             let shelf = Watched::new(world.shelf_at(how.outfile), &code);
-            make_image(alloc, request, reader, how.folders, shelf, out)
+            make_image(alloc, request, reader, shelf, out)
         }
     };
     end_written(request, made, code.get())
 }
 
-// Files that are not in the folder of the request are looked for in the others.
 fn make_image<'a, R: Reader, H: Shelf, W: Write>(
     alloc: Global,
     request: &'a MakeRequest<'_>,
     reader: R,
-    others: &[&str],
     shelf: H,
     out: &mut Out<W>,
 ) -> Result<Status, RequestFault<'a>>
     ensures ends { MakeEnds request.now result }
     ensures told { IsTrue (R.map reader).honest → IsTrue H.honest → H.contents shelf ≡ Some [] →
-        others.now ≡ [] → request.now.is_xip ≡ false → MakesAt H.Kept.device
+        request.now.is_xip ≡ false → MakesAt H.Kept.device
         (R.identities reader) request.now (R.map reader) result out.old out.new }
 {
     if request.is_xip {
         return make_xip(alloc, request, reader, shelf, out);
     }
-    if others.is_empty() {
-        return make_among::<_, _, _, Brand>(alloc, request, reader, shelf, out);
-    }
-    let mut files = SearchedFiles::new(reader, alloc, request.folder, others, request.outfile);
-    let made = make_over(alloc, request, &mut files, shelf, out);
-    end_of(request, made, files.has_met_left_out())
+    make_among::<_, _, _, Brand>(alloc, request, reader, shelf, out)
 }
 
 // The image's header replaces the beginning of its file.

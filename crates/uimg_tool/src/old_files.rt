@@ -1,9 +1,9 @@
 //! The files of mkimage and dumpimage: what they write is beside its name until it is complete.
 
-ghost use Rattle.std.specs.Prelude.{◌≡◌, ◌≢◌, ◌∷◌, ◌⊎◌, List, ℕ, Option, [], IfOk, IfSome, IsTrue, None, OnErr, is_err, is_ok, true, if◌then◌else◌};
+ghost use Rattle.std.specs.Prelude.{◌≡◌, ◌≢◌, ◌∷◌, ◌⊎◌, List, ℕ, Option, [], IfOk, IfSome, IsTrue, None, OnErr, false, is_err, is_ok, true, if◌then◌else◌};
 ghost use Rattle.std.specs.Io.Buffered.{writer_buffer, writer_contents};
 ghost use Rattle.uimg_tool.specs.{Complaints.{Complains, Ends}, Finishing.FinishesBy, RequestEnds.{MakeEnds, is_about_source}};
-ghost use Rattle.uimg_tool.specs.OldMakings.{AnswersOldMaking, IsNew, IsWholeOfFolder, LendsAt, ListsIn, MakesFor, MakesWithin, Named, path_for};
+ghost use Rattle.uimg_tool.specs.OldMakings.{AnswersOldMaking, IsNew, LendsAt, ListsIn, MakesFor, Named, path_for};
 ghost use Rattle.uimg_tool.specs.{OldTexts.told_of_old};
 ghost use Rattle.uimg_tool.specs.{Extracting.{AnswersOldExtraction, ExtractsTo, IsNewFile}, Running.{AnswersRun, IntoEnds}, Statuses.end_status};
 ghost use Rattle.uimg_unpacking.specs.Deeds.{Deed, changes};
@@ -26,27 +26,19 @@ use uimg_printing::Printed;
 use uimg_requests::{MakeRequest, RunRequest};
 use uimg_unpacking::{MakingWorld, World};
 
-/// How an image is made: whether nothing is printed, the folders where files are searched that are
-/// not in the folder of a source, and the path of the image.
+/// How an image is made: whether nothing is printed, and the path of the image.
 #[derive(Clone, Copy)]
 pub(crate) struct How<'a> {
     pub(crate) is_quiet: bool,
-    pub(crate) folders: &'a [&'a str],
     pub(crate) outfile: &'a str,
 }
 
 impl<'a> How<'a> {
-    /// No other folder is searched.
     pub(crate) fn new(is_quiet: bool, outfile: &'a str) -> How<'a>
         ensures quiet { result.is_quiet ≡ is_quiet }
-        ensures folders { result.folders.now ≡ [] }
         ensures outfile { result.outfile ≡ outfile.entry }
     {
-        How {
-            is_quiet,
-            folders: &[],
-            outfile,
-        }
+        How { is_quiet, outfile }
     }
 }
 
@@ -174,33 +166,6 @@ pub(crate) struct Begun<'a, F: Drop> {
     pub(crate) path: &'a SafePath,
 }
 
-/// The listing goes to a lent output.
-pub(crate) fn make_image<'a, 'p, D: MakingWorld<'p>, W: Write, V: Write>(
-    world: &mut D,
-    how: How<'p>,
-    request: &'a MakeRequest<'a>,
-    out: &mut W,
-    complaints: &mut Complaints<'_, V>,
-) -> u8
-    ensures ends { Ends result complaints.old.count complaints.new.count }
-    ensures made { MakesWithin how.entry.outfile.now result (D.trace world.old)
-        (D.trace world.new) }
-{
-    if how.is_quiet {
-        let Ok(unused) = BufWriter::with_capacity(world.alloc(), 0, io::sink()) else {
-            return complaints.tell_no_memory();
-        };
-        return make_old(world, how, request, unused, complaints).0;
-    }
-    let Ok(gathered) = BufWriter::new(world.alloc(), out) else {
-        return complaints.tell_no_memory();
-    };
-    let (status, gathered) = make_old(world, how, request, gathered, complaints);
-    // A failed write leaves text in the buffer, which its drop would try to write again.
-    let (_, _) = gathered.into_parts();
-    status
-}
-
 /// Makes an image beside its name, which it gets when it is complete, even if the end of its listing
 /// could not be printed; a listing that fails before loses it. A quiet build prints nothing. Returns
 /// `out`, too.
@@ -215,7 +180,7 @@ pub(crate) fn make_old<'a, 'p, D: MakingWorld<'p>, W: Write + Drop, V: Write>(
     ensures quiet { how.entry.is_quiet ≡ true → result.1 ≡ out }
     ensures made { MakesFor how.entry.outfile.now result.0
         (Deed.LendsReader ∷ D.trace world.old) (D.trace world.new) }
-    ensures told { IsTrue (D.map world.old).honest → IsWholeOfFolder how.entry request.now →
+    ensures told { IsTrue (D.map world.old).honest → request.now.is_xip ≡ false →
         AnswersOldMaking how.entry.is_quiet D.Shelf.Kept.device D.NewShelf.Kept.device
         (D.identities world.old) request.now (D.map world.old) result.0
         (writer_contents W.contents out) (writer_contents W.contents result.1) }
@@ -258,7 +223,7 @@ fn make_by<'a, 'p, D: MakingWorld<'p>, W: Write + Drop>(
     ensures lent { LendsAt (path_for how.entry.outfile.now begun.entry) (is_err result.0.end)
         (D.trace world.old) (D.trace world.new) }
     ensures told { IsTrue D.knows → IsTrue (D.Reader.map reader).honest →
-        IsNew D.File.contents begun.entry → IsWholeOfFolder how.entry request.now →
+        IsNew D.File.contents begun.entry → request.now.is_xip ≡ false →
         ListsIn how.entry.is_quiet begun.entry D.Shelf.Kept.device D.NewShelf.Kept.device
         (D.Reader.identities reader) request.now (D.Reader.map reader) result.0.end
         (writer_contents W.contents out) (writer_contents W.contents result.1) }

@@ -1,9 +1,10 @@
 //! Files that are looked for in several folders.
 
-ghost use Rattle.std.specs.Prelude.{◌≡◌, ◌-◌, [], length, take, None, false, IfOk, IfSome};
+ghost use Rattle.std.specs.Prelude.{◌≡◌, ◌-◌, ◌==◌, ◌&&◌, [], length, take, false, is_err, true, IfOk, IfSome};
 ghost use Rattle.std.specs.Option.{option_map_or};
-ghost use Rattle.uimg_base.specs.Device.{IsFresh};
-ghost use Rattle.uimg_tool.specs.SearchedNames.{folder_in, or_own, own_in};
+ghost use Rattle.std.specs.Path.{path_join};
+ghost use Rattle.uimg_base.specs.{Device.IsFresh, Named.{Opens, SameFiles}};
+ghost use Rattle.uimg_tool.specs.{LeavingOut.in_folder, SearchedNames.{folder_in, or_own, own_in}};
 
 use crate::folder_files::open_in;
 use std::alloc::Global;
@@ -12,13 +13,13 @@ use uimg_base::{Files, OpenedNames, Source, SourceFault};
 use uimg_unpacking::{FileId, Reader};
 
 /// The files of a folder, and of other folders for those that it lacks. The file that is left out
-/// is found in none of them.
+/// is found in none of them: where it comes first, no other is opened.
 ///
 /// A name may have the folder of the file that names it, then `/./`, and then what that file calls
 /// it. As dtc does, the others are searched only for the last part. If a file that was found in one
 /// of them may name this one, they are searched for the whole name too.
 ///
-/// No contract says what a file has, so the files are not claimed to be honest.
+/// Of a folder alone, contracts say what its files have. Where others are searched, they do not.
 #[derive(Drop)]
 pub(crate) struct SearchedFiles<'a, R: Reader> {
     reader: R,
@@ -46,7 +47,15 @@ impl<'a, R: Reader> SearchedFiles<'a, R> {
         folder: &'a str,
         others: &'a [&'a str],
         left_out: &'a str,
-    ) -> SearchedFiles<'a, R> {
+    ) -> SearchedFiles<'a, R>
+        ensures map { ⟦<SearchedFiles<'a, R> as Files>⟧.map result ≡ record {
+          bytes = in_folder folder.now (R.map reader).bytes;
+          honest = (R.map reader).honest && length others.now == 0;
+          complete = false;
+          refusals = 0;
+          opened = [];
+        } }
+    {
         SearchedFiles {
             reader,
             alloc,
@@ -98,7 +107,11 @@ impl<'a, R: Reader> SearchedFiles<'a, R> {
     // Not inlined, as the next one: only one of them is on the stack.
     #[inline(never)]
     fn open_here(&mut self, name: &[u8]) -> Result<R::Opened, SourceFault>
-        ensures fresh { IfOk result (λ source. IsFresh (R.Opened.device source)) }
+        ensures opened { IfOk result (λ source. Opens (R.map self.old.reader)
+            (path_join self.old.folder.now name.now) (R.Opened.device source)) }
+        ensures files { SameFiles (⟦<SearchedFiles<'a, R> as Files>⟧.map self.old)
+            (⟦<SearchedFiles<'a, R> as Files>⟧.map self.new) }
+        ensures others { self.new.others ≡ self.old.others }
         ensures same { self.new.refusals ≡ self.old.refusals }
         ensures noted { self.new.opened ≡ self.old.opened }
     {
@@ -123,6 +136,9 @@ impl<'a, R: Reader> SearchedFiles<'a, R> {
         is_by_searched: bool,
     ) -> Result<R::Opened, SourceFault>
         ensures fresh { IfOk result (λ source. IsFresh (R.Opened.device source)) }
+        ensures none { length self.old.others.now ≡ 0 → is_err result ≡ true }
+        ensures files { SameFiles (⟦<SearchedFiles<'a, R> as Files>⟧.map self.old)
+            (⟦<SearchedFiles<'a, R> as Files>⟧.map self.new) }
         ensures same { self.new.refusals ≡ self.old.refusals }
         ensures noted { self.new.opened ≡ self.old.opened }
     {
@@ -144,6 +160,10 @@ impl<'a, R: Reader> SearchedFiles<'a, R> {
 
     fn open_in_others(&mut self, name: &[u8]) -> Result<R::Opened, SourceFault>
         ensures fresh { IfOk result (λ source. IsFresh (R.Opened.device source)) }
+        ensures none { length self.old.others.now ≡ 0 → is_err result ≡ true }
+        ensures files { SameFiles (⟦<SearchedFiles<'a, R> as Files>⟧.map self.old)
+            (⟦<SearchedFiles<'a, R> as Files>⟧.map self.new) }
+        ensures others { self.new.others ≡ self.old.others }
         ensures same { self.new.refusals ≡ self.old.refusals }
         ensures noted { self.new.opened ≡ self.old.opened }
     {
@@ -162,8 +182,8 @@ impl<'a, R: Reader> Files for SearchedFiles<'a, R> {
     type Opened = R::Opened;
 
     ghost map = { λ s. record {
-      bytes = λ _. None;
-      honest = false;
+      bytes = in_folder s.folder.now (R.map s.reader).bytes;
+      honest = (R.map s.reader).honest && length s.others.now == 0;
       complete = false;
       refusals = s.refusals;
       opened = s.opened.names;
@@ -188,6 +208,7 @@ impl<'a, R: Reader> Files for SearchedFiles<'a, R> {
         }
         let opened = match self.open_here(name) {
             Ok(source) => Ok(source),
+            Err(_) if self.has_met_left_out => Err(SourceFault),
             Err(_) => self.search(name, own, is_by_searched),
         };
         if opened.is_err() {
@@ -243,11 +264,15 @@ fn open_first<R: Reader>(
     left_out: &str,
     has_met_left_out: &mut bool,
 ) -> Result<R::Opened, SourceFault>
-    ensures { IfOk result (λ source. IsFresh (R.Opened.device source)) }
+    ensures fresh { IfOk result (λ source. IsFresh (R.Opened.device source)) }
+    ensures none { length folders.now ≡ 0 → is_err result ≡ true }
+    ensures same { SameFiles (R.map reader.old) (R.map reader.new) }
 {
     for folder in folders {
-        if let Ok(source) = open_in(reader, alloc, folder, name, left_out, has_met_left_out) {
-            return Ok(source);
+        match open_in(reader, alloc, folder, name, left_out, has_met_left_out) {
+            Ok(source) => return Ok(source),
+            Err(_) if *has_met_left_out => return Err(SourceFault),
+            Err(_) => {}
         }
     }
     Err(SourceFault)
@@ -262,7 +287,9 @@ fn is_in_several<R: Reader>(
     others: &[&str],
     name: &[u8],
     own: &[u8],
-) -> bool {
+) -> bool
+    ensures { SameFiles (R.map reader.old) (R.map reader.new) }
+{
     let mut first = file_in(reader, alloc, folder, name);
     for other in others {
         for name in [name, own] {
@@ -278,7 +305,9 @@ fn is_in_several<R: Reader>(
 }
 
 // Returns `None` if no file there can be opened.
-fn file_in<R: Reader>(reader: &mut R, alloc: Global, folder: &str, name: &[u8]) -> Option<FileId> {
+fn file_in<R: Reader>(reader: &mut R, alloc: Global, folder: &str, name: &[u8]) -> Option<FileId>
+    ensures { SameFiles (R.map reader.old) (R.map reader.new) }
+{
     let name = str::from_utf8(name).ok()?;
     let path = Path::new(folder).join(alloc, name).ok()?;
     reader.open(path.as_str()).ok()?;

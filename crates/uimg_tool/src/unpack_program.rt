@@ -1,9 +1,10 @@
 //! Unpacks an image.
 
-ghost use Rattle.std.specs.Prelude.{◌≡◌, ◌⊎◌, ◌≤◌, IfSome, IsTrue, None, OnErr, Some, is_some, max, true, false};
+ghost use Rattle.std.specs.Prelude.{◌≡◌, ◌⊎◌, ◌≤◌, ℕ, List, IfSome, IsTrue, None, OnErr, Some, is_some, max, true, false};
 ghost use Rattle.uimg_base.specs.{Device.SameDevice, Honest.IfHonest};
 ghost use Rattle.uimg_checks.specs.{Answers.answer_status, CheckEnds.Shows, Verdicts.verdict_of};
-ghost use Rattle.uimg_tool.specs.{Complaining.ComplainsNot, Complaints.{Complains, Ends}, EndingStatuses.{HasEndingStatus, TellsCommand}, Statuses.{is_of_command, trouble_status}};
+ghost use Rattle.uimg_tool.specs.{Complaining.ComplainsNot, Complaints.{Complains, Ends}, EndingStatuses.{HasEndingStatus, TellsCommand, ending_status}, Statuses.{is_of_command, trouble_status}};
+ghost use Rattle.uimg_tool.specs.Leavings.{LeavesAsked, LeavesEnding, LeavesImage, is_refusal};
 ghost use Rattle.uimg_tool.specs.UnpackComplaints.{ComplainsImage, ComplainsUnpack, EndsAsked, EndsOver, EndsSigned, told_of_unpacking};
 ghost use Rattle.uimg_tool.specs.Unpackings.{AnswersUnpacking, HoldsPayloads, IsRight, KeepsAt, KeepsBy, KeepsImage, RightAt, SignedBy, is_signed, signed_terms, unpacking_of};
 ghost use Rattle.uimg_unpacking.specs.{Deeds.changes, Places.{ChangesWithin, Obeys, terms_of}};
@@ -77,6 +78,9 @@ fn unpack_by<D: World, W: Write + Drop, V: Write>(
     ensures kept { IsTrue (D.map world.old).honest → request.now.cleans ≡ false →
         KeepsImage (D.map world.old) terms.now.required request.now.image (D.trace world.old)
         (D.trace world.new) }
+    ensures left { IsTrue (D.map world.old).honest → request.now.cleans ≡ false →
+        LeavesImage (D.map world.old) request.now request.now.image result (D.trace world.old)
+        (D.trace world.new) }
     ensures line { IsTrue (D.map world.old).honest → request.now.cleans ≡ false →
         ComplainsImage V.contents (D.map world.old) request.now terms.now.required
         request.now.image result complaints.old complaints.new }
@@ -124,6 +128,8 @@ fn unpack_and_tell<D: World, W: Write + Drop, V: Write>(
         request.now terms.now.required (Some path.entry) (D.trace world.old) (D.trace world.new) }
     ensures kept { IsTrue (D.map world.old).honest → KeepsAt (D.map world.old)
         terms.now.required path.now (D.trace world.old) (D.trace world.new) }
+    ensures left { IsTrue (D.map world.old).honest → LeavesAsked (D.map world.old) request.now
+        path.now result (D.trace world.old) (D.trace world.new) }
     ensures line { IsTrue (D.map world.old).honest → ComplainsImage V.contents
         (D.map world.old) request.now terms.now.required (Some path.entry) result complaints.old
         complaints.new }
@@ -187,6 +193,10 @@ fn unpack_at<'a, 'n, D: World, W: Write + Drop>(
         (D.trace world.old) (D.trace world.new) }
     ensures kept { IsTrue (D.map world.old).honest → KeepsAt (D.map world.old)
         terms.now.required path.now (D.trace world.old) (D.trace world.new) }
+    ensures left { IsTrue (D.map world.old).honest → (file : List ℕ) →
+        (D.map world.old).bytes path.now ≡ Some file → LeavesEnding
+        (unpacking_of request.now None path.entry) file result (D.trace world.old)
+        (D.trace world.new) }
     ensures ended { IsTrue (D.map world.old).honest → EndsAsked (D.map world.old)
         request.now terms.now.required path.entry result }
 {
@@ -225,6 +235,8 @@ fn unpack_signed<'n, D: World, S: Source, W: Write + Drop>(
         result ≡ Ending.Told Status.Done →
         HoldsPayloads asked.now file (D.trace world.new)) }
     ensures ended { IfHonest S.device source (λ file. EndsSigned asked.now terms.now file result) }
+    ensures left { IfHonest S.device source (λ file. LeavesEnding asked.now file result
+        (D.trace world.old) (D.trace world.new)) }
 {
     match unsigned(world.alloc(), terms, source, names) {
         Some(answer) => Ending::Unsigned(answer),
@@ -285,6 +297,8 @@ fn unpack_source<'n, D: World, S: Source, W: Write + Drop>(
         result ≡ Ending.Told Status.Done →
         HoldsPayloads asked.now file (D.trace world.new)) }
     ensures ended { IfHonest S.device source (λ file. EndsOver asked.now file result) }
+    ensures left { IfHonest S.device source (λ file. LeavesEnding asked.now file result
+        (D.trace world.old) (D.trace world.new)) }
 {
     match is_fit(Form::Guess, source) {
         Ok(true) => Ending::from(unpack(world, asked, source, out)),
@@ -308,6 +322,8 @@ fn tell_ending<D: World, W: Write + Drop, V: Write>(
     ensures command { TellsCommand ending.entry result out.old out.new }
     ensures done { result ≡ 0 → ending.entry ≡ Ending.Told Status.Done }
     ensures unasked { result ≡ 0 → D.trace world.new ≡ D.trace world.old }
+    ensures silent { as_json ≡ false → is_refusal (ending_status ending.entry) ≡ true →
+        D.trace world.new ≡ D.trace world.old }
     ensures kept { changes (D.trace world.new) ≡ changes (D.trace world.old) }
 {
     match ending {

@@ -1,18 +1,18 @@
 //! Updates a FIT image.
 
-ghost use Rattle.std.specs.Prelude.{◌≡◌, IsTrue};
-ghost use Rattle.uimg_tool.specs.{Complaints.Ends, OldMakings.UpdatesFor, SourceStatuses.update_status, TreeSizes.roomy_size_of, TreesMade.{KeepsUpdated, update_time}};
+ghost use Rattle.std.specs.Prelude.{◌≡◌, IsTrue, false};
+ghost use Rattle.uimg_tool.specs.{Complaints.Ends, OldMakings.UpdatesFor, SourceStatuses.update_status, TreesMade.{KeepsUpdated, placed_by, update_time}};
 ghost use Rattle.uimg_unpacking.specs.Deeds.{changes};
 
 use crate::complaints::Complaints;
 use crate::old_files::tell_end;
 use crate::request_fault::{FAILED, REFUSED, RequestFault};
 use crate::tree_program::{TreeRequest, write_image};
-use std::io::{Seek, Write};
+use std::io::Write;
 use uimg_base::{MemFiles, Room};
 use uimg_compat::UpdateRequest;
 use uimg_engine::Fault;
-use uimg_fit_base::Placement;
+use uimg_fit_base::{AlignedPlacement, Placement};
 use uimg_fit_updating::{UpdateFault, Updated, update};
 use uimg_printing::Printed;
 use uimg_unpacking::{MakingWorld, World};
@@ -20,12 +20,10 @@ use uimg_unpacking::{MakingWorld, World};
 /// Makes the new image beside its name, which it gets when it is complete.
 pub(crate) fn update_image<'p, D: MakingWorld<'p>, W: Write, V: Write>(
     world: &mut D,
-    request: &UpdateRequest<'_>,
+    request: &UpdateRequest<'p>,
     out: &mut W,
     complaints: &mut Complaints<'_, V>,
 ) -> u8
-where
-    D::File: Seek,
     ensures ends { Ends result complaints.old.count complaints.new.count }
     ensures made { UpdatesFor request.now.image.now result (D.trace world.old) (D.trace world.new) }
     ensures kept { IsTrue (D.map world.old).honest → result ≡ 0 →
@@ -37,7 +35,7 @@ where
     };
     match update(alloc, &mut source, &mut Room::new(alloc), time_of(request)) {
         Ok(updated) => {
-            let making = tree_request(request, request.image, &updated);
+            let making = tree_request(request, &updated);
             let files = &mut MemFiles::new(&[]);
             write_image(world, making, &updated.tree, files, out, complaints)
         }
@@ -55,38 +53,39 @@ fn time_of(request: &UpdateRequest<'_>) -> Option<u32>
     }
 }
 
-fn tree_request<'a>(
-    request: &UpdateRequest<'_>,
-    image: &'a str,
-    updated: &'a Updated,
-) -> TreeRequest<'a>
-    ensures made { (result.source ≡ image.entry) × (result.image ≡ image.entry) }
-    ensures placed { (result.placement ≡ request.now.placement)
-        × (result.manner ≡ request.now.manner) }
+fn tree_request<'a, 'p>(request: &UpdateRequest<'p>, updated: &'a Updated) -> TreeRequest<'a, 'p>
+where
+    'p: 'a,
+    ensures made { (result.source ≡ request.now.image) × (result.image ≡ request.now.image) }
+    ensures placed { result.placement ≡ placed_by request.now updated.now.roomy_size }
+    ensures beside { result.in_place ≡ false }
     ensures quiet { result.is_quiet ≡ request.now.is_quiet }
     ensures reserved { result.reservations.now ≡ updated.now.reservations.items }
-    ensures roomy { result.roomy_size
-        ≡ roomy_size_of request.now.placement updated.now.roomy_size }
 {
     TreeRequest {
-        source: image,
-        image,
-        placement: request.placement,
+        source: request.image,
+        image: request.image,
+        in_place: false,
+        placement: placed_by(request, updated.roomy_size),
         reservations: updated.reservations.as_slice(),
-        roomy_size: roomy_size(request.placement, updated),
         manner: request.manner,
         is_quiet: request.is_quiet,
     }
 }
 
 // A blob with payloads after it has no free room.
-fn roomy_size(placement: Placement, updated: &Updated) -> Option<u32>
-    ensures { result ≡ roomy_size_of placement updated.now.roomy_size }
+fn placed_by(request: &UpdateRequest<'_>, size: u32) -> AlignedPlacement
+    ensures { result ≡ placed_by request.now size }
 {
-    match placement {
-        Placement::Inside => Some(updated.roomy_size),
-        Placement::After => None,
-        Placement::At(_) => None,
+    match request.placement {
+        Placement::Inside => AlignedPlacement::Inside { least: size },
+        Placement::After => AlignedPlacement::After {
+            align: request.manner.align,
+        },
+        Placement::At(position) => AlignedPlacement::At {
+            position,
+            align: request.manner.align,
+        },
     }
 }
 

@@ -84,7 +84,7 @@ fn file(alloc: Global, path: &str) -> Result<Lead, AllocError>
 
 /// Creates a file beside a path, under the first free name. Returns why it cannot be created. Fails
 /// if memory for its path is refused.
-pub(crate) fn new_beside<W: World>(
+fn new_beside<W: World>(
     world: &mut W,
     alloc: Global,
     path: &str,

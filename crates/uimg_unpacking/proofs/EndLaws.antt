@@ -1,5 +1,5 @@
 -- How the unpacking of a FIT image ends by its bytes.
-use Rattle.std.proofs.Common.{◌≡◌, ◌==◌, ◌&&◌, ◌||◌, nat_lt, ℕ, zero, suc, List, [], ◌∷◌, length, Option, Some, None, is_some, Bool, true, false, refl, ap, sym, subst, ◌∙◌, true≢false, arith}
+use Rattle.std.proofs.Common.{◌≡◌, ◌==◌, ◌&&◌, ◌||◌, nat_lt, ℕ, zero, suc, List, [], ◌∷◌, length, Option, Some, None, is_none, is_some, Bool, true, false, refl, ap, sym, subst, ◌∙◌, true≢false, arith}
 use Rattle.std.specs.Prelude.{Result, Ok, Err, if◌then◌else◌}
 use Rattle.std.specs.List.{list_all}
 use Rattle.uimg_fit_base.specs.declared.fault.Fault.{Fault, TheVariants.{Blob, Fit, Read, Put}}
@@ -12,7 +12,9 @@ use Rattle.uimg_unpacking.specs.declared.trouble.Trouble.TheVariants as of
 use Rattle.uimg_unpacking.specs.declared.unpacking.Ended.{Ended}
 use Rattle.uimg_unpacking.specs.declared.unpacking.Ended.TheVariants.{Kept, Refused, NoImage, Stopped, Troubled}
 use Rattle.uimg_unpacking.specs.declared.unpacking.Unpacking.{Unpacking}
+use Rattle.uimg_unpacking.specs.{Deeds.Deed, Leaving.{Leaves, are_undone, is_left}, Places.{Obeys, Terms}, Plan.gives_names}
 use Rattle.uimg_unpacking.specs.Ends.{asked_name, end_of_taken, end_of, end_by_name, has_failed, is_whole, Ends, EndsByFile}
+use Rattle.uimg_unpacking.proofs.Placing.{obeys_naming}
 
 true_false : true ≡ false → ⊥
 true_false h = grind (arith, h)
@@ -100,3 +102,54 @@ whole_at asked (Err (Fit fault)) count trouble end old new is good = other_end e
 whole_at asked (Err Read) count trouble end old new is good = other_end end (Stopped Read) is refl good
 whole_at asked (Err Put) count (Some trouble) end old new is good = other_end end (Troubled trouble) is refl good
 whole_at asked (Err Put) count None end old new is good = other_end end (Troubled of.Put) is refl good
+
+-- which files get names after which trouble
+pub may_name : (names keeps_good : Bool) (trouble : Option Trouble) → names ≡ true → is_none trouble ≡ true → (names && (keeps_good || is_none trouble)) ≡ true
+may_name true true trouble a b = refl
+may_name true false trouble a b = b
+may_name false good trouble a b = absurd (true_false (sym a))
+
+pub by_naming : (folder : List ℕ) (first last : List Deed) (names keeps_good may : Bool) (trouble : Option Trouble) → may ≡ (names && (keeps_good || is_none trouble)) → keeps_good ≡ false
+    → (may ≡ false → Leaves folder first last) → (is_none trouble ≡ true → Leaves folder first last) → Leaves folder first last
+by_naming folder first last names good may None is not_good f g = g refl
+by_naming folder first last names good may (Some trouble) is not_good f g = f (is ∙ ap (λ (b : Bool). names && (b || false)) not_good ∙ off names)
+  where
+    off : (b : Bool) → (b && false) ≡ false
+    off true = refl
+    off false = refl
+
+-- where no file may have its name at an end
+pub data Unnamed (names : Bool) (count : ℕ) (trouble : Option Trouble) : Type 0 where
+  none_named : names ≡ false → Unnamed names count trouble
+  undone : are_undone trouble ≡ true → Unnamed names count trouble
+  no_payload : count ≡ 0 → trouble ≡ None → Unnamed names count trouble
+
+zero_is : (n : ℕ) → (n == 0) ≡ true → n ≡ 0
+zero_is zero is = refl
+zero_is (suc n) is = absurd (true_false (sym is ∙ above n))
+
+taken_left : (asked : Unpacking) (names : Bool) (count : ℕ) → is_left (end_of_taken asked true count) ≡ true → Unnamed names count None
+taken_left asked names count left = by_case (count == 0) refl
+  where
+    by_case : (none : Bool) → (count == 0) ≡ none → Unnamed names count None
+    by_case true is = no_payload (zero_is count is) refl
+    by_case false is = absurd (true_false (sym left ∙ ap (λ (b : Bool). is_left (by_count asked true b)) is))
+
+pub left_by : (asked : Unpacking) (unpacked : Result Unpacked Fault) (count : ℕ) (trouble : Option Trouble) (end : Ended) (old new : Option (List ℕ)) → Ends asked unpacked count trouble end old new → asked.keeps_good ≡ false → is_left end ≡ true
+    → Unnamed (gives_names asked.keeps_good (is_whole unpacked)) count trouble
+left_by asked (Ok (Taken true)) count (Some trouble) end old new ends good left = undone (ap is_left (sym ends) ∙ left)
+left_by asked (Ok (Taken true)) count None end old new ends good left = taken_left asked (gives_names asked.keeps_good true) count (ap is_left (sym ends) ∙ left)
+left_by asked (Ok (Taken false)) count trouble end old new ends good left = none_named (ap (λ (b : Bool). b || false) good)
+left_by asked (Ok (Overlapping name)) count trouble end old new ends good left = none_named (ap (λ (b : Bool). b || false) good)
+left_by asked (Err fault) count trouble end old new ends good left = none_named (ap (λ (b : Bool). b || false) good)
+
+pub left_as : (folder : List ℕ) (old new : List Deed) (names given : Bool) (count : ℕ) (trouble : Option Trouble) → given ≡ names → Unnamed names count trouble
+    → (given ≡ false → Leaves folder old new) → (are_undone trouble ≡ true → Leaves folder old new) → (count ≡ 0 → trouble ≡ None → Leaves folder old new) → Leaves folder old new
+left_as folder old new names given count trouble is (none_named off) f g h = f (is ∙ off)
+left_as folder old new names given count trouble is (undone e) f g h = g e
+left_as folder old new names given count trouble is (no_payload empty none) f g h = h empty none
+
+-- calls while files may get names, if they are asked for
+pub obeys_if : (t : Terms) (names rest may : Bool) (old new : List Deed) → may ≡ (names && rest) → Obeys t may old new → Obeys t names old new
+obeys_if t true rest may old new is does = obeys_naming t may old new does
+obeys_if t false rest may old new is does = subst (λ (b : Bool). Obeys t b old new) is does

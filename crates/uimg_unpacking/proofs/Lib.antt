@@ -1,12 +1,11 @@
 pub mod Answered
-pub mod BelowLaws
-pub mod Cleaned
 pub mod ContentExamples
 pub mod ContentLaws
 pub mod EndLaws
 pub mod FillingExamples
 pub mod FillingLaws
 pub mod GivenLaws
+pub mod LeavingLaws
 pub mod LimitLaws
 pub mod MadeLaws
 pub mod NameLaws
@@ -19,4 +18,5 @@ pub mod PartFillingLaws
 pub mod PartLaws
 pub mod Placing
 pub mod Printed
+pub mod RecoverLaws
 pub mod StagedLaws

@@ -1,14 +1,12 @@
 -- Names that are used once.
-use Rattle.std.proofs.Common.{◌≡◌, ℕ, List, [], ◌∷◌, ◌++◌, bytes_eq, Bool, true, false, ◌&&◌, ◌||◌, not, refl, ap, ap₂, sym, subst, ◌∙◌, true≢false}
+use Rattle.std.proofs.Common.{◌≡◌, ℕ, List, [], ◌∷◌, ◌++◌, bytes_eq, Bool, true, false, ◌||◌, not, refl, ap, ap₂, sym, subst, ◌∙◌, true≢false}
 use Rattle.std.specs.List.{list_all}
 use Rattle.std.proofs.lemmas.Bool.{and_parts}
 use Rattle.std.proofs.lemmas.List.Folds.{list_all-append}
 use Rattle.uimg_unpacking.specs.Contents.{is_in, differ}
 use Rattle.uimg_unpacking.specs.Staged.{with_name, Drops, none_gone, last_gone, last_noted, uses_names}
-use Rattle.uimg_unpacking.proofs.ContentLaws.{differs, flipped, not_or}
-
-pub both : (a b : Bool) → a ≡ true → b ≡ true → (a && b) ≡ true
-both a b p q = ap₂ (λ (x y : Bool). x && y) p q
+use Rattle.uimg_unpacking.proofs.ContentLaws.{flipped, not_or}
+use Rattle.uimg_unpacking.proofs.Placing.{both, differs, not_eq}
 
 -- Some names and others are used. The names differ from one another and from the others.
 pub record UsesNames (is_used : List ℕ → Bool) (names others : List (List ℕ)) : Type 0 where
@@ -32,10 +30,6 @@ tell_used used names others has = both _ _ (both _ _ (both _ _ has.are_used has.
 pub none_used : (used : List ℕ → Bool) → uses_names used [] [] ≡ true
 unfolding uses_names
 none_used used = refl
-
-pub not_eq : (b : Bool) → not b ≡ true → b ≡ false
-not_eq true is = cc
-not_eq false is = refl
 
 front_differs : (left : List (List ℕ)) (name : List ℕ) → differ (left ++ name ∷ []) ≡ true → differ left ≡ true
 front_differs [] name unlike = refl

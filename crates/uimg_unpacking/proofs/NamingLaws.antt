@@ -2,9 +2,8 @@
 use Rattle.std.proofs.Common.{◌≡◌, ℕ, zero, suc, ◌+◌, ◌<◌, length, slice_index_or, drop-cons, List, [], ◌∷◌, Bool, true, false, ◌&&◌, nat_lt, refl, sym, ap₂, subst, drop, ◌∙◌, arith}
 use Rattle.std.proofs.lemmas.Bool.{lt-ltb, le-ltb, ltb-true, ltb-false}
 use Rattle.uimg_unpacking.specs.Deeds.{Deed}
-use Rattle.uimg_unpacking.specs.NamingAll.{NamesIt, NamesFiles, PutsItBack, PutsBackFiles, UnlessLater}
+use Rattle.uimg_unpacking.specs.Naming.{NamesIt, NamesFiles, PutsItBack, PutsBackFiles, UnlessLater}
 use Rattle.uimg_unpacking.specs.declared.begun.Begun.{Begun}
-use Rattle.uimg_unpacking.specs.declared.folder.Folder.{Folder}
 
 -- what is left to take back of the files from a number on
 abbrev pub LeftBack : List Begun → ℕ → ℕ → Bool → List Deed → List Deed → Type 0
@@ -55,16 +54,16 @@ first_of xs i d inside =
     subst (λ (n : ℕ). drop i xs ≡ slice_index_or xs i d ∷ drop n xs) e (drop-cons xs i d inside)
 
 -- what one more named file adds
-pub one_named : (folder : Folder) (files : List Begun) (i : ℕ) (its : Begun) (named : ℕ) (are_all : Bool) (s m t : List Deed)
-    → drop i files ≡ its ∷ drop (i + 1) files → NamesIt folder its true s m
-    → NamesFiles folder (drop (i + 1) files) named are_all m t → NamesFiles folder (drop i files) (suc named) are_all s t
-one_named folder files i its named are_all s m t is p q =
-    subst (λ (fs : List Begun). NamesFiles folder fs (suc named) are_all s t) (sym is) (m, (p, q))
+pub one_named : (files : List Begun) (i : ℕ) (its : Begun) (named : ℕ) (are_all : Bool) (s m t : List Deed)
+    → drop i files ≡ its ∷ drop (i + 1) files → NamesIt its true s m
+    → NamesFiles (drop (i + 1) files) named are_all m t → NamesFiles (drop i files) (suc named) are_all s t
+one_named files i its named are_all s m t is p q =
+    subst (λ (fs : List Begun). NamesFiles fs (suc named) are_all s t) (sym is) (m, (p, q))
 
-pub not_named_next : (folder : Folder) (files : List Begun) (i : ℕ) (its : Begun) (s t : List Deed)
-    → drop i files ≡ its ∷ drop (i + 1) files → NamesIt folder its false s t → NamesFiles folder (drop i files) 0 false s t
-not_named_next folder files i its s t is p =
-    subst (λ (fs : List Begun). NamesFiles folder fs 0 false s t) (sym is) (refl, p)
+pub not_named_next : (files : List Begun) (i : ℕ) (its : Begun) (s t : List Deed)
+    → drop i files ≡ its ∷ drop (i + 1) files → NamesIt its false s t → NamesFiles (drop i files) 0 false s t
+not_named_next files i its s t is p =
+    subst (λ (fs : List Begun). NamesFiles fs 0 false s t) (sym is) (refl, p)
 
 -- what taking back one more file adds
 pub back_of : (files : List Begun) (i named : ℕ) (its : Begun) (one back : Bool) (s m t : List Deed)

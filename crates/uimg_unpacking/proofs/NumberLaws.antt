@@ -10,8 +10,7 @@ use Rattle.std.proofs.lemmas.Fmt.{decimal_digit, decimal-digits_value, first_dec
 use Rattle.std.proofs.lemmas.Str.Parse.{IsNumeralModel, numerals_by_value, parse_digits}
 use Rattle.uimg_unpacking.specs.PartEnds.{has_leading_zero, is_number}
 use Rattle.uimg_unpacking.specs.PartFilling.{IsNumberOf}
-use Rattle.uimg_unpacking.proofs.ContentLaws.{cancel}
-use Rattle.uimg_unpacking.proofs.Placing.{all_digits}
+use Rattle.uimg_unpacking.proofs.Placing.{all_digits, cancel}
 
 -- the digits of a number have no zero before others
 no_zero : (n : ℕ) → n < 2 ^ 64 → has_leading_zero (decimal n) ≡ false

@@ -1,9 +1,12 @@
 -- What was called is what the rules allow.
-use Rattle.std.proofs.Common.{◌≡◌, ℕ, List, [], ◌∷◌, ◌++◌, Bool, true, ◌&&◌, refl, ap, ap₂, ◌∙◌}
+use Rattle.std.proofs.Common.{◌≡◌, ℕ, List, [], ◌∷◌, ◌++◌, Bool, true, false, refl, ap, sym, ◌∙◌}
+use mathlib.Core.List.{append_assoc}
+use Rattle.std.proofs.lemmas.List.Folds.{list_all-append}
 use Rattle.std.proofs.lemmas.Bool.{and_parts}
-use Rattle.uimg_unpacking.specs.Deeds.{Deed, changes, Creates, Links, Renames, Removes, MakesFolder, RemovesFolder, RemovesAll, Syncs, Resolves, Looks, Identifies, Opens, Explains, Reads, Finds, Overwrites, LendsReader, LendsShelf, Closes}
-use Rattle.uimg_unpacking.specs.Places.{ChangesWithin, Obeys, Terms, since, stays_within}
-use Rattle.uimg_unpacking.proofs.Placing.{obeys_within}
+use Rattle.uimg_unpacking.specs.Deeds.{Answer, Deed, changes, changes_only, Creates, Links, Renames, Removes, MakesFolder, RemovesFolder, RemovesAll, Syncs, Resolves, Looks, Identifies, Opens, Explains, Reads, Finds, Overwrites, LendsReader, LendsShelf, Closes}
+use Rattle.uimg_unpacking.specs.Places.{ChangesWithin, Obeys, Terms, is_temporary_folder, may_change, since, stays_within}
+use Rattle.uimg_unpacking.specs.declared.kind.Kind.{Kind}
+use Rattle.uimg_unpacking.proofs.Placing.{both, folder_changes, obeys_within}
 
 changes_of : (new old : List Deed) → changes (new ++ old) ≡ changes new ++ changes old
 changes_of [] old = refl
@@ -26,9 +29,6 @@ changes_of (Syncs p x ∷ new) old = ap (λ (t : List Deed). Syncs p x ∷ t) (c
 changes_of (Overwrites p x ∷ new) old = ap (λ (t : List Deed). Overwrites p x ∷ t) (changes_of new old)
 changes_of (LendsShelf p ∷ new) old = ap (λ (t : List Deed). LendsShelf p ∷ t) (changes_of new old)
 changes_of (Closes p s c x ∷ new) old = ap (λ (t : List Deed). Closes p s c x ∷ t) (changes_of new old)
-
-both : (a b : Bool) → a ≡ true → b ≡ true → (a && b) ≡ true
-both a b p q = ap₂ (λ (x y : Bool). x && y) p q
 
 -- the changes among calls that stay within a folder
 changes_stay : (folder : List ℕ) (is_naming : Bool) (trace : List Deed) → stays_within folder is_naming trace ≡ true → stays_within folder is_naming (changes trace) ≡ true
@@ -59,3 +59,29 @@ within t is_naming old new does = record {
   is = ap changes does.is ∙ changes_of (since old new) old;
   within = changes_stay t.0 is_naming (since old new) (obeys_within t is_naming (since old new) does.rules);
 }
+
+-- what was changed before, and then
+pub changed_more : (folder : List ℕ) (is_naming : Bool) (old middle new : List Deed) → ChangesWithin folder is_naming middle new → ChangesWithin folder is_naming old middle → ChangesWithin folder is_naming old new
+changed_more folder n old middle new last first = record {
+  made = last.made ++ first.made;
+  is = last.is ∙ ap (λ (t : List Deed). last.made ++ t) first.is ∙ sym (append_assoc last.made first.made (changes old));
+  within = list_all-append (changes_only (may_change folder n)) last.made first.made ∙ both _ _ last.within first.within;
+}
+
+pub changed_none : (folder : List ℕ) (old new : List Deed) → changes new ≡ changes old → ChangesWithin folder false old new
+changed_none folder old new same = record { made = []; is = same; within = refl }
+
+pub changed_since : (folder : List ℕ) (old middle new : List Deed) → changes middle ≡ changes old → ChangesWithin folder false middle new → ChangesWithin folder false old new
+changed_since folder old middle new same last = changed_more folder false old middle new last (changed_none folder old middle same)
+
+pub changed_one : (folder : List ℕ) (deed : Deed) (old new : List Deed) → changes new ≡ deed ∷ changes old → changes_only (may_change folder false) deed ≡ true → ChangesWithin folder false old new
+changed_one folder deed old new is ok = record { made = deed ∷ []; is = is; within = both _ _ ok refl }
+
+pub looked : (path : List ℕ) (kind : Kind) (old new : List Deed) → new ≡ Looks path kind ∷ old → changes new ≡ changes old
+looked path kind old new is = ap changes is
+
+pub changed_removed : (folder path : List ℕ) (answer : Answer) (old new : List Deed) → is_temporary_folder folder path ≡ true → new ≡ Removes path answer ∷ old → ChangesWithin folder false old new
+changed_removed folder path answer old new inside is = changed_one folder (Removes path answer) old new (ap changes is) (folder_changes folder path false inside)
+
+pub changed_removed_all : (folder path : List ℕ) (answer : Answer) (old new : List Deed) → is_temporary_folder folder path ≡ true → new ≡ RemovesAll path answer ∷ old → ChangesWithin folder false old new
+changed_removed_all folder path answer old new inside is = changed_one folder (RemovesAll path answer) old new (ap changes is) (folder_changes folder path false inside)

@@ -5,7 +5,7 @@ use Rattle.uimg_unpacking.specs.Contents.{held_in}
 use Rattle.uimg_unpacking.specs.Deeds.{Done, Failed, Deed, Closes, Links, Removes}
 use Rattle.uimg_unpacking.specs.FileNames.{image_name}
 use Rattle.uimg_unpacking.specs.PartFilling.{parts_by, parts_in, IsNumberOf}
-use Rattle.uimg_unpacking.proofs.ContentLaws.{cancel}
+use Rattle.uimg_unpacking.proofs.Placing.{cancel}
 
 name_of : (n : ℕ) → n < 10 → image_name n ≡ codes "image-" ++ (48 + n) ∷ []
 name_of n small = ap (λ (digits : List ℕ). codes "image-" ++ digits) (decimal_digit n small)

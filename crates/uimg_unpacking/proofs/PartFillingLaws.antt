@@ -1,5 +1,5 @@
 -- Parts and what their files hold.
-use Rattle.std.proofs.Common.{◌≡◌, ℕ, ◌+◌, ◌^◌, ◌<◌, ◌≤◌, nat_lt, nat_le, List, [], ◌∷◌, ◌++◌, length, drop, append_assoc, codes, decimal, string_bytes, bytes_eq, Bool, true, false, ◌&&◌, ◌||◌, not, Option, Some, None, IsTrue, refl, ap, ap₂, sym, subst, ◌∙◌, arith}
+use Rattle.std.proofs.Common.{◌≡◌, ℕ, ◌+◌, ◌^◌, ◌<◌, ◌≤◌, nat_lt, nat_le, List, [], ◌∷◌, ◌++◌, length, map, drop, append_assoc, codes, decimal, string_bytes, bytes_eq, Bool, true, false, ◌&&◌, ◌||◌, not, Option, Some, None, IsTrue, refl, ap, ap₂, sym, subst, ◌∙◌, arith}
 use Rattle.std.specs.Prelude.{Result, Ok, Err}
 use Rattle.std.specs.List.{list_all}
 use Rattle.std.proofs.lemmas.Bool.{and_parts, lt-ltb, ltb-true, leb-true}
@@ -9,32 +9,23 @@ use Rattle.std.proofs.lemmas.List.{append-nil, map-append}
 use Rattle.uimg_base.specs.Device.{Device, SameDevice}
 use Rattle.uimg_legacy.specs.Unpacking.{Part, part_if, unpack_of, KeepsParts, UnpacksBetween}
 use Rattle.uimg_legacy.specs.declared.fault.Fault.{Fault, TheVariants.{Legacy, Read, Put}}
-use Rattle.uimg_unpacking.specs.Clearing.{Clears}
 use Rattle.uimg_unpacking.specs.Contents.{held, held_in, is_in, differ}
 use Rattle.uimg_unpacking.specs.Deeds.{Deed}
 use Rattle.uimg_unpacking.specs.FileNames.{image_name, is_file_name}
-use Rattle.uimg_unpacking.specs.NamingAll.{NamesComplete}
 use Rattle.uimg_unpacking.specs.PartEnds.{end_after, end_of_parts}
 use Rattle.uimg_unpacking.specs.PartFilling.{part_names, known_part, parts_by, parts_in, held_parts, kept_parts, HoldsParts, FillsParts, FillsKept, Requests}
-use Rattle.uimg_unpacking.specs.Places.{is_temporary_file, is_begun_in}
+use Rattle.uimg_unpacking.specs.Places.{Obeys, Terms}
 use Rattle.uimg_unpacking.specs.Refusals.{last_name}
-use Rattle.uimg_unpacking.specs.Staged.{are_numbered_in, complete, complete_names, held_new, names_of, staged}
+use Rattle.uimg_unpacking.specs.Staged.{complete, complete_names, held_new, names_of, staged}
 use Rattle.uimg_unpacking.specs.declared.begun.Begun.{Begun}
-use Rattle.uimg_unpacking.specs.declared.folder.Folder.{Folder}
 use Rattle.uimg_unpacking.specs.declared.part_unpacking.PartsEnded.{PartsEnded}
 use Rattle.uimg_unpacking.specs.declared.part_unpacking.PartsEnded.TheVariants.{Weak, Troubled}
 use Rattle.uimg_unpacking.specs.declared.trouble.Trouble.{Trouble}
 use Rattle.uimg_unpacking.specs.declared.unpacking.Unpacking.{Unpacking}
-use Rattle.uimg_unpacking.proofs.ContentLaws.{cancel, differs, not_or}
-use Rattle.uimg_unpacking.proofs.Placing.{image_name as is_name}
-use Rattle.uimg_unpacking.proofs.StagedLaws.{clears_rest, complete_hold, held_by_names, is_numbered}
-
-both : (a b : Bool) → a ≡ true → b ≡ true → (a && b) ≡ true
-both a b p q = ap₂ (λ (x y : Bool). x && y) p q
-
-not_eq : (b : Bool) → not b ≡ true → b ≡ false
-not_eq true is = cc
-not_eq false is = refl
+use Rattle.uimg_unpacking.proofs.ContentLaws.{as_held, not_or}
+use Rattle.uimg_unpacking.proofs.LeavingLaws.{quiet}
+use Rattle.uimg_unpacking.proofs.Placing.{both, cancel, differs, image_name as is_name, not_eq}
+use Rattle.uimg_unpacking.proofs.StagedLaws.{held_by_names}
 
 -- one more part is complete
 pub parts_more : (parts : List (ℕ × ℕ)) (part : ℕ × ℕ) (calls : List Deed) (files : List Begun) (one : Option (List ℕ)) → names_of files ≡ part_names parts → parts_by (parts ++ part ∷ []) (held_new calls files ++ one ∷ []) ≡ parts_by parts (held_new calls files) ++ known_part part.0 one
@@ -104,20 +95,21 @@ held_next is_named parts number size calls files was bytes contents unnamed is a
     (ap (parts_by (parts ++ (number, size) ∷ [])) is ∙ parts_more parts (number, size) calls (complete files was) (Some bytes) are)
 
 -- parts whose files got their names are those that were held
-pub parts_named : (folder : Folder) (made : Option (List ℕ)) (files : List Begun) (is_writing is_named : Bool) (parts : List (ℕ × ℕ)) (before after : List Deed) → is_named ≡ false → list_all (is_begun_in folder.path.now) files ≡ true → are_numbered_in made files ≡ true
-    → complete_names files is_writing ≡ part_names parts → differ (part_names parts) ≡ true → NamesComplete folder files is_writing true before after
-    → kept_parts true folder.path.now after parts ≡ kept_parts is_named folder.path.now before parts ++ held_parts is_named parts (staged before files is_writing)
-parts_named folder made files is_writing is_named parts before after unnamed all numbered are unlike names =
-    subst (λ (b : Bool). parts_in folder.path.now after parts ≡ kept_parts b folder.path.now before parts ++ held_parts b parts (staged before files is_writing)) (sym unnamed)
-    (ap (parts_by parts)
-    (ap (held_in folder.path.now after) (sym are)
-    ∙ complete_hold folder made files is_writing before after all (is_numbered made files numbered) (ap differ are ∙ unlike) names))
+pub parts_named : (folder : List ℕ) (files : List Begun) (is_writing is_named : Bool) (parts : List (ℕ × ℕ)) (before after : List Deed) → is_named ≡ false → complete_names files is_writing ≡ part_names parts → held_in folder after (complete_names files is_writing) ≡ staged before files is_writing
+    → kept_parts true folder after parts ≡ kept_parts is_named folder before parts ++ held_parts is_named parts (staged before files is_writing)
+parts_named folder files is_writing is_named parts before after unnamed are holds =
+    subst (λ (b : Bool). parts_in folder after parts ≡ kept_parts b folder before parts ++ held_parts b parts (staged before files is_writing)) (sym unnamed)
+    (ap (parts_by parts) (ap (held_in folder after) (sym are) ∙ holds))
+
+-- they are the same while no file is changed
+pub kept_same : (is_named : Bool) (folder : List ℕ) (before after : List Deed) (parts : List (ℕ × ℕ)) → held after ≡ held before → kept_parts is_named folder after parts ≡ kept_parts is_named folder before parts
+kept_same true folder before after parts same = ap (λ (h : List ℕ → Option (List ℕ)). parts_by parts (map (λ name. h (folder ++ codes "/" ++ name)) (part_names parts))) same
+kept_same false folder before after parts same = refl
 
 -- they are the same after the temporary files are removed
-pub parts_cleared : (folder : List ℕ) (parts : List (ℕ × ℕ)) (made : Option (List ℕ)) (paths : List (List ℕ)) (before after : List Deed) → list_all (is_temporary_file folder) paths ≡ true → Clears made paths before after
-    → parts_in folder after parts ≡ parts_in folder before parts
-parts_cleared folder parts made paths before after all clears =
-    ap (parts_by parts) (held_by_names folder (part_names parts) before after (are_image_names parts) (clears_rest folder made paths before after all clears))
+pub parts_cleared : (t : Terms) (parts : List (ℕ × ℕ)) (before after : List Deed) → Obeys t false before after → parts_in t.0 after parts ≡ parts_in t.0 before parts
+parts_cleared t parts before after does =
+    ap (parts_by parts) (held_by_names t.0 (part_names parts) before after (are_image_names parts) (λ p own. as_held before after p p (λ start. quiet t before after does start p own)))
 
 -- each part that is known is what its file holds
 known_held : (folder : List ℕ) (calls : List Deed) (number : ℕ) (one : Option (List ℕ)) (parts : List Part) → held calls (folder ++ codes "/" ++ image_name number) ≡ one → HoldsParts folder parts calls → HoldsParts folder (known_part number one ++ parts) calls

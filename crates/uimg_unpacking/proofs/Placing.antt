@@ -1,5 +1,5 @@
 -- Which paths are those that an unpacking may change.
-use Rattle.std.proofs.Common.{◌≡◌, ℕ, zero, suc, ◌/◌, ◌%◌, ◌<◌, ◌==◌, length, slice_index_or, Bool, true, false, ◌&&◌, ◌||◌, if◌then◌else◌, List, [], ◌∷◌, ◌++◌, Option, Some, None, inl, inr, refl, ap, ap₂, sym, ◌∙◌, arith, rules, codes, decimal, string_bytes, true≢false, not, ◌-◌, take_at, length-append}
+use Rattle.std.proofs.Common.{◌≡◌, ℕ, zero, suc, ◌/◌, ◌%◌, ◌<◌, ◌==◌, length, slice_index_or, Bool, true, false, ◌&&◌, ◌||◌, if◌then◌else◌, List, [], ◌∷◌, ◌++◌, Option, Some, None, inl, inr, refl, ap, ap₂, sym, ◌∙◌, arith, rules, codes, decimal, string_bytes, true≢false, not, ◌-◌, take_at, length-append, bytes_eq, drop, get_or}
 use Rattle.std.specs.Option.{option_to_list}
 use Rattle.std.specs.{Fmt.{digit_glyph, digits, digits_onto}, List.list_all, Option.option_map_or}
 use Rattle.std.proofs.lemmas.Bool.{and_parts, cases_eq}
@@ -8,7 +8,7 @@ use Rattle.std.proofs.lemmas.List.Folds.{list_all-append, list_all_at}
 use mathlib.Core.List.{append_assoc}
 use Rattle.uimg_unpacking.specs.Deeds.{Answer, Done, Exists, Failed, Deed, Creates, Links, Renames, Removes, MakesFolder, RemovesFolder, RemovesAll, Looks, Identifies, Overwrites, LendsShelf, Closes, changes_only}
 use Rattle.uimg_unpacking.specs.FileNames.{is_file_name, is_allowed}
-use Rattle.uimg_unpacking.specs.Naming.{GivesName, over, linked, exists, taken, moved, KeepsAs, linked_too, moved_away, PutsBack, unnamed, removed, lost, put, NamesOver, nothing_there, not_kept, replaced, Names, no_memory, refused, anew, over_it, RemovesOld, not_forced, nothing_old, removed_old}
+use Rattle.uimg_unpacking.specs.Naming.{GivesName, over, linked, exists, taken, moved}
 use Rattle.uimg_unpacking.specs.Allowing.{Allows, is_the_image, is_looked_at, Refused}
 use Rattle.uimg_unpacking.specs.declared.file_id.FileId.{FileId}
 use Rattle.uimg_unpacking.specs.declared.kind.Kind.{Kind}
@@ -144,36 +144,68 @@ pub own_changes : (folder path : List ℕ) → is_file_of folder path ≡ true �
 unfolding may_change
 own_changes folder path is = or_right _ _ is
 
+pub both : (a b : Bool) → a ≡ true → b ≡ true → (a && b) ≡ true
+both a b p q = ap₂ (λ (x y : Bool). x && y) p q
+
+-- other paths
+pub differs : (p q : List ℕ) → (p ≡ q → ⊥) → bytes_eq p q ≡ false
+differs p q other = by_case (bytes_eq p q) refl
+  where
+    by_case : (b : Bool) → bytes_eq p q ≡ b → bytes_eq p q ≡ false
+    by_case true is = absurd (other ((bytes_eq-Decides p q).0 is))
+    by_case false is = is
+
+pub cancel : (xs ys zs : List ℕ) → xs ++ ys ≡ xs ++ zs → ys ≡ zs
+cancel [] ys zs is = is
+cancel (x ∷ xs) ys zs is = cancel xs ys zs (ap (drop 1) is)
+
+pub old_new_path : (made x y : List ℕ) → made ++ codes "/old-" ++ x ≡ made ++ codes "/new-" ++ y → ⊥
+old_new_path made x y is =
+    let e : codes "/old-" ++ x ≡ codes "/new-" ++ y = cancel made (codes "/old-" ++ x) (codes "/new-" ++ y) (sym (append_assoc made (codes "/old-") x) ∙ is ∙ append_assoc made (codes "/new-") y) in
+    let n : 111 ≡ 110 = ap (λ (l : List ℕ). get_or l 1 0) e in
+    omega (arith, n)
+
 -- the paths of a file that was begun
-pub begun_new : (folder : List ℕ) (begun : Begun) → is_begun_in folder begun ≡ true → is_temporary_file folder (string_bytes begun.new) ≡ true
+begun_parts : (folder : List ℕ) (begun : Begun) → is_begun_in folder begun ≡ true
+    → (is_temporary_file folder (string_bytes begun.new) ≡ true) × ((is_kept_file folder (string_bytes begun.old) ≡ true) × ((is_file_name (string_bytes begun.name) ≡ true)
+    × ((bytes_eq (string_bytes begun.whole) (folder ++ codes "/" ++ string_bytes begun.name) ≡ true) × (not (bytes_eq (string_bytes begun.old) (string_bytes begun.new)) ≡ true))))
 unfolding is_begun_in
-begun_new folder begun is = (and_parts _ _ (and_parts _ _ (and_parts _ _ is).0).0).0
+begun_parts folder begun is =
+    let a = and_parts _ _ is in
+    let b = and_parts _ _ a.0 in
+    let c = and_parts _ _ b.0 in
+    let d = and_parts _ _ c.0 in
+    (d.0, (d.1, (c.1, (b.1, a.1))))
+
+pub begun_new : (folder : List ℕ) (begun : Begun) → is_begun_in folder begun ≡ true → is_temporary_file folder (string_bytes begun.new) ≡ true
+begun_new folder begun is = (begun_parts folder begun is).0
 
 pub begun_kept : (folder : List ℕ) (begun : Begun) → is_begun_in folder begun ≡ true → is_kept_file folder (string_bytes begun.old) ≡ true
-unfolding is_begun_in
-begun_kept folder begun is = (and_parts _ _ (and_parts _ _ (and_parts _ _ is).0).0).1
+begun_kept folder begun is = (begun_parts folder begun is).1.0
 
 pub begun_old : (folder : List ℕ) (begun : Begun) → is_begun_in folder begun ≡ true → is_temporary_file folder (string_bytes begun.old) ≡ true
 begun_old folder begun is = kept_is folder (string_bytes begun.old) (begun_kept folder begun is)
 
 pub begun_named : (folder : List ℕ) (begun : Begun) → is_begun_in folder begun ≡ true → is_file_name (string_bytes begun.name) ≡ true
-unfolding is_begun_in
-begun_named folder begun is = (and_parts _ _ (and_parts _ _ is).0).1
+begun_named folder begun is = (begun_parts folder begun is).1.1.0
 
 pub begun_path : (folder : List ℕ) (begun : Begun) → is_begun_in folder begun ≡ true → string_bytes begun.whole ≡ folder ++ codes "/" ++ string_bytes begun.name
-unfolding is_begun_in
-begun_path folder begun is = (bytes_eq-Decides _ _).0 (and_parts _ _ is).1
+begun_path folder begun is = (bytes_eq-Decides _ _).0 (begun_parts folder begun is).1.1.1.0
 
 pub begun_whole : (folder : List ℕ) (begun : Begun) → is_begun_in folder begun ≡ true → is_file_of folder (string_bytes begun.whole) ≡ true
 begun_whole folder begun is = ap (is_file_of folder) (begun_path folder begun is) ∙ own_in folder (string_bytes begun.name) (begun_named folder begun is)
 
-pub begun_of : (folder : List ℕ) (begun : Begun) → is_temporary_file folder (string_bytes begun.new) ≡ true → is_kept_file folder (string_bytes begun.old) ≡ true → is_file_name (string_bytes begun.name) ≡ true → string_bytes begun.whole ≡ folder ++ codes "/" ++ string_bytes begun.name → is_begun_in folder begun ≡ true
-unfolding is_begun_in
-begun_of folder begun a b c d =
-    ap₂ (λ (p q : Bool). p && q) (ap₂ (λ (p q : Bool). p && q) (ap₂ (λ (p q : Bool). p && q) a b) c) ((bytes_eq-Decides _ _).1 d)
+pub not_eq : (b : Bool) → not b ≡ true → b ≡ false
+not_eq true is = cc
+not_eq false is = refl
 
-both : (a b : Bool) → a ≡ true → b ≡ true → (a && b) ≡ true
-both a b p q = ap₂ (λ (x y : Bool). x && y) p q
+pub begun_apart : (folder : List ℕ) (begun : Begun) → is_begun_in folder begun ≡ true → bytes_eq (string_bytes begun.old) (string_bytes begun.new) ≡ false
+begun_apart folder begun is = not_eq _ (begun_parts folder begun is).1.1.1.1
+
+begun_of : (folder : List ℕ) (begun : Begun) → is_temporary_file folder (string_bytes begun.new) ≡ true → is_kept_file folder (string_bytes begun.old) ≡ true → is_file_name (string_bytes begun.name) ≡ true → string_bytes begun.whole ≡ folder ++ codes "/" ++ string_bytes begun.name
+    → bytes_eq (string_bytes begun.old) (string_bytes begun.new) ≡ false → is_begun_in folder begun ≡ true
+unfolding is_begun_in
+begun_of folder begun a b c d e = both _ _ (both _ _ (both _ _ (both _ _ a b) c) ((bytes_eq-Decides _ _).1 d)) (ap not e)
 
 widened : (a b : Bool) → (a || false) ≡ true → (a || b) ≡ true
 widened true b is = refl
@@ -218,9 +250,9 @@ wider_call t n (Links p q a) before is = wider_deed t.0 n (Links p q a) is
 wider_call t n (Removes p a) before is = wider_deed t.0 n (Removes p a) is
 wider_call t n (MakesFolder p a) before is = wider_deed t.0 n (MakesFolder p a) is
 wider_call t n (RemovesFolder p a) before is = wider_deed t.0 n (RemovesFolder p a) is
-wider_call t n (RemovesAll p a) before is = wider_deed t.0 n (RemovesAll p a) is
-wider_call t n (Overwrites p a) before is = wider_deed t.0 n (Overwrites p a) is
-wider_call t n (LendsShelf p) before is = wider_deed t.0 n (LendsShelf p) is
+wider_call t n (RemovesAll p a) before is = is
+wider_call t n (Overwrites p a) before is = is
+wider_call t n (LendsShelf p) before is = is
 wider_call t n _ before is = refl
 
 wider_obeys : (t : Terms) (is_naming : Bool) (calls : List Deed) → obeys t is_naming calls ≡ true → obeys t true calls ≡ true
@@ -236,6 +268,9 @@ obeys_naming t n old new does = record { is = does.is; rules = wider_obeys t n (
 within_call : (t : Terms) (is_naming : Bool) (deed : Deed) (before : List Deed) → may_call t is_naming deed before ≡ true → changes_only (may_change t.0 is_naming) deed ≡ true
 within_call t n (Closes p s c a) before is = (and_parts _ _ is).0
 within_call t n (Renames p q a) before is = (and_parts _ _ is).0
+within_call t n (RemovesAll p a) before is = absurd (true≢false (sym is))
+within_call t n (Overwrites p a) before is = absurd (true≢false (sym is))
+within_call t n (LendsShelf p) before is = absurd (true≢false (sym is))
 within_call t n _ before is = is
 
 pub obeys_within : (t : Terms) (is_naming : Bool) (calls : List Deed) → obeys t is_naming calls ≡ true → stays_within t.0 is_naming calls ≡ true
@@ -334,26 +369,23 @@ gives_within t new whole r a before after (moved e is) p q f =
     (both _ _ (renamed_in t new whole a seen (file_changes t.0 new true p) (own_changes t.0 whole q) (or_right _ _ ((bytes_eq-Decides whole whole).1 refl)))
     (both _ _ refl (both _ _ (linked_in t new whole Failed (file_changes t.0 new true p) (own_changes t.0 whole q)) refl)))
 
-pub keeps_within : (t : Terms) (whole old : List ℕ) (answer : Answer) (before after : List Deed) → KeepsAs whole old answer before after → t.1 ≡ true → is_file_of t.0 whole ≡ true → is_temporary_file t.0 old ≡ true → Obeys t true before after
-keeps_within t whole old a before after (linked_too e is) f p q =
-    one_more t true (Links whole old Done) before after is (linked_in t whole old Done (own_changes t.0 whole p) (file_changes t.0 old true q))
-keeps_within t whole old a before after (moved_away r e is) f p q =
-    obeys_by t true (Renames whole old a ∷ Links whole old r ∷ []) before after is
-    (both _ _ (renamed_in t whole old a (Links whole old r ∷ []) (own_changes t.0 whole p) (file_changes t.0 old true q) (by_force t whole old (Links whole old r ∷ []) f))
-    (both _ _ (linked_in t whole old r (own_changes t.0 whole p) (file_changes t.0 old true q)) refl))
+pub links_within : (t : Terms) (whole old : List ℕ) (answer : Answer) (before after : List Deed) → after ≡ Links whole old answer ∷ before → is_file_of t.0 whole ≡ true → is_temporary_file t.0 old ≡ true → Obeys t true before after
+links_within t whole old a before after is p q = one_more t true (Links whole old a) before after is (linked_in t whole old a (own_changes t.0 whole p) (file_changes t.0 old true q))
+
+pub moves_within : (t : Terms) (whole old : List ℕ) (answer : Answer) (before after : List Deed) → after ≡ Renames whole old answer ∷ before → t.1 ≡ true → is_file_of t.0 whole ≡ true → is_temporary_file t.0 old ≡ true → Obeys t true before after
+moves_within t whole old a before after is f p q = one_more t true (Renames whole old a) before after is (renamed_in t whole old a [] (own_changes t.0 whole p) (file_changes t.0 old true q) (by_force t whole old [] f))
+
+pub looks_within : (t : Terms) (is_naming : Bool) (path : List ℕ) (kind : Kind) (before after : List Deed) → after ≡ Looks path kind ∷ before → Obeys t is_naming before after
+looks_within t n path kind before after is = one_more t n (Looks path kind) before after is refl
+
+pub unnames_within : (t : Terms) (whole : List ℕ) (answer : Answer) (before after : List Deed) → after ≡ Removes whole answer ∷ before → is_file_of t.0 whole ≡ true → Obeys t true before after
+unnames_within t whole a before after is p = one_more t true (Removes whole a) before after is (own_changes t.0 whole p)
 
 put_in : (t : Terms) (old whole : List ℕ) (answer : Answer) (before : List Deed) → is_file_of t.0 whole ≡ true → is_kept_file t.0 old ≡ true → may_call t true (Renames old whole answer) before ≡ true
 put_in t old whole a before p q = renamed_in t old whole a before (file_changes t.0 old true (kept_is t.0 old q)) (own_changes t.0 whole p) (or_left _ _ (or_right t.1 _ q))
 
-pub puts_within : (t : Terms) (whole old : List ℕ) (has_name is_back : Bool) (before after : List Deed) → PutsBack whole old has_name is_back before after → is_file_of t.0 whole ≡ true → is_kept_file t.0 old ≡ true → Obeys t true before after
-puts_within t whole old h b before after (unnamed e g is) p q = one_more t true (Looks old Nothing) before after is refl
-puts_within t whole old h b before after (removed a e g is) p q =
-    obeys_by t true (Removes whole a ∷ Looks old Nothing ∷ []) before after is (both _ _ (own_changes t.0 whole p) refl)
-puts_within t whole old h b before after (lost k a e g i is) p q =
-    obeys_by t true (Renames old whole a ∷ Looks old k ∷ []) before after is (both _ _ (put_in t old whole a (Looks old k ∷ []) p q) refl)
-puts_within t whole old h b before after (put k a e g is) p q =
-    obeys_by t true (Removes old a ∷ Renames old whole Done ∷ Looks old k ∷ []) before after is
-    (both _ _ (file_changes t.0 old true (kept_is t.0 old q)) (both _ _ (put_in t old whole Done (Looks old k ∷ []) p q) refl))
+pub puts_within : (t : Terms) (old whole : List ℕ) (answer : Answer) (before after : List Deed) → after ≡ Renames old whole answer ∷ before → is_file_of t.0 whole ≡ true → is_kept_file t.0 old ≡ true → Obeys t true before after
+puts_within t old whole a before after is p q = one_more t true (Renames old whole a) before after is (put_in t old whole a [] p q)
 
 -- a temporary folder is made
 pub made_within : (t : Terms) (path : List ℕ) (n : ℕ) (answer : Answer) (before after : List Deed) → path ≡ t.0 ++ codes "/.uimg-new" ++ decimal n → after ≡ MakesFolder path answer ∷ before → (is_naming : Bool) → Obeys t is_naming before after
@@ -373,41 +405,12 @@ begun_paths folder made k begun is named new old whole =
     (ap (is_temporary_file folder) new ∙ new_in folder made k is)
     (ap (is_kept_file folder) old ∙ old_in folder made k is)
     named whole
+    (differs (string_bytes begun.old) (string_bytes begun.new) (λ e. old_new_path made (decimal k) (decimal k) (sym old ∙ e ∙ new)))
 
 pub allows_within : (t : Terms) (is_naming : Bool) (image : Option FileId) (is_forced : Bool) (path : List ℕ) (why : Option Refused) (before after : List Deed) → Allows image is_forced path why before after → Obeys t is_naming before after
 allows_within t n image forced path why before after (is_the_image found e g is) = one_more t n (Identifies path found) before after is refl
 allows_within t n image forced path why before after (is_looked_at found kind e g is) =
     obeys_by t n (Looks path kind ∷ Identifies path found ∷ []) before after is refl
-
-looked : (t : Terms) (path : List ℕ) (kind : Kind) (before : List Deed) → Obeys t true before (Looks path kind ∷ before)
-looked t path kind before = one_more t true (Looks path kind) before (Looks path kind ∷ before) refl refl
-
-over_within : (t : Terms) (new old whole : List ℕ) (answer : Answer) (before after : List Deed) → NamesOver new old whole answer before after → t.1 ≡ true → is_temporary_file t.0 new ≡ true → is_temporary_file t.0 old ≡ true → is_file_of t.0 whole ≡ true → Obeys t true before after
-over_within t new old whole a before after (nothing_there kind e gives) f p o q =
-    gives_within t new whole false a (Looks whole kind ∷ before) after gives p q (λ is. f) ◁ looked t whole kind before
-over_within t new old whole a before after (not_kept kind e g keeps) f p o q =
-    keeps_within t whole old a (Looks whole kind ∷ before) after keeps f q o ◁ looked t whole kind before
-over_within t new old whole a before after (replaced kind kept e keeps gives) f p o q =
-    gives_within t new whole true a kept after gives p q (λ is. f)
-    ◁ keeps_within t whole old Done (Looks whole kind ∷ before) kept keeps f q o
-    ◁ looked t whole kind before
-
-pub names_within : (t : Terms) (image : Option FileId) (begun : Begun) (is_named : Bool) (before after : List Deed) → Names image t.1 (string_bytes begun.new) (string_bytes begun.old) (string_bytes begun.whole) is_named before after → is_begun_in t.0 begun ≡ true → Obeys t true before after
-names_within t image b named before after (no_memory e is) ok = no_more t true before after is
-names_within t image b named before after (refused why e allows) ok = allows_within t true image t.1 (string_bytes b.whole) why before after allows
-names_within t image b named before after (anew a seen e g allows gives) ok =
-    gives_within t (string_bytes b.new) (string_bytes b.whole) false a seen after gives (begun_new t.0 b ok) (begun_whole t.0 b ok) (λ is. absurd (true≢false (sym is)))
-    ◁ allows_within t true image t.1 (string_bytes b.whole) None before seen allows
-names_within t image b named before after (over_it a seen e g allows names) ok =
-    over_within t (string_bytes b.new) (string_bytes b.old) (string_bytes b.whole) a seen after names e (begun_new t.0 b ok) (begun_old t.0 b ok) (begun_whole t.0 b ok)
-    ◁ allows_within t true image t.1 (string_bytes b.whole) None before seen allows
-
-pub old_within : (t : Terms) (is_forced : Bool) (begun : Begun) (before after : List Deed) → RemovesOld is_forced (string_bytes begun.whole) before after → is_begun_in t.0 begun ≡ true → Obeys t true before after
-old_within t forced b before after (not_forced e is) ok = no_more t true before after is
-old_within t forced b before after (nothing_old kind e g is) ok = one_more t true (Looks (string_bytes b.whole) kind) before after is refl
-old_within t forced b before after (removed_old kind a e g is) ok =
-    obeys_by t true (Removes (string_bytes b.whole) a ∷ Looks (string_bytes b.whole) kind ∷ []) before after is
-    (both _ _ (own_changes t.0 (string_bytes b.whole) (begun_whole t.0 b ok)) refl)
 
 -- the files without the last, and the last
 pub without_last : {X : Type 0} (p : X → Bool) (xs ys : List X) (last : Option X) → xs ≡ ys ++ option_to_list last → list_all p xs ≡ true → list_all p ys ≡ true

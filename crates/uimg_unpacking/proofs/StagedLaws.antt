@@ -1,26 +1,24 @@
 -- What files that were begun hold, and their names.
-use Rattle.std.proofs.Common.{◌≡◌, ℕ, suc, ◌+◌, ◌^◌, ◌<◌, ◌≤◌, List, [], ◌∷◌, ◌++◌, map, length, codes, decimal, string_bytes, bytes_eq, slice_get, ◌-◌, is_none, option_to_list, String, Bool, true, false, ◌||◌, if◌then◌else◌, not, Option, Some, None, refl, ap, ap₂, sym, subst, ◌∙◌, true≢false, arith}
+use Rattle.std.proofs.Common.{◌≡◌, ℕ, suc, ◌+◌, ◌^◌, ◌<◌, ◌≤◌, List, [], ◌∷◌, ◌++◌, map, length, codes, decimal, string_bytes, bytes_eq, slice_get, ◌-◌, is_none, option_to_list, Bool, true, false, ◌||◌, if◌then◌else◌, not, Option, Some, None, refl, ap, ap₂, sym, subst, ◌∙◌, true≢false, arith}
 use Rattle.std.specs.List.{list_all}
 use Rattle.std.specs.Option.{option_map_or}
-use Rattle.std.specs.declared.alloc.Global.{Global}
 use Rattle.std.proofs.lemmas.Bool.{and_parts}
 use Rattle.std.proofs.lemmas.List.{append-nil}
 use Rattle.std.proofs.lemmas.List.Folds.{list_all-append}
-use Rattle.uimg_unpacking.specs.Clearing.{RemovesEach, RemovesMade, Clears}
-use Rattle.uimg_unpacking.specs.Contents.{held, held_in, is_in, differ}
-use Rattle.uimg_unpacking.specs.Deeds.{Answer, Done, Exists, Failed, Deed, Creates, Closes, Removes, MakesFolder}
-use Rattle.uimg_unpacking.specs.FileNames.{is_file_name}
-use Rattle.uimg_unpacking.specs.Naming.{RemovesOld, not_forced, nothing_old, removed_old}
-use Rattle.uimg_unpacking.specs.NamingAll.{NamesFiles, SyncsNames, not_needed, waited, NamesAll, all_named, not_named, not_synced, NamesComplete, complete as all_complete, without_last as all_but_last, not_dropped}
-use Rattle.uimg_unpacking.specs.Places.{is_file_of, is_temporary_file, is_begun_in}
-use Rattle.uimg_unpacking.specs.Refusals.{last_name, no_file, dropped}
+use Rattle.uimg_unpacking.specs.Contents.{Files, IsTrueTo, files_after, held, held_in, is_in, differ}
+use Rattle.uimg_unpacking.specs.Deeds.{Answer, Done, Deed, Creates, Closes, Removes}
+use Rattle.uimg_unpacking.specs.FileNames.{is_among, is_file_name}
+use Rattle.uimg_unpacking.specs.Leaving.{KeepsNone, Leaves}
+use Rattle.uimg_unpacking.specs.Naming.{NamesFiles, PutsBackFiles}
+use Rattle.uimg_unpacking.specs.Places.{Obeys, Terms, is_begun_in, is_file_of}
+use Rattle.uimg_unpacking.specs.Refusals.{last_name}
 use Rattle.uimg_unpacking.specs.Staged.{are_numbered_in, without_last, complete, complete_names, held_new, staged, names_of, with_name, uses_names, LeavesOthers}
 use Rattle.uimg_unpacking.specs.declared.begun.Begun.{Begun}
-use Rattle.uimg_unpacking.specs.declared.folder.Folder.{Folder}
-use Rattle.uimg_unpacking.specs.declared.trouble.Trouble.{Trouble}
-use Rattle.uimg_unpacking.proofs.ContentLaws.{HasPaths, Numbered, all_numbered, numbers_told, differs, never, removes_other, creates_other, closes_other, closes_it, temporary_other, two_new, named_all, cancel, not_or}
-use Rattle.uimg_unpacking.proofs.Placing.{begun_old, begun_named, begun_path, own_in}
-use Rattle.uimg_unpacking.proofs.NameUses.{both, names_used, not_eq}
+use Rattle.uimg_unpacking.proofs.ContentLaws.{HasPaths, Numbered, all_numbered, as_held, numbers_told, removes_other, creates_other, closes_other, closes_it, two_new, not_or}
+use Rattle.uimg_unpacking.proofs.LeavingLaws.{none_closed, none_created, quiet}
+use Rattle.uimg_unpacking.proofs.RecoverLaws.{named_all, taken_back}
+use Rattle.uimg_unpacking.proofs.NameUses.{names_used}
+use Rattle.uimg_unpacking.proofs.Placing.{begun_named, both, differs, not_eq, own_in}
 
 -- the paths of numbers in the folder that was made, as facts
 abbrev pub NumberedIn : Option (List ℕ) → List Begun → Type 0
@@ -95,14 +93,14 @@ new_none (Some path) files its numbered =
 pub created_same : (made : Option (List ℕ)) (files : List Begun) (is_writing : Bool) (its : Begun) (answer : Answer) (before after : List Deed) → NumberedIn made (files ++ its ∷ []) → after ≡ Creates (string_bytes its.new) answer ∷ before → staged after files is_writing ≡ staged before files is_writing
 created_same made files is_writing its answer before after numbered is =
     held_each (string_bytes its.new) (complete files is_writing) before after
-    (λ p other. ap (λ (t : List Deed). held t p) is ∙ creates_other (string_bytes its.new) p answer before other)
+    (λ p other. as_held before after p p (λ start. ap (λ (t : List Deed). files_after start t p) is ∙ creates_other start (string_bytes its.new) p answer before other))
     (complete_none (string_bytes its.new) files is_writing (new_none made files its numbered))
 
 -- the last one is closed
 pub closed_same : (made : Option (List ℕ)) (files left : List Begun) (its : Begun) (is_synced : Bool) (contents : Option (List ℕ)) (answer : Answer) (before after : List Deed) → files ≡ left ++ its ∷ [] → NumberedIn made files → after ≡ Closes (string_bytes its.new) is_synced contents answer ∷ before → held_new after left ≡ held_new before left
 closed_same made files left its is_synced contents answer before after are numbered is =
     held_each (string_bytes its.new) left before after
-    (λ p other. ap (λ (t : List Deed). held t p) is ∙ closes_other (string_bytes its.new) p is_synced contents answer before other)
+    (λ p other. as_held before after p p (λ start. ap (λ (t : List Deed). files_after start t p) is ∙ closes_other start (string_bytes its.new) p is_synced contents answer before other))
     (new_none made left its (subst (NumberedIn made) are numbered))
 
 map-append : (f : Begun → Option (List ℕ)) (xs ys : List Begun) → map f (xs ++ ys) ≡ map f xs ++ map f ys
@@ -127,7 +125,7 @@ pub removed_same : (made : Option (List ℕ)) (files left : List Begun) (its : B
 removed_same made files left its answer before after are numbered is =
     let front : without_last files ≡ left = ap without_last are ∙ front_of left its in
     held_each (string_bytes its.new) left before after
-    (λ p other. ap (λ (t : List Deed). held t p) is ∙ removes_other (string_bytes its.new) p answer before other)
+    (λ p other. as_held before after p p (λ start. ap (λ (t : List Deed). files_after start t p) is ∙ removes_other start (string_bytes its.new) p answer before other))
     (new_none made left its (subst (NumberedIn made) are numbered))
     ∙ ap (held_new before) (sym front)
 
@@ -138,33 +136,6 @@ front_in None files (one ∷ left) its are numbered = absurd (empty (sym numbere
     empty : [] ≡ one ∷ (left ++ its ∷ []) → ⊥
     empty is = omega (arith, ap (λ (l : List Begun). length l) is)
 front_in (Some path) files left its are numbered = front_numbered path 0 left its (subst (Numbered path 0) are numbered)
-
--- nothing of this changes what files hold
-pub syncs_same : (folder : Folder) (files : List Begun) (trouble : Option Trouble) (before after : List Deed) → SyncsNames folder files trouble before after → held after ≡ held before
-syncs_same folder files trouble before after (not_needed e f is) = ap held is
-syncs_same folder files trouble before after (waited answer told is) = ap held is
-
--- files that are removed in the temporary folder
-pub each_rest : (folder : List ℕ) (paths : List (List ℕ)) (before after : List Deed) (p : List ℕ) → list_all (is_temporary_file folder) paths ≡ true → is_file_of folder p ≡ true → RemovesEach paths before after → held after p ≡ held before p
-each_rest folder [] before after p all own is = ap (λ (t : List Deed). held t p) is
-each_rest folder (path ∷ paths) before after p all own removes =
-    let h = and_parts (is_temporary_file folder path) (list_all (is_temporary_file folder) paths) all in
-    each_rest folder paths (Removes path removes.0 ∷ before) after p h.1 own removes.1
-    ∙ removes_other path p removes.0 before (temporary_other folder path p h.0 own)
-
-made_rest : (made : Option (List ℕ)) (before after : List Deed) (p : List ℕ) → RemovesMade made before after → held after p ≡ held before p
-made_rest None before after p is = ap (λ (t : List Deed). held t p) is
-made_rest (Some path) before after p is = ap (λ (t : List Deed). held t p) is.1
-
-pub clears_rest : (folder : List ℕ) (made : Option (List ℕ)) (paths : List (List ℕ)) (before after : List Deed) → list_all (is_temporary_file folder) paths ≡ true → Clears made paths before after → (p : List ℕ) → is_file_of folder p ≡ true → held after p ≡ held before p
-clears_rest folder made paths before after all clears p own =
-    made_rest made clears.seen after p clears.folder ∙ each_rest folder paths before clears.seen p all own clears.files
-
-old_paths : (folder : List ℕ) (files : List Begun) → list_all (is_begun_in folder) files ≡ true → list_all (is_temporary_file folder) (map (λ its. string_bytes its.old) files) ≡ true
-old_paths folder [] all = refl
-old_paths folder (its ∷ files) all =
-    let h = and_parts (is_begun_in folder its) (list_all (is_begun_in folder) files) all in
-    both _ _ (begun_old folder its h.0) (old_paths folder files h.1)
 
 -- the files hold at their names what they held
 pub held_by_names : (folder : List ℕ) (names : List (List ℕ)) (before after : List Deed) → list_all is_file_name names ≡ true → ((p : List ℕ) → is_file_of folder p ≡ true → held after p ≡ held before p) → held_in folder after names ≡ held_in folder before names
@@ -179,45 +150,12 @@ are_names folder (its ∷ files) all =
     let h = and_parts (is_begun_in folder its) (list_all (is_begun_in folder) files) all in
     both _ _ (begun_named folder its h.0) (are_names folder files h.1)
 
--- all files that got their names hold there what they held
-all_held : (folder : Folder) (made : Option (List ℕ)) (files : List Begun) (before after : List Deed) → list_all (is_begun_in folder.path.now) files ≡ true → NumberedIn made files → differ (names_of files) ≡ true
-    → NamesFiles folder files (length files) true before after → held_in folder.path.now after (names_of files) ≡ held_new before files
-all_held folder None files before after all numbered unlike names =
-    subst (λ (fs : List Begun). held_in folder.path.now after (names_of fs) ≡ held_new before fs) (sym numbered) refl
-all_held folder (Some made) files before after all numbered unlike names = named_all folder made 0 files before after all numbered unlike names
-
-pub all_hold : (folder : Folder) (made : Option (List ℕ)) (files : List Begun) (before after : List Deed) → list_all (is_begun_in folder.path.now) files ≡ true → NumberedIn made files → differ (names_of files) ≡ true
-    → NamesAll folder files true before after → held_in folder.path.now after (names_of files) ≡ held_new before files
-all_hold folder made files before after all numbered unlike (all_named seen synced e names syncs forgets) =
-    let at = folder.path.now in
-    held_by_names at (names_of files) synced after (are_names at files all) (λ p own. each_rest at (map (λ its. string_bytes its.old) files) synced after p (old_paths at files all) own forgets)
-    ∙ ap (λ (h : List ℕ → Option (List ℕ)). map (λ name. h (at ++ codes "/" ++ name)) (names_of files)) (syncs_same folder files None seen synced syncs)
-    ∙ all_held folder made files before seen all numbered unlike names
-all_hold folder made files before after all numbered unlike (not_named n back seen e names puts) = absurd (true≢false e)
-all_hold folder made files before after all numbered unlike (not_synced back trouble seen synced e names syncs puts) = absurd (true≢false e)
-
 names-append : (left : List Begun) (its : Begun) → names_of (left ++ its ∷ []) ≡ names_of left ++ string_bytes its.name ∷ []
 names-append [] its = refl
 names-append (one ∷ left) its = ap (λ (l : List (List ℕ)). string_bytes one.name ∷ l) (names-append left its)
 
 without : (p : Begun → Bool) (left : List Begun) (its : Begun) → list_all p (left ++ its ∷ []) ≡ true → list_all p left ≡ true
 without p left its all = (and_parts (list_all p left) (list_all p (its ∷ [])) (sym (list_all-append p left (its ∷ [])) ∙ all)).0
-
--- The same of the files that are complete: their names, and that they hold there what they held.
-pub complete_hold : (folder : Folder) (made : Option (List ℕ)) (files : List Begun) (is_writing : Bool) (before after : List Deed) → list_all (is_begun_in folder.path.now) files ≡ true → NumberedIn made files → differ (complete_names files is_writing) ≡ true
-    → NamesComplete folder files is_writing true before after → held_in folder.path.now after (complete_names files is_writing) ≡ staged before files is_writing
-complete_hold folder made files false before after all numbered unlike (all_complete e names) = all_hold folder made files before after all numbered unlike names
-complete_hold folder made files true before after all numbered unlike (all_complete e names) = absurd (true≢false e)
-complete_hold folder made files false before after all numbered unlike (all_but_last left seen e drops names) = absurd (true≢false (sym e))
-complete_hold folder made files true before after all numbered unlike (all_but_last left seen e (no_file f g h i) names) = absurd (true≢false h)
-complete_hold folder made files true before after all numbered unlike (all_but_last left seen e (dropped its answer are done is) names) =
-    let at = folder.path.now in
-    let front : without_last files ≡ left = ap without_last are ∙ front_of left its in
-    ap (λ (fs : List Begun). held_in at after (names_of fs)) front
-    ∙ all_hold folder made left seen after (without (is_begun_in at) left its (ap (list_all (is_begun_in at)) (sym are) ∙ all)) (front_in made files left its are numbered)
-    (ap (λ (fs : List Begun). differ (names_of fs)) (sym front) ∙ unlike) names
-    ∙ removed_same made files left its answer before seen are numbered is
-complete_hold folder made files is_writing before after all numbered unlike (not_dropped left e f drops) = absurd (true≢false f)
 
 -- what is true of all files is true of those before the last
 front_all : (p : Begun → Bool) (files : List Begun) → list_all p files ≡ true → list_all p (without_last files) ≡ true
@@ -249,31 +187,18 @@ complete_unlike : (files : List Begun) (is_writing : Bool) → differ (names_of 
 complete_unlike files true unlike = front_unlike files unlike
 complete_unlike files false unlike = unlike
 
--- what refused files were to replace is removed
-pub old_rest : (is_forced : Bool) (whole p : List ℕ) (before after : List Deed) → RemovesOld is_forced whole before after → bytes_eq whole p ≡ false → held after p ≡ held before p
-old_rest forced whole p before after (not_forced e is) other = ap (λ (t : List Deed). held t p) is
-old_rest forced whole p before after (nothing_old kind e f is) other = ap (λ (t : List Deed). held t p) is
-old_rest forced whole p before after (removed_old kind answer e f is) other = ap (λ (t : List Deed). held t p) is ∙ removes_other whole p answer before other
-
 pub none_of_names : (name : List ℕ) (files : List Begun) → is_in name (names_of files) ≡ false → list_all (λ its. not (bytes_eq name (string_bytes its.name))) files ≡ true
 none_of_names name [] is = refl
 none_of_names name (its ∷ files) is =
     let h = not_or (bytes_eq name (string_bytes its.name)) (is_in name (names_of files)) (ap not is) in
     both _ _ (ap not h.0) (none_of_names name files (not_eq _ h.1))
 
-pub old_leaves : (folder : List ℕ) (is_forced : Bool) (its : Begun) (name : List ℕ) (before after : List Deed) → is_begun_in folder its ≡ true → not (bytes_eq name (string_bytes its.name)) ≡ true → RemovesOld is_forced (string_bytes its.whole) before after
-    → held after (folder ++ codes "/" ++ name) ≡ held before (folder ++ codes "/" ++ name)
-old_leaves folder forced its name before after begun other removes =
-    old_rest forced (string_bytes its.whole) (folder ++ codes "/" ++ name) before after removes
-    (differs (string_bytes its.whole) (folder ++ codes "/" ++ name)
-    (λ e. never name (string_bytes its.name) (not_eq _ other) (sym (cancel (folder ++ codes "/") (string_bytes its.name) name (sym (begun_path folder its begun) ∙ e)))))
-
 held_by_others : (folder : List ℕ) (names others : List (List ℕ)) (before after : List Deed) → list_all is_file_name names ≡ true → list_all (λ name. not (is_in name others)) names ≡ true → LeavesOthers folder others before after → held_in folder after names ≡ held_in folder before names
 held_by_others folder [] others before after all apart leaves = refl
 held_by_others folder (name ∷ names) others before after all apart leaves =
     let a = and_parts (is_file_name name) (list_all is_file_name names) all in
     let b = and_parts (not (is_in name others)) (list_all (λ x. not (is_in x others)) names) apart in
-    ap₂ (λ (x : Option (List ℕ)) (xs : List (Option (List ℕ))). x ∷ xs) (leaves name a.0 (not_eq _ b.0)) (held_by_others folder names others before after a.1 b.1 leaves)
+    ap₂ (λ (x : Option (List ℕ)) (xs : List (Option (List ℕ))). x ∷ xs) (as_held before after (folder ++ codes "/" ++ name) (folder ++ codes "/" ++ name) (λ start. leaves start name a.0 (not_eq _ b.0))) (held_by_others folder names others before after a.1 b.1 leaves)
 
 names_all : (p : List ℕ → Bool) (files : List Begun) → list_all p (names_of files) ≡ true → list_all (λ its. p (string_bytes its.name)) files ≡ true
 names_all p [] all = refl
@@ -284,16 +209,14 @@ all_names p [] all = refl
 all_names p (its ∷ files) all = let h = and_parts (p (string_bytes its.name)) (list_all (λ it. p (string_bytes it.name)) files) all in both _ _ h.0 (all_names p files h.1)
 
 -- The files that are complete have their names, and hold there what they held in the temporary folder.
-pub hold_named : (folder : Folder) (made : Option (List ℕ)) (files : List Begun) (is_writing : Bool) (others : List (List ℕ)) (used : List ℕ → Bool) (before seen after : List Deed) → list_all (is_begun_in folder.path.now) files ≡ true → are_numbered_in made files ≡ true
-    → uses_names used (names_of files) others ≡ true → NamesComplete folder files is_writing true before seen → LeavesOthers folder.path.now others seen after → held_in folder.path.now after (complete_names files is_writing) ≡ staged before files is_writing
-hold_named folder made files is_writing others used before seen after all numbered-in is names leaves =
-    let numbered = is_numbered made files numbered-in in
+pub hold_named : (folder : List ℕ) (files : List Begun) (is_writing : Bool) (others : List (List ℕ)) (used : List ℕ → Bool) (before seen after : List Deed) → list_all (is_begun_in folder) files ≡ true → uses_names used (names_of files) others ≡ true
+    → held_in folder seen (complete_names files is_writing) ≡ staged before files is_writing → LeavesOthers folder others seen after → held_in folder after (complete_names files is_writing) ≡ staged before files is_writing
+hold_named folder files is_writing others used before seen after all is holds leaves =
     let uses = names_used used (names_of files) others is in
-    let at = folder.path.now in
     let some = complete files is_writing in
-    let named = are_names at some (complete_all (is_begun_in at) files is_writing all) in
+    let named = are_names folder some (complete_all (is_begun_in folder) files is_writing all) in
     let apart = all_names (λ name. not (is_in name others)) some (complete_all (λ its. not (is_in (string_bytes its.name) others)) files is_writing (names_all (λ name. not (is_in name others)) files uses.apart)) in
-    held_by_others at (names_of some) others seen after named apart leaves ∙ complete_hold folder made files is_writing before seen all numbered (complete_unlike files is_writing uses.unlike) names
+    held_by_others folder (names_of some) others seen after named apart leaves ∙ holds
 
 -- their names are file names, and differ
 pub complete_facts : (folder : List ℕ) (files : List Begun) (is_writing : Bool) (others : List (List ℕ)) (used : List ℕ → Bool) → list_all (is_begun_in folder) files ≡ true → uses_names used (names_of files) others ≡ true
@@ -303,10 +226,9 @@ complete_facts folder files is_writing others used all is = (
   complete_unlike files is_writing (names_used used (names_of files) others is).unlike,
 )
 
-pub hold_cleared : (folder : List ℕ) (files : List Begun) (is_writing : Bool) (made : Option (List ℕ)) (paths : List (List ℕ)) (before after : List Deed) → list_all (is_begun_in folder) files ≡ true → list_all (is_temporary_file folder) paths ≡ true → Clears made paths before after
-    → held_in folder after (complete_names files is_writing) ≡ held_in folder before (complete_names files is_writing)
-hold_cleared folder files is_writing made paths before after begun all clears =
-    held_by_names folder (complete_names files is_writing) before after (are_names folder (complete files is_writing) (complete_all (is_begun_in folder) files is_writing begun)) (clears_rest folder made paths before after all clears)
+pub hold_cleared : (t : Terms) (files : List Begun) (is_writing : Bool) (before after : List Deed) → list_all (is_begun_in t.0) files ≡ true → Obeys t false before after → held_in t.0 after (complete_names files is_writing) ≡ held_in t.0 before (complete_names files is_writing)
+hold_cleared t files is_writing before after begun does =
+    held_by_names t.0 (complete_names files is_writing) before after (are_names t.0 (complete files is_writing) (complete_all (is_begun_in t.0) files is_writing begun)) (λ p own. as_held before after p p (λ start. quiet t before after does start p own))
 
 -- files with their numbers, as they are told
 pub numbered_front : (made : Option (List ℕ)) (files left : List Begun) (its : Begun) → files ≡ left ++ its ∷ [] → are_numbered_in made files ≡ true → are_numbered_in made left ≡ true
@@ -396,25 +318,79 @@ pushed_at (one ∷ next ∷ files) its =
 pub pushed_last : (files now : List Begun) (its : Begun) → now ≡ files ++ its ∷ [] → last_name now ≡ string_bytes its.name
 pushed_last files now its is = ap (λ (fs : List Begun). last_name fs) is ∙ ap (λ (o : Option Begun). option_map_or (λ it. string_bytes it.name) o []) (pushed_at files its)
 
-pub made_held : (path : List ℕ) (answer : Answer) (before after : List Deed) → after ≡ MakesFolder path answer ∷ before → held after ≡ held before
-made_held path Done before after is = ap held is
-made_held path Exists before after is = ap held is
-made_held path Failed before after is = ap held is
-
 pub held_staged : (before after : List Deed) (files : List Begun) (is_writing : Bool) → held after ≡ held before → staged after files is_writing ≡ staged before files is_writing
 held_staged before after files is_writing same = ap (λ (h : List ℕ → Option (List ℕ)). map (λ its. h (string_bytes its.new)) (complete files is_writing)) same
-
--- one more file is removed
-pub each_next : (path p : List ℕ) (paths : List (List ℕ)) (answer : Answer) (before middle t : List Deed) → p ≡ path → middle ≡ Removes p answer ∷ before → RemovesEach paths middle t → RemovesEach (path ∷ paths) before t
-each_next path p paths answer before middle t same is rest =
-    (answer, subst (λ (u : List Deed). RemovesEach paths u t) (is ∙ ap (λ (q : List ℕ). Removes q answer ∷ before) same) rest)
 
 pub same_staged : (before after : List Deed) (files now : List Begun) (was is_writing : Bool) → held after ≡ held before → now ≡ files → is_writing ≡ was → staged after now is_writing ≡ staged before files was
 same_staged before after files now was is_writing same are writing =
     ap₂ (λ (fs : List Begun) (b : Bool). staged after fs b) are writing ∙ held_staged before after files was same
 
-pub all_paths : (folder : List ℕ) (paths : List (String Global)) → list_all (λ path. is_temporary_file folder (string_bytes path)) paths ≡ true → list_all (is_temporary_file folder) (map string_bytes paths) ≡ true
-all_paths folder [] all = refl
-all_paths folder (path ∷ paths) all =
-    let h = and_parts (is_temporary_file folder (string_bytes path)) (list_all (λ (p : String Global). is_temporary_file folder (string_bytes p)) paths) all in
-    both _ _ h.0 (all_paths folder paths h.1)
+-- before the temporary folder is made there are no files, and nothing is kept
+pub none_unmade : (made : Option (List ℕ)) (calls : List Deed) → made ≡ None → KeepsNone made calls
+none_unmade made calls is start told path other = absurd (true≢false (ap is_none (sym is ∙ other)))
+
+complete_none_of : (is_writing : Bool) → complete [] is_writing ≡ []
+complete_none_of true = refl
+complete_none_of false = refl
+
+pub unmade_staged : (made : Option (List ℕ)) (files : List Begun) (is_writing : Bool) (before after : List Deed) → made ≡ None → are_numbered_in made files ≡ true → staged after files is_writing ≡ staged before files is_writing
+unmade_staged made files is_writing before after is numbered =
+    let empty : files ≡ [] = is_numbered None files (subst (λ (m : Option (List ℕ)). are_numbered_in m files ≡ true) is numbered) in
+    let gone : complete files is_writing ≡ [] = ap (λ (fs : List Begun). complete fs is_writing) empty ∙ complete_none_of is_writing in
+    ap (held_new after) gone ∙ sym (ap (held_new before) gone)
+
+-- nothing is kept after a file was created or closed
+pub none_made : (made : Option (List ℕ)) (files : List Begun) (its : Begun) (answer : Answer) (before after : List Deed) → are_numbered_in made (files ++ its ∷ []) ≡ true → after ≡ Creates (string_bytes its.new) answer ∷ before → KeepsNone made before → KeepsNone made after
+none_made None files its answer before after numbered is none = none_unmade None after refl
+none_made (Some path) files its answer before after numbered is none =
+    none_created path (length files) its answer before after (subst (λ (k : ℕ). HasPaths path k its) (omega arith) (last_numbered path 0 files its (is_numbered (Some path) (files ++ its ∷ []) numbered))) is none
+
+pub none_shut : (made : Option (List ℕ)) (files left : List Begun) (its : Begun) (is_synced : Bool) (contents : Option (List ℕ)) (answer : Answer) (before after : List Deed) → files ≡ left ++ its ∷ [] → are_numbered_in made files ≡ true
+    → after ≡ Closes (string_bytes its.new) is_synced contents answer ∷ before → KeepsNone made before → KeepsNone made after
+none_shut None files left its is_synced contents answer before after are numbered is none = none_unmade None after refl
+none_shut (Some path) files left its is_synced contents answer before after are numbered is none =
+    none_closed path (length left) its is_synced contents answer before after (subst (λ (k : ℕ). HasPaths path k its) (omega arith) (last_numbered path 0 left its (subst (Numbered path 0) are (is_numbered (Some path) files numbered)))) is none
+
+-- Names that are taken back leave the folder as it was.
+pub all_taken_back : (folder : List ℕ) (made : Option (List ℕ)) (files : List Begun) (named : ℕ) (all : Bool) (s t u v : List Deed) → list_all (is_begun_in folder) files ≡ true → are_numbered_in made files ≡ true → differ (names_of files) ≡ true → KeepsNone made s
+    → NamesFiles files named all s t → ((start : Files) → files_after start u ≡ files_after start t) → ((start : Files) → IsTrueTo start u → IsTrueTo start t) → PutsBackFiles files named true u v → Leaves folder s v
+all_taken_back folder (Some path) files named all s t u v begun numbered unlike none names same told puts =
+    taken_back folder path files named all s t u v begun (is_numbered (Some path) files numbered) unlike none names same told puts
+all_taken_back folder None files named all s t u v begun numbered unlike none names same told puts = λ start true_to p own.
+    let empty : files ≡ [] = is_numbered None files numbered in
+    let n : NamesFiles [] named all s t = subst (λ (fs : List Begun). NamesFiles fs named all s t) empty names in
+    let b : PutsBackFiles [] named true u v = subst (λ (fs : List Begun). PutsBackFiles fs named true u v) empty puts in
+    ap (λ (l : List Deed). files_after start l p) b.1 ∙ ap (λ (x : Files). x p) (same start) ∙ ap (λ (l : List Deed). files_after start l p) n.1.1
+
+-- All files that got their names hold there what they held.
+all_held : (folder : List ℕ) (made : Option (List ℕ)) (files : List Begun) (before after : List Deed) → list_all (is_begun_in folder) files ≡ true → NumberedIn made files → differ (names_of files) ≡ true
+    → NamesFiles files (length files) true before after → held_in folder after (names_of files) ≡ held_new before files
+all_held folder None files before after all numbered unlike names =
+    subst (λ (fs : List Begun). held_in folder after (names_of fs) ≡ held_new before fs) (sym numbered) refl
+all_held folder (Some made) files before after all numbered unlike names = named_all folder made 0 files before after all numbered unlike names
+
+pub all_hold : (t : Terms) (made : Option (List ℕ)) (files : List Begun) (before seen synced after : List Deed) → list_all (is_begun_in t.0) files ≡ true → are_numbered_in made files ≡ true → differ (names_of files) ≡ true → NamesFiles files (length files) true before seen
+    → ((start : Files) → files_after start synced ≡ files_after start seen) → Obeys t false synced after → held_in t.0 after (names_of files) ≡ held_new before files
+all_hold t made files before seen synced after all numbered unlike names same does =
+    held_by_names t.0 (names_of files) seen after (are_names t.0 files all) (λ p own. as_held seen after p p (λ start. quiet t synced after does start p own ∙ ap (λ (x : Files). x p) (same start)))
+    ∙ all_held t.0 made files before seen all (is_numbered made files numbered) unlike names
+
+-- where no name is given, no file is complete
+none_in_none : (names : List (List ℕ)) → list_all (is_among []) names ≡ true → names ≡ []
+none_in_none [] all = refl
+none_in_none (name ∷ names) all = absurd (true≢false (sym all))
+
+no_begun : (files : List Begun) → names_of files ≡ [] → files ≡ []
+no_begun [] is = refl
+no_begun (its ∷ files) is = absurd (omega (arith, ap (λ (l : List (List ℕ)). length l) is))
+
+none_of_length : (names : List (List ℕ)) → length names ≡ 0 → names ≡ []
+none_of_length [] is = refl
+none_of_length (name ∷ names) is = absurd (omega (arith, is))
+
+pub no_names : (given : List (List ℕ)) (files : List Begun) (is_writing : Bool) (others : List (List ℕ)) → length given ≡ 0 → uses_names (is_among given) (names_of files) others ≡ true → complete_names files is_writing ≡ []
+no_names given files is_writing others zero uses =
+    let gone : given ≡ [] = none_of_length given zero in
+    let used = names_used (is_among given) (names_of files) others uses in
+    let empty : files ≡ [] = no_begun files (none_in_none (names_of files) (subst (λ (ns : List (List ℕ)). list_all (is_among ns) (names_of files) ≡ true) gone used.are_used)) in
+    ap names_of (ap (λ (fs : List Begun). complete fs is_writing) empty ∙ complete_none_of is_writing)

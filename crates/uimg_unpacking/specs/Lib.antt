@@ -1,6 +1,4 @@
 pub mod Allowing
-pub mod Cleaning
-pub mod Clearing
 pub mod Contents
 pub mod Deeds
 pub mod Ends
@@ -8,12 +6,12 @@ pub mod FileNames
 pub mod Filling
 pub mod Given
 pub mod Kinds
+pub mod Leaving
 pub mod Limiting
 pub mod Lines
 pub mod Made
 pub mod Names
 pub mod Naming
-pub mod NamingAll
 pub mod Objects
 pub mod PartEnds
 pub mod PartFilling

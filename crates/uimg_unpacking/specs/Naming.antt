@@ -1,15 +1,11 @@
--- How files get their names, and how names are taken back: which calls are made, in order, and what is returned, by what
--- the calls answer. A trace has the newest call first.
-use Rattle.std.specs.Prelude.{◌≡◌, ⊤, ℕ, List, ◌∷◌, Bool, true, false, Option, None, Result, Ok, Err, is_ok, string_bytes}
-use Rattle.std.specs.declared.io.Error.{Error}
+-- How a file gets its name, and how the name is taken back, by what is at its paths. A trace has the newest call first.
+use Rattle.std.specs.Prelude.{◌≡◌, ℕ, zero, suc, List, [], ◌∷◌, bytes_eq, Bool, true, false, ◌&&◌, ◌||◌, is_some, if◌then◌else◌, Option, None, string_bytes}
+use Rattle.uimg_unpacking.specs.Contents.{Files, IsTrueTo, files_after}
 use Rattle.uimg_unpacking.specs.Deeds.{Answer, Done, Exists, Failed, Deed, Links, Renames, Removes, Looks}
-use Rattle.uimg_unpacking.specs.Allowing.{Allows, Refused}
 use Rattle.uimg_unpacking.specs.Kinds.{is_something}
-use Rattle.uimg_unpacking.specs.declared.file_id.FileId.{FileId}
+use Rattle.uimg_unpacking.specs.declared.begun.Begun.{Begun}
 use Rattle.uimg_unpacking.specs.declared.kind.Kind.{Kind}
 use Rattle.uimg_unpacking.specs.declared.kind.Kind.TheVariants.{Nothing}
-use Rattle.uimg_unpacking.specs.declared.trouble.Trouble.{Trouble}
-use Rattle.uimg_unpacking.specs.declared.trouble.Trouble.TheVariants.{CannotCreate}
 
 abbrev pub is_done : Answer → Bool
 is_done Done = true
@@ -25,40 +21,55 @@ pub data GivesName (new whole : List ℕ) (replaces : Bool) (answer : Answer) (b
   taken : (kind : Kind) → replaces ≡ false → is_something kind ≡ true → answer ≡ Failed → after ≡ Looks whole kind ∷ Links new whole Failed ∷ before → GivesName new whole replaces answer before after
   moved : replaces ≡ false → after ≡ Renames new whole answer ∷ Looks whole Nothing ∷ Links new whole Failed ∷ before → GivesName new whole replaces answer before after
 
--- What exists at `whole` is kept at `old`: linked there or, where it cannot be linked, renamed.
-pub data KeepsAs (whole old : List ℕ) (answer : Answer) (before after : List Deed) : Type 0 where
-  linked_too : answer ≡ Done → after ≡ Links whole old Done ∷ before → KeepsAs whole old answer before after
-  moved_away : (refused : Answer) → is_done refused ≡ false → after ≡ Renames whole old answer ∷ Links whole old refused ∷ before → KeepsAs whole old answer before after
+-- What was at one path is at another one, if that is done, and no third path is changed. Otherwise nothing is changed.
+pub record Moves (from to : List ℕ) (is_moved : Bool) (before after : List Deed) : Type 0 where
+  pub earlier : (start : Files) → IsTrueTo start after → IsTrueTo start before
+  pub there : is_moved ≡ true → (start : Files) → files_after start after to ≡ files_after start before from
+  pub rest : (start : Files) (path : List ℕ) → bytes_eq from path ≡ false → bytes_eq to path ≡ false
+      → files_after start after path ≡ files_after start before path
+  pub failed : is_moved ≡ false → (start : Files) (path : List ℕ) → files_after start after path ≡ files_after start before path
 
--- The path `whole` gets back what is kept at `old`, which then loses that path. If nothing is kept, what got the path
--- `whole` is removed.
-pub data PutsBack (whole old : List ℕ) (has_name is_back : Bool) (before after : List Deed) : Type 0 where
-  unnamed : has_name ≡ false → is_back ≡ true → after ≡ Looks old Nothing ∷ before → PutsBack whole old has_name is_back before after
-  removed : (answer : Answer) → has_name ≡ true → is_back ≡ is_done answer → after ≡ Removes whole answer ∷ Looks old Nothing ∷ before → PutsBack whole old has_name is_back before after
-  lost : (kind : Kind) (answer : Answer) → is_something kind ≡ true → is_done answer ≡ false → is_back ≡ false → after ≡ Renames old whole answer ∷ Looks old kind ∷ before → PutsBack whole old has_name is_back before after
-  put : (kind : Kind) (answer : Answer) → is_something kind ≡ true → is_back ≡ true → after ≡ Removes old answer ∷ Renames old whole Done ∷ Looks old kind ∷ before → PutsBack whole old has_name is_back before after
+-- What a path gets back if names are taken back: what is kept at `old`. If nothing is kept, it has nothing afterwards, or
+-- what it has if no file got its name.
+abbrev pub recovered : Bool → Files → (old whole : List ℕ) → Option (Option (List ℕ))
+recovered has_name files old whole = if has_name || is_some (files old) then files old else files whole
 
--- A file at `new` gets the path `whole`, where something may exist: that is kept at `old`.
-pub data NamesOver (new old whole : List ℕ) (answer : Answer) (before after : List Deed) : Type 0 where
-  nothing_there : (kind : Kind) → is_something kind ≡ false → GivesName new whole false answer (Looks whole kind ∷ before) after → NamesOver new old whole answer before after
-  not_kept : (kind : Kind) → is_something kind ≡ true → is_done answer ≡ false → KeepsAs whole old answer (Looks whole kind ∷ before) after → NamesOver new old whole answer before after
-  replaced : (kind : Kind) (kept : List Deed) → is_something kind ≡ true → KeepsAs whole old Done (Looks whole kind ∷ before) kept → GivesName new whole true answer kept after → NamesOver new old whole answer before after
+-- A file gets its name, or not. In both cases, what had the name can be put back.
+pub record NamesIt (its : Begun) (is_named : Bool) (before after : List Deed) : Type 0 where
+  pub earlier : (start : Files) → IsTrueTo start after → IsTrueTo start before
+  pub there : is_named ≡ true → (start : Files)
+      → files_after start after (string_bytes its.whole) ≡ files_after start before (string_bytes its.new)
+  pub kept : (start : Files) → IsTrueTo start after → files_after start before (string_bytes its.old) ≡ None
+      → recovered is_named (files_after start after) (string_bytes its.old) (string_bytes its.whole)
+      ≡ files_after start before (string_bytes its.whole)
+  pub rest : (start : Files) (path : List ℕ) → bytes_eq (string_bytes its.new) path ≡ false
+      → bytes_eq (string_bytes its.old) path ≡ false → bytes_eq (string_bytes its.whole) path ≡ false
+      → files_after start after path ≡ files_after start before path
 
--- that a path cannot be created, and why, if it is not
-abbrev pub TellsCreated : List ℕ → Result ⊤ Error → Result ⊤ Trouble → Type 0
-TellsCreated whole (Ok done) result = is_ok result ≡ true
-TellsCreated whole (Err reason) (Err (CannotCreate path why)) = (string_bytes path.0 ≡ whole) × (why ≡ reason)
-TellsCreated whole (Err reason) result = ⊥
+-- What had the name of a file is put back, if that is done.
+pub record PutsItBack (its : Begun) (has_name is_back : Bool) (before after : List Deed) : Type 0 where
+  pub earlier : (start : Files) → IsTrueTo start after → IsTrueTo start before
+  pub back : is_back ≡ true → (start : Files) → IsTrueTo start after → files_after start after (string_bytes its.whole)
+      ≡ recovered has_name (files_after start before) (string_bytes its.old) (string_bytes its.whole)
+  pub rest : (start : Files) (path : List ℕ) → bytes_eq (string_bytes its.old) path ≡ false
+      → bytes_eq (string_bytes its.whole) path ≡ false → files_after start after path ≡ files_after start before path
 
--- A file at `new` gets the path `whole`, if that may be written.
-pub data Names (image : Option FileId) (is_forced : Bool) (new old whole : List ℕ) (is_named : Bool) (before after : List Deed) : Type 0 where
-  no_memory : is_named ≡ false → after ≡ before → Names image is_forced new old whole is_named before after
-  refused : (why : Option Refused) → is_named ≡ false → Allows image is_forced whole why before after → Names image is_forced new old whole is_named before after
-  anew : (answer : Answer) (seen : List Deed) → is_forced ≡ false → is_named ≡ is_done answer → Allows image is_forced whole None before seen → GivesName new whole false answer seen after → Names image is_forced new old whole is_named before after
-  over_it : (answer : Answer) (seen : List Deed) → is_forced ≡ true → is_named ≡ is_done answer → Allows image is_forced whole None before seen → NamesOver new old whole answer seen after → Names image is_forced new old whole is_named before after
+-- Files get their names one after another, up to one that does not: `named` files have theirs.
+abbrev pub NamesFiles : List Begun → ℕ → Bool → List Deed → List Deed → Type 0
+NamesFiles [] named are_all before after = (named ≡ 0) × ((are_all ≡ true) × (after ≡ before))
+NamesFiles (its ∷ files) zero are_all before after = (are_all ≡ false) × NamesIt its false before after
+NamesFiles (its ∷ files) (suc named) are_all before after =
+    (seen : List Deed) × (NamesIt its true before seen × NamesFiles files named are_all seen after)
 
--- What exists at a path is removed, if files are replaced.
-pub data RemovesOld (is_forced : Bool) (whole : List ℕ) (before after : List Deed) : Type 0 where
-  not_forced : is_forced ≡ false → after ≡ before → RemovesOld is_forced whole before after
-  nothing_old : (kind : Kind) → is_forced ≡ true → is_something kind ≡ false → after ≡ Looks whole kind ∷ before → RemovesOld is_forced whole before after
-  removed_old : (kind : Kind) (answer : Answer) → is_forced ≡ true → is_something kind ≡ true → after ≡ Removes whole answer ∷ Looks whole kind ∷ before → RemovesOld is_forced whole before after
+-- The named files lose their names one after another, then the next one what was kept for it.
+abbrev pub PutsBackFiles : List Begun → ℕ → Bool → List Deed → List Deed → Type 0
+PutsBackFiles [] named are_back before after = (are_back ≡ true) × (after ≡ before)
+PutsBackFiles (its ∷ files) zero are_back before after = PutsItBack its false are_back before after
+PutsBackFiles (its ∷ files) (suc named) are_back before after =
+    (is_back : Bool) × ((others : Bool) × ((seen : List Deed) × ((are_back ≡ (is_back && others))
+    × (PutsItBack its true is_back before seen × PutsBackFiles files named others seen after))))
+
+-- a file whose number is greater than how many have names is left as it is
+abbrev pub UnlessLater : Bool → Begun → Bool → Bool → List Deed → List Deed → Type 0
+UnlessLater true its has_name is_back before after = (is_back ≡ true) × (after ≡ before)
+UnlessLater false its has_name is_back before after = PutsItBack its has_name is_back before after

@@ -4,7 +4,7 @@ use Rattle.std.specs.Prelude.{◌≡◌, ℕ, nat_le, ◌-◌, List, [], ◌∷�
 use Rattle.std.specs.Prelude.{Option, Some, None, string_bytes, bytes_eq}
 use Rattle.std.specs.List.{list_all}
 use Rattle.std.specs.Option.{option_map_or}
-use Rattle.uimg_unpacking.specs.Deeds.{Deed, Closes, Looks, Renames, changes, changes_only}
+use Rattle.uimg_unpacking.specs.Deeds.{Deed, Closes, LendsShelf, Looks, Overwrites, RemovesAll, Renames, changes, changes_only}
 use Rattle.uimg_unpacking.specs.FileNames.{is_file_name}
 use Rattle.uimg_unpacking.specs.declared.begun.Begun.{Begun}
 use Rattle.uimg_unpacking.specs.declared.folder.Folder.{Folder}
@@ -82,13 +82,17 @@ saw_nothing path (last ∷ before) = is_free path last
 
 -- Which calls are made, after others: those that change what may be changed. A file is closed after a wait for its bytes
 -- just if files are synced. Unless files are replaced, a rename, which replaces what exists, follows a look that saw
--- nothing there, or puts back what was kept. A link replaces nothing.
+-- nothing there, or puts back what was kept. A link replaces nothing. No file is written over, and no folder removed with
+-- what is in it.
 abbrev pub may_call : Terms → Bool → Deed → List Deed → Bool
 may_call terms is_naming (Closes path is_synced contents answer) before =
     may_change terms.0 is_naming path && (if is_synced then terms.2 else not terms.2)
 may_call terms is_naming (Renames from to answer) before =
     may_change terms.0 is_naming from && may_change terms.0 is_naming to
     && (terms.1 || is_kept_file terms.0 from || saw_nothing to before)
+may_call terms is_naming (RemovesAll path answer) before = false
+may_call terms is_naming (Overwrites path answer) before = false
+may_call terms is_naming (LendsShelf path) before = false
 may_call terms is_naming deed before = changes_only (may_change terms.0 is_naming) deed
 
 abbrev pub obeys : Terms → Bool → List Deed → Bool
@@ -104,9 +108,10 @@ pub record Obeys (terms : Terms) (is_naming : Bool) (old new : List Deed) : Type
   pub is : new ≡ since old new ++ old
   pub rules : obeys terms is_naming (since old new) ≡ true
 
--- the paths of a file that was begun: `FOLDER/NAME` is that of its name
+-- the paths of a file that was begun, which differ: `FOLDER/NAME` is that of its name
 unfoldable pub is_begun_in : List ℕ → Begun → Bool
 is_begun_in folder begun =
     is_temporary_file folder (string_bytes begun.new) && is_kept_file folder (string_bytes begun.old)
     && is_file_name (string_bytes begun.name)
     && bytes_eq (string_bytes begun.whole) (folder ++ codes "/" ++ string_bytes begun.name)
+    && not (bytes_eq (string_bytes begun.old) (string_bytes begun.new))

@@ -1,9 +1,7 @@
 -- What becomes of the file that was begun last.
-use Rattle.std.specs.Prelude.{◌≡◌, ⊤, Option, Some, None, true, ℕ, ◌-◌, length, List, [], ◌∷◌, ◌++◌, Bool, false, string_bytes}
+use Rattle.std.specs.Prelude.{◌≡◌, ⊤, Option, Some, None, true, ℕ, ◌-◌, length, List, [], Bool, false, string_bytes}
 use Rattle.std.specs.List.{slice_get}
 use Rattle.std.specs.Option.{option_map_or}
-use Rattle.uimg_unpacking.specs.Deeds.{Answer, Deed, Removes}
-use Rattle.uimg_unpacking.specs.Naming.{is_done}
 use Rattle.uimg_unpacking.specs.declared.begun.Begun.{Begun}
 use Rattle.uimg_unpacking.specs.declared.trouble.Trouble.{Trouble}
 use Rattle.uimg_unpacking.specs.declared.trouble.Trouble.TheVariants.{CannotWrite, OutOfMemory}
@@ -28,8 +26,3 @@ TellsUnwritten true (Some its) (Some trouble) = IsUnwritten its trouble
 TellsUnwritten true (Some its) None = ⊥
 TellsUnwritten true None found = found ≡ None
 TellsUnwritten false last found = found ≡ None
-
--- It is removed, and gets no name. If none was begun, nothing is done.
-pub data DropsLast (files left : List Begun) (is_dropped : Bool) (before after : List Deed) : Type 0 where
-  no_file : files ≡ [] → left ≡ [] → is_dropped ≡ false → after ≡ before → DropsLast files left is_dropped before after
-  dropped : (last : Begun) (answer : Answer) → files ≡ left ++ last ∷ [] → is_dropped ≡ is_done answer → after ≡ Removes (string_bytes last.new) answer ∷ before → DropsLast files left is_dropped before after

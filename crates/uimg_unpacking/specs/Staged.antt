@@ -1,7 +1,7 @@
 -- The files that were begun, and what they hold.
 use Rattle.std.specs.Prelude.{◌≡◌, ℕ, suc, ◌^◌, nat_lt, List, [], ◌∷◌, ◌++◌, map, codes, decimal, string_bytes, bytes_eq, Bool, true, false, ◌&&◌, not, if◌then◌else◌, Option, Some, None}
 use Rattle.std.specs.List.{list_all}
-use Rattle.uimg_unpacking.specs.Contents.{held, is_in, differ}
+use Rattle.uimg_unpacking.specs.Contents.{Files, files_after, held, is_in, differ}
 use Rattle.uimg_unpacking.specs.Deeds.{Answer, ClosesFile, Deed}
 use Rattle.uimg_unpacking.specs.FileNames.{is_file_name}
 use Rattle.uimg_unpacking.specs.declared.begun.Begun.{Begun}
@@ -79,5 +79,5 @@ ClosesLast is_known is_synced (Some its) contents answer old new =
 -- Calls leave the files of a folder as they are, except those of some names.
 abbrev pub LeavesOthers : List ℕ → List (List ℕ) → (old new : List Deed) → Type 0
 LeavesOthers folder names old new =
-    (name : List ℕ) → is_file_name name ≡ true → is_in name names ≡ false
-    → held new (folder ++ codes "/" ++ name) ≡ held old (folder ++ codes "/" ++ name)
+    (start : Files) (name : List ℕ) → is_file_name name ≡ true → is_in name names ≡ false
+    → files_after start new (folder ++ codes "/" ++ name) ≡ files_after start old (folder ++ codes "/" ++ name)

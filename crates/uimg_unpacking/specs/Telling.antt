@@ -1,5 +1,5 @@
 -- Which lines are printed.
-use Rattle.std.specs.Prelude.{◌≡◌, ℕ, List, [], ◌++◌, Bool, true, false, Option, Result, Ok, Err, if◌then◌else◌, is_ok}
+use Rattle.std.specs.Prelude.{◌≡◌, ℕ, List, [], ◌++◌, Bool, true, false, Option, Some, None, Result, Ok, Err, if◌then◌else◌, is_ok}
 use Rattle.std.specs.Io.KnownBytes.{Appends}
 
 -- The line of a kept file is added, unless none is kept any more.
@@ -20,3 +20,9 @@ TellsIf false old new lines = new ≡ old
 abbrev pub is_named : {X E : Type 0} → Result (Result X E) E → Bool
 is_named (Ok removed) = is_ok removed
 is_named (Err trouble) = false
+
+-- the trouble that files have no names, or that something old is left
+abbrev pub naming_trouble : {X E : Type 0} → Result (Result X E) E → Option E
+naming_trouble (Ok (Ok done)) = None
+naming_trouble (Ok (Err trouble)) = Some trouble
+naming_trouble (Err trouble) = Some trouble

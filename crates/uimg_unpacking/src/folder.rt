@@ -1,14 +1,11 @@
 //! The folder for payloads and parts, and the paths of their files.
 
-ghost use Rattle.std.specs.Prelude.{◌≡◌, ◌++◌, codes, IfOk, string_bytes, decimal, false, true, Bool};
+ghost use Rattle.std.specs.Prelude.{◌≡◌, ◌++◌, ℕ, List, Some, codes, IfOk, string_bytes, decimal, false, true, Bool};
 ghost use Rattle.uimg_unpacking.specs.Allowing.{Allows};
-ghost use Rattle.uimg_unpacking.specs.Contents.{held};
-ghost use Rattle.uimg_unpacking.specs.Cleaning.{MayBeIn, SeeksImage, CleansAt, removal, is_at_or_below, ends_name};
-ghost use Rattle.uimg_unpacking.specs.Deeds.{answer_of};
+ghost use Rattle.uimg_unpacking.specs.{Deeds.changes, Leaving.KeepsNone};
 ghost use Rattle.uimg_unpacking.specs.Kinds.{is_no_link};
 ghost use Rattle.uimg_unpacking.specs.Places.{ChangesWithin, Obeys, Terms, is_temporary_folder, terms_of};
 ghost use Rattle.uimg_unpacking.specs.Refusing.{refused_of};
-ghost use Rattle.uimg_unpacking.specs.Troubles.{done_in};
 
 use crate::file_id::FileId;
 use crate::kind::Kind;
@@ -68,22 +65,24 @@ impl<'a> Folder<'a> {
     }
 
     /// Creates the first free one of `.uimg-new1` to `.uimg-new10000`. Returns why none can be
-    /// created. Fails if memory for the path is refused.
+    /// created. Returns its path twice. Fails if memory for the paths is refused.
     pub(crate) fn new_folder<W: World>(
         &self,
         world: &mut W,
         alloc: Global,
-    ) -> Result<io::Result<String>, AllocError>
-        ensures made { IfOk result (λ made. IfOk made (λ path.
-            is_temporary_folder self.now.path.now (string_bytes path) ≡ true)) }
+    ) -> Result<io::Result<(String, String)>, AllocError>
+        ensures made { IfOk result (λ made. IfOk made (λ paths.
+            is_temporary_folder self.now.path.now (string_bytes paths.0) ≡ true)) }
+        ensures none { IfOk result (λ made. IfOk made (λ paths.
+            KeepsNone (Some (string_bytes paths.0)) (W.trace world.new))) }
         ensures within { (is_naming : Bool) → Obeys (terms_of self.now) is_naming
             (W.trace world.old) (W.trace world.new) }
-        ensures held { held (W.trace world.new) ≡ held (W.trace world.old) }
     {
         for number in 1..=TRIED {
             let path = self.unnamed(alloc, number)?;
+            let shown = self.unnamed(alloc, number)?;
             match world.create_dir(path.as_str()) {
-                Ok(()) => return Ok(Ok(path)),
+                Ok(()) => return Ok(Ok((path, shown))),
                 Err(error) if error.kind() == ErrorKind::AlreadyExists => {}
                 Err(error) => return Ok(Err(error)),
             }
@@ -119,7 +118,7 @@ impl<'a> Folder<'a> {
         image: Option<&str>,
         out: &mut O,
     ) -> Result<(), Trouble>
-        ensures { Obeys (terms_of self.now) false (W.trace world.old) (W.trace world.new) }
+        ensures { ChangesWithin self.now.path.now false (W.trace world.old) (W.trace world.new) }
     {
         for number in 1..=TRIED {
             let path = self.unnamed(alloc, number)?;
@@ -135,8 +134,8 @@ impl<'a> Folder<'a> {
 // Removes what exists at a path, with all in it. Returns whether anything did. Stops before it
 // removes the image, or a folder that has it.
 fn clean_at<W: World>(world: &mut W, path: String, image: Option<&str>) -> Result<bool, Trouble>
-    ensures { CleansAt (string_bytes path) image.entry (done_in result)
-        (W.trace world.old) (W.trace world.new) }
+    ensures { (folder : List ℕ) → is_temporary_folder folder (string_bytes path) ≡ true →
+        ChangesWithin folder false (W.trace world.old) (W.trace world.new) }
 {
     if is_or_has(world, path.as_str(), image) {
         return Err(Trouble::RemovesImage(ShownPath(path)));
@@ -152,7 +151,8 @@ fn clean_at<W: World>(world: &mut W, path: String, image: Option<&str>) -> Resul
 }
 
 fn remove_at<W: World>(world: &mut W, path: &str, kind: Kind) -> io::Result<()>
-    ensures { W.trace world.new ≡ removal path.now kind (answer_of result) (W.trace world.old) }
+    ensures { (folder : List ℕ) → is_temporary_folder folder path.now ≡ true →
+        ChangesWithin folder false (W.trace world.old) (W.trace world.new) }
 {
     match kind {
         Kind::Nothing => Ok(()),
@@ -165,7 +165,7 @@ fn remove_at<W: World>(world: &mut W, path: &str, kind: Kind) -> io::Result<()>
 // Returns whether the image's file is at a path, or in a folder there, or may be. Below a folder
 // whose name is not UTF-8 this is not known.
 fn is_or_has<W: World>(world: &mut W, path: &str, image: Option<&str>) -> bool
-    ensures { SeeksImage path.now image.entry result (W.trace world.old) (W.trace world.new) }
+    ensures { changes (W.trace world.new) ≡ changes (W.trace world.old) }
 {
     let Some(image) = image else {
         return false;
@@ -182,14 +182,12 @@ fn is_or_has<W: World>(world: &mut W, path: &str, image: Option<&str>) -> bool
 }
 
 fn may_be_in<W: World>(world: &mut W, path: &str, image: &str) -> bool
-    ensures { MayBeIn path.now image.now result (W.trace world.old) (W.trace world.new) }
+    ensures { changes (W.trace world.new) ≡ changes (W.trace world.old) }
 {
     is_no_link(world.kind_at(path)) && world.kind_at(image).is_something()
 }
 
-fn is_at_or_below(path: &[u8], folder: &[u8]) -> bool
-    ensures { result ≡ is_at_or_below folder.now path.now }
-{
+fn is_at_or_below(path: &[u8], folder: &[u8]) -> bool {
     match path.strip_prefix(folder) {
         Some(rest) => ends_name(rest),
         None => false,
@@ -197,9 +195,7 @@ fn is_at_or_below(path: &[u8], folder: &[u8]) -> bool
 }
 
 // A name ends before nothing, or before a slash and more.
-fn ends_name(rest: &[u8]) -> bool
-    ensures { result ≡ ends_name rest.now }
-{
+fn ends_name(rest: &[u8]) -> bool {
     match rest.first() {
         Some(byte) => *byte == b'/',
         None => true,

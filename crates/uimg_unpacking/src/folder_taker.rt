@@ -4,15 +4,17 @@ ghost use Rattle.std.specs.Prelude.{◌≡◌, ◌++◌, ◌&&◌, ◌||◌, ℕ
 ghost use Rattle.std.specs.Io.Buffered.{writer_contents};
 ghost use Rattle.uimg_fit_checking.specs.Unpacking.{as_bytes, kept, refused};
 ghost use Rattle.uimg_fit_checking.specs.declared.checking.Finding.TheVariants as finding;
-ghost use Rattle.uimg_unpacking.specs.Contents.{held_in};
+ghost use Rattle.uimg_unpacking.specs.Contents.{differ, held_in};
 ghost use Rattle.uimg_unpacking.specs.FileNames.{is_among};
 ghost use Rattle.uimg_unpacking.specs.Given.{AreNamed, AreWhole, MayGive, newest, noted_takes, seen_of, takes_given};
+ghost use Rattle.uimg_unpacking.specs.Leaving.{Leaves, are_undone};
 ghost use Rattle.uimg_unpacking.specs.Limiting.{claims_by, exceeded};
 ghost use Rattle.uimg_unpacking.specs.Objects.{told_of, kept_told, refused_told};
 ghost use Rattle.uimg_unpacking.specs.Places.{Obeys, terms_of};
 ghost use Rattle.uimg_unpacking.specs.Refusals.{last_name};
-ghost use Rattle.uimg_unpacking.specs.Staged.{complete_names, names_of, staged, uses_names};
-ghost use Rattle.uimg_unpacking.specs.Telling.{with_kept, with_refused, TellsIf, is_named};
+ghost use Rattle.uimg_unpacking.specs.Staged.{LeavesOthers, complete_names, names_of, staged, uses_names};
+ghost use Rattle.uimg_unpacking.specs.Telling.{with_kept, with_refused, TellsIf, is_named, naming_trouble};
+ghost use Rattle.uimg_unpacking.specs.Troubles.{trouble_in};
 
 use crate::limits::Claims;
 use crate::lines::Line;
@@ -21,7 +23,7 @@ use crate::new_file::{ErrorCode, NewFile};
 use crate::objects::told;
 use crate::staging::Staging;
 use crate::task::{Lent, Task};
-use crate::trouble::{Trouble, kept};
+use crate::trouble::{Trouble, kept, printed};
 use crate::unpacking::Unpacking;
 use crate::world::World;
 use std::alloc::Global;
@@ -97,10 +99,10 @@ impl<'w, 'a, 'c, W: World, M: Task, O: Write + Drop> FolderTaker<'w, 'a, 'c, W, 
         }
     }
 
-    /// Gives the complete files their names, if `names`. Removes the others, and prints the lines.
-    /// Returns the world, their writer, the number of payloads that were begun, and the trouble, if
-    /// it is known.
-    pub(crate) fn end(self, names: bool) -> (&'w mut W, O, usize, Option<Trouble>)
+    /// Gives the complete files their names, if `names`. After a trouble only good files that are to
+    /// be kept get theirs. Removes the others, and prints the lines. Returns the world, their writer,
+    /// the number of payloads that were begun, and the trouble, if it is known.
+    pub(crate) fn end(self, names: bool, keeps_good: bool) -> (&'w mut W, O, usize, Option<Trouble>)
         ensures named { result.0.ghost_name ≡ M.name }
         ensures obeys { Obeys M.terms names M.before (W.trace result.0.now) }
         ensures none { is_none result.3 ≡ true → is_none self.entry.trouble ≡ true }
@@ -112,6 +114,12 @@ impl<'w, 'a, 'c, W: World, M: Task, O: Write + Drop> FolderTaker<'w, 'a, 'c, W, 
         ensures told { result.3 ≡ None → TellsIf (names || self.entry.has_refused)
             (O.contents self.entry.out) (O.contents result.1) self.entry.lines.items }
         ensures count { result.2 ≡ length self.entry.taken.named.names }
+        ensures unnamed { names ≡ false →
+            Leaves self.entry.staging.folder.path.now M.before (W.trace result.0.now) }
+        ensures back { keeps_good ≡ false → are_undone result.3 ≡ true →
+            Leaves self.entry.staging.folder.path.now M.before (W.trace result.0.now) }
+        ensures empty { keeps_good ≡ false → result.2 ≡ 0 → result.3 ≡ None →
+            Leaves self.entry.staging.folder.path.now M.before (W.trace result.0.now) }
     {
         let FolderTaker {
             alloc: _alloc,
@@ -129,7 +137,8 @@ impl<'w, 'a, 'c, W: World, M: Task, O: Write + Drop> FolderTaker<'w, 'a, 'c, W, 
             trouble,
         } = self;
         let trouble = trouble.or(staging.unwritten());
-        let named = name(&mut staging, names);
+        let names = may_name(names, keeps_good, &trouble);
+        let named = name(&mut staging, names, keeps_good);
         let told = tell(named, &mut out, lines.as_slice(), names || has_refused);
         (staging.end(), out, taken.count(), trouble.or(told.err()))
     }
@@ -230,11 +239,18 @@ impl<'w, 'a, 'c, W: World, M: Task, O: Write + Drop> FolderTaker<'w, 'a, 'c, W, 
     }
 }
 
-// Gives the files their names and removes what refused ones were to replace, if `names`. Returns
-// the trouble that no file has its name, or that old files are left.
+fn may_name(names: bool, keeps_good: bool, trouble: &Option<Trouble>) -> bool
+    ensures { result ≡ (names && (keeps_good || is_none trouble.now)) }
+{
+    names && (keeps_good || trouble.is_none())
+}
+
+// Gives the files their names, if `names`. If good ones are kept, removes what refused ones were to
+// replace. Returns the trouble that no file has its name, or that old files are left.
 fn name<W: World, M: Task>(
     staging: &mut Staging<'_, '_, '_, W, M>,
     names: bool,
+    keeps_good: bool,
 ) -> Result<Result<(), Trouble>, Trouble>
     requires { staging.old.is_naming ≡ false }
     ensures folder { staging.new.folder ≡ staging.old.folder }
@@ -244,14 +260,26 @@ fn name<W: World, M: Task>(
         held_in staging.old.folder.path.now (W.trace staging.new.world.now)
         (complete_names staging.old.files.items staging.old.is_writing)
         ≡ staged (W.trace staging.old.world.now) staging.old.files.items staging.old.is_writing }
+    ensures unnamed { names ≡ false →
+        W.trace staging.new.world.now ≡ W.trace staging.old.world.now }
+    ensures others { keeps_good ≡ false → is_named result ≡ true →
+        LeavesOthers staging.old.folder.path.now (complete_names staging.old.files.items
+        staging.old.is_writing) (W.trace staging.old.world.now) (W.trace staging.new.world.now) }
+    ensures back { keeps_good ≡ false → are_undone (naming_trouble result) ≡ true →
+        differ (complete_names staging.old.files.items staging.old.is_writing) ≡ true →
+        Leaves staging.old.folder.path.now
+        (W.trace staging.old.world.now) (W.trace staging.new.world.now) }
 {
     if !names {
         return Ok(Ok(()));
     }
-    match staging.name_all() {
-        Ok(()) => Ok(staging.remove_outdated()),
-        Err(trouble) => Err(trouble),
+    if let Err(trouble) = staging.name_all() {
+        return Err(trouble);
     }
+    if !keeps_good {
+        return Ok(Ok(()));
+    }
+    Ok(staging.remove_outdated())
 }
 
 // Prints the lines of files that have their names, or of refused ones.
@@ -263,12 +291,14 @@ fn tell<O: Write>(
 ) -> Result<(), Trouble>
     ensures told { OnOk result (TellsIf is_told (O.contents out.old) (O.contents out.new) lines.now) }
     ensures named { OnOk result (is_named named ≡ true) }
+    ensures undone { are_undone (trouble_in result) ≡ true →
+        naming_trouble named ≡ trouble_in result }
     ensures untold { is_ok named && is_told ≡ false → out.new ≡ out.old }
 {
     let removed = named?;
     if is_told {
-        out.write_all(lines)?;
-        out.flush()?;
+        printed(out.write_all(lines))?;
+        printed(out.flush())?;
     }
     removed
 }

@@ -1,12 +1,12 @@
 //! Gives files their names, and takes names back.
 
-ghost use Rattle.std.specs.Prelude.{◌≡◌, None, length, nat_lt, is_ok, is_some, not, true, string_bytes};
+ghost use Rattle.std.specs.Prelude.{◌≡◌, ℕ, List, None, bytes_eq, length, nat_lt, is_ok, is_some, not, false, true, string_bytes};
 ghost use Rattle.std.specs.List.{list_all};
+ghost use Rattle.uimg_unpacking.specs.Contents.{Files, files_after};
 ghost use Rattle.uimg_unpacking.specs.Deeds.{answer_of};
-ghost use Rattle.uimg_unpacking.specs.Naming.{GivesName, KeepsAs, PutsBack};
-ghost use Rattle.uimg_unpacking.specs.Naming.{Names, NamesOver, RemovesOld, TellsCreated};
-ghost use Rattle.uimg_unpacking.specs.NamingAll.{NamesFiles, PutsBackFiles, UnlessLater, ForgetsOld};
-ghost use Rattle.uimg_unpacking.specs.{Places.{Obeys, Terms, is_begun_in, terms_of}, Staged.{LeavesOthers, names_of}};
+ghost use Rattle.uimg_unpacking.specs.Naming.{GivesName, Moves, NamesFiles, NamesIt, PutsBackFiles, PutsItBack, UnlessLater};
+ghost use Rattle.uimg_unpacking.specs.Places.{Obeys, Terms, is_begun_in, is_file_of, is_temporary_file, terms_of};
+ghost use Rattle.uimg_unpacking.specs.Staged.{LeavesOthers, names_of};
 
 use crate::begun::Begun;
 use crate::folder::Folder;
@@ -46,7 +46,9 @@ pub fn name_file<W: World>(world: &mut W, path: &str, whole: &str, replaces: boo
 
 /// Gives a file another name too. On a file system without links it loses the first one.
 pub(crate) fn keep_as<W: World>(world: &mut W, whole: &str, old: &str) -> io::Result<()>
-    ensures { KeepsAs whole.now old.now (answer_of result) (W.trace world.old) (W.trace world.new) }
+    ensures moves { Moves whole.now old.now (is_ok result) (W.trace world.old) (W.trace world.new) }
+    ensures within { (terms : Terms) → terms.1 ≡ true → is_file_of terms.0 whole.now ≡ true →
+        is_temporary_file terms.0 old.now ≡ true → Obeys terms true (W.trace world.old) (W.trace world.new) }
 {
     match world.hard_link(whole, old) {
         Ok(()) => Ok(()),
@@ -56,9 +58,13 @@ pub(crate) fn keep_as<W: World>(world: &mut W, whole: &str, old: &str) -> io::Re
 
 /// Puts back what was kept under another name. If there is nothing, removes what got the name.
 /// Returns whether that is done.
-pub(crate) fn put_back<W: World>(world: &mut W, whole: &str, old: &str, has_name: bool) -> bool
-    ensures { PutsBack whole.now old.now has_name result (W.trace world.old) (W.trace world.new) }
+fn put_back<W: World>(world: &mut W, its: &Begun, has_name: bool) -> bool
+    ensures told { (terms : Terms) → is_begun_in terms.0 its.now ≡ true →
+        PutsItBack its.now has_name result (W.trace world.old) (W.trace world.new) }
+    ensures within { (terms : Terms) → is_begun_in terms.0 its.now ≡ true →
+        Obeys terms true (W.trace world.old) (W.trace world.new) }
 {
+    let (whole, old) = (its.whole.as_str(), its.old.as_str());
     if !world.kind_at(old).is_something() {
         return !has_name || world.remove_file(whole).is_ok();
     }
@@ -82,7 +88,7 @@ pub(crate) fn name_files<W: World>(
 ) -> (usize, Option<Trouble>)
     requires { list_all (is_begun_in folder.now.path.now) files.now ≡ true }
     ensures all { result.1 ≡ None → result.0 ≡ length files.now }
-    ensures told { NamesFiles folder.now files.now result.0 (not (is_some result.1))
+    ensures told { NamesFiles files.now result.0 (not (is_some result.1))
         (W.trace world.old) (W.trace world.new) }
     ensures within { Obeys (terms_of folder.now) true (W.trace world.old) (W.trace world.new) }
 {
@@ -118,7 +124,8 @@ pub(crate) fn put_back_all<W: World>(
 // Puts back what a file was to replace, unless its number is greater than another. Returns whether
 // it is back.
 fn put_back_before<W: World>(world: &mut W, its: &Begun, before: usize, number: usize) -> bool
-    ensures told { UnlessLater (nat_lt number before) its.now (nat_lt before number) result
+    ensures told { (terms : Terms) → is_begun_in terms.0 its.now ≡ true →
+        UnlessLater (nat_lt number before) its.now (nat_lt before number) result
         (W.trace world.old) (W.trace world.new) }
     ensures within { (terms : Terms) → is_begun_in terms.0 its.now ≡ true →
         Obeys terms true (W.trace world.old) (W.trace world.new) }
@@ -126,15 +133,13 @@ fn put_back_before<W: World>(world: &mut W, its: &Begun, before: usize, number: 
     if before > number {
         return true;
     }
-    let (whole, old) = (its.whole.as_str(), its.old.as_str());
-    put_back(world, whole, old, before < number)
+    put_back(world, its, before < number)
 }
 
 /// Removes what files have replaced.
 pub(crate) fn forget_old<W: World>(world: &mut W, folder: &Folder<'_>, files: &[Begun])
     requires { list_all (is_begun_in folder.now.path.now) files.now ≡ true }
-    ensures told { ForgetsOld files.now (W.trace world.old) (W.trace world.new) }
-    ensures within { Obeys (terms_of folder.now) true (W.trace world.old) (W.trace world.new) }
+    ensures within { Obeys (terms_of folder.now) false (W.trace world.old) (W.trace world.new) }
 {
     for its in files {
         let _ = world.remove_file(its.old.as_str());
@@ -148,9 +153,9 @@ fn name<W: World>(
     folder: &Folder<'_>,
     its: &Begun,
 ) -> Result<(), Trouble>
-    ensures { Names folder.now.image folder.now.is_forced (string_bytes its.now.new)
-        (string_bytes its.now.old) (string_bytes its.now.whole) (is_ok result)
-        (W.trace world.old) (W.trace world.new) }
+    requires { is_begun_in folder.now.path.now its.now ≡ true }
+    ensures told { NamesIt its.now (is_ok result) (W.trace world.old) (W.trace world.new) }
+    ensures within { Obeys (terms_of folder.now) true (W.trace world.old) (W.trace world.new) }
 {
     let whole = String::from_str(alloc, its.whole.as_str())?;
     let whole = match folder.allows(world, whole) {
@@ -167,8 +172,10 @@ fn name<W: World>(
 
 // Something may exist at the name.
 fn name_over<W: World>(world: &mut W, its: &Begun) -> io::Result<()>
-    ensures { NamesOver (string_bytes its.now.new) (string_bytes its.now.old)
-        (string_bytes its.now.whole) (answer_of result) (W.trace world.old) (W.trace world.new) }
+    ensures told { (terms : Terms) → is_begun_in terms.0 its.now ≡ true →
+        NamesIt its.now (is_ok result) (W.trace world.old) (W.trace world.new) }
+    ensures within { (terms : Terms) → is_begun_in terms.0 its.now ≡ true → terms.1 ≡ true →
+        Obeys terms true (W.trace world.old) (W.trace world.new) }
 {
     let (new, old, whole) = (its.new.as_str(), its.old.as_str(), its.whole.as_str());
     if !world.kind_at(whole).is_something() {
@@ -181,8 +188,7 @@ fn name_over<W: World>(world: &mut W, its: &Begun) -> io::Result<()>
 }
 
 fn created(named: io::Result<()>, whole: String) -> Result<(), Trouble>
-    ensures is { is_ok result ≡ is_ok named }
-    ensures told { TellsCreated (string_bytes whole) named result }
+    ensures { is_ok result ≡ is_ok named }
 {
     match named {
         Ok(()) => Ok(()),
@@ -213,8 +219,10 @@ fn remove_old<W: World>(
     folder: &Folder<'_>,
     its: &Begun,
 ) -> Result<(), Trouble>
-    ensures { RemovesOld folder.now.is_forced (string_bytes its.now.whole)
-        (W.trace world.old) (W.trace world.new) }
+    requires { is_begun_in folder.now.path.now its.now ≡ true }
+    ensures within { Obeys (terms_of folder.now) true (W.trace world.old) (W.trace world.new) }
+    ensures leaves { (start : Files) (path : List ℕ) → bytes_eq (string_bytes its.now.whole) path ≡ false →
+        files_after start (W.trace world.new) path ≡ files_after start (W.trace world.old) path }
 {
     if !folder.is_forced {
         return Ok(());

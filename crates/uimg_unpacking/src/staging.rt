@@ -1,14 +1,14 @@
 //! Files that are written in a folder of their own, and get their names all at once.
 
-ghost use Rattle.std.specs.Prelude.{◌≡◌, ◌++◌, ◌∷◌, [], List, ℕ, Bool, Some, map, true, false, codes, IfOk, IfSome, IsTrue, MatchOption, OnErr, OnOk, is_ok, not, string_bytes};
+ghost use Rattle.std.specs.Prelude.{◌≡◌, ◌++◌, ◌∷◌, [], List, ℕ, Bool, Some, true, false, codes, IfOk, IfSome, IsTrue, MatchOption, OnErr, OnOk, is_ok, not, string_bytes};
 ghost use Rattle.std.specs.{Io.Buffered.writer_contents, List.list_all};
 ghost use Rattle.std.specs.Option.{option_map, option_map_or};
 ghost use Rattle.uimg_unpacking.specs.Deeds.{Answer, ClosesFile, Deed, answer_of};
-ghost use Rattle.uimg_unpacking.specs.Clearing.{Clears};
 ghost use Rattle.uimg_unpacking.specs.Contents.{held};
 ghost use Rattle.uimg_unpacking.specs.FileNames.{is_file_name};
+ghost use Rattle.uimg_unpacking.specs.Leaving.{KeepsNone};
 ghost use Rattle.uimg_unpacking.specs.Places.{is_temporary_folder, is_temporary_file, is_begun_in, Obeys, terms_of};
-ghost use Rattle.uimg_unpacking.specs.Refusals.{last_of, last_name, DropsLast, TellsUnwritten};
+ghost use Rattle.uimg_unpacking.specs.Refusals.{last_of, last_name, TellsUnwritten};
 ghost use Rattle.uimg_unpacking.specs.Staged.{ClosesLast, Completes, Drops, are_numbered_in, complete_names, names_of, staged, with_name};
 
 mod naming_all;
@@ -33,6 +33,8 @@ pub(crate) struct Staging<'w, 'a, 'c, W: World, M: Task> {
     folder: Folder<'a>,
     // The path of the temporary folder, once it is created.
     made: Option<String>,
+    // The same, for the trouble that old files are left there: memory may be refused then.
+    shown: Option<String>,
     // The files that were begun. File number N is `new-N` in the temporary folder, and what it
     // replaces is `old-N`.
     files: Vec<Begun>,
@@ -54,6 +56,7 @@ pub(crate) struct Staging<'w, 'a, 'c, W: World, M: Task> {
     ghost agreed: { terms_of folder ≡ M.terms },
     ghost obeys: { Obeys (terms_of folder) is_naming M.before (W.trace world.now) },
     ghost numbered: { are_numbered_in (option_map string_bytes made) files.items ≡ true },
+    ghost none: { is_naming ≡ false → KeepsNone (option_map string_bytes made) (W.trace world.now) },
 }
 
 impl<'w, 'a, 'c, W: World, M: Task> Staging<'w, 'a, 'c, W, M> {
@@ -78,6 +81,7 @@ impl<'w, 'a, 'c, W: World, M: Task> Staging<'w, 'a, 'c, W, M> {
             alloc,
             folder,
             made: None,
+            shown: None,
             files: Vec::new(alloc),
             created: Vec::new(alloc),
             outdated: Vec::new(alloc),
@@ -143,14 +147,16 @@ impl<'w, 'a, 'c, W: World, M: Task> Staging<'w, 'a, 'c, W, M> {
         ensures files { self.new.files ≡ self.old.files }
         ensures outdated { self.new.outdated ≡ self.old.outdated }
         ensures writing { self.new.is_writing ≡ self.old.is_writing }
-        ensures held { held (W.trace self.new.world.now) ≡ held (W.trace self.old.world.now) }
+        ensures staged { staged (W.trace self.new.world.now) self.old.files.items self.old.is_writing
+            ≡ staged (W.trace self.old.world.now) self.old.files.items self.old.is_writing }
     {
         if self.made.is_some() {
             return Ok(Ok(()));
         }
         match self.folder.new_folder(self.world, self.alloc) {
-            Ok(Ok(made)) => {
+            Ok(Ok((made, shown))) => {
                 self.made = Some(made);
+                self.shown = Some(shown);
                 Ok(Ok(()))
             }
             Ok(Err(reason)) => Ok(Err(reason)),
@@ -339,8 +345,11 @@ impl<'w, 'a, 'c, W: World, M: Task> Staging<'w, 'a, 'c, W, M> {
         ensures last { IfOk result (λ last. self.old.files.items ≡ self.new.files.items ++ last ∷ []
             × W.trace self.new.world.now
             ≡ Deed.Removes (string_bytes last.new) Answer.Done ∷ W.trace self.old.world.now) }
-        ensures dropped { DropsLast self.old.files.items self.new.files.items (is_ok result)
+        ensures within { Obeys (terms_of self.old.folder) false
             (W.trace self.old.world.now) (W.trace self.new.world.now) }
+        ensures made { self.new.made ≡ self.old.made }
+        ensures none { KeepsNone (option_map string_bytes self.old.made) (W.trace self.old.world.now)
+            → KeepsNone (option_map string_bytes self.old.made) (W.trace self.new.world.now) }
         ensures outdated { self.new.outdated ≡ self.old.outdated }
         ensures naming { self.new.is_naming ≡ self.old.is_naming }
         ensures writing { self.new.is_writing ≡ false }
@@ -368,6 +377,7 @@ impl<'w, 'a, 'c, W: World, M: Task> Staging<'w, 'a, 'c, W, M> {
         ensures last { MatchOption result
             ((self.old.files.items ≡ []) × (self.new.files.items ≡ []))
             (λ last. self.old.files.items ≡ self.new.files.items ++ last ∷ []) }
+        ensures made { self.new.made ≡ self.old.made }
         ensures world { self.new.world ≡ self.old.world }
         ensures outdated { self.new.outdated ≡ self.old.outdated }
         ensures naming { self.new.is_naming ≡ self.old.is_naming }
@@ -380,6 +390,7 @@ impl<'w, 'a, 'c, W: World, M: Task> Staging<'w, 'a, 'c, W, M> {
     fn remove(&mut self, begun: &Begun) -> io::Result<()>
         requires { is_begun_in self.old.folder.path.now begun.now ≡ true }
         ensures folder { self.new.folder ≡ self.old.folder }
+        ensures made { self.new.made ≡ self.old.made }
         ensures files { self.new.files ≡ self.old.files }
         ensures outdated { self.new.outdated ≡ self.old.outdated }
         ensures writing { self.new.is_writing ≡ self.old.is_writing }
@@ -423,9 +434,7 @@ impl<'w, 'a, 'c, W: World, M: Task> Staging<'w, 'a, 'c, W, M> {
     pub(crate) fn end(self) -> &'w mut W
         ensures named { result.ghost_name ≡ M.name }
         ensures obeys { Obeys M.terms self.entry.is_naming M.before (W.trace result.now) }
-        ensures cleared { Clears (option_map string_bytes self.entry.made)
-            (map string_bytes self.entry.created.items)
-            (W.trace self.entry.world.now) (W.trace result.now) }
+        ensures quiet { Obeys M.terms false (W.trace self.entry.world.now) (W.trace result.now) }
     {
         let Staging {
             world,
@@ -433,6 +442,7 @@ impl<'w, 'a, 'c, W: World, M: Task> Staging<'w, 'a, 'c, W, M> {
             alloc: _alloc,
             folder,
             made,
+            shown: _shown,
             files: _files,
             created,
             outdated: _outdated,
@@ -451,9 +461,7 @@ fn clear<W: World>(world: &mut W, folder: &Folder<'_>, made: Option<String>, cre
         (string_bytes path)) made true ≡ true }
     requires created { list_all (λ path. is_temporary_file folder.now.path.now
         (string_bytes path)) created.now ≡ true }
-    ensures obeys { (is_naming : Bool) → Obeys (terms_of folder.now) is_naming
-        (W.trace world.old) (W.trace world.new) }
-    ensures cleared { Clears (option_map string_bytes made) (map string_bytes created.now)
+    ensures { (is_naming : Bool) → Obeys (terms_of folder.now) is_naming
         (W.trace world.old) (W.trace world.new) }
 {
     for path in created {

@@ -1,9 +1,10 @@
 //! Why payloads are not written to a folder, or temporary files in it not removed.
 
-ghost use Rattle.std.specs.Prelude.{◌≡◌, Some, false, string_bytes};
+ghost use Rattle.std.specs.Prelude.{◌≡◌, Some, false, is_ok, string_bytes};
 ghost use Rattle.std.specs.IoError.{error_kind};
 ghost use Rattle.uimg_printing.specs.Printing.{printed};
-ghost use Rattle.uimg_unpacking.specs.Troubles.{done_in, noted, printing_trouble};
+ghost use Rattle.uimg_unpacking.specs.Leaving.{are_undone};
+ghost use Rattle.uimg_unpacking.specs.Troubles.{done_in, noted, printing_trouble, trouble_in};
 ghost use Rattle.uimg_unpacking.specs.declared.trouble.Trouble.TheVariants.{OutOfMemory};
 
 use std::alloc::{AllocError, AllocFailed};
@@ -108,6 +109,21 @@ pub(crate) fn kept<X>(
             *trouble = Some(found);
             Err(PutFault)
         }
+    }
+}
+
+/// Returns the trouble of a line that is printed once files have their names. It is never
+/// `OutOfMemory`: after that no file has its name.
+pub(crate) fn printed(done: io::Result<()>) -> Result<(), Trouble>
+    ensures done { is_ok result ≡ is_ok done }
+    ensures told { are_undone (trouble_in result) ≡ false }
+{
+    match done {
+        Ok(()) => Ok(()),
+        Err(error) => Err(match error.kind() {
+            ErrorKind::BrokenPipe => Trouble::Closed,
+            _ => Trouble::CannotPrint(error),
+        }),
     }
 }
 

@@ -6,7 +6,7 @@ ghost use Rattle.uimg_base.specs.Device.{SameDevice};
 ghost use Rattle.uimg_base.specs.Honest.{IfHonest};
 ghost use Rattle.uimg_fit_checking.specs.Unpacking.{as_bytes, unpack_work};
 ghost use Rattle.uimg_unpacking.specs.Ends.{asked_name, is_whole, end_of_taken, end_of_fault, TellsOverlap, EndsGiven, Ends, EndsByFile, FitsIf};
-ghost use Rattle.uimg_unpacking.specs.{Filling.Fills, Places.{ChangesWithin, Obeys, terms_of}};
+ghost use Rattle.uimg_unpacking.specs.{Filling.Fills, Leaving.LeavesAt, Places.{ChangesWithin, Obeys, terms_of}};
 
 use crate::folder::Folder;
 use crate::folder_taker::FolderTaker;
@@ -81,6 +81,10 @@ pub enum Ended {
 /// refused ones are printed. Unless all files get their names, the folder is unchanged, except that
 /// `keeps_good` keeps the good ones, and removes what refused ones were to replace.
 ///
+/// Contracts say so of all files of which the answers of the calls are true (`IsTrueTo`): without
+/// `keeps_good`, each file name of the folder has what it had, unless the end is `Kept`, or a trouble
+/// that comes after files got their names: `NotPutBack`, `CannotPrint` or `Closed`.
+///
 /// Over an honest source it ends as the definition says of the image's bytes (`end_of_file`),
 /// unless a read fails, memory runs out or it returns a trouble. Where files are kept, the file of
 /// each kept payload has the name that `names_of_kept` gives, and holds exactly its bytes, if
@@ -100,6 +104,7 @@ pub fn unpack<W: World, S: Source, O: Write + Drop>(
     ensures fits { IfHonest S.device source (λ file. FitsIf asked.now file result) }
     ensures filled { IfHonest S.device source (λ file. IsTrue W.knows →
         Fills asked.now file result (W.trace world.new)) }
+    ensures back { LeavesAt asked.now result (W.trace world.old) (W.trace world.new) }
 {
     let alloc = world.alloc();
     let mut end = Ended::NoImage;
@@ -130,6 +135,7 @@ fn unpack_in<'w, W: World, S: Source, O: Write + Drop, M: Task>(
     ensures fits { IfHonest S.device source (λ file. FitsIf asked.now file end.new) }
     ensures filled { IfHonest S.device source (λ file. IsTrue W.knows →
         Fills asked.now file end.new (W.trace result.now)) }
+    ensures back { LeavesAt asked.now end.new M.before (W.trace result.now) }
 {
     let Some(only) = only_of(asked.only) else {
         *end = Ended::Stopped(Fault::Fit(FitFault::NoSuchImage));
@@ -144,7 +150,7 @@ fn unpack_in<'w, W: World, S: Source, O: Write + Drop, M: Task>(
     let mut taker = FolderTaker::new(lent, alloc, asked, out, &code);
     let unpacked = uimg_fit_checking::unpack(only, asked.need, source, &mut room, &mut taker);
     let names = gives_names(asked.keeps_good, is_whole(&unpacked));
-    let (world, mut out, count, trouble) = taker.end(names);
+    let (world, mut out, count, trouble) = taker.end(names, asked.keeps_good);
     *end = how_ended(alloc, asked, unpacked, (count, trouble), &mut out);
     world
 }

@@ -25,7 +25,7 @@ fn check_end(size: u32, padded: u64, placement: AlignedPlacement) -> Result<(), 
     ensures { fault_in result ≡ end_fault size padded placement }
 {
     match placement {
-        AlignedPlacement::Inside => Ok(()),
+        AlignedPlacement::Inside { least: _ } => Ok(()),
         AlignedPlacement::After { align: _ } => {
             if size as u64 + padded > LARGEST {
                 return Err(FitFault::TooLarge);
@@ -101,7 +101,7 @@ pub(crate) fn put_behind<F: Files, W: Write, A: Allocator>(
         out.old out.new (behind_pieces size (node_of tree.now.root) placement) }
 {
     match placement {
-        AlignedPlacement::Inside => Ok(()),
+        AlignedPlacement::Inside { least: _ } => Ok(()),
         AlignedPlacement::After { align } => put_payloads(images_of(&tree.root), align, files, out),
         AlignedPlacement::At { position, align } => {
             put_zeros((position - size) as u64, out)?;

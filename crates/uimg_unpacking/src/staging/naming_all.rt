@@ -1,9 +1,11 @@
 //! Gives all files their names, or none.
 
-ghost use Rattle.std.specs.Prelude.{◌≡◌, None, length, is_ok, is_some, not, string_bytes, true};
+ghost use Rattle.std.specs.Prelude.{◌≡◌, None, length, is_some, not, string_bytes, true};
 ghost use Rattle.std.specs.Option.{option_map};
-ghost use Rattle.uimg_unpacking.specs.Staged.{LeavesOthers, complete_names, names_of};
-ghost use Rattle.uimg_unpacking.specs.NamingAll.{NamesFiles, SyncsNames, NamesAll, NamesComplete, TakesBack};
+ghost use Rattle.uimg_unpacking.specs.Contents.{Files, IsTrueTo, files_after};
+ghost use Rattle.uimg_unpacking.specs.Leaving.{KeepsNone, NamesAll, is_undone};
+ghost use Rattle.uimg_unpacking.specs.Naming.{NamesFiles, PutsBackFiles};
+ghost use Rattle.uimg_unpacking.specs.Staged.{LeavesOthers, complete_names, held_new, names_of, staged};
 ghost use Rattle.uimg_unpacking.specs.Troubles.{trouble_in};
 
 use crate::naming::{forget_old, name_files, put_back_all, remove_all_old};
@@ -17,6 +19,7 @@ impl<'w, 'a, 'c, W: World, M: Task> Staging<'w, 'a, 'c, W, M> {
         ensures files { self.new.files ≡ self.old.files }
         ensures writing { self.new.is_writing ≡ self.old.is_writing }
         ensures world { self.new.world ≡ self.old.world }
+        ensures made { self.new.made ≡ self.old.made }
         ensures folder { self.new.folder ≡ self.old.folder }
         ensures outdated { self.new.outdated ≡ self.old.outdated }
         ensures naming { self.new.is_naming ≡ true }
@@ -25,28 +28,37 @@ impl<'w, 'a, 'c, W: World, M: Task> Staging<'w, 'a, 'c, W, M> {
     }
 
     /// If one cannot get its name, or the names cannot be written to the disk, none gets one, and
-    /// what they were to replace is restored.
+    /// what they were to replace is restored. Fails if files got their names before.
     pub(crate) fn name_all(&mut self) -> Result<(), Trouble>
-        ensures told { NamesComplete self.old.folder self.old.files.items self.old.is_writing
-            (is_ok result) (W.trace self.old.world.now) (W.trace self.new.world.now) }
+        ensures named { NamesAll self.old.folder.path.now
+            (complete_names self.old.files.items self.old.is_writing)
+            (staged (W.trace self.old.world.now) self.old.files.items self.old.is_writing)
+            (trouble_in result) (W.trace self.old.world.now) (W.trace self.new.world.now) }
         ensures complete { complete_names self.new.files.items self.new.is_writing
             ≡ complete_names self.old.files.items self.old.is_writing }
         ensures folder { self.new.folder ≡ self.old.folder }
         ensures outdated { self.new.outdated ≡ self.old.outdated }
         ensures naming { self.new.is_naming ≡ true }
     {
+        if self.is_naming {
+            return Err(Trouble::NoName);
+        }
         self.begin_naming();
         if !self.is_writing {
             return self.name_complete();
         }
-        self.drop_last()?;
+        if let Err(trouble) = self.drop_last() {
+            return Err(trouble);
+        }
         self.name_complete()
     }
 
     // The files are complete.
     fn name_complete(&mut self) -> Result<(), Trouble>
-        requires { self.old.is_naming ≡ true }
-        ensures told { NamesAll self.old.folder self.old.files.items (is_ok result)
+        requires naming { self.old.is_naming ≡ true }
+        requires none { KeepsNone (option_map string_bytes self.old.made) (W.trace self.old.world.now) }
+        ensures named { NamesAll self.old.folder.path.now (names_of self.old.files.items)
+            (held_new (W.trace self.old.world.now) self.old.files.items) (trouble_in result)
             (W.trace self.old.world.now) (W.trace self.new.world.now) }
         ensures files { self.new.files ≡ self.old.files }
         ensures writing { self.new.is_writing ≡ self.old.is_writing }
@@ -83,8 +95,11 @@ impl<'w, 'a, 'c, W: World, M: Task> Staging<'w, 'a, 'c, W, M> {
 
     // Waits until the names in the folder are on the disk, if that is requested and there are any.
     fn sync(&mut self) -> Result<(), Trouble>
-        ensures told { SyncsNames self.old.folder self.old.files.items (trouble_in result)
-            (W.trace self.old.world.now) (W.trace self.new.world.now) }
+        ensures same { (start : Files) → files_after start (W.trace self.new.world.now)
+            ≡ files_after start (W.trace self.old.world.now) }
+        ensures earlier { (start : Files) → IsTrueTo start (W.trace self.new.world.now) →
+            IsTrueTo start (W.trace self.old.world.now) }
+        ensures made { self.new.made ≡ self.old.made }
         ensures files { self.new.files ≡ self.old.files }
         ensures writing { self.new.is_writing ≡ self.old.is_writing }
         ensures folder { self.new.folder ≡ self.old.folder }
@@ -108,8 +123,9 @@ impl<'w, 'a, 'c, W: World, M: Task> Staging<'w, 'a, 'c, W, M> {
     fn name_each(&mut self) -> (usize, Option<Trouble>)
         requires { self.old.is_naming ≡ true }
         ensures all { result.1 ≡ None → result.0 ≡ length self.new.files.items }
-        ensures told { NamesFiles self.old.folder self.old.files.items result.0
-            (not (is_some result.1)) (W.trace self.old.world.now) (W.trace self.new.world.now) }
+        ensures told { NamesFiles self.old.files.items result.0 (not (is_some result.1))
+            (W.trace self.old.world.now) (W.trace self.new.world.now) }
+        ensures made { self.new.made ≡ self.old.made }
         ensures files { self.new.files ≡ self.old.files }
         ensures writing { self.new.is_writing ≡ self.old.is_writing }
         ensures folder { self.new.folder ≡ self.old.folder }
@@ -124,8 +140,7 @@ impl<'w, 'a, 'c, W: World, M: Task> Staging<'w, 'a, 'c, W, M> {
     // not in their place.
     fn taken_back(&mut self, number: usize, trouble: Trouble) -> Trouble
         requires { self.old.is_naming ≡ true }
-        ensures told { TakesBack self.old.files.items number
-            (option_map string_bytes self.old.made) trouble result
+        ensures told { is_undone result ≡ true → PutsBackFiles self.old.files.items number true
             (W.trace self.old.world.now) (W.trace self.new.world.now) }
         ensures files { self.new.files ≡ self.old.files }
         ensures writing { self.new.is_writing ≡ self.old.is_writing }
@@ -137,12 +152,9 @@ impl<'w, 'a, 'c, W: World, M: Task> Staging<'w, 'a, 'c, W, M> {
         if is_back {
             return trouble;
         }
-        match &self.made {
-            Some(made) => match String::from_str(self.alloc, made.as_str()) {
-                Ok(made) => Trouble::NotPutBack(ShownPath(made)),
-                Err(error) => Trouble::from(error),
-            },
-            None => trouble,
+        match self.shown.take() {
+            Some(made) => Trouble::NotPutBack(ShownPath(made)),
+            None => Trouble::NotPutBack(ShownPath(String::new(self.alloc))),
         }
     }
 }

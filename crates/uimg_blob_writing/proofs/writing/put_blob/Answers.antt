@@ -1,8 +1,8 @@
-use Rattle.std.proofs.Common.{◌≡◌, ◌^◌, ◌+◌, ◌++◌, ℕ, List, [], ◌∷◌, length, false, true, ap, subst, ◌∙◌, arith}
+use Rattle.std.proofs.Common.{◌≡◌, ◌^◌, ◌+◌, ◌++◌, ℕ, List, [], ◌∷◌, length, replicate, false, true, ap, subst, ◌∙◌, arith}
 use Rattle.uimg_base.specs.Writing.{Writes}
 use Rattle.uimg_blob_writing.specs.{declared.fault.TreeFault.TheVariants.Put, Names.name_texts}
 use Rattle.uimg_blob_writing.specs.{Content.{Content, bytes}, Encoding.{word, reserved, strings}}
-use Rattle.uimg_blob_writing.specs.{Layouts.{Plan, plan_end, nodes_size}, Trees.node_of, Alignment.padding_by}
+use Rattle.uimg_blob_writing.specs.{Layouts.{Plan, plan_end, nodes_size}, Trees.node_of, Alignment.filling}
 use Rattle.uimg_blob_writing.specs.Pieces.{nodes_pieces, blob_pieces, WritesPieces}
 use Rattle.uimg_blob_writing.proofs.SizeLaws.{small-values}
 use Rattle.uimg_blob_writing.proofs.WritesLaws.{went_well, failed, refused, ◌▶◌, before, all-put, prefix-put}
@@ -18,7 +18,7 @@ pub returns-in_err-put_header-clause-writes : goal.returns-in_err-put_header-cla
 unfolding blob_pieces
 returns-in_err-put_header-clause-writes g c =
     let p = c.args.layout.now in
-    let rest = bytes (reserved p.reservations) ∷ nodes_pieces p.names (node_of c.args.tree.now.root) ++ bytes (word 9) ∷ bytes (strings p.names) ∷ bytes (padding_by p.align (plan_end p)) ∷ [] in
+    let rest = bytes (reserved p.reservations) ∷ nodes_pieces p.names (node_of c.args.tree.now.root) ++ bytes (word 9) ∷ bytes (strings p.names) ∷ bytes (filling p.ending (plan_end p)) ∷ [] in
     refused g.F.Opened.Source.steady _ Put _ _ _ _ _ c.from_residual.ensures.1 (before rest (prefix-put c.in_err-put_header.ensures))
 
 pub returns-in_err-put_reservations-clause-writes : goal.returns-in_err-put_reservations-clause-writes
@@ -27,7 +27,7 @@ returns-in_err-put_reservations-clause-writes g c =
     let p = c.args.layout.now in
     let is_block : reserved c.layout.inside.reservations.now ≡ reserved p.reservations = ap (λ (q : Plan). reserved q.reservations) c.layout.view_is in
     let block = subst (λ (w : List ℕ). Writes true c.put_header.new.out c.put_reservations.new.out w) is_block c.in_err-put_reservations.ensures in
-    let rest = nodes_pieces p.names (node_of c.args.tree.now.root) ++ bytes (word 9) ∷ bytes (strings p.names) ∷ bytes (padding_by p.align (plan_end p)) ∷ [] in
+    let rest = nodes_pieces p.names (node_of c.args.tree.now.root) ++ bytes (word 9) ∷ bytes (strings p.names) ∷ bytes (filling p.ending (plan_end p)) ∷ [] in
     refused g.F.Opened.Source.steady _ Put _ _ _ _ _ c.from_residual-in_err-put_reservations.ensures.1 (all-put c.in_ok-put_header.ensures ▶ before rest (prefix-put block))
 
 pub returns-in_err-put_node-clause-writes : goal.returns-in_err-put_node-clause-writes
@@ -42,7 +42,7 @@ returns-in_err-put_node-clause-writes g c =
     let block = subst (λ (w : List ℕ). Writes false c.put_header.new.out c.put_reservations.new.out w) is_block c.in_ok-put_reservations.ensures in
     let is_names : name_texts c.as_slice-names.result.now ≡ p.names = ap name_texts c.as_slice-names.ensures.value ∙ ap (λ (q : Plan). q.names) c.layout.view_is in
     let nodes = subst (λ (ns : List (List ℕ)). WritesPieces g.F.Opened.Source.steady (failed fault) m n c.put_reservations.new.out c.put_node.new.out (nodes_pieces ns t)) is_names c.in_err-put_node.ensures in
-    let rest : List Content = bytes (word 9) ∷ bytes (strings p.names) ∷ bytes (padding_by p.align (plan_end p)) ∷ [] in
+    let rest : List Content = bytes (word 9) ∷ bytes (strings p.names) ∷ bytes (filling p.ending (plan_end p)) ∷ [] in
     refused g.F.Opened.Source.steady _ fault _ _ _ _ _ c.from_residual-in_err-put_node.ensures.1 (all-put c.in_ok-put_header.ensures ▶ all-put block ▶ before rest nodes)
 
 pub returns-in_err-put_end-clause-writes : goal.returns-in_err-put_end-clause-writes
@@ -56,7 +56,7 @@ returns-in_err-put_end-clause-writes g c =
     let block = subst (λ (w : List ℕ). Writes false c.put_header.new.out c.put_reservations.new.out w) is_block c.in_ok-put_reservations.ensures in
     let is_names : name_texts c.as_slice-names.result.now ≡ p.names = ap name_texts c.as_slice-names.ensures.value ∙ ap (λ (q : Plan). q.names) c.layout.view_is in
     let nodes = subst (λ (ns : List (List ℕ)). WritesPieces g.F.Opened.Source.steady went_well m n c.put_reservations.new.out c.put_node.new.out (nodes_pieces ns t)) is_names c.in_ok-put_node.ensures in
-    let rest : List Content = bytes (strings p.names) ∷ bytes (padding_by p.align (plan_end p)) ∷ [] in
+    let rest : List Content = bytes (strings p.names) ∷ bytes (filling p.ending (plan_end p)) ∷ [] in
     refused g.F.Opened.Source.steady _ Put _ _ _ _ _ c.from_residual-in_err-put_end.ensures.1 (all-put c.in_ok-put_header.ensures ▶ all-put block ▶ nodes ▶ before rest (prefix-put c.in_err-put_end.ensures))
 
 pub returns-in_err-put_strings-clause-writes : goal.returns-in_err-put_strings-clause-writes
@@ -71,13 +71,13 @@ returns-in_err-put_strings-clause-writes g c =
     let is_names : name_texts c.as_slice-names.result.now ≡ p.names = ap name_texts c.as_slice-names.ensures.value ∙ ap (λ (q : Plan). q.names) c.layout.view_is in
     let nodes = subst (λ (ns : List (List ℕ)). WritesPieces g.F.Opened.Source.steady went_well m n c.put_reservations.new.out c.put_node.new.out (nodes_pieces ns t)) is_names c.in_ok-put_node.ensures in
     let names = subst (λ (ns : List (List ℕ)). Writes true c.put_end.new.out c.put_strings.new.out (strings ns)) is_names c.in_err-put_strings.ensures in
-    let rest : List Content = bytes (padding_by p.align (plan_end p)) ∷ [] in
+    let rest : List Content = bytes (filling p.ending (plan_end p)) ∷ [] in
     refused g.F.Opened.Source.steady _ Put _ _ _ _ _ c.from_residual-in_err-put_strings.ensures.1
     (all-put c.in_ok-put_header.ensures ▶ all-put block ▶ nodes ▶ all-put c.in_ok-put_end.ensures ▶ before rest (prefix-put names))
 
-pub returns-in_err-put_gap-clause-writes : goal.returns-in_err-put_gap-clause-writes
+pub returns-in_err-put_zeros-clause-writes : goal.returns-in_err-put_zeros-clause-writes
 unfolding blob_pieces
-returns-in_err-put_gap-clause-writes g c =
+returns-in_err-put_zeros-clause-writes g c =
     let p = c.args.layout.now in
     let t = node_of c.args.tree.now.root in
     let m = g.F.Files.map c.args.files.now in
@@ -87,9 +87,8 @@ returns-in_err-put_gap-clause-writes g c =
     let is_names : name_texts c.as_slice-names.result.now ≡ p.names = ap name_texts c.as_slice-names.ensures.value ∙ ap (λ (q : Plan). q.names) c.layout.view_is in
     let nodes = subst (λ (ns : List (List ℕ)). WritesPieces g.F.Opened.Source.steady went_well m n c.put_reservations.new.out c.put_node.new.out (nodes_pieces ns t)) is_names c.in_ok-put_node.ensures in
     let names = subst (λ (ns : List (List ℕ)). Writes false c.put_end.new.out c.put_strings.new.out (strings ns)) is_names c.in_ok-put_strings.ensures in
-    let align : c.layout.inside.align ≡ p.align = ap (λ (q : Plan). q.align) c.layout.view_is in
-    let zeros = subst (λ (w : List ℕ). Writes true c.put_strings.new.out c.put_gap.new.out w) (ap (λ (k : ℕ). padding_by c.layout.inside.align k) c.end.ensures ∙ ap (λ (a : ℕ). padding_by a (plan_end p)) align) c.in_err-put_gap.ensures in
-    refused g.F.Opened.Source.steady _ Put _ _ _ _ _ c.from_residual-in_err-put_gap.ensures.1
+    let zeros = subst (λ (k : ℕ). Writes true c.put_strings.new.out c.put_zeros.new.out (replicate k 0)) c.room.ensures c.in_err-put_zeros.ensures in
+    refused g.F.Opened.Source.steady _ Put _ _ _ _ _ c.from_residual-in_err-put_zeros.ensures.1
     (all-put c.in_ok-put_header.ensures ▶ all-put block ▶ nodes ▶ all-put c.in_ok-put_end.ensures ▶ all-put names ▶ prefix-put zeros)
 
 pub returns-clause-writes : goal.returns-clause-writes
@@ -104,6 +103,5 @@ returns-clause-writes g c =
     let is_names : name_texts c.as_slice-names.result.now ≡ p.names = ap name_texts c.as_slice-names.ensures.value ∙ ap (λ (q : Plan). q.names) c.layout.view_is in
     let nodes = subst (λ (ns : List (List ℕ)). WritesPieces g.F.Opened.Source.steady went_well m n c.put_reservations.new.out c.put_node.new.out (nodes_pieces ns t)) is_names c.in_ok-put_node.ensures in
     let names = subst (λ (ns : List (List ℕ)). Writes false c.put_end.new.out c.put_strings.new.out (strings ns)) is_names c.in_ok-put_strings.ensures in
-    let align : c.layout.inside.align ≡ p.align = ap (λ (q : Plan). q.align) c.layout.view_is in
-    let zeros = subst (λ (w : List ℕ). Writes false c.put_strings.new.out c.put_gap.new.out w) (ap (λ (k : ℕ). padding_by c.layout.inside.align k) c.end.ensures ∙ ap (λ (a : ℕ). padding_by a (plan_end p)) align) c.in_ok-put_gap.ensures in
+    let zeros = subst (λ (k : ℕ). Writes false c.put_strings.new.out c.put_zeros.new.out (replicate k 0)) c.room.ensures c.in_ok-put_zeros.ensures in
     all-put c.in_ok-put_header.ensures ▶ all-put block ▶ nodes ▶ all-put c.in_ok-put_end.ensures ▶ all-put names ▶ all-put zeros

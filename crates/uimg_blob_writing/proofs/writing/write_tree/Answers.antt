@@ -13,20 +13,20 @@ returns g c =
     let s = c.args.out.now in
     let u = c.put_blob.new.out in
     let r = c.put_blob.result in
-    let align = c.args.layout.now.align in
+    let ending = c.args.layout.now.ending in
     let rs = c.args.layout.now.reservations in
     let node = c.args.tree.now.root in
     let t = node_of node in
     let w = subst (λ (p : Plan). WritesPieces g.F.Opened.Source.steady r m (g.F.Files.map c.put_blob.new.files) s u (blob_pieces p t)) c.requires c.put_blob.ensures.writes in
     record {
       files = w.files;
-      opened = subst (λ (l : List (List ℕ)). OpensEach (is_err r) l m (g.F.Files.map c.put_blob.new.files)) (blob-files align rs t) w.opened;
+      opened = subst (λ (l : List (List ℕ)). OpensEach (is_err r) l m (g.F.Files.map c.put_blob.new.files)) (blob-files ending rs t) w.opened;
       faults = w.faults;
-      found = λ complete kept. w.found complete (blob-holds (IsKept m.bytes) (λ b. tt) align rs t kept);
-      steady = λ always honest kept. w.reads always honest (blob-holds (IsKept m.bytes) (λ b. tt) align rs t kept);
-      in_memory = λ embedded. w.in_memory (blob-holds IsBytes (λ b. tt) align rs t embedded);
-      kept = λ honest. on-ok r (blob-held (IsKept m.bytes) (λ b. tt) align rs t) (w.kept honest);
-      written = λ honest kept. subst (λ (b : List ℕ). Written (is_err r) s u b) (blob-joined m.bytes align rs t kept) (w.written honest);
+      found = λ complete kept. w.found complete (blob-holds (IsKept m.bytes) (λ b. tt) ending rs t kept);
+      steady = λ always honest kept. w.reads always honest (blob-holds (IsKept m.bytes) (λ b. tt) ending rs t kept);
+      in_memory = λ embedded. w.in_memory (blob-holds IsBytes (λ b. tt) ending rs t embedded);
+      kept = λ honest. on-ok r (blob-held (IsKept m.bytes) (λ b. tt) ending rs t) (w.kept honest);
+      written = λ honest kept. subst (λ (b : List ℕ). Written (is_err r) s u b) (blob-joined m.bytes ending rs t kept) (w.written honest);
       reads_back = λ kept named.
-          root-reads_back m.bytes align rs node.name node.props node.children kept named (subst (λ (p : Plan). totalsize p < 2 ^ 32) c.requires c.put_blob.ensures.fits);
+          root-reads_back m.bytes ending rs node.name node.props node.children kept named (subst (λ (p : Plan). totalsize p < 2 ^ 32) c.requires c.put_blob.ensures.fits);
     }

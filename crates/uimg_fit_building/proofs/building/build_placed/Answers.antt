@@ -1,4 +1,5 @@
 use Rattle.std.proofs.Common.{rules, true, is_err, ◌≡◌, ◌≤◌, ℕ, Bool, List, Some, None, Result, Ok, Err, ap, sym, subst, ◌∙◌, arith}
+use Rattle.uimg_blob_writing.specs.declared.blob_end.BlobEnd.{BlobEnd}
 use Rattle.uimg_blob_writing.specs.declared.reservation.Reservation.{Reservation}
 use Rattle.uimg_blob_writing.specs.{Content.{Unread, in_full}, Trees.node_of}
 use Rattle.uimg_blob_writing.specs.{declared.fault.TreeFault.TreeFault, Layouts.{Plan, plan_with, totalsize}}
@@ -7,14 +8,14 @@ use Rattle.uimg_fit_building.specs.Behind.{images_in, padded_sizes, end_fault}
 use Rattle.uimg_fit_base.specs.declared.placement.AlignedPlacement.{AlignedPlacement}
 use Rattle.uimg_base.specs.{Named.FileMap, Sink.Sink}
 use Rattle.uimg_fit_building.specs.BuildSteps.{of_writing, MeasuresTree, WritesTextBetween}
-use Rattle.uimg_fit_building.specs.Building.{built_with}
+use Rattle.uimg_fit_building.specs.Building.{built_with, end_of}
 use Rattle.uimg_fit_building.proofs.BuildLaws.{refused, unmeasured, no_room, all-sent, not-sent, no-low}
 use Rattle.uimg_blob_writing.proofs.OpenedLaws.{each_unopened}
 use Rattle.uimg_fit_building.proofs.building.build_placed.Goals as goal
 
--- what measuring by an alignment tells of a tree that is placed
-by-placement : (r : Result Plan Fault) (rs : List Reservation) {a b : ℕ} {t u : Unread} → a ≡ b → t ≡ u → MeasuresTree a rs r t → MeasuresTree b rs r u
-by-placement r rs {b = b} {t = t} same is told = subst (λ (x : Unread). MeasuresTree b rs r x) is (subst (λ (n : ℕ). MeasuresTree n rs r t) same told)
+-- what measuring with an end tells of a tree that is placed
+by-placement : (r : Result Plan Fault) (rs : List Reservation) {a b : BlobEnd} {t u : Unread} → a ≡ b → t ≡ u → MeasuresTree a rs r t → MeasuresTree b rs r u
+by-placement r rs {b = b} {t = t} same is told = subst (λ (x : Unread). MeasuresTree b rs r x) is (subst (λ (e : BlobEnd). MeasuresTree e rs r t) same told)
 
 pub returns-in_err-layout-clause-builds : goal.returns-in_err-layout-clause-builds
 returns-in_err-layout-clause-builds g c =
@@ -25,7 +26,7 @@ returns-in_err-layout-clause-builds g c =
     let s = c.args.out.now in
     let e = c.in_err-layout.field-0.0 in
     refused steady rs t c.args.frame.placement c.from_residual.result e m m s s c.from_residual.ensures.1
-    (unmeasured steady rs t c.args.frame.placement m s e (by-placement (Err e) rs c.align.ensures c.requires c.in_err-layout.ensures))
+    (unmeasured steady rs t c.args.frame.placement m s e (by-placement (Err e) rs c.end_of.ensures c.requires c.in_err-layout.ensures))
 
 pub returns-in_err-check_payloads-clause-builds : goal.returns-in_err-check_payloads-clause-builds
 returns-in_err-check_payloads-clause-builds g c =
@@ -36,7 +37,7 @@ returns-in_err-check_payloads-clause-builds g c =
     let s = c.args.out.now in
     let p = c.in_ok-layout.layout in
     let f = c.in_err-check_payloads.field-0.0 in
-    let is = by-placement (Ok p) rs c.align.ensures c.requires c.in_ok-layout.ensures in
+    let is = by-placement (Ok p) rs c.end_of.ensures c.requires c.in_ok-layout.ensures in
     let small : totalsize p ≤ 4294967295 = omega (arith, c.totalsize.ensures, c.totalsize.type_inv) in
     let fault : end_fault (totalsize p) (padded_sizes (align_of c.args.frame.placement) (images_in t)) c.args.frame.placement ≡ Some f =
     ap (λ (n : ℕ). end_fault n (padded_sizes (align_of c.args.frame.placement) (images_in t)) c.args.frame.placement) (sym c.totalsize.ensures) ∙ sym c.in_err-check_payloads.ensures in
@@ -44,7 +45,7 @@ returns-in_err-check_payloads-clause-builds g c =
     (no_room steady rs t c.args.frame.placement m s p is small f fault)
 
 -- the plan of a tree that was measured has its reservations
-reserves : (rs : List Reservation) (a : ℕ) (t : Unread) (p : Plan) → plan_with a rs t ≡ p → rs ≡ p.reservations
+reserves : (rs : List Reservation) (a : BlobEnd) (t : Unread) (p : Plan) → plan_with a rs t ≡ p → rs ≡ p.reservations
 reserves rs a t p h = ap (λ (q : Plan). q.reservations) h
 
 pub write_file-requires-clause-plan : goal.write_file-requires-clause-plan
@@ -53,8 +54,8 @@ write_file-requires-clause-plan g c =
     let rs = c.args.frame.reservations.now in
     let p = c.in_ok-layout.layout in
     let is = c.in_ok-layout.ensures.1 in
-    sym is ∙ ap (λ (n : ℕ). plan_with n rs t) c.align.ensures
-    ∙ ap (λ (l : List Reservation). plan_with (align_of c.args.frame.placement) l t) (reserves rs _ t p is)
+    sym is ∙ ap (λ (e : BlobEnd). plan_with e rs t) c.end_of.ensures
+    ∙ ap (λ (l : List Reservation). plan_with (end_of c.args.frame.placement) l t) (reserves rs _ t p is)
 
 -- what was sent of a tree, by the reservations of its plan
 sent-by : (steady : Bool) (t : Unread) (placement : AlignedPlacement) (r : Result (Unit {0}) TreeFault) (m n : FileMap) (s u : Sink) (rs ps : List Reservation) → rs ≡ ps
@@ -77,7 +78,7 @@ returns-clause-builds g c =
     let u = c.write_file.new.out in
     let p = c.in_ok-layout.layout in
     let e = c.in-Err.fault in
-    let is = by-placement (Ok p) rs c.align.ensures c.requires c.in_ok-layout.ensures in
+    let is = by-placement (Ok p) rs c.end_of.ensures c.requires c.in_ok-layout.ensures in
     let small : totalsize p ≤ 4294967295 = omega (arith, c.totalsize.ensures, c.totalsize.type_inv) in
     let good : end_fault (totalsize p) (padded_sizes (align_of c.args.frame.placement) (images_in t)) c.args.frame.placement ≡ None =
     ap (λ (k : ℕ). end_fault k (padded_sizes (align_of c.args.frame.placement) (images_in t)) c.args.frame.placement) (sym c.totalsize.ensures) ∙ sym c.in_ok-check_payloads.ensures in
@@ -92,7 +93,7 @@ returns-in-Ok-clause-builds g c =
     let m = g.F.Files.map c.args.files.now in
     let n = g.F.Files.map c.write_file.new.files in
     let p = c.in_ok-layout.layout in
-    let is = by-placement (Ok p) rs c.align.ensures c.requires c.in_ok-layout.ensures in
+    let is = by-placement (Ok p) rs c.end_of.ensures c.requires c.in_ok-layout.ensures in
     let small : totalsize p ≤ 4294967295 = omega (arith, c.totalsize.ensures, c.totalsize.type_inv) in
     let good : end_fault (totalsize p) (padded_sizes (align_of c.args.frame.placement) (images_in t)) c.args.frame.placement ≡ None =
     ap (λ (k : ℕ). end_fault k (padded_sizes (align_of c.args.frame.placement) (images_in t)) c.args.frame.placement) (sym c.totalsize.ensures) ∙ sym c.in_ok-check_payloads.ensures in

@@ -3,10 +3,10 @@ use Rattle.std.specs.{Bool.OnFalse, List.AllByRecursion}
 use Rattle.uimg_base.specs.{Sink.Sink, Writing.Written}
 use Rattle.uimg_blob_reading.specs.Plain.{Nodes}
 use Rattle.uimg_blob_writing.specs.{Content.{Unread, AreKept, IsKept, files_in, in_full}, Encoding.encode_with}
+use Rattle.uimg_blob_writing.specs.declared.blob_end.BlobEnd.{BlobEnd}
 use Rattle.uimg_blob_writing.specs.declared.reservation.Reservation.{Reservation}
 use Rattle.uimg_blob_writing.specs.{Layouts.{Plan, plan_with, totalsize}, Trees.node_of}
-use Rattle.uimg_fit_base.specs.Placements.{align_of}
-use Rattle.uimg_fit_building.specs.{Behind.behind_pieces, Building.{placed_with, behind_with}}
+use Rattle.uimg_fit_building.specs.{Behind.behind_pieces, Building.{end_of, placed_with, behind_with}}
 use Rattle.uimg_fit_building.specs.UnreadTrees.{moved_unread}
 use Rattle.uimg_fit_building.proofs.KeptLaws.{kept-then}
 use Rattle.uimg_fit_building.proofs.SendLaws.{Text, went_well, failed, goes, stops, refused, blob-sent, behind-sent}
@@ -14,13 +14,13 @@ use Rattle.uimg_fit_building.proofs.OpenedFilesLaws.{behind-files}
 use Rattle.uimg_blob_writing.{specs.UsingFiles.OpensEach, proofs.OpenedLaws.{each_then, each_stops}}
 use Rattle.uimg_fit_building.proofs.building.write_file.Goals as goal
 
--- the blob of a layout is that of its alignment
-blob-by : (b : Bool) (s u : Sink) (rs : List Reservation) (t : Nodes) (p q : ℕ) → p ≡ q → Written b s u (encode_with p rs t) → Written b s u (encode_with q rs t)
-blob-by b s u rs t p q same w = subst (λ (align : ℕ). Written b s u (encode_with align rs t)) same w
+-- the blob of a layout is that of its end
+blob-by : (b : Bool) (s u : Sink) (rs : List Reservation) (t : Nodes) (p q : BlobEnd) → p ≡ q → Written b s u (encode_with p rs t) → Written b s u (encode_with q rs t)
+blob-by b s u rs t p q same w = subst (λ (ending : BlobEnd). Written b s u (encode_with ending rs t)) same w
 
 pub write_tree-requires : goal.write_tree-requires
 write_tree-requires g c =
-    c.requires.plan ∙ ap (λ (align : ℕ). plan_with align c.args.layout.now.reservations (node_of c.args.placed.now.root)) (sym (ap (λ (p : Plan). p.align) c.requires.plan))
+    c.requires.plan ∙ ap (λ (ending : BlobEnd). plan_with ending c.args.layout.now.reservations (node_of c.args.placed.now.root)) (sym (ap (λ (p : Plan). p.ending) c.requires.plan))
 
 pub returns-in_err-write_tree-clause-sent : goal.returns-in_err-write_tree-clause-sent
 returns-in_err-write_tree-clause-sent g c =
@@ -38,7 +38,7 @@ returns-in_err-write_tree-clause-sent g c =
     let b : Text = λ files. behind_with rs (in_full files t) placement in
     refused steady t c.from_residual.result e m n s u _ c.from_residual.ensures.1
     (stops steady t e m n s u a b (blob-sent steady t rs placement (failed e) m n s u (node_of c.args.placed.now.root) c.requires.placed w.files w.faults w.found w.steady
-    (λ honest kept. blob-by true s u rs _ _ _ (ap (λ (p : Plan). p.align) c.requires.plan) (w.written honest kept))))
+    (λ honest kept. blob-by true s u rs _ _ _ (ap (λ (p : Plan). p.ending) c.requires.plan) (w.written honest kept))))
 
 pub returns-clause-kept : goal.returns-clause-kept
 returns-clause-kept g c = λ honest.
@@ -69,10 +69,10 @@ returns-clause-sent g c =
     let w = c.in_ok-write_tree.ensures in
     let a : Text = λ files. placed_with rs (in_full files t) placement in
     let b : Text = λ files. behind_with rs (in_full files t) placement in
-    let size : totalsize (plan_with (align_of placement) rs (moved_unread t placement)) ≡ c.totalsize.result =
-    ap (λ (p : Unread). totalsize (plan_with (align_of placement) rs p)) (sym c.requires.placed) ∙ ap totalsize (sym c.requires.plan) ∙ sym c.totalsize.ensures in
+    let size : totalsize (plan_with (end_of placement) rs (moved_unread t placement)) ≡ c.totalsize.result =
+    ap (λ (p : Unread). totalsize (plan_with (end_of placement) rs p)) (sym c.requires.placed) ∙ ap totalsize (sym c.requires.plan) ∙ sym c.totalsize.ensures in
     goes steady t r m n k s u v a b (blob-sent steady t rs placement went_well m n s u (node_of c.args.placed.now.root) c.requires.placed w.files w.faults w.found w.steady
-    (λ honest kept. blob-by false s u rs _ _ _ (ap (λ (p : Plan). p.align) c.requires.plan) (w.written honest kept)))
+    (λ honest kept. blob-by false s u rs _ _ _ (ap (λ (p : Plan). p.ending) c.requires.plan) (w.written honest kept)))
     (behind-sent steady t rs placement r n k u v c.totalsize.result size c.put_behind.ensures)
 
 pub returns-in_err-write_tree-clause-opened : goal.returns-in_err-write_tree-clause-opened

@@ -178,7 +178,7 @@ fn reserved_image(alloc: Global) -> Option<Vec<u8>> {
     let text = b"/dts-v1/; / { images { a { data = [00]; }; }; };";
     let tree = compile(alloc, text, &mut MemFiles::new(&[])).ok()?;
     let frame = Frame {
-        placement: AlignedPlacement::Inside,
+        placement: AlignedPlacement::Inside { least: 0 },
         reservations: &RESERVED,
     };
     let mut out = Out::new(Vec::new(alloc));

@@ -3,22 +3,23 @@ ghost use Rattle.std.specs.Prelude.{◌<◌};
 
 use super::super::answers::is_said;
 use super::bytes::plain;
-use super::sources::{NAMED, blob_by, blob_of, tree_of};
+use super::sources::{NAMED, WORDS, blob_ending, blob_of, tree_of};
 use super::trees::{node, prop, root_in_file};
 use linked_list_allocator::LocalHeap;
 use std::alloc::{AllocError, Global};
 use std::test::Fail;
 use uimg_blob_reading::BlobFault;
 use uimg_blob_writing::{
-    ByteList, Node, Nodes, Prop, Props, Tree, Value, WORD_ALIGNMENT, measure, measure_by,
+    BlobEnd, ByteList, Node, Nodes, Prop, Props, Tree, Value, measure, measure_with,
 };
 
 fn measured(alloc: Global, tree: &Tree<Global>) -> Result<String, AllocError> {
-    measured_by(alloc, tree, WORD_ALIGNMENT)
+    measured_by(alloc, tree, WORDS.align)
 }
 
 fn measured_by(alloc: Global, tree: &Tree<Global>, align: u32) -> Result<String, AllocError> {
-    match measure_by(alloc, tree, align) {
+    let ending = BlobEnd { align, least: 0 };
+    match measure_with(alloc, tree, ending, &[]) {
         Ok(layout) => {
             let size = layout.totalsize();
             format!(in alloc; "{size}")
@@ -135,6 +136,19 @@ const ALIGN_ROWS: [(u64, u32, &str); 14] = [
     (0, 0xffff_fffc, "B10 too large"),
 ];
 
+// An alignment, a least size, and the size of the blob of `family`, which has 192 bytes otherwise.
+const END_ROWS: [(u32, u32, usize); 9] = [
+    (8, 0, 192),
+    (128, 0, 256),
+    (4096, 0, 4096),
+    (20000, 0, 192),
+    (4, 192, 192),
+    (4, 193, 193),
+    (4, 1216, 1216),
+    (128, 255, 256),
+    (128, 257, 257),
+];
+
 // Measures a root with a file of this size, for an alignment.
 fn measured_root(alloc: Global, size: u64, align: u32) -> Result<String, AllocError> {
     let tree = root_in_file(alloc, b"data", size)?;
@@ -151,9 +165,10 @@ fn align_rows(rt: HostRuntime) -> Result<(), Fail> {
     Ok(())
 }
 
-// With an alignment a blob is the same except for its totalsize; zeros follow its end.
+// With another end a blob is the same except for its totalsize; zeros follow its strings block. A
+// least size that it has anyway changes nothing.
 #[test]
-fn aligned_blobs(rt: HostRuntime) -> Result<(), Fail> {
+fn other_ends(rt: HostRuntime) -> Result<(), Fail> {
     let alloc = rt.alloc();
     let Some(tree) = tree_of(alloc, "family") else {
         panic!(rt; "the source is refused");
@@ -161,14 +176,18 @@ fn aligned_blobs(rt: HostRuntime) -> Result<(), Fail> {
     let Some(plain) = blob_of(alloc, &tree, &NAMED) else {
         panic!(rt; "the blob is not written");
     };
-    for (align, size) in [(8u32, 192usize), (128, 256), (4096, 4096), (20000, 192)] {
-        let Some(blob) = blob_by(alloc, &tree, align, &NAMED) else {
-            panic!(rt; "the blob is not written by {align}");
+    for (align, least, size) in &END_ROWS {
+        let ending = BlobEnd {
+            align: *align,
+            least: *least,
         };
-        assert_eq!(rt; blob.len(), size, "by {align}");
+        let Some(blob) = blob_ending(alloc, &tree, ending, &NAMED) else {
+            panic!(rt; "the blob is not written by {align} and {least}");
+        };
+        assert_eq!(rt; blob.len(), *size, "by {align} and {least}");
         assert_eq!(rt;
             blob.get(4..8),
-            Some((size as u32).to_be_bytes().as_slice())
+            Some((*size as u32).to_be_bytes().as_slice())
         );
         assert_eq!(rt; blob.get(8..plain.len()), plain.get(8..));
         assert!(rt; blob.iter().skip(plain.len()).all(|byte| *byte == 0));

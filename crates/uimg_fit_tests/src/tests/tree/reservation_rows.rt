@@ -1,10 +1,10 @@
 //! Blobs with memory reservations.
-use super::sources::{NAMED, blob_of, blob_with, tree_of};
+use super::sources::{NAMED, WORDS, blob_of, blob_with, tree_of};
 use super::trees::root_in_file;
 use std::test::Fail;
 use uimg_base::{MemSource, Room};
 use uimg_blob_reading::index;
-use uimg_blob_writing::{Reservation, WORD_ALIGNMENT, measure_with};
+use uimg_blob_writing::{Reservation, measure_with};
 
 const BOTH: [Reservation; 2] = [
     Reservation {
@@ -58,7 +58,7 @@ fn largest_blobs(rt: HostRuntime) -> Result<(), Fail> {
     let alloc = rt.alloc();
     for (size, fits) in [(4_294_967_184, true), (4_294_967_185, false)] {
         let tree = root_in_file(alloc, b"data", size)?;
-        let layout = measure_with(alloc, &tree, WORD_ALIGNMENT, &BOTH[..1]);
+        let layout = measure_with(alloc, &tree, WORDS, &BOTH[..1]);
         assert_eq!(rt; layout.is_ok(), fits, "{size}");
     }
     Ok(())

@@ -3,11 +3,16 @@ use crate::sources::FOUR_HASH;
 use std::alloc::Global;
 use uimg_base::{MemFiles, Out};
 use uimg_blob_writing::{
-    Layout, Reservation, Tree, WORD_ALIGNMENT, measure_by, measure_with, write_tree,
+    BlobEnd, Layout, Reservation, Tree, WORD_ALIGNMENT, measure_with, write_tree,
 };
 use uimg_its::compile;
 
 /// The files of the tests.
+pub(super) const WORDS: BlobEnd = BlobEnd {
+    align: WORD_ALIGNMENT,
+    least: 0,
+};
+
 pub(super) const NAMED: [(&[u8], &[u8]); 2] = [(b"a", b"abc"), (b"abc.bin", b"abc")];
 
 /// The source of the case mixed-values, which is `examples/mixed-values.its`.
@@ -60,16 +65,16 @@ pub(super) fn blob_of(
     tree: &Tree<Global>,
     named: &[(&[u8], &[u8])],
 ) -> Option<Vec<u8>> {
-    blob_by(alloc, tree, WORD_ALIGNMENT, named)
+    blob_ending(alloc, tree, WORDS, named)
 }
 
-pub(super) fn blob_by(
+pub(super) fn blob_ending(
     alloc: Global,
     tree: &Tree<Global>,
-    align: u32,
+    ending: BlobEnd,
     named: &[(&[u8], &[u8])],
 ) -> Option<Vec<u8>> {
-    let layout = measure_by(alloc, tree, align).ok()?;
+    let layout = measure_with(alloc, tree, ending, &[]).ok()?;
     written(alloc, tree, &layout, named)
 }
 
@@ -79,7 +84,7 @@ pub(super) fn blob_with(
     reservations: &[Reservation],
     named: &[(&[u8], &[u8])],
 ) -> Option<Vec<u8>> {
-    let layout = measure_with(alloc, tree, WORD_ALIGNMENT, reservations).ok()?;
+    let layout = measure_with(alloc, tree, WORDS, reservations).ok()?;
     written(alloc, tree, &layout, named)
 }
 

@@ -4,7 +4,7 @@ use Rattle.uimg_tool.specs.Unpackings.{HoldsPayloads, IsRight, unpacking_of}
 use Rattle.uimg_unpacking.specs.declared.unpacking.Unpacking.{Unpacking}
 use Rattle.uimg_unpacking.specs.Deeds.{Identifies, Opens as Opened}
 use Rattle.uimg_unpacking.specs.Places.{Obeys, terms_of}
-use Rattle.uimg_tool.proofs.{UnpackLaws.{kept_at, right_at}, UnpackTells.ended_at}
+use Rattle.uimg_tool.proofs.{LeaveLaws.left_at, UnpackLaws.{kept_at, right_at}, UnpackTells.ended_at}
 use Rattle.uimg_tool.proofs.unpack_program.unpack_at.Goals as goal
 
 -- the image was opened, and is honest; then it was unpacked as requested
@@ -57,3 +57,17 @@ returns-clause-kept g c = λ honest.
     let looked : g.D.World.trace c.file_at.new.self ≡ Identifies c.args.path.now c.file_at.result ∷ Opened c.args.path.now true ∷ g.D.World.trace c.args.world.now = search rules in
     kept_at (g.D.World.map c.args.world.now) c.args.terms.now.required c.args.path.now (g.D.Opened.Source.device c.in-Ok.source).bytes c.file_at.result (g.D.World.trace c.args.world.now) (g.D.World.trace c.file_at.new.self) (g.D.World.trace c.unpack_signed-else-request.new.world)
     (opened.bytes honest) looked (c.unpack_signed-else-request.ensures.kept (opened.honest honest))
+
+pub returns-then-request-clause-left : goal.returns-then-request-clause-left
+returns-then-request-clause-left g c = λ honest file found.
+    let opened : Opens (g.D.World.map c.args.world.now) c.args.path.now (g.D.Opened.Source.device c.in-Ok.source) = c.in-Ok.ensures.opened in
+    let looked : g.D.World.trace c.file_at.new.self ≡ Identifies c.args.path.now c.file_at.result ∷ Opened c.args.path.now true ∷ g.D.World.trace c.args.world.now = search rules in
+    left_at c.args.request.now c.args.path c.file_at.result c.unpacking_of-asked.result (g.D.Opened.Source.device c.in-Ok.source).bytes file (g.D.World.map c.args.world.now) c.unpack_signed.result (g.D.World.trace c.args.world.now) (g.D.World.trace c.file_at.new.self) (g.D.World.trace c.unpack_signed.new.world)
+    c.unpacking_of-asked.ensures (opened.bytes honest) found looked (c.unpack_signed.ensures.left (opened.honest honest))
+
+pub returns-clause-left : goal.returns-clause-left
+returns-clause-left g c = λ honest file found.
+    let opened : Opens (g.D.World.map c.args.world.now) c.args.path.now (g.D.Opened.Source.device c.in-Ok.source) = c.in-Ok.ensures.opened in
+    let looked : g.D.World.trace c.file_at.new.self ≡ Identifies c.args.path.now c.file_at.result ∷ Opened c.args.path.now true ∷ g.D.World.trace c.args.world.now = search rules in
+    left_at c.args.request.now c.args.path c.file_at.result c.unpacking_of-asked.result (g.D.Opened.Source.device c.in-Ok.source).bytes file (g.D.World.map c.args.world.now) c.unpack_signed-else-request.result (g.D.World.trace c.args.world.now) (g.D.World.trace c.file_at.new.self) (g.D.World.trace c.unpack_signed-else-request.new.world)
+    c.unpacking_of-asked.ensures (opened.bytes honest) found looked (c.unpack_signed-else-request.ensures.left (opened.honest honest))

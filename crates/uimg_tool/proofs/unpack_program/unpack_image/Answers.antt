@@ -1,5 +1,5 @@
 use Rattle.std.proofs.Common.{Bool, IsTrue, inl, inr, subst, sym}
-use Rattle.uimg_tool.proofs.{UnpackLaws.{keys_kept, keys_right}, UnpackTells.image_same}
+use Rattle.uimg_tool.proofs.{LeaveLaws.keys_left, UnpackLaws.{keys_kept, keys_right}, UnpackTells.image_same}
 use Rattle.uimg_tool.proofs.unpack_program.unpack_image.Goals as goal
 
 pub returns-in-Err-clause-line : goal.returns-in-Err-clause-line
@@ -24,6 +24,7 @@ returns-clause-told g c = λ honest cleans.
       record {
         kept = keys_kept old new c.args.request.now c.in-Ok.required image first middle last same c.in-Ok.ensures.noted (c.unpack_by.ensures.kept still cleans);
         right = λ done. keys_right old new c.args.request.now c.in-Ok.required image first middle last same c.in-Ok.ensures.noted (c.unpack_by.ensures.told still cleans done);
+        left = keys_left old new c.args.request.now image c.unpack_by.result first middle last same c.in-Ok.ensures.noted (c.unpack_by.ensures.left still cleans);
       },
     )
 

@@ -12,6 +12,5 @@ pub returns-in-Ok-update-clause-kept : goal.returns-in-Ok-update-clause-kept
 returns-in-Ok-update-clause-kept g c = λ honest done.
     let opened = c.in-Ok.ensures.opened in
     let making = c.tree_request-making in
-    let placed = making.ensures.placed in
-    keeps_updated _ c.args.request.now (g.D.World.map c.args.world.now) _ making.result _ _ _ _ c.time_of.result (opened.bytes honest) c.time_of.ensures (c.in-Ok-update.ensures.told (opened.honest honest)) making.ensures.reserved placed.0 placed.1
+    keeps_updated _ _ c.args.request.now (g.D.World.map c.args.world.now) _ making.result _ _ _ _ c.time_of.result (opened.bytes honest) c.time_of.ensures (c.in-Ok-update.ensures.told (opened.honest honest)) making.ensures.reserved making.ensures.placed making.ensures.beside
     c.new-in-Ok-update.ensures (c.write_image.ensures.kept (g.D.World.known c.args.world.now honest) done)

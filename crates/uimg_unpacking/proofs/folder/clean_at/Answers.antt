@@ -1,25 +1,21 @@
-use Rattle.std.proofs.Common.{rules, refl}
-use Rattle.std.specs.IoError.{error_kind}
-use Rattle.uimg_unpacking.specs.Deeds.{answer_of}
-use Rattle.uimg_unpacking.specs.Cleaning.{has_image, nothing_there, cleaned}
-use Rattle.uimg_unpacking.proofs.Answered.{refusal-unremoved}
+use Rattle.std.proofs.Common.{◌∙◌, ap}
+use Rattle.uimg_unpacking.specs.Places.{is_temporary_folder}
+use Rattle.uimg_unpacking.proofs.PartChanges.{changed_none, changed_since, looked}
 use Rattle.uimg_unpacking.proofs.folder.clean_at.Goals as goal
 
 pub returns-then-is_or_has : goal.returns-then-is_or_has
-returns-then-is_or_has g c = has_image refl (rw (c.if-is_or_has.true, c.as_str.ensures.value) at c.is_or_has.ensures)
+returns-then-is_or_has g c = λ folder inside. changed_none folder (g.W.World.trace c.args.world.now) (g.W.World.trace c.is_or_has.new.world) c.is_or_has.ensures
 
 pub returns-then-not-is_something : goal.returns-then-not-is_something
-returns-then-not-is_something g c =
-    nothing_there (g.W.World.trace c.is_or_has.new.world) c.kind_at-kind.result
-    (rw (c.if-is_or_has.false, c.as_str.ensures.value) at c.is_or_has.ensures) (search rules) refl (search rules)
+returns-then-not-is_something g c = λ folder inside.
+    changed_none folder (g.W.World.trace c.args.world.now) (g.W.World.trace c.kind_at-kind.new.self) (looked _ _ _ _ c.kind_at-kind.ensures ∙ c.is_or_has.ensures)
 
 pub returns-in-Ok : goal.returns-in-Ok
-returns-in-Ok g c =
-    cleaned (g.W.World.trace c.is_or_has.new.world) c.kind_at-kind.result (answer_of c.remove_at.result)
-    (rw (c.if-is_or_has.false, c.as_str.ensures.value) at c.is_or_has.ensures) (search rules) (search rules) (search rules)
+returns-in-Ok g c = λ folder inside.
+    changed_since folder (g.W.World.trace c.args.world.now) (g.W.World.trace c.kind_at-kind.new.self) (g.W.World.trace c.remove_at.new.world) (looked _ _ _ _ c.kind_at-kind.ensures ∙ c.is_or_has.ensures)
+    (c.remove_at.ensures folder (ap (is_temporary_folder folder) c.as_str-3.ensures.value ∙ inside))
 
 pub returns-in-Err : goal.returns-in-Err
-returns-in-Err g c =
-    cleaned (g.W.World.trace c.is_or_has.new.world) c.kind_at-kind.result (answer_of c.remove_at.result)
-    (rw (c.if-is_or_has.false, c.as_str.ensures.value) at c.is_or_has.ensures) (search rules)
-    (search (rules, refusal-unremoved (error_kind c.in-Err.reason))) (search rules)
+returns-in-Err g c = λ folder inside.
+    changed_since folder (g.W.World.trace c.args.world.now) (g.W.World.trace c.kind_at-kind.new.self) (g.W.World.trace c.remove_at.new.world) (looked _ _ _ _ c.kind_at-kind.ensures ∙ c.is_or_has.ensures)
+    (c.remove_at.ensures folder (ap (is_temporary_folder folder) c.as_str-3.ensures.value ∙ inside))

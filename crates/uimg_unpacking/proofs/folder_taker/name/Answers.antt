@@ -1,22 +1,37 @@
-use Rattle.std.proofs.Common.{ap, subst, string_bytes, Bool, true, is_ok, Vec}
-use Rattle.std.specs.Option.{option_map}
+use Rattle.std.proofs.Common.{rules, ◌≡◌, ◌∙◌, ap, subst, true, None, Vec}
 use Rattle.std.specs.declared.alloc.Global.{Global}
-use Rattle.uimg_unpacking.specs.{NamingAll.NamesComplete, Staged.{LeavesOthers, names_of}}
+use Rattle.uimg_unpacking.specs.Leaving.{are_undone}
+use Rattle.uimg_unpacking.specs.Staged.{LeavesOthers, names_of}
+use Rattle.uimg_unpacking.specs.Troubles.{trouble_in}
 use Rattle.uimg_unpacking.specs.declared.begun.Begun.{Begun}
 use Rattle.uimg_unpacking.specs.declared.folder.Folder.{Folder}
-use Rattle.uimg_unpacking.proofs.StagedLaws.{hold_named}
+use Rattle.uimg_unpacking.proofs.StagedLaws.{complete_facts, hold_named}
 use Rattle.uimg_unpacking.proofs.folder_taker.name.Goals as goal
 
-pub returns-in-Ok-clause-holds : goal.returns-in-Ok-clause-holds
-returns-in-Ok-clause-holds g c = λ names done used uses.
+pub returns-then-not-keeps_good-clause-holds : goal.returns-then-not-keeps_good-clause-holds
+returns-then-not-keeps_good-clause-holds g c = λ names done used uses.
+    let it = c.args.staging.now in
+    let ok : trouble_in c.name_all.result ≡ None = search rules in
+    c.name_all.ensures.named.holds ok (complete_facts it.folder.path.now it.files.items it.is_writing (names_of it.outdated.items) used it.files_inside uses).1
+
+pub returns-clause-holds : goal.returns-clause-holds
+returns-clause-holds g c = λ names done used uses.
     let it = c.args.staging.now in
     let named = c.name_all.new.self in
     let before = g.W.World.trace it.world.now in
     let seen = g.W.World.trace named.world.now in
     let after = g.W.World.trace c.remove_outdated.new.self.world.now in
-    let told : NamesComplete it.folder it.files.items it.is_writing true before seen =
-    subst (λ (b : Bool). NamesComplete it.folder it.files.items it.is_writing b before seen) (ap is_ok c.in-Ok.is) c.name_all.ensures.told in
+    let ok : trouble_in c.name_all.result ≡ None = search rules in
     let leaves : LeavesOthers it.folder.path.now (names_of it.outdated.items) seen after =
     subst (λ (f : Folder). LeavesOthers f.path.now (names_of it.outdated.items) seen after) c.name_all.ensures.folder
     (subst (λ (o : Vec Begun Global). LeavesOthers named.folder.path.now (names_of o.items) seen after) c.name_all.ensures.outdated c.remove_outdated.ensures.leaves) in
-    hold_named it.folder (option_map string_bytes it.made) it.files.items it.is_writing (names_of it.outdated.items) used before seen after it.files_inside it.numbered uses told leaves
+    hold_named it.folder.path.now it.files.items it.is_writing (names_of it.outdated.items) used before seen after it.files_inside uses
+    (c.name_all.ensures.named.holds ok (complete_facts it.folder.path.now it.files.items it.is_writing (names_of it.outdated.items) used it.files_inside uses).1) leaves
+
+pub returns-then-not-keeps_good-clause-others : goal.returns-then-not-keeps_good-clause-others
+returns-then-not-keeps_good-clause-others g c = λ good done.
+    let ok : trouble_in c.name_all.result ≡ None = search rules in
+    c.name_all.ensures.named.others ok
+
+pub returns-in-Err-clause-back : goal.returns-in-Err-clause-back
+returns-in-Err-clause-back g c = λ good undone unlike. c.name_all.ensures.named.back (ap (λ r. are_undone (trouble_in r)) c.in-Err.is ∙ undone) unlike

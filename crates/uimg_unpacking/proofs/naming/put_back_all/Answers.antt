@@ -1,6 +1,6 @@
 use Rattle.std.proofs.Common.{rules, ◌≡◌, ◌∙◌, ◌+◌, ◌∷◌, Bool, List, [], sym, ap, subst, true, drop, ◌&&◌}
 use Rattle.std.proofs.lemmas.List.{drop_all}
-use Rattle.uimg_unpacking.specs.NamingAll.{PutsBackFiles}
+use Rattle.uimg_unpacking.specs.Naming.{PutsBackFiles}
 use Rattle.uimg_unpacking.specs.Places.{is_begun_in, terms_of}
 use Rattle.uimg_unpacking.specs.declared.begun.Begun.{Begun}
 use Rattle.uimg_unpacking.proofs.NamingLaws.{first_of, back_of, and_assoc, and_true, none_left, LeftBack}
@@ -23,7 +23,7 @@ loop-before-preserved g c =
       left = λ back t rest.
           subst (λ (b : Bool). PutsBackFiles files c.args.number b (g.W.World.trace c.args.world.now) t) (sym (and_assoc was one back) ∙ ap (λ (b : Bool). b && back) (sym both))
           (c.loop-before.invariant.left (one && back) t
-          (back_of files i c.args.number its one back (g.W.World.trace c.loop-before.world) (g.W.World.trace c.put_back_before-back.new.world) t first c.put_back_before-back.ensures.told rest));
+          (back_of files i c.args.number its one back (g.W.World.trace c.loop-before.world) (g.W.World.trace c.put_back_before-back.new.world) t first (c.put_back_before-back.ensures.told (terms_of c.args.folder.now) inside) rest));
     }
 
 pub returns-clause-told : goal.returns-clause-told

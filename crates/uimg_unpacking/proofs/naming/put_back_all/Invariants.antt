@@ -1,6 +1,6 @@
 use Rattle.std.proofs.Common.{Bool, true, ◌&&◌, List, drop}
 use Rattle.uimg_unpacking.specs.Deeds.{Deed}
-use Rattle.uimg_unpacking.specs.NamingAll.{PutsBackFiles}
+use Rattle.uimg_unpacking.specs.Naming.{PutsBackFiles}
 use Rattle.uimg_unpacking.specs.Places.{Obeys, terms_of}
 use Rattle.uimg_unpacking.proofs.NamingLaws.{LeftBack}
 use Rattle.uimg_unpacking.proofs.naming.put_back_all.Given as goal

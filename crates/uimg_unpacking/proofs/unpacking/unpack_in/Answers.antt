@@ -1,4 +1,4 @@
-use Rattle.std.proofs.Common.{rules, refl, ◌≡◌, ◌∙◌, ℕ, List, [], length, is_none, ap, sym}
+use Rattle.std.proofs.Common.{rules, refl, ◌≡◌, ◌∙◌, ℕ, List, [], length, is_none, ap, subst, sym}
 use Rattle.std.specs.List.{list_all}
 use Rattle.std.specs.Option.{option_map}
 use Rattle.uimg_fit_checking.specs.Unpacking.{as_bytes}
@@ -8,13 +8,15 @@ use Rattle.uimg_fit_checking.specs.Claiming.{claims_of}
 use Rattle.uimg_unpacking.specs.Contents.{differ, held_in}
 use Rattle.uimg_unpacking.specs.FileNames.{is_among, is_file_name}
 use Rattle.uimg_unpacking.specs.Filling.{names_of_kept}
+use Rattle.uimg_unpacking.specs.Leaving.{Leaves}
 use Rattle.uimg_unpacking.specs.Given.{noted_takes, takes_given}
 use Rattle.uimg_unpacking.specs.Limiting.{claims_by}
 use Rattle.uimg_unpacking.proofs.FillingLaws.{fills}
 use Rattle.uimg_unpacking.proofs.GivenLaws.{as_many}
 use Rattle.uimg_unpacking.proofs.StagedLaws.{complete_facts}
 use Rattle.uimg_unpacking.proofs.LimitLaws.{all_claimed, fits_by, fits_for}
-use Rattle.uimg_unpacking.proofs.EndLaws.{ends_by_file, whole_at}
+use Rattle.uimg_unpacking.proofs.EndLaws.{ends_by_file, left_as, left_by, whole_at}
+use Rattle.uimg_unpacking.proofs.LeavingLaws.{leaves_same}
 use Rattle.uimg_unpacking.proofs.Placing.{obeys_naming}
 use Rattle.uimg_unpacking.proofs.unpacking.unpack_in.Goals as goal
 
@@ -67,3 +69,17 @@ returns-clause-filled g c = λ honest knows.
       apart = ap differ (sym named) ∙ facts.1;
       hold = ap (held_in staging.folder.path.now (g.W.World.trace c.end-world.result.0.now)) (sym named) ∙ c.end-world.ensures.holds (search (rules, names)) none;
     })
+
+pub returns-in_default-clause-back : goal.returns-in_default-clause-back
+returns-in_default-clause-back g c = λ good left. leaves_same c.args.asked.now.folder.path.now g.M.Task.before (g.W.World.trace c.args.world.now) c.requires.before
+
+pub returns-clause-back : goal.returns-clause-back
+returns-clause-back g c = λ good left.
+    let asked = c.args.asked.now in
+    let staging = c.unpack-unpacked.new.taker.staging in
+    let place : staging.folder.path.now ≡ asked.folder.path.now = c.unpack-unpacked.ensures.place ∙ ap (λ (f : Folder). f.path.now) c.new-taker.ensures.folder in
+    let names : c.gives_names-names.result ≡ gives_names asked.keeps_good (is_whole c.unpack-unpacked.result) = search rules in
+    subst (λ (folder : List ℕ). Leaves folder g.M.Task.before (g.W.World.trace c.end-world.result.0.now)) place
+    (left_as staging.folder.path.now g.M.Task.before (g.W.World.trace c.end-world.result.0.now) (gives_names asked.keeps_good (is_whole c.unpack-unpacked.result)) c.gives_names-names.result _ _ names
+    (left_by asked c.unpack-unpacked.result _ _ c.how_ended.result _ _ c.how_ended.ensures good left)
+    c.end-world.ensures.unnamed (λ undone. c.end-world.ensures.back good undone) (λ zero none. c.end-world.ensures.empty good zero none))

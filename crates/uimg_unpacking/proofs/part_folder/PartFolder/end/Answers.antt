@@ -1,11 +1,11 @@
-use Rattle.std.proofs.Common.{map, string_bytes}
-use Rattle.std.specs.Option.{option_map}
+use Rattle.std.proofs.Common.{sym, subst, false}
+use Rattle.uimg_unpacking.specs.Places.{Obeys, Terms, terms_of}
 use Rattle.uimg_unpacking.proofs.PartFillingLaws.{parts_cleared}
-use Rattle.uimg_unpacking.proofs.StagedLaws.{all_paths}
 use Rattle.uimg_unpacking.proofs.part_folder.PartFolder.end.Goals as goal
 
 pub returns-clause-holds : goal.returns-clause-holds
 returns-clause-holds g c =
     let it = c.args.self.staging in
-    parts_cleared it.folder.path.now c.args.self.parts.items (option_map string_bytes it.made) (map string_bytes it.created.items) (g.W.World.trace it.world.now) (g.W.World.trace c.end.result.now)
-    (all_paths it.folder.path.now it.created.items it.created_inside) c.end.ensures.cleared
+    let before = g.W.World.trace it.world.now in
+    let after = g.W.World.trace c.end.result.now in
+    parts_cleared (terms_of it.folder) c.args.self.parts.items before after (subst (λ (m : Terms). Obeys m false before after) (sym it.agreed) c.end.ensures.quiet)

@@ -1,6 +1,6 @@
-use Rattle.std.proofs.Common.{rules, ◌≡◌, ◌++◌, sym, subst, string_bytes, Bool, true, false, is_ok}
-use Rattle.std.specs.Option.{option_map}
-use Rattle.uimg_unpacking.specs.{NamingAll.NamesComplete, Staged.staged}
+use Rattle.std.proofs.Common.{rules, ◌≡◌, ◌∙◌, ◌++◌, ap, sym, subst, true, false, None}
+use Rattle.uimg_unpacking.specs.{Contents.differ, Staged.staged}
+use Rattle.uimg_unpacking.specs.Troubles.{trouble_in}
 use Rattle.uimg_unpacking.specs.PartFilling.{held_parts, kept_parts, parts_in}
 use Rattle.uimg_unpacking.specs.declared.folder.Folder.{Folder}
 use Rattle.uimg_unpacking.proofs.PartFillingLaws.{parts_named}
@@ -13,9 +13,7 @@ returns-clause-kept g c =
     let parts = it.parts.items in
     let before = g.W.World.trace it.staging.world.now in
     let after = g.W.World.trace c.name_all.new.self.world.now in
-    let done : is_ok c.name_all.result ≡ true = search rules in
+    let done : trouble_in c.name_all.result ≡ None = search rules in
     let unnamed : it.is_named ≡ false = search rules in
-    let told : NamesComplete it.staging.folder files it.staging.is_writing true before after =
-    subst (λ (b : Bool). NamesComplete it.staging.folder files it.staging.is_writing b before after) done c.name_all.ensures.told in
     subst (λ (f : Folder). parts_in f.path.now after parts ≡ kept_parts it.is_named it.staging.folder.path.now before parts ++ held_parts it.is_named parts (staged before files it.staging.is_writing)) (sym c.name_all.ensures.folder)
-    (parts_named it.staging.folder (option_map string_bytes it.staging.made) files it.staging.is_writing it.is_named parts before after unnamed it.staging.files_inside it.staging.numbered it.names it.apart told)
+    (parts_named it.staging.folder.path.now files it.staging.is_writing it.is_named parts before after unnamed it.names (c.name_all.ensures.named.holds done (ap differ it.names ∙ it.apart)))

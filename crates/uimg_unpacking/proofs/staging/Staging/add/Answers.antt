@@ -36,6 +36,7 @@ invariant_of-self g c =
       agreed = it.agreed;
       obeys = it.obeys;
       numbered = subst (λ (fs : List Begun). are_numbered_in (option_map string_bytes it.made) fs ≡ true) (sym c.in-Ok.ensures.items) c.requires.numbered;
+      none = it.none;
     }
 
 pub returns-in-Ok-clause-complete : goal.returns-in-Ok-clause-complete

@@ -1,6 +1,6 @@
-use Rattle.std.proofs.Common.{refl, ◌∙◌, ap, Vec}
+use Rattle.std.proofs.Common.{refl, ◌∙◌, ap, ap₂, Vec}
 use Rattle.std.specs.declared.alloc.Global.{Global}
-use Rattle.uimg_unpacking.specs.Contents.{held}
+use Rattle.uimg_unpacking.specs.{Contents.held, Staged.staged}
 use Rattle.uimg_unpacking.specs.declared.begun.Begun.{Begun}
 use Rattle.uimg_unpacking.proofs.StagedLaws.{same_staged}
 use Rattle.uimg_unpacking.proofs.staging.Staging.begin.Goals as goal
@@ -16,7 +16,8 @@ returns-clause-staged g c =
     ∙ same_staged (t c.create.new.self.world.now) (t c.create.new.self.world.now) noted.files.items c.create.new.self.files.items noted.is_writing c.create.new.self.is_writing refl (ap items c.create.ensures.files) c.create.ensures.writing
     ∙ c.create.ensures.staged
     ∙ same_staged (t made.world.now) (t noted.world.now) made.files.items noted.files.items made.is_writing noted.is_writing (ap (λ w. held (t w.now)) c.note.ensures.world) (ap items c.note.ensures.files) c.note.ensures.writing
-    ∙ same_staged (t it.world.now) (t made.world.now) it.files.items made.files.items it.is_writing made.is_writing c.make_folder.ensures.held (ap items c.make_folder.ensures.files) c.make_folder.ensures.writing
+    ∙ ap₂ (staged (t made.world.now)) (ap items c.make_folder.ensures.files) c.make_folder.ensures.writing
+    ∙ c.make_folder.ensures.staged
 
 pub returns-in_err-add-clause-staged : goal.returns-in_err-add-clause-staged
 returns-in_err-add-clause-staged g c =
@@ -29,4 +30,5 @@ returns-in_err-add-clause-staged g c =
     ∙ same_staged (t c.create.new.self.world.now) (t c.create.new.self.world.now) noted.files.items c.create.new.self.files.items noted.is_writing c.create.new.self.is_writing refl (ap items c.create.ensures.files) c.create.ensures.writing
     ∙ c.create.ensures.staged
     ∙ same_staged (t made.world.now) (t noted.world.now) made.files.items noted.files.items made.is_writing noted.is_writing (ap (λ w. held (t w.now)) c.note.ensures.world) (ap items c.note.ensures.files) c.note.ensures.writing
-    ∙ same_staged (t it.world.now) (t made.world.now) it.files.items made.files.items it.is_writing made.is_writing c.make_folder.ensures.held (ap items c.make_folder.ensures.files) c.make_folder.ensures.writing
+    ∙ ap₂ (staged (t made.world.now)) (ap items c.make_folder.ensures.files) c.make_folder.ensures.writing
+    ∙ c.make_folder.ensures.staged

@@ -1,3 +1,4 @@
+use Rattle.std.proofs.Common.{true≢false}
 use Rattle.uimg_unpacking.specs.Places.{terms_of}
 use Rattle.uimg_unpacking.proofs.Placing.{obeys_naming}
 use Rattle.uimg_unpacking.proofs.staging.Staging.begin_naming.Goals as goal
@@ -14,4 +15,5 @@ invariant_of-self g c =
       agreed = it.agreed;
       obeys = obeys_naming (terms_of it.folder) it.is_naming g.M.Task.before (g.W.World.trace it.world.now) it.obeys;
       numbered = c.args.self.now.numbered;
+      none = λ is. absurd (true≢false is);
     }

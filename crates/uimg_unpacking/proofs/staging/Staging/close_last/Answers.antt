@@ -5,7 +5,7 @@ use Rattle.uimg_unpacking.specs.Places.{is_begun_in, is_temporary_file, terms_of
 use Rattle.uimg_unpacking.specs.Staged.{complete_names, staged}
 use Rattle.uimg_unpacking.specs.declared.begun.Begun.{Begun}
 use Rattle.uimg_unpacking.proofs.Placing.{begun_new, closed_within, the_last, ◌◁◌}
-use Rattle.uimg_unpacking.proofs.StagedLaws.{closed_names, closed_staged, last_is, unclosed_staged}
+use Rattle.uimg_unpacking.proofs.StagedLaws.{closed_names, closed_staged, last_is, none_shut, unclosed_staged}
 use Rattle.uimg_unpacking.proofs.staging.Staging.close_last.Goals as goal
 
 pub invariant_of-self-in-Ok : goal.invariant_of-self-in-Ok
@@ -27,6 +27,8 @@ invariant_of-self-in-Ok g c =
       agreed = it.agreed;
       obeys = closed_within (terms_of it.folder) it.is_naming c.as_str-path.result.now c.close.ensures.contents (answer_of c.close.result) (g.W.World.trace it.world.now) (g.W.World.trace c.close.new.self) path c.close.ensures.is ◁ it.obeys;
       numbered = it.numbered;
+      none = λ is. none_shut (option_map string_bytes it.made) files last.0 its it.folder.is_synced c.close.ensures.contents (answer_of c.close.result) (g.W.World.trace it.world.now) (g.W.World.trace c.close.new.self) last.1 it.numbered
+          (c.close.ensures.is ∙ ap (λ (p : List ℕ). Closes p it.folder.is_synced c.close.ensures.contents (answer_of c.close.result) ∷ g.W.World.trace it.world.now) c.as_str-path.ensures.value) (it.none is);
     }
 
 pub invariant_of-self-in-Err-1 : goal.invariant_of-self-in-Err-1
@@ -48,6 +50,8 @@ invariant_of-self-in-Err-1 g c =
       agreed = it.agreed;
       obeys = closed_within (terms_of it.folder) it.is_naming c.as_str-path.result.now c.close.ensures.contents (answer_of c.close.result) (g.W.World.trace it.world.now) (g.W.World.trace c.close.new.self) path c.close.ensures.is ◁ it.obeys;
       numbered = it.numbered;
+      none = λ is. none_shut (option_map string_bytes it.made) files last.0 its it.folder.is_synced c.close.ensures.contents (answer_of c.close.result) (g.W.World.trace it.world.now) (g.W.World.trace c.close.new.self) last.1 it.numbered
+          (c.close.ensures.is ∙ ap (λ (p : List ℕ). Closes p it.folder.is_synced c.close.ensures.contents (answer_of c.close.result) ∷ g.W.World.trace it.world.now) c.as_str-path.ensures.value) (it.none is);
     }
 
 pub returns-in-Ok-clause-staged : goal.returns-in-Ok-clause-staged

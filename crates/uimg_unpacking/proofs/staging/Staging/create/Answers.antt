@@ -3,7 +3,7 @@ use Rattle.std.specs.Option.{option_map}
 use Rattle.uimg_unpacking.specs.Deeds.{Creates, answer_of}
 use Rattle.uimg_unpacking.specs.Places.{is_temporary_file, terms_of}
 use Rattle.uimg_unpacking.proofs.Placing.{begun_new, created_within, ◌◁◌}
-use Rattle.uimg_unpacking.proofs.StagedLaws.{created_staged}
+use Rattle.uimg_unpacking.proofs.StagedLaws.{created_staged, none_made}
 use Rattle.uimg_unpacking.proofs.staging.Staging.create.Goals as goal
 
 pub invariant_of-self : goal.invariant_of-self
@@ -20,6 +20,8 @@ invariant_of-self g c =
       agreed = it.agreed;
       obeys = created_within (terms_of it.folder) it.is_naming c.as_str.result.now (answer_of c.create_new.result) (g.W.World.trace it.world.now) (g.W.World.trace c.create_new.new.self) new c.create_new.ensures.noted ◁ it.obeys;
       numbered = c.args.self.now.numbered;
+      none = λ is. none_made (option_map string_bytes it.made) it.files.items c.args.begun.now (answer_of c.create_new.result) (g.W.World.trace it.world.now) (g.W.World.trace c.create_new.new.self) c.requires.numbered
+          (c.create_new.ensures.noted ∙ ap (λ p. Creates p (answer_of c.create_new.result) ∷ g.W.World.trace it.world.now) c.as_str.ensures.value) (it.none is);
     }
 
 pub returns-clause-staged : goal.returns-clause-staged

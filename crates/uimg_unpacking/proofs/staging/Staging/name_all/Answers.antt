@@ -1,26 +1,52 @@
-use Rattle.std.proofs.Common.{rules, subst, Bool, true, false, is_ok}
-use Rattle.uimg_unpacking.specs.NamingAll.{NamesAll, complete, without_last, not_dropped}
-use Rattle.uimg_unpacking.specs.Refusals.{DropsLast}
+use Rattle.std.proofs.Common.{rules, ◌≡◌, ◌∙◌, refl, sym, ap, subst, Bool, true, false}
+use Rattle.uimg_unpacking.specs.Leaving.{NamesAll}
+use Rattle.uimg_unpacking.specs.Places.{Obeys, terms_of}
+use Rattle.uimg_unpacking.specs.Staged.{complete_names, held_new, names_of, staged}
+use Rattle.uimg_unpacking.specs.Troubles.{trouble_in}
+use Rattle.uimg_unpacking.specs.declared.trouble.Trouble.TheVariants.{NoName}
+use Rattle.uimg_unpacking.proofs.LeavingLaws.{leaves_quiet, leaves_same, named_later, none_named}
 use Rattle.uimg_unpacking.proofs.staging.Staging.name_all.Goals as goal
 
-pub returns-then-not-self-clause-told : goal.returns-then-not-self-clause-told
-returns-then-not-self-clause-told g c =
-    let named : NamesAll c.args.self.now.folder c.args.self.now.files.items (is_ok c.name_complete.result) (g.W.World.trace c.args.self.now.world.now) (g.W.World.trace c.name_complete.new.self.world.now) =
-    rw (c.begin_naming.ensures.folder, c.begin_naming.ensures.files, c.begin_naming.ensures.world) at c.name_complete.ensures.told in
-    complete (search rules) named
+pub returns-then-self-clause-named : goal.returns-then-self-clause-named
+returns-then-self-clause-named g c =
+    let it = c.args.self.now in
+    let before = g.W.World.trace it.world.now in
+    none_named it.folder.path.now (complete_names it.files.items it.is_writing) (staged before it.files.items it.is_writing) NoName before before (λ undone unlike. leaves_same it.folder.path.now before before refl)
 
-pub returns-in_err-drop_last-clause-told : goal.returns-in_err-drop_last-clause-told
-returns-in_err-drop_last-clause-told g c =
-    let files = c.drop_last.new.self.files.items in
-    let dropped : DropsLast c.args.self.now.files.items files false (g.W.World.trace c.args.self.now.world.now) (g.W.World.trace c.drop_last.new.self.world.now) =
-    subst (λ (b : Bool). DropsLast c.args.self.now.files.items files b (g.W.World.trace c.args.self.now.world.now) (g.W.World.trace c.drop_last.new.self.world.now)) (search rules)
-    (rw (c.begin_naming.ensures.files, c.begin_naming.ensures.world) at c.drop_last.ensures.dropped) in
-    not_dropped files (search rules) (search rules) dropped
+pub returns-then-not-self-clause-named : goal.returns-then-not-self-clause-named
+returns-then-not-self-clause-named g c =
+    let it = c.args.self.now in
+    let files = it.files.items in
+    let before = g.W.World.trace it.world.now in
+    let after = g.W.World.trace c.name_complete.new.self.world.now in
+    let trouble = trouble_in c.name_complete.result in
+    let whole : it.is_writing ≡ false = search rules in
+    let named : NamesAll it.folder.path.now (names_of files) (held_new before files) trouble before after = rw (c.begin_naming.ensures.folder, c.begin_naming.ensures.files, c.begin_naming.ensures.world) at c.name_complete.ensures.named in
+    subst (λ (b : Bool). NamesAll it.folder.path.now (complete_names files b) (staged before files b) trouble before after) (sym whole) named
 
-pub returns-clause-told : goal.returns-clause-told
-returns-clause-told g c =
-    let files = c.drop_last.new.self.files.items in
-    let dropped : DropsLast c.args.self.now.files.items files true (g.W.World.trace c.args.self.now.world.now) (g.W.World.trace c.drop_last.new.self.world.now) =
-    subst (λ (b : Bool). DropsLast c.args.self.now.files.items files b (g.W.World.trace c.args.self.now.world.now) (g.W.World.trace c.drop_last.new.self.world.now)) (search rules)
-    (rw (c.begin_naming.ensures.files, c.begin_naming.ensures.world) at c.drop_last.ensures.dropped) in
-    without_last files (g.W.World.trace c.drop_last.new.self.world.now) (search rules) dropped (rw (c.drop_last.ensures.folder, c.begin_naming.ensures.folder) at c.name_complete-2.ensures.told)
+pub returns-in-Err-clause-named : goal.returns-in-Err-clause-named
+returns-in-Err-clause-named g c =
+    let it = c.args.self.now in
+    let before = g.W.World.trace it.world.now in
+    let after = g.W.World.trace c.drop_last.new.self.world.now in
+    let quiet : Obeys (terms_of it.folder) false before after = rw (c.begin_naming.ensures.folder, c.begin_naming.ensures.world) at c.drop_last.ensures.within in
+    none_named it.folder.path.now (complete_names it.files.items it.is_writing) (staged before it.files.items it.is_writing) c.in-Err.trouble before after (λ undone unlike. leaves_quiet (terms_of it.folder) before after quiet)
+
+pub returns-clause-named : goal.returns-clause-named
+returns-clause-named g c =
+    let it = c.args.self.now in
+    let files = it.files.items in
+    let before = g.W.World.trace it.world.now in
+    let drops = c.drop_last.new.self in
+    let left = drops.files.items in
+    let middle = g.W.World.trace drops.world.now in
+    let after = g.W.World.trace c.name_complete-2.new.self.world.now in
+    let writing : it.is_writing ≡ true = search rules in
+    let begun : c.begin_naming.new.self.is_writing ≡ true = c.begin_naming.ensures.writing ∙ writing in
+    let names : complete_names left drops.is_writing ≡ complete_names files true = rw (c.begin_naming.ensures.files) at c.drop_last.ensures.complete begun in
+    let held : staged middle left drops.is_writing ≡ staged before files true = rw (c.begin_naming.ensures.files, c.begin_naming.ensures.world) at c.drop_last.ensures.staged begun in
+    let quiet : Obeys (terms_of it.folder) false before middle = rw (c.begin_naming.ensures.folder, c.begin_naming.ensures.world) at c.drop_last.ensures.within in
+    named_later (terms_of it.folder) (names_of left) (complete_names files it.is_writing) (held_new middle left) (staged before files it.is_writing) (trouble_in c.name_complete-2.result) before middle after
+    (sym (ap (complete_names left) c.drop_last.ensures.writing) ∙ names ∙ sym (ap (complete_names files) writing))
+    (sym (ap (staged middle left) c.drop_last.ensures.writing) ∙ held ∙ sym (ap (staged before files) writing)) quiet
+    (rw (c.drop_last.ensures.folder, c.begin_naming.ensures.folder) at c.name_complete-2.ensures.named)

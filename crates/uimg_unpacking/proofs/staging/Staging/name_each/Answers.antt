@@ -1,3 +1,4 @@
+use Rattle.std.proofs.Common.{sym, ◌∙◌, true≢false}
 use Rattle.uimg_unpacking.specs.Places.{terms_of}
 use Rattle.uimg_unpacking.proofs.Placing.{naming_more}
 use Rattle.uimg_unpacking.proofs.staging.Staging.name_each.Goals as goal
@@ -14,4 +15,5 @@ invariant_of-self g c =
       agreed = it.agreed;
       obeys = naming_more (terms_of it.folder) it.is_naming g.M.Task.before (g.W.World.trace it.world.now) (g.W.World.trace c.name_files.new.world) c.requires c.name_files.ensures.within it.obeys;
       numbered = it.numbered;
+      none = λ is. absurd (true≢false (sym c.requires ∙ is));
     }

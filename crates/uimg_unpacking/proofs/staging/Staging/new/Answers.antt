@@ -3,7 +3,7 @@ use Rattle.uimg_unpacking.specs.Places.{terms_of}
 use Rattle.uimg_unpacking.specs.Staged.{are_numbered_in}
 use Rattle.uimg_unpacking.specs.declared.begun.Begun.{Begun}
 use Rattle.uimg_unpacking.proofs.Placing.{no_more}
-use Rattle.uimg_unpacking.proofs.StagedLaws.{numbered_none}
+use Rattle.uimg_unpacking.proofs.StagedLaws.{none_unmade, numbered_none}
 use Rattle.uimg_unpacking.proofs.staging.Staging.new.Goals as goal
 
 pub invariant_of-result : goal.invariant_of-result
@@ -16,4 +16,5 @@ invariant_of-result g c = record {
   agreed = c.requires.agreed;
   obeys = no_more (terms_of c.args.folder) false _ _ c.requires.before;
   numbered = ap (λ (fs : List Begun). are_numbered_in None fs) c.new.ensures.items ∙ numbered_none;
+  none = λ is. none_unmade None (g.W.World.trace c.args.lent.world.now) refl;
 }

@@ -18,4 +18,5 @@ invariant_of-self g c =
       agreed = it.agreed;
       obeys = it.obeys;
       numbered = c.args.self.now.numbered;
+      none = c.args.self.now.none;
     }

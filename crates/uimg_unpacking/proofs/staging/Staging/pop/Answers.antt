@@ -17,4 +17,5 @@ invariant_of-self g c =
       agreed = it.agreed;
       obeys = it.obeys;
       numbered = numbered_popped (option_map string_bytes it.made) it.files.items c.pop.new.self.items c.pop.result c.pop.ensures.items it.numbered;
+      none = it.none;
     }

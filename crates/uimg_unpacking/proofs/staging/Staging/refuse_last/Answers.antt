@@ -20,6 +20,7 @@ invariant_of-self g c =
       agreed = it.agreed;
       obeys = it.obeys;
       numbered = it.numbered;
+      none = it.none;
     }
 
 pub returns-then-not-is_outdated-clause-names : goal.returns-then-not-is_outdated-clause-names

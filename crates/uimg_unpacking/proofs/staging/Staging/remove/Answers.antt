@@ -1,6 +1,8 @@
-use Rattle.std.proofs.Common.{◌≡◌, ◌∙◌, ap, true}
+use Rattle.std.proofs.Common.{◌≡◌, ◌∙◌, ap, true, string_bytes}
+use Rattle.std.specs.Option.{option_map}
 use Rattle.uimg_unpacking.specs.Deeds.{answer_of}
 use Rattle.uimg_unpacking.specs.Places.{is_temporary_file, terms_of}
+use Rattle.uimg_unpacking.proofs.LeavingLaws.{none_removed}
 use Rattle.uimg_unpacking.proofs.Placing.{begun_new, removed_within, ◌◁◌}
 use Rattle.uimg_unpacking.proofs.staging.Staging.remove.Goals as goal
 
@@ -18,4 +20,5 @@ invariant_of-self g c =
       agreed = it.agreed;
       obeys = removed_within (terms_of it.folder) it.is_naming c.as_str.result.now (answer_of c.remove_file.result) (g.W.World.trace it.world.now) (g.W.World.trace c.remove_file.new.self) new c.remove_file.ensures ◁ it.obeys;
       numbered = c.args.self.now.numbered;
+      none = λ is. none_removed (option_map string_bytes it.made) c.as_str.result.now (answer_of c.remove_file.result) (g.W.World.trace it.world.now) (g.W.World.trace c.remove_file.new.self) c.remove_file.ensures (it.none is);
     }

@@ -1,19 +1,16 @@
-use Rattle.std.proofs.Common.{◌++◌, ◌∙◌, ℕ, List, Option, ap, codes}
-use Rattle.uimg_unpacking.specs.Contents.{is_in}
+use Rattle.std.proofs.Common.{◌++◌, ◌∙◌, List, ap, codes, sym, true≢false}
+use Rattle.uimg_unpacking.specs.Contents.{Files, is_in}
 use Rattle.uimg_unpacking.specs.Staged.{names_of}
-use Rattle.uimg_unpacking.specs.Troubles.{trouble_in}
 use Rattle.uimg_unpacking.specs.declared.begun.Begun.{Begun}
-use Rattle.uimg_unpacking.proofs.StagedLaws.{syncs_same}
 use Rattle.uimg_unpacking.specs.Places.{terms_of}
 use Rattle.uimg_unpacking.proofs.Placing.{naming_more}
 use Rattle.uimg_unpacking.proofs.staging.Staging.remove_outdated.Goals as goal
 
 pub returns-clause-leaves : goal.returns-clause-leaves
-returns-clause-leaves g c = λ name is other.
+returns-clause-leaves g c = λ start name is other.
     let it = c.args.self.now in
-    ap (λ (h : List ℕ → Option (List ℕ)). h (it.folder.path.now ++ codes "/" ++ name))
-    (syncs_same it.folder it.files.items (trouble_in c.sync.result) (g.W.World.trace c.remove_all_old.new.world) (g.W.World.trace c.sync.new.self.world.now) c.sync.ensures.told)
-    ∙ c.remove_all_old.ensures.leaves name is (ap (λ (fs : List Begun). is_in name (names_of fs)) c.as_slice-outdated.ensures.value ∙ other)
+    ap (λ (x : Files). x (it.folder.path.now ++ codes "/" ++ name)) (c.sync.ensures.same start)
+    ∙ c.remove_all_old.ensures.leaves start name is (ap (λ (fs : List Begun). is_in name (names_of fs)) c.as_slice-outdated.ensures.value ∙ other)
 
 pub invariant_of-self : goal.invariant_of-self
 invariant_of-self g c =
@@ -27,4 +24,5 @@ invariant_of-self g c =
       agreed = it.agreed;
       obeys = naming_more (terms_of it.folder) it.is_naming g.M.Task.before (g.W.World.trace it.world.now) (g.W.World.trace c.remove_all_old.new.world) c.requires c.remove_all_old.ensures.within it.obeys;
       numbered = it.numbered;
+      none = λ is. absurd (true≢false (sym c.requires ∙ is));
     }
