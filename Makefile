@@ -4,7 +4,8 @@ PREFIX ?= /usr/local
 IMAGE ?= examples/abc-kernel.img
 export RT
 
-.PHONY: all demo try check test gate wrong-bodies definitions contracts lib lib-test wheel json-test farm-test install deb release arm64-test peers boot-test uboot-tests signatures bench clean help
+.PHONY: all demo try check test gate wrong-bodies definitions contracts lib lib-test wheel json-test farm-test \
+	install install-completions install-wrappers install-lib deb release arm64-test peers boot-test uboot-tests signatures bench clean help
 .NOTPARALLEL:
 
 ## make          proves the program and all crates below it, and builds bin/uimg
@@ -60,13 +61,13 @@ wrong-bodies:
 ##               counts the definitions of `run` and `make`, and writes the counts into docs/DEFINITIONS.md
 definitions:
 	@scripts/needs.sh python3
-	@python3 scripts/definitions.py $(CRATE)
+	@python3 scripts/declarations.py definitions $(CRATE)
 
 ## make contracts CRATE=uimg_its   lists a crate's public functions with their clauses; without it,
 ##               how much of each crate is under a contract
 contracts:
 	@scripts/needs.sh python3
-	@python3 scripts/contracts.py $(CRATE)
+	@python3 scripts/declarations.py contracts $(CRATE)
 
 ## make lib      proves the library for C, and builds libuimg.a, libuimg_block.a, libuimg.so in lib/
 lib: lib/libuimg.a
@@ -100,17 +101,44 @@ farm-test: bin/uimg
 ## make install  installs the program, its manual pages, completions and wrappers (which leave signing
 ##               to u-boot-tools) below PREFIX (/usr/local), with OLD_NAMES=1 also as mkimage and
 ##               dumpimage; and the library, if it was built
-install: bin/uimg
-	install -D -m 755 bin/uimg $(DESTDIR)$(PREFIX)/bin/uimg
-	for name in uimg-mkimage uimg-dumpimage $(if $(OLD_NAMES),mkimage dumpimage); do \
-		ln -sf uimg $(DESTDIR)$(PREFIX)/bin/$$name || exit; \
+install: bin/uimg install-completions install-wrappers
+	install -D -m 755 bin/uimg $(TO)/bin/uimg
+	for name in $(NAMES); do ln -sf uimg $(TO)/bin/$$name || exit; done
+	install -d $(TO)/share/man/man1 $(TO)/share/man/man7
+	install -m 644 docs/uimg.1 docs/uimg-mkimage.1 docs/uimg-dumpimage.1 $(TO)/share/man/man1
+	install -m 644 docs/uimg-faults.7 $(TO)/share/man/man7
+	test ! -f lib/libuimg.a || $(MAKE) --no-print-directory install-lib
+
+# Where the files go, and the program's other names. Those of mkimage and dumpimage themselves have the
+# completions of uimg-mkimage and uimg-dumpimage, with the other name in them.
+TO = $(DESTDIR)$(PREFIX)
+NAMES = uimg-mkimage uimg-dumpimage $(if $(OLD_NAMES),mkimage dumpimage)
+
+install-completions:
+	mkdir -p "$(TO)/share/bash-completion/completions" "$(TO)/share/zsh/site-functions" "$(TO)/share/fish/vendor_completions.d"
+	put() { sed "s/$$of/$$name/g" completions/$$1 > "$(TO)/share/$$2" && chmod 644 "$(TO)/share/$$2"; }; \
+	for name in uimg $(NAMES); do \
+		case $$name in uimg*) of=$$name ;; *) of=uimg-$$name ;; esac; \
+		put $$of.bash bash-completion/completions/$$name && put _$$of zsh/site-functions/_$$name && \
+			put $$of.fish fish/vendor_completions.d/$$name.fish || exit; \
 	done
-	install -d $(DESTDIR)$(PREFIX)/share/man/man1 $(DESTDIR)$(PREFIX)/share/man/man7
-	install -m 644 docs/uimg.1 docs/uimg-mkimage.1 docs/uimg-dumpimage.1 $(DESTDIR)$(PREFIX)/share/man/man1
-	install -m 644 docs/uimg-faults.7 $(DESTDIR)$(PREFIX)/share/man/man7
-	scripts/install_completions.sh $(DESTDIR)$(PREFIX)/share $(if $(OLD_NAMES),mkimage dumpimage)
-	scripts/install_wrappers.sh "$(DESTDIR)$(PREFIX)"
-	test ! -f lib/libuimg.a || scripts/install_lib.sh "$(DESTDIR)" "$(PREFIX)"
+
+install-wrappers:
+	install -d "$(TO)/lib/uimg/wrappers"
+	install -m 755 wrappers/mkimage wrappers/dumpimage "$(TO)/lib/uimg/wrappers"
+	install -m 644 wrappers/common.sh "$(TO)/lib/uimg/wrappers"
+
+# Programs find the shared library after the linker's cache is updated.
+install-lib:
+	install -d "$(TO)/lib/pkgconfig" "$(TO)/include" "$(TO)/share/man/man3"
+	install -m 644 docs/libuimg.3 "$(TO)/share/man/man3"
+	install -m 644 include/uimg.h include/uimg_block.h "$(TO)/include"
+	install -m 644 lib/libuimg.a lib/libuimg_block.a lib/libuimg.so.0 "$(TO)/lib"
+	ln -sf libuimg.so.0 "$(TO)/lib/libuimg.so"
+	version=$$(sed -n 's/^pub const VERSION.*"\(.*\)".*/\1/p' crates/uimg_requests/src/version.rt) && \
+		sed "s#@PREFIX@#$(PREFIX)#; s#@LIBDIR@#$(PREFIX)/lib#; s#@VERSION@#$$version#" library/libuimg.pc.in \
+			> "$(TO)/lib/pkgconfig/libuimg.pc"
+	test -n "$(DESTDIR)" || test "$$(id -u)" != 0 || ldconfig
 
 ## make deb      packs both, with documents and examples, as Debian packages in out/
 deb: bin/uimg lib/libuimg.a

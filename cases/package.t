@@ -52,7 +52,7 @@ The names of mkimage and dumpimage have completions of their own:
   firmware filesystem flat_dt
   $ complete_at uimg-dumpimage -
   -l -o -p -T -h -V
-  $ "$top/scripts/install_completions.sh" share mkimage && find share -type f | sort
+  $ make -s -C "$top" install-completions PREFIX="$PWD" NAMES="uimg-mkimage uimg-dumpimage mkimage" && find share -type f | sort
   share/bash-completion/completions/mkimage
   share/bash-completion/completions/uimg
   share/bash-completion/completions/uimg-dumpimage
@@ -79,7 +79,7 @@ The names of mkimage and dumpimage have completions of their own:
 The wrappers find the program that is installed with them:
 
   $ mkdir -p root/bin && ln -s "$(command -v uimg)" root/bin/uimg-mkimage && ln -s "$(command -v uimg)" root/bin/uimg-dumpimage
-  $ here=$PWD; (cd "$top" && scripts/install_wrappers.sh "$here/root") && find root/lib -type f | sort
+  $ make -s -C "$top" install-wrappers PREFIX="$PWD/root" && find root/lib -type f | sort
   root/lib/uimg/wrappers/common.sh
   root/lib/uimg/wrappers/dumpimage
   root/lib/uimg/wrappers/mkimage

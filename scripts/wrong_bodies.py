@@ -39,7 +39,7 @@ import subprocess
 import sys
 import tempfile
 
-import functions
+import declarations
 import kit
 
 # The files of a proof that a hole replaces.
@@ -100,7 +100,7 @@ class Edit:
             text = file.read()
         found = []
         for old, new in self.pairs:
-            found.append(functions.function_at(functions.functions_of_text(text, self.file), text, text.find(old)))
+            found.append(declarations.function_at(declarations.functions_of_text(text, self.file), text.find(old)))
             text = text.replace(old, new)
         # The functions of a cycle of calls have one proof.
         self.is_wide = any(it is None or it.path is None or it.is_in_cycle for it in found)
@@ -121,7 +121,7 @@ class Trials:
 
     def __init__(self, name, room, kept):
         self.name, self.folder, self.room = name, os.path.abspath(f"crates/{name}"), room
-        self.words, self.known = kit.Crates().command(name, "check", 1), functions.functions_of(f"crates/{name}")
+        self.words, self.known = kit.Crates().command(name, "check", 1), declarations.functions_of(f"crates/{name}")
         self.sentinels = sentinels()
         if kept and os.path.isdir(kept):
             self.kept = f"{room}/kept"
@@ -150,7 +150,7 @@ class Trials:
         for it in (it for it in self.known[path] if it.path and it.path not in proved and not it.is_in_cycle):
             self.put_hole(f"{crate}/proofs/{it.path.replace('::', '/')}", it)
         with open(f"{crate}/{path}", encoding="utf-8") as file:
-            text = functions.without_bodies(file.read(), path, proved)
+            text = declarations.without_bodies(file.read(), path, proved)
         with open(f"{crate}/{path}", "w", encoding="utf-8") as file:
             file.write(text)
 
@@ -342,7 +342,7 @@ def try_all(trials, edits):
 
 
 def main(given):
-    known = functions.functions_of(f"crates/{given.crate}")
+    known = declarations.functions_of(f"crates/{given.crate}")
     paths = given.files or sorted(glob.glob(f"crates/{given.crate}/must-fail/*.edit"))
     edits = [Edit(path, f"crates/{given.crate}", known) for path in paths]
     passed = failed = 0

@@ -1,5 +1,5 @@
 -- What a strict check finds further in a file.
-use Rattle.std.proofs.Common.{◌≡◌, ◌+◌, ◌-◌, ◌^◌, ℕ, min, List, [], ◌∷◌, map, length, true, false, Option, Some, None, Result, Ok, Err, IsTrue, refl, ap, ap₂, sym, subst, ◌∙◌, sum_by, true≢false}
+use Rattle.std.proofs.Common.{◌≡◌, ◌+◌, Bool, if◌then◌else◌, ◌-◌, ◌^◌, ℕ, min, List, [], ◌∷◌, map, length, true, Option, Some, None, Result, Ok, Err, IsTrue, refl, ap, ap₂, sym, subst, ◌∙◌, sum_by}
 use Rattle.std.proofs.lemmas.List.{length-map, Sums.{sum_by-cons}}
 use Rattle.std.specs.Option.{option_map}
 use Rattle.uimg_base.specs.{Device.{Device, SameDevice}}
@@ -12,7 +12,8 @@ use Rattle.uimg_blob_reading.specs.Faults.{refuses_memory}
 use Rattle.uimg_engine.specs.Faults.{of_fit}
 use Rattle.uimg_engine.specs.declared.fault.Fault.{Fault}
 use Rattle.uimg_engine.specs.declared.fault.Fault.TheVariants as engine
-use Rattle.uimg_fit_checking.specs.Checks.{named_finding}
+use Rattle.uimg_fit_checking.specs.Checks.{NamedFinding, check_of, named_finding}
+use Rattle.uimg_checks.specs.Finding.{found_in_fit}
 use Rattle.uimg_fit_checking.specs.declared.checking.Finding.{Finding}
 use Rattle.uimg_fit_checking.specs.declared.checking.Finding.TheVariants as fit
 use Rattle.uimg_checks.specs.declared.references.missing.Missing.{Missing}
@@ -28,7 +29,7 @@ use Rattle.uimg_strict.specs.{Looseness.{LooseSaid, looseness_of}, Telling.{Tell
 use Rattle.uimg_strict.specs.declared.loose.Loose.{Loose}
 use Rattle.uimg_checks.specs.CheckEnds.{AnswersFault, Shows}
 use Rattle.uimg_checks.specs.StrictEnds.{TellsFurther}
-use Rattle.uimg_checks.specs.Verdicts.{Verdict, Finds, covered_or, facts_verdict, fit_verdict, is_right, lacks_or, listed, listed_then, loose_or, loosens, node_count, required_verdict, signed_by, signed_finding, signed_verdict, strict_verdict}
+use Rattle.uimg_checks.specs.Verdicts.{Verdict, Finds, covered_or, facts_verdict, fit_verdict, is_right, lacks_or, listed, listed_then, loose_or, loosens, node_count, required_verdict, signed_by, signed_finding, signed_verdict, strict_verdict, verdict_by}
 use Rattle.uimg_verifying.specs.{Configurations.{TellsUnsigned, unsigned_of}, Results.SignatureSaid}
 use Rattle.uimg_verifying.specs.declared.required.Required.{Required}
 use Rattle.uimg_checks.specs.declared.judging.Further.{Further}
@@ -44,15 +45,13 @@ by_facts : (terms : Terms) (file : List ℕ) (found : Checked (List ℕ)) (r : R
 by_facts terms file found r tight is = by_looseness terms file found (Ok None) tight ∙ ap (facts_verdict terms file found) is
 
 -- the verdict by the facts of a survey
-surveyed : (terms : Terms) (d e f : Device) (survey : Survey) (missing : Option Missing) → SameDevice d e → SameDevice e f → (IsTrue d.honest → TellsLooseness d.bytes (Ok None))
-    → (IsTrue e.honest → Surveys e.bytes (Ok survey)) → (IsTrue f.honest → TellsMissing f.bytes (missing_in (read_survey f.bytes survey)) (Ok missing))
+surveyed : (terms : Terms) (d e : Device) (survey : Survey) (missing : Option Missing) → SameDevice d e → (IsTrue d.honest → TellsLooseness d.bytes (Ok None))
+    → (IsTrue d.honest → Surveys d.bytes (Ok survey)) → (IsTrue e.honest → TellsMissing e.bytes (missing_in (read_survey e.bytes survey)) (Ok missing))
     → IsTrue d.honest → (found : Checked (List ℕ))
     → fit_verdict terms d.bytes found ≡ lacks_or (option_map (read_missing d.bytes) missing) (signed_verdict terms d.bytes found (node_count (read_survey d.bytes survey).configurations))
-surveyed terms d e f survey missing first more tight told lost honest found =
-    let said = over d e (λ file. Surveys file (Ok survey)) first told honest in
-    let lacks = over d e (λ file. TellsMissing file (missing_in (read_survey file survey)) (Ok missing)) first
-    (over e f (λ file. TellsMissing file (missing_in (read_survey file survey)) (Ok missing)) more lost) honest in
-    by_facts terms d.bytes found (Ok (read_survey d.bytes survey)) (tight honest) said
+surveyed terms d e survey missing same tight told lost honest found =
+    let lacks = over d e (λ file. TellsMissing file (missing_in (read_survey file survey)) (Ok missing)) same lost honest in
+    by_facts terms d.bytes found (Ok (read_survey d.bytes survey)) (tight honest) (told honest)
     ∙ ap (λ (it : Option _). lacks_or it (signed_verdict terms d.bytes found (node_count (read_survey d.bytes survey).configurations))) (sym lacks)
 
 nodes_sum : (file : List ℕ) (cs : List ConfigurationFacts) → sum_by (λ (c : ConfigurationSaid). length c.nodes) (map (read_configuration file) cs) ≡ sum_by (λ (c : ConfigurationFacts). length c.nodes.items) cs
@@ -63,21 +62,19 @@ nodes_sum file (c ∷ cs) =
     ∙ sym (sum_by-cons (λ (it : ConfigurationFacts). length it.nodes.items) c cs)
 
 -- the verdict by signatures, where nothing is loose or missing
-pub signatures_left : (terms : Terms) (d e f g : Device) (survey : Survey) (nodes : ℕ) (loose : Option Loose) (missing : Option Missing) (result : Result Further SurveyFault)
-    → loose ≡ None → missing ≡ None → SameDevice d e → SameDevice e f → SameDevice f g
-    → (IsTrue d.honest → TellsLooseness d.bytes (Ok loose)) → (IsTrue e.honest → Surveys e.bytes (Ok survey))
-    → (IsTrue f.honest → TellsMissing f.bytes (missing_in (read_survey f.bytes survey)) (Ok missing))
+pub signatures_left : (terms : Terms) (d e f : Device) (survey : Survey) (nodes : ℕ) (loose : Option Loose) (missing : Option Missing) (result : Result Further SurveyFault)
+    → loose ≡ None → missing ≡ None → SameDevice d e → SameDevice e f
+    → (IsTrue d.honest → TellsLooseness d.bytes (Ok loose)) → (IsTrue d.honest → Surveys d.bytes (Ok survey))
+    → (IsTrue e.honest → TellsMissing e.bytes (missing_in (read_survey e.bytes survey)) (Ok missing))
     → nodes ≡ min (sum_by (λ (c : ConfigurationFacts). length c.nodes.items) survey.configurations.items) (2 ^ 64 - 1)
-    → (IsTrue g.honest → (found : Checked (List ℕ)) → TellsFurther (signed_verdict terms g.bytes found nodes) g.bytes found result)
+    → (IsTrue f.honest → (found : Checked (List ℕ)) → TellsFurther (signed_verdict terms f.bytes found nodes) f.bytes found result)
     → IsTrue d.honest → (found : Checked (List ℕ)) → TellsFurther (fit_verdict terms d.bytes found) d.bytes found result
-signatures_left terms d e f g survey nodes loose missing result no_loose no_missing first more last tight told lost counted signed honest found =
-    let same = surveyed terms d e f survey None first more (λ h. subst (λ (l : Option Loose). TellsLooseness d.bytes (Ok l)) no_loose (tight h)) told
-    (λ h. subst (λ (m : Option Missing). TellsMissing f.bytes (missing_in (read_survey f.bytes survey)) (Ok m)) no_missing (lost h)) honest found
+signatures_left terms d e f survey nodes loose missing result no_loose no_missing first more tight told lost counted signed honest found =
+    let same = surveyed terms d e survey None first (λ h. subst (λ (l : Option Loose). TellsLooseness d.bytes (Ok l)) no_loose (tight h)) told
+    (λ h. subst (λ (m : Option Missing). TellsMissing e.bytes (missing_in (read_survey e.bytes survey)) (Ok m)) no_missing (lost h)) honest found
     ∙ ap (signed_verdict terms d.bytes found) (ap (λ (n : ℕ). min n (2 ^ 64 - 1)) (nodes_sum d.bytes survey.configurations.items) ∙ sym counted) in
-    let further = over d e (λ file. (found : Checked (List ℕ)) → TellsFurther (signed_verdict terms file found nodes) file found result) first
-    (over e f (λ file. (found : Checked (List ℕ)) → TellsFurther (signed_verdict terms file found nodes) file found result) more
-    (over f g (λ file. (found : Checked (List ℕ)) → TellsFurther (signed_verdict terms file found nodes) file found result) last signed)) honest found in
-    subst (λ (v : Verdict). TellsFurther v d.bytes found result) (sym same) further
+    let looks = λ (file : List ℕ). (it : Checked (List ℕ)) → TellsFurther (signed_verdict terms file it nodes) file it result in
+    subst (λ (v : Verdict). TellsFurther v d.bytes found result) (sym same) (over d e looks first (over e f looks more signed) honest found)
 
 module _ (terms : Terms) (required : Required) (d e : Device) (nodes : ℕ) (signatures : List SignatureSaid) (are : terms.required ≡ Some required) (first : SameDevice d e) (listed_are : IsTrue d.honest → listed terms.lists required d.bytes ≡ Ok signatures) (honest : IsTrue d.honest) where
   -- the verdict with these signature nodes
@@ -86,14 +83,7 @@ module _ (terms : Terms) (required : Required) (d e : Device) (nodes : ℕ) (sig
       ap (λ (k : Option Required). signed_by k terms d.bytes found nodes) are
       ∙ ap (λ (l : Result (List SignatureSaid) FitEngineFault). listed_then l (required_verdict terms required d.bytes found)) (listed_are honest)
 
-  -- .. where a configuration is not signed
-  pub unsigned_found : (loose : Loose) (result : Option Loose) → result ≡ Some loose → (IsTrue e.honest → TellsUnsigned required e.bytes (Ok result)) → (found : Checked (List ℕ))
-      → signed_verdict terms d.bytes found nodes ≡ loosens signatures (read_loose loose)
-  unsigned_found loose result is told found =
-      let all : unsigned_of required d.bytes ≡ Ok (Some (read_loose loose)) = subst (λ (l : Option Loose). TellsUnsigned required d.bytes (Ok l)) is (over d e (λ file. TellsUnsigned required file (Ok result)) first told honest) in
-      with_nodes found ∙ ap (λ (r : Result (Option LooseSaid) FitEngineFault). loose_or signatures r (covered_or terms.covers_images d.bytes (signed_finding required found signatures))) all
-
-  -- .. where all are
+  -- .. where all configurations are signed
   pub images_left : (f : Device) (loose : Option Loose) (result : Result Further SurveyFault) → loose ≡ None → SameDevice e f
       → (IsTrue e.honest → TellsUnsigned required e.bytes (Ok loose))
       → (IsTrue f.honest → (found : Checked (List ℕ)) → TellsFurther (covered_or terms.covers_images f.bytes (signed_finding required found signatures)) f.bytes found result)
@@ -122,21 +112,27 @@ pub stopped_shown : (verdict : Verdict) (file : List ℕ) (found : Checked (List
 stopped_shown verdict file found stopped fault told answer stops is further answers =
     shown_stop verdict file found fault answer (subst (λ (f : SurveyFault). TellsFurther verdict file found (Err f)) stops further) (subst (λ (f : Fault). AnswersFault f answer) is answers)
 
--- a strict check looks further if all is right
-pub right_shown : (terms : Terms) (file : List ℕ) (finding : Finding Span) (answer : Answer) → is_right finding ≡ true → Shows answer (fit_verdict terms file (checked.Fit (named_finding file finding)))
-    → Shows answer (strict_verdict terms file (checked.Fit (named_finding file finding)))
-right_shown terms file (fit.Right images nodes) answer right shows = shows
-right_shown terms file (fit.Unhashed image) answer right shows = absurd (true≢false (sym right))
-right_shown terms file (fit.Wrong image hash word) answer right shows = absurd (true≢false (sym right))
-right_shown terms file (fit.Weak image) answer right shows = absurd (true≢false (sym right))
-right_shown terms file (fit.Overlapping image) answer right shows = absurd (true≢false (sym right))
-right_shown terms file fit.NoImage answer right shows = absurd (true≢false (sym right))
+named_right : (file : List ℕ) (finding : Finding Span) → is_right (named_finding file finding) ≡ is_right finding
+named_right file (fit.Right images nodes) = refl
+named_right file (fit.Unhashed image) = refl
+named_right file (fit.Wrong image hash word) = refl
+named_right file (fit.Weak image) = refl
+named_right file (fit.Overlapping image) = refl
+named_right file fit.NoImage = refl
 
-pub other_shown : (terms : Terms) (file : List ℕ) (finding : Finding Span) (answer : Answer) → is_right finding ≡ false → Shows answer (Finds (checked.Fit (named_finding file finding)) None)
-    → Shows answer (strict_verdict terms file (checked.Fit (named_finding file finding)))
-other_shown terms file (fit.Right images nodes) answer other shows = absurd (true≢false other)
-other_shown terms file (fit.Unhashed image) answer other shows = shows
-other_shown terms file (fit.Wrong image hash word) answer other shows = shows
-other_shown terms file (fit.Weak image) answer other shows = shows
-other_shown terms file (fit.Overlapping image) answer other shows = shows
-other_shown terms file fit.NoImage answer other shows = shows
+-- a strict check looks further if all is right
+pub further_shown : (terms : Terms) (d e f : Device) (finding : Finding Span) (further : Result Further SurveyFault) (answer : Answer) → terms.is_strict ≡ true → is_right finding ≡ true → SameDevice d e → SameDevice e f
+    → (IsTrue d.honest → check_of terms.need d.bytes ≡ Ok (named_finding d.bytes finding))
+    → (IsTrue e.honest → (found : Checked (List ℕ)) → TellsFurther (fit_verdict terms e.bytes found) e.bytes found further)
+    → (IsTrue f.honest → (verdict : Verdict) → TellsFurther verdict f.bytes (checked.Fit (named_finding f.bytes finding)) further → Shows answer verdict)
+    → IsTrue d.honest → Shows answer (verdict_by terms d.bytes (found_in_fit (check_of terms.need d.bytes)))
+further_shown terms d e f finding further answer strict right first more told looks shows honest =
+    let found = checked.Fit (named_finding d.bytes finding) in
+    let answered = λ (file : List ℕ). (verdict : Verdict) → TellsFurther verdict file (checked.Fit (named_finding file finding)) further → Shows answer verdict in
+    let same : verdict_by terms d.bytes (found_in_fit (check_of terms.need d.bytes)) ≡ fit_verdict terms d.bytes found =
+    ap (λ (r : Result NamedFinding FitEngineFault). verdict_by terms d.bytes (found_in_fit r)) (told honest)
+    ∙ ap (λ (b : Bool). if b then strict_verdict terms d.bytes found else Finds found None) strict
+    ∙ ap (λ (b : Bool). if b then fit_verdict terms d.bytes found else Finds found None) (named_right d.bytes finding ∙ right) in
+    subst (λ (v : Verdict). Shows answer v) (sym same)
+    (over d e answered first (over e f answered more shows) honest _
+    (over d e (λ file. (it : Checked (List ℕ)) → TellsFurther (fit_verdict terms file it) file it further) first looks honest _))

@@ -1,6 +1,6 @@
 -- What a check answers at its end.
-use Rattle.std.specs.Prelude.{◌≡◌, ◌⊎◌, ⊤, ℕ, ◌==◌, min, take, map, List, codes, Option, Some, None, Result, Ok, Err}
-use Rattle.std.specs.{Borrow.Bor, Option.option_map, Prelude.{Bool, true, false, IsTrue, is_some}}
+use Rattle.std.specs.Prelude.{◌≡◌, ◌⊎◌, ⊤, ℕ, min, take, map, List, codes, Option, Some, None}
+use Rattle.std.specs.{Borrow.Bor, Option.option_map, Prelude.{Bool, IsTrue}}
 use Rattle.uimg_base.specs.declared.spans.Span.{Span}
 use Rattle.uimg_checks.specs.declared.answer.{Configurations.Configurations, Signed.Signed}
 use Rattle.uimg_checks.specs.declared.answer.Configurations.TheVariants as configurations
@@ -13,7 +13,6 @@ use Rattle.uimg_checks.specs.declared.answer.Answer.TheVariants as answer
 use Rattle.uimg_checks.specs.declared.finding.Checked.{Checked}
 use Rattle.uimg_checks.specs.declared.finding.Checked.TheVariants as checked
 use Rattle.uimg_checks.specs.Properties.{property_name}
-use Rattle.uimg_checks.specs.declared.references.missing.Missing.{Missing}
 use Rattle.uimg_fit_checking.specs.declared.checking.Finding.{Finding}
 use Rattle.uimg_fit_checking.specs.declared.checking.Finding.TheVariants as fit
 use Rattle.uimg_engine.specs.FaultTexts.{code_of, text_of}

@@ -1,22 +1,13 @@
 -- What a strict check answers of an image whose hashes or checksums are right.
-use Rattle.std.specs.Prelude.{◌≡◌, ⊤, ℕ, List, map, Option, Some, None, Result, Ok, Err, false}
-use Rattle.uimg_base.specs.{Device.Device, Honest.IfHonest, Lent.Lent}
+use Rattle.std.specs.Prelude.{◌≡◌, ⊤, ℕ, List, map, Some, Result, Ok, Err, false}
 use Rattle.uimg_blob_reading.specs.Faults.{refuses_memory}
 use Rattle.uimg_checks.specs.References.{read_missing}
-use Rattle.uimg_checks.specs.declared.answer.Answer.{Answer}
-use Rattle.uimg_checks.specs.declared.answer.Answer.TheVariants as answer
-use Rattle.uimg_checks.specs.declared.answer.Format.TheVariants.{Legacy}
 use Rattle.uimg_checks.specs.declared.finding.Checked.{Checked}
-use Rattle.uimg_checks.specs.declared.finding.Checked.TheVariants as checked
-use Rattle.uimg_engine.specs.Faults.{of_legacy}
 use Rattle.uimg_engine.specs.declared.fault.Fault.TheVariants as engine
 use Rattle.uimg_fit_base.specs.declared.fault.Fault.TheVariants as of
 use Rattle.uimg_fit_checking.specs.declared.surveying.fault.SurveyFault.{SurveyFault}
 use Rattle.uimg_fit_checking.specs.declared.surveying.fault.SurveyFault.TheVariants.{Stopped, OutOfMemory, Changed}
-use Rattle.uimg_legacy.specs.declared.fault.Fault.{Fault as LegacyFault}
-use Rattle.uimg_strict.specs.{Headers.TellsHeader, Telling.read_loose}
-use Rattle.uimg_strict.specs.declared.loose.Looseness.{Looseness}
-use Rattle.uimg_checks.specs.CheckEnds.{AnswersFault}
+use Rattle.uimg_strict.specs.{Telling.read_loose}
 use Rattle.uimg_checks.specs.Verdicts.{Verdict, Unchecked, Finds, Lacks, Refuses, loosens, signed_finding}
 use Rattle.uimg_verifying.specs.Results.{read_result}
 use Rattle.uimg_checks.specs.declared.judging.Further.{Further}

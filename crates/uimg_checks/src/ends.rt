@@ -2,7 +2,7 @@
 
 ghost use Rattle.std.specs.Prelude.{◌≡◌, [], None, true, take, map, min, option_map, IfSome};
 ghost use Rattle.uimg_base.specs.{Device.SameDevice, Honest.IfHonest};
-ghost use Rattle.uimg_checks.specs.{Finding.found_at, ReferenceNames.name_in_span, References.read_missing};
+ghost use Rattle.uimg_checks.specs.{ReferenceNames.name_in_span, References.read_missing};
 ghost use Rattle.uimg_fit_checking.specs.Checks.{named_finding};
 ghost use Rattle.uimg_strict.specs.Telling.{read_loose};
 ghost use Rattle.uimg_checks.specs.CheckEnds.{AnswersFault, AnswersLine, IsVerdict, Shows, fit_names, format_of, kept_names, offset_of, read_configurations};
@@ -100,25 +100,6 @@ pub fn answer_of_line<'a, D: Display>(
 }
 
 /// The names are read from the source; if a read fails, that is the result.
-pub(crate) fn answer_of_found<'a, S: Source>(
-    found: Checked<Span>,
-    configurations: Option<Configurations<'a>>,
-    source: &mut S,
-    names: &'a mut Names,
-) -> Answer<'a>
-    ensures same { SameDevice (S.device source.old) (S.device source.new) }
-    ensures shown { IfHonest S.device source
-        (λ file. Shows result (Finds (found_at file found)
-        (option_map read_configurations configurations.entry))) }
-{
-    match found {
-        Checked::Fit(finding) => answer_of_finding(finding, configurations, source, names),
-        Checked::Right => Answer::Found(Checked::Right, configurations),
-        Checked::Damaged => Answer::Found(Checked::Damaged, configurations),
-        Checked::Weak => Answer::Found(Checked::Weak, configurations),
-    }
-}
-
 #[tactic(auto, using(crate::proofs::VerdictLaws::unread_shows))]
 pub(crate) fn answer_of_finding<'a, S: Source>(
     finding: Finding<Span>,

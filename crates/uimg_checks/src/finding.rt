@@ -44,8 +44,8 @@ impl<N> Checked<N> {
     }
 }
 
-// CRC-32 is the checksum of a legacy image.
-fn stands_by_crc32(need: Option<Algo>) -> bool
+/// CRC-32 is the checksum of a legacy image.
+pub(crate) fn stands_by_crc32(need: Option<Algo>) -> bool
     ensures { result ≡ stands_by_crc32 need }
 {
     match need {

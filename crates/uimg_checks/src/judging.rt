@@ -1,30 +1,34 @@
 //! Answers a check of a source, and checks strictly what was found to be right.
 
-ghost use Rattle.std.specs.Prelude.{◌≡◌, ◌-◌, ◌^◌, ℕ, List, map, min, length};
+ghost use Rattle.std.specs.Prelude.{◌≡◌, ◌-◌, ◌^◌, ℕ, List, Ok, None, map, min, length, false, true};
 ghost use Rattle.std.specs.List.{sum_by};
 ghost use Rattle.uimg_base.specs.{Device.SameDevice, Honest.IfHonest};
-ghost use Rattle.uimg_checks.specs.Finding.{found_at, told_at};
+ghost use Rattle.uimg_checks.specs.Finding.{check_of, if_strong, stands_by_crc32};
 ghost use Rattle.uimg_checks.specs.declared.finding.Checked.{Checked};
-ghost use Rattle.uimg_fit_checking.specs.Checks.{named_finding};
-ghost use Rattle.uimg_checks.specs.CheckEnds.{IsVerdict, Shows};
-ghost use Rattle.uimg_checks.specs.StrictEnds.{TellsFurther};
-ghost use Rattle.uimg_checks.specs.Verdicts.{Finds, covered_or, fit_verdict, header_verdict, is_right, listed, signed_finding, signed_verdict, strict_verdict, unsigned_or, verdict_by, verdict_of};
-ghost use Rattle.uimg_strict.specs.Headers.{loose_legacy};
+ghost use Rattle.uimg_fit_checking.specs.{Checks.named_finding, Indexes.IndexedIn};
+ghost use Rattle.uimg_checks.specs.CheckEnds.{IsVerdict, Shows, names_in};
+ghost use Rattle.uimg_checks.specs.StrictEnds.{TellsFurther, further_verdict};
+ghost use Rattle.uimg_checks.specs.Verdicts.{Finds, Verdict, covered_or, fit_verdict, is_right, listed, signed_verdict, unsigned_or, verdict_by, verdict_of};
 ghost use Rattle.uimg_verifying.specs.{Configurations.Tells, Results.read_result};
 
 use crate::answer::{Answer, Configurations};
 use crate::ends::{
-    CHANGED, Names, answer_of_fault, answer_of_finding, answer_of_found, answer_of_header,
-    answer_of_loose, answer_of_missing, answer_of_signed,
+    CHANGED, Names, answer_of_fault, answer_of_finding, answer_of_header, answer_of_loose,
+    answer_of_missing, answer_of_signed,
 };
-use crate::finding::{Checked, check};
+use crate::finding::{Checked, stands_by_crc32};
 use crate::references::{Missing, find_missing};
 use std::alloc::Global;
 use uimg_base::{Algo, Room, Source, Span};
-use uimg_engine::Fault;
-use uimg_fit_checking::{ConfigurationFacts, Finding, SurveyFault, survey};
-use uimg_strict::{Loose, Looseness, find_loose, find_loose_header};
-use uimg_verifying::{Required, SignatureResult, find_uncovered, find_unsigned, signature_results};
+use uimg_blob_reading::Blob;
+use uimg_engine::{Fault, is_fit};
+use uimg_fit_checking::{ConfigurationFacts, Finding, SurveyFault, check_in, survey};
+use uimg_fit_reading::read_tree;
+use uimg_requests::Form;
+use uimg_strict::{Loose, Looseness, find_loose_header, find_loose_in};
+use uimg_verifying::{
+    Required, SignatureResult, find_uncovered, find_unsigned_in, signature_results,
+};
 
 /// What is asked of an image.
 #[derive(Drop)]
@@ -46,6 +50,7 @@ pub struct Terms<'a> {
 }
 
 // What is found in a FIT image whose hashes are right.
+#[derive(Drop)]
 enum Further<'a> {
     // Something that strictness refuses, and the signature nodes that are listed.
     Loose(Loose, Vec<SignatureResult>),
@@ -62,7 +67,6 @@ enum Further<'a> {
 
 /// Checks an image over any source. The answer shows the verdict about the bytes of the source, or that
 /// a read failed, memory was refused, or the source had other bytes when it was read again.
-#[tactic(auto, using(crate::proofs::VerdictLaws::check_shown))]
 pub fn answer_of_source<'a, S: Source>(
     alloc: Global,
     terms: &'a Terms<'_>,
@@ -73,70 +77,54 @@ pub fn answer_of_source<'a, S: Source>(
     ensures same { SameDevice (S.device source.old) (S.device source.new) }
     ensures shown { IfHonest S.device source (λ file. Shows result (verdict_of terms.now file)) }
 {
-    let end = check(terms.need, source, room);
-    answer_of_check(alloc, terms, end, source, room, names)
-}
-
-fn answer_of_check<'a, S: Source>(
-    alloc: Global,
-    terms: &'a Terms<'_>,
-    end: Result<Checked<Span>, Fault>,
-    source: &mut S,
-    room: &mut Room<Global>,
-    names: &'a mut Names,
-) -> Answer<'a>
-    ensures same { SameDevice (S.device source.old) (S.device source.new) }
-    ensures shown { IfHonest S.device source
-        (λ file. Shows result (verdict_by terms.now file (told_at file end))) }
-{
-    match end {
-        Ok(found) => {
-            if terms.is_strict {
-                return answer_strictly(alloc, terms, found, source, room, names);
-            }
-            answer_of_found(found, None, source, names)
-        }
-        Err(fault) => answer_of_fault(fault, names),
+    match is_fit(Form::Guess, source) {
+        Ok(true) => answer_of_fit(alloc, terms, source, room, names),
+        Ok(false) => answer_of_legacy(terms, source, room, names),
+        Err(fault) => answer_of_fault(Fault::from(fault), names),
     }
 }
 
-fn answer_strictly<'a, S: Source>(
+fn answer_of_fit<'a, S: Source>(
     alloc: Global,
     terms: &'a Terms<'_>,
-    found: Checked<Span>,
-    source: &mut S,
-    room: &mut Room<Global>,
-    names: &'a mut Names,
-) -> Answer<'a>
-    ensures same { SameDevice (S.device source.old) (S.device source.new) }
-    ensures shown { IfHonest S.device source
-        (λ file. Shows result (strict_verdict terms.now file (found_at file found))) }
-{
-    match found {
-        Checked::Fit(finding) => answer_fit_strictly(alloc, terms, finding, source, room, names),
-        Checked::Right => answer_of_legacy(terms, source, names),
-        Checked::Damaged => Answer::Found(Checked::Damaged, None),
-        Checked::Weak => answer_of_weak(terms),
-    }
-}
-
-#[tactic(auto, using(crate::proofs::StrictLaws::right_shown, crate::proofs::StrictLaws::other_shown))]
-fn answer_fit_strictly<'a, S: Source>(
-    alloc: Global,
-    terms: &'a Terms<'_>,
-    finding: Finding<Span>,
     source: &mut S,
     room: &mut Room<Global>,
     names: &'a mut Names,
 ) -> Answer<'a>
     ensures same { SameDevice (S.device source.old) (S.device source.new) }
     ensures shown { IfHonest S.device source (λ file.
-        Shows result (strict_verdict terms.now file (Checked.Fit (named_finding file finding)))) }
+        Shows result (verdict_by terms.now file (check_of true terms.now.need file))) }
 {
-    if is_right(finding) {
-        return answer_of_fit(alloc, terms, finding, source, room, names);
+    match read_tree(source, room) {
+        Ok(blob) => answer_of_blob(alloc, terms, source, &blob, room, names),
+        Err(fault) => answer_of_fault(Fault::from(fault), names),
     }
-    answer_of_finding(finding, None, source, names)
+}
+
+// All that is looked at is found by the same index.
+fn answer_of_blob<'a, S: Source>(
+    alloc: Global,
+    terms: &'a Terms<'_>,
+    source: &mut S,
+    blob: &Blob,
+    room: &mut Room<Global>,
+    names: &'a mut Names,
+) -> Answer<'a>
+    requires { IndexedIn (S.device source.old) blob.now room.old }
+    ensures same { SameDevice (S.device source.old) (S.device source.new) }
+    ensures shown { IfHonest S.device source (λ file.
+        Shows result (verdict_by terms.now file (check_of true terms.now.need file))) }
+{
+    match check_in(terms.need, source, blob, room) {
+        Ok(finding) => {
+            if terms.is_strict && is_right(finding) {
+                let further = look_further(alloc, terms, source, blob, room);
+                return answer_of_further(finding, further, source, names);
+            }
+            answer_of_finding(finding, None, source, names)
+        }
+        Err(fault) => answer_of_fault(Fault::from(fault), names),
+    }
 }
 
 // All hash nodes are right, and each image has one.
@@ -149,20 +137,19 @@ fn is_right(finding: Finding<Span>) -> bool
     }
 }
 
-// The result is the finding, unless a strict check refuses the image.
-fn answer_of_fit<'a, S: Source>(
-    alloc: Global,
-    terms: &'a Terms<'_>,
+// Answers by what is found further where the finding is that all hash nodes are right.
+fn answer_of_further<'a, S: Source>(
     finding: Finding<Span>,
+    further: Result<Further<'a>, SurveyFault>,
     source: &mut S,
-    room: &mut Room<Global>,
     names: &'a mut Names,
 ) -> Answer<'a>
     ensures same { SameDevice (S.device source.old) (S.device source.new) }
-    ensures shown { IfHonest S.device source (λ file.
-        Shows result (fit_verdict terms.now file (Checked.Fit (named_finding file finding)))) }
+    ensures shown { IfHonest S.device source (λ file. (verdict : Verdict) →
+        TellsFurther verdict file (Checked.Fit (named_finding file finding)) further.entry →
+        Shows result verdict) }
 {
-    match look_further(alloc, terms, source, room) {
+    match further {
         Ok(Further::Loose(loose, signatures)) => answer_of_loose(loose, signatures, names),
         Ok(Further::Missing(missing)) => answer_of_missing(missing, source, names),
         Ok(Further::Unchecked(nodes)) => {
@@ -182,21 +169,23 @@ fn look_further<'a, S: Source>(
     alloc: Global,
     terms: &'a Terms<'_>,
     source: &mut S,
+    blob: &Blob,
     room: &mut Room<Global>,
 ) -> Result<Further<'a>, SurveyFault>
+    requires { IndexedIn (S.device source.old) blob.now room.old }
     ensures same { SameDevice (S.device source.old) (S.device source.new) }
     ensures told { IfHonest S.device source (λ file. (found : Checked (List ℕ)) →
         TellsFurther (fit_verdict terms.now file found) file found result) }
 {
-    if let Some(loose) = find_loose(alloc, source, room)? {
+    if let Some(loose) = find_loose_in(alloc, source, blob, room)? {
         return Ok(Further::Loose(loose, Vec::new(alloc)));
     }
-    let facts = survey(alloc, source, room)?;
+    let facts = survey(alloc, blob, room)?;
     if let Some(missing) = find_missing(alloc, source, &facts)? {
         return Ok(Further::Missing(missing));
     }
     let nodes = count_nodes(facts.configurations.as_slice());
-    look_signed(alloc, terms, nodes, source, room)
+    look_signed(alloc, terms, nodes, source, blob, room)
 }
 
 // The configurations have so many nodes.
@@ -205,8 +194,10 @@ fn look_signed<'a, S: Source>(
     terms: &'a Terms<'_>,
     nodes: u64,
     source: &mut S,
+    blob: &Blob,
     room: &mut Room<Global>,
 ) -> Result<Further<'a>, SurveyFault>
+    requires { IndexedIn (S.device source.old) blob.now room.old }
     ensures same { SameDevice (S.device source.old) (S.device source.new) }
     ensures told { IfHonest S.device source (λ file. (found : Checked (List ℕ)) →
         TellsFurther (signed_verdict terms.now file found nodes) file found result) }
@@ -214,17 +205,13 @@ fn look_signed<'a, S: Source>(
     let Some(required) = &terms.required else {
         return Ok(Further::Unchecked(nodes));
     };
-    let signatures = list_signatures(alloc, terms.lists, required, source, room)?;
-    match find_unsigned(alloc, required, source, room)? {
+    let signatures = list_signatures(alloc, terms.lists, required, source, blob, room)?;
+    match find_unsigned_in(alloc, required, source, blob, room)? {
         Some(loose) => Ok(Further::Loose(loose, signatures)),
-        None => look_covered(
-            alloc,
-            terms.covers_images,
-            required,
-            signatures,
-            source,
-            room,
-        ),
+        None => {
+            let signed = Further::Signed(required, signatures);
+            look_covered(alloc, terms.covers_images, signed, source, blob, room)
+        }
     }
 }
 
@@ -234,38 +221,41 @@ fn list_signatures<S: Source>(
     lists: bool,
     required: &Required<'_>,
     source: &mut S,
+    blob: &Blob,
     room: &mut Room<Global>,
 ) -> Result<Vec<SignatureResult>, SurveyFault>
+    requires { IndexedIn (S.device source.old) blob.now room.old }
     ensures same { SameDevice (S.device source.old) (S.device source.new) }
+    ensures room { room.new ≡ room.old }
     ensures told { IfHonest S.device source (λ file. Tells
         (λ all. map read_result all.items) (listed lists required.now file) result) }
 {
     if !lists {
         return Ok(Vec::new(alloc));
     }
-    signature_results(alloc, required, source, room)
+    signature_results(alloc, required, source, blob, room)
 }
 
 // What is required is signed.
 fn look_covered<'a, S: Source>(
     alloc: Global,
     covers: bool,
-    required: &'a Required<'_>,
-    signatures: Vec<SignatureResult>,
+    signed: Further<'a>,
     source: &mut S,
+    blob: &Blob,
     room: &mut Room<Global>,
 ) -> Result<Further<'a>, SurveyFault>
+    requires { IndexedIn (S.device source.old) blob.now room.old }
     ensures same { SameDevice (S.device source.old) (S.device source.new) }
-    ensures told { IfHonest S.device source (λ file. (found : Checked (List ℕ)) →
-        TellsFurther (covered_or covers file (signed_finding required.now found
-        (map read_result signatures.items))) file found result) }
+    ensures told { IfHonest S.device source (λ file. (found : Checked (List ℕ)) → TellsFurther
+        (covered_or covers file (further_verdict file found signed.entry)) file found result) }
 {
     if !covers {
-        return Ok(Further::Signed(required, signatures));
+        return Ok(signed);
     }
-    match find_uncovered(alloc, source, room)? {
+    match find_uncovered(alloc, source, blob, room)? {
         Some(loose) => Ok(Further::Loose(loose, Vec::new(alloc))),
-        None => Ok(Further::Signed(required, signatures)),
+        None => Ok(signed),
     }
 }
 
@@ -282,35 +272,52 @@ fn count_nodes(configurations: &[ConfigurationFacts]) -> u64
 fn answer_of_legacy<'a, S: Source>(
     terms: &'a Terms<'_>,
     source: &mut S,
+    room: &mut Room<Global>,
     names: &'a mut Names,
 ) -> Answer<'a>
     ensures same { SameDevice (S.device source.old) (S.device source.new) }
-    ensures shown { IfHonest S.device source
-        (λ file. Shows result (header_verdict terms.now.required (loose_legacy file))) }
+    ensures shown { IfHonest S.device source (λ file.
+        Shows result (verdict_by terms.now file (check_of false terms.now.need file))) }
 {
+    match uimg_legacy::check(source, room) {
+        Ok(true) => answer_of_sums(terms, source, names),
+        Ok(false) => Answer::Found(Checked::Damaged, None),
+        Err(fault) => answer_of_fault(Fault::from(fault), names),
+    }
+}
+
+// The checksums of a legacy image are right.
+fn answer_of_sums<'a, S: Source>(
+    terms: &'a Terms<'_>,
+    source: &mut S,
+    names: &'a mut Names,
+) -> Answer<'a>
+    ensures same { SameDevice (S.device source.old) (S.device source.new) }
+    ensures shown { IfHonest S.device source (λ file. Shows result
+        (verdict_by terms.now file (Ok (if_strong (stands_by_crc32 terms.now.need))))) }
+{
+    if !stands_by_crc32(terms.need) {
+        if terms.is_strict {
+            return answer_of_unsigned(terms, Checked::Weak);
+        }
+        return Answer::Found(Checked::Weak, None);
+    }
+    if !terms.is_strict {
+        return Answer::Found(Checked::Right, None);
+    }
     match find_loose_header(source) {
         Ok(Some(why)) => answer_of_header(why),
-        Ok(None) => answer_of_right(terms),
+        Ok(None) => answer_of_unsigned(terms, Checked::Right),
         Err(fault) => answer_of_fault(Fault::from(fault), names),
     }
 }
 
 // A legacy image has no signature, however strong a digest is needed.
-fn answer_of_weak<'a>(terms: &Terms<'_>) -> Answer<'a>
-    ensures { IsVerdict result (unsigned_or terms.now.required (Finds Checked.Weak None)) }
+fn answer_of_unsigned<'a>(terms: &Terms<'_>, found: Checked<&'a [u8]>) -> Answer<'a>
+    ensures { IsVerdict result (unsigned_or terms.now.required (Finds (names_in found.entry) None)) }
 {
     match &terms.required {
         Some(_) => answer_of_header(Looseness::Unsigned),
-        None => Answer::Found(Checked::Weak, None),
-    }
-}
-
-// A legacy image has no signature.
-fn answer_of_right<'a>(terms: &Terms<'_>) -> Answer<'a>
-    ensures { IsVerdict result (unsigned_or terms.now.required (Finds Checked.Right None)) }
-{
-    match &terms.required {
-        Some(_) => answer_of_header(Looseness::Unsigned),
-        None => Answer::Found(Checked::Right, None),
+        None => Answer::Found(found, None),
     }
 }

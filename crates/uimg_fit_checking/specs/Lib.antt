@@ -10,4 +10,5 @@ pub mod UnpackingParts
 pub mod Copies
 pub mod MemTakes
 pub mod Survey
+pub mod Indexes
 pub mod SurveyParts

@@ -1,9 +1,12 @@
 //! Checks the hashes of a FIT image's images.
 
-ghost use Rattle.std.specs.Prelude.{length, IfOk};
+ghost use Rattle.std.specs.Prelude.{◌+◌, ◌≤◌, length, IfOk};
 ghost use Rattle.uimg_base.specs.Honest.{IfHonest};
 ghost use Rattle.uimg_fit_base.specs.Faults.{Gives};
+ghost use Rattle.uimg_blob_reading.specs.Counts.{index_cost};
 ghost use Rattle.uimg_fit_checking.specs.Checks.{check_work, named_finding, check_of, EndsInside};
+ghost use Rattle.uimg_fit_checking.specs.Indexes.{IndexedIn};
+ghost use Rattle.uimg_fit_checking.specs.UnpackingParts.{ReadsOrRefuses};
 ghost use Rattle.uimg_fit_reading.specs.Rooms.{Inspects};
 
 mod all_right;
@@ -14,6 +17,7 @@ use crate::checking::all_right::all_right;
 use crate::checking::checked_images::first_finding;
 use std::alloc::Allocator;
 use uimg_base::{Algo, Room, Source, Span};
+use uimg_blob_reading::Blob;
 use uimg_fit_base::{Fault, Verdict};
 use uimg_fit_reading::images::first_image;
 use uimg_fit_reading::read_tree;
@@ -75,12 +79,31 @@ pub fn check<S: Source, A: Allocator>(
         (λ file. Gives (named_finding file) result (check_of need file)) }
 {
     let blob = read_tree(source, room)?;
-    let first = first_image(&blob, room)?;
+    let finding = check_in(need, source, &blob, room)?;
+    Ok(finding)
+}
+
+/// As `check`, of a FIT image whose blob was indexed.
+pub fn check_in<S: Source, A: Allocator>(
+    need: Option<Algo>,
+    source: &mut S,
+    blob: &Blob,
+    room: &mut Room<A>,
+) -> Result<Finding<Span>, Fault>
+    requires { IndexedIn (S.device source.old) blob.now room.old }
+    ensures leaves { ReadsOrRefuses result S.device source room }
+    ensures inside { IfOk result (EndsInside (length (S.device source.old).bytes)) }
+    ensures asked { IfHonest S.device source (λ file. (S.device source.new).asked + index_cost file
+        ≤ (S.device source.old).asked + check_work file) }
+    ensures told { IfHonest S.device source
+        (λ file. Gives (named_finding file) result (check_of need file)) }
+{
+    let first = first_image(blob, room)?;
     if need.is_some() & first.is_none() {
         return Ok(Finding::NoImage);
     }
-    if let Some(finding) = first_finding(source, &blob, room, first, need)? {
+    if let Some(finding) = first_finding(source, blob, room, first, need)? {
         return Ok(finding);
     }
-    Ok(all_right(&blob, room, first, need))
+    Ok(all_right(blob, room, first, need))
 }

@@ -9,7 +9,7 @@ mod unpacking;
 mod vouching;
 mod wrong_hashes;
 
-pub use checking::{Finding, check};
+pub use checking::{Finding, check, check_in};
 pub use counting::count_images;
 pub use named::{locate_name, locate_named};
 pub use surveying::{

@@ -7,7 +7,7 @@ ghost use Rattle.uimg_blob_reading.specs.Grammar.{Siblings};
 ghost use Rattle.uimg_blob_reading.specs.LookUps.{NodeOf, images, configurations};
 ghost use Rattle.uimg_blob_reading.specs.Roles.{in_images};
 ghost use Rattle.uimg_blob_reading.specs.Spots.{Spot, spots};
-ghost use Rattle.uimg_fit_reading.specs.Nodes.{Indexed, IsRead, AreFrom, IsEntryOrNone, InAnyFile};
+ghost use Rattle.uimg_fit_reading.specs.Nodes.{Indexed, IsRead, AreFrom, HasTree, IsEntryOrNone, InAnyFile};
 ghost use Rattle.uimg_fit_checking.specs.FullSurvey.{properties_of, properties_cost, read_properties, FullInside, survey_in};
 ghost use Rattle.uimg_base.specs.Using.{UsesWithin};
 ghost use Rattle.uimg_blob_reading.specs.Indexed.{TakesNodes};
@@ -81,39 +81,40 @@ fn gather<A: Allocator>(
     })
 }
 
-/// Collects the facts of a FIT image without its payloads: of its root, its images with their hash
-/// nodes, and its configurations with the names of their child nodes. A fact is the span of a
-/// value; it ends inside the blob, and the blob inside the source, whatever that returns. Reads no
-/// value: of an honest source no more is requested than to index it. The room holds the nodes
-/// meanwhile, and refuses memory as for a listing.
+/// Collects the facts of a FIT image whose blob was indexed, without its payloads: of its root, its
+/// images with their hash nodes, and its configurations with the names of their child nodes. A fact
+/// is the span of a value; it ends inside the blob, and the blob inside the source, whatever that
+/// returns. Reads nothing.
 ///
-/// - The faults of the blob, then `NoImages`.
+/// - `NoImages`.
 /// - `OutOfMemory`: memory for the facts was refused, some 300 bytes for an image or a
 ///   configuration, 80 for a hash node, 16 for a configuration's child node.
-pub fn survey<S: Source, A: Allocator>(
+pub fn survey<A: Allocator>(
     alloc: Global,
-    source: &mut S,
-    room: &mut Room<A>,
+    blob: &Blob,
+    room: &Room<A>,
 ) -> Result<Survey, SurveyFault>
-    ensures uses { UsesWithin index_cost (is_unread result) S.device source }
-    ensures room { TakesNodes (S.device source.old) (lacks_room result) room.old room.new }
-    ensures inside { IfOk result (SurveyInside (length (S.device source.old).bytes)) }
+    requires { Indexed blob.now room.now.entries }
+    ensures unread { is_unread result ≡ false }
+    ensures no_table { lacks_room result ≡ false }
     ensures unchanged { is_changed result ≡ false }
-    ensures told { HonestSource S.device source → Surveys (S.device source.old).bytes result }
+    ensures totalsize { IfOk result (λ survey. survey.totalsize ≡ blob.now.totalsize) }
+    ensures inside { InAnyFile blob.now room.now (λ size. IfOk result (SurveyInside size)) }
+    ensures told { (file : List ℕ) → HasTree file blob.now room.now.entries → Surveys file result }
 {
-    let blob = read_tree(source, room)?;
-    let first = first_image(&blob, room)?;
-    Ok(gather(alloc, &blob, room, first)?)
+    let first = first_image(blob, room)?;
+    Ok(gather(alloc, blob, room, first)?)
 }
 
-/// Collects the facts as `survey` does, and also lists the properties of each configuration, in
-/// their order, with or without a known key.
+/// Indexes a FIT image's blob, collects the facts as `survey` does, and also lists the properties of
+/// each configuration, in their order, with or without a known key. The room holds the nodes
+/// meanwhile, and refuses memory as for a listing.
 ///
-/// Reads the properties from the structure block again, after what `survey` requests: of an honest
+/// Reads the properties from the structure block again, after what the index requests: of an honest
 /// source at most 44 bytes for each configuration, 268 for each of its properties and 4 for each
 /// NOP of the blob. Reads no value.
 ///
-/// - The faults of `survey`.
+/// - The faults of the blob, then those of `survey`.
 /// - `Stopped` with `Read`: if and only if a read failed.
 /// - `OutOfMemory`, also: memory for the properties was refused, 32 bytes for each.
 /// - `Changed`: only if the blob is not the one that was indexed.
@@ -131,8 +132,7 @@ pub fn survey_with_properties<S: Source, A: Allocator>(
         (λ full. map (read_properties file) full.properties.items ≡ properties_of file)) }
 {
     let blob = read_tree(source, room)?;
-    let first = first_image(&blob, room)?;
-    let survey = gather(alloc, &blob, room, first)?;
+    let survey = survey(alloc, &blob, room)?;
     match configuration_properties(alloc, source, &blob, room) {
         Ok(properties) => Ok(FullSurvey { survey, properties }),
         Err(fault) => Err(fault),

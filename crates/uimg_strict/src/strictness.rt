@@ -10,6 +10,7 @@ ghost use Rattle.uimg_blob_reading.specs.LookUps.{NodeOf};
 ghost use Rattle.uimg_blob_reading.specs.Roles.{in_images};
 ghost use Rattle.uimg_blob_reading.specs.Spots.{Spot, spots};
 ghost use Rattle.uimg_fit_base.specs.Files.{root_own, value_bytes};
+ghost use Rattle.uimg_fit_checking.specs.Indexes.{IndexedIn};
 ghost use Rattle.uimg_fit_checking.specs.SurveyParts.{LeavesSurvey, is_unread, lacks_room};
 ghost use Rattle.uimg_fit_reading.specs.Nodes.{InFile, HasNodes, IsRead, Opened, AreFrom};
 ghost use Rattle.uimg_strict.specs.Looseness.{in_root, is_nameless, loose_root, loose_in, loose_file};
@@ -117,7 +118,7 @@ fn loose_file<S: Source, A: Allocator>(
 /// order is: the blob, the root, a node by the names in it, in reading order, an image by where its
 /// payload is.
 ///
-/// Indexes the blob again. Reads the header, the reservation block, names, and the cells of
+/// Indexes the blob. Reads the header, the reservation block, names, and the cells of
 /// payloads after the tree. Takes memory for the names in one node.
 ///
 /// - The faults of the blob, then `NoImages`.
@@ -134,7 +135,22 @@ pub fn find_loose<S: Source, A: Allocator>(
     ensures told { IfHonest S.device source (λ file. TellsLooseness file result) }
 {
     let blob = read_tree(source, room)?;
-    let first = first_image(&blob, room)?;
-    let found = loose_file(alloc, source, &blob, room, first)?;
+    let found = find_loose_in(alloc, source, &blob, room)?;
+    Ok(found)
+}
+
+/// As `find_loose`, in a FIT image whose blob was indexed.
+pub fn find_loose_in<S: Source, A: Allocator>(
+    alloc: Global,
+    source: &mut S,
+    blob: &Blob,
+    room: &mut Room<A>,
+) -> Result<Option<Loose>, SurveyFault>
+    requires { IndexedIn (S.device source.old) blob.now room.old }
+    ensures leaves { LeavesSurvey result S.device source room }
+    ensures told { IfHonest S.device source (λ file. TellsLooseness file result) }
+{
+    let first = first_image(blob, room)?;
+    let found = loose_file(alloc, source, blob, room, first)?;
     Ok(found)
 }

@@ -4,22 +4,21 @@ ghost use Rattle.std.specs.Prelude.{◌≡◌, ◌+◌, ◌≤◌, None, IsTrue,
 ghost use Rattle.uimg_base.specs.{Honest.IfHonest, Device.SameDevice};
 ghost use Rattle.uimg_fit_checking.specs.Unpacking.{unpack_work};
 ghost use Rattle.uimg_unpacking.specs.{Ends.{EndsByFile, FitsIf}, Filling.Fills, Places.{ChangesWithin, Obeys, terms_of}};
-ghost use Rattle.uimg_tool.specs.Complaining.{ComplainsLine};
 ghost use Rattle.uimg_tool.specs.WordAnswers.{AnswersLine, printed};
 
 use std::io::Write;
 use uimg_base::Source;
 use uimg_tool::{CommandLine, Complaints};
-use uimg_unpacking::{Ended, MakingWorld, Unpacking, World};
+use uimg_unpacking::{Ended, Unpacking};
+use uimg_world::{MakingWorld, World};
 
 /// Carries out a command line of `uimg` over a world of files. Returns the exit status, and `out`
 /// unless memory for its buffer was refused.
 ///
-/// - `told`: over an honest world output, new files and status are those that the definition of
-///   command lines gives for the bytes at the paths, as far as `AnswersLine` says, or the status is 3.
-///   If it refuses the arguments, nothing is done or printed.
-/// - `complained`: over an honest world, at a status other than 3, standard error has nothing, or the
-///   line of the fault, as far as `ComplainsLine` says; of arguments that are refused, over any world.
+/// - `answers`: over an honest world, unless the status is 3, output, new files, status and the line on
+///   standard error are those that the definition of command lines gives for the bytes at the paths,
+///   as far as `AnswersLine` says. Whatever the status, files change only as the request allows. If
+///   the definition refuses the arguments, nothing is done or printed, and that is told.
 /// - `lost`: if `out` is not returned, the status is 3.
 pub fn run_as_uimg<'a, D: MakingWorld<'a>, W: Write + Drop, V: Write>(
     world: &mut D,
@@ -27,11 +26,16 @@ pub fn run_as_uimg<'a, D: MakingWorld<'a>, W: Write + Drop, V: Write>(
     out: W,
     complaints: &mut Complaints<'_, V>,
 ) -> (u8, Option<W>)
-    ensures told { AnswersLine D.File.contents D.Shelf.Kept.device (D.identities world.old)
-        line.entry (D.map world.old) result.0 (W.contents out) (printed W.contents result.1)
-        (D.trace world.old) (D.trace world.new) }
-    ensures complained { ComplainsLine V.contents D.Shelf.Kept.device line.entry
-        (D.map world.old) result.0 complaints.old complaints.new }
+    ensures answers { AnswersLine D.Shelf.Kept.device (D.identities world.old) V.contents line.entry
+        (D.map world.old) result.0 (record {
+          text = W.contents out;
+          err = complaints.old;
+          trace = D.trace world.old;
+        }) (record {
+          text = printed W.contents result.1;
+          err = complaints.new;
+          trace = D.trace world.new;
+        }) }
     ensures lost { result.1 ≡ None → result.0 ≡ 3 }
 {
     uimg_tool::run_as_uimg(world, line, out, complaints)

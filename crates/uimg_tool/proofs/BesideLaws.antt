@@ -1,8 +1,9 @@
 -- Files beside a path, by their numbers.
-use Rattle.std.proofs.Common.{◌≡◌, ℕ, ◌+◌, List, ◌∷◌, ◌++◌, Bool, true, false, refl, ap, ◌∙◌, add-one, codes, decimal}
+use Rattle.std.proofs.Common.{◌≡◌, ℕ, ◌+◌, List, ◌∷◌, ◌++◌, true, false, refl, ap, ◌∙◌, add-one, codes, decimal}
 use Rattle.std.specs.{List.list_all, Option.option_map_or}
 use Rattle.uimg_unpacking.proofs.Placing.{are_digits, behind-self}
-use Rattle.uimg_unpacking.specs.Deeds.{Creates, Deed, Exists}
+use Rattle.uimg_world.specs.Deeds.{Creates, Deed}
+use Rattle.uimg_world.specs.declared.call.Answer.TheVariants.{Exists}
 use Rattle.uimg_unpacking.specs.Places.{is_digit}
 use Rattle.uimg_tool.specs.{BesidePaths.is_beside, Writings.{beside, tried}}
 

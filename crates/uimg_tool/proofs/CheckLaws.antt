@@ -1,25 +1,21 @@
 -- Answers about some images, and then about others.
-use Rattle.std.proofs.Common.{◌≡◌, ◌≢◌, ℕ, List, [], ◌∷◌, ◌++◌, map, drop, Bool, true, false, ◌&&◌, ◌||◌, if◌then◌else◌, Option, Some, None, Result, Ok, Err, OnOk, IfSome, IsTrue, filter, ◌⊎◌, ◌==◌, max, is_some, inl, inr, refl, ap, ap₂, sym, subst, subst₂, ◌∙◌, arith, ne_eqb, true≢false}
+use Rattle.std.proofs.Common.{◌≡◌, ℕ, List, [], ◌∷◌, ◌++◌, map, drop, Bool, true, false, ◌&&◌, ◌||◌, Option, Some, None, Result, Ok, Err, OnOk, IfSome, IsTrue, filter, inl, inr, refl, ap, ap₂, sym, subst, subst₂, ◌∙◌, true≢false}
 use mathlib.Core.List.{append-nil}
-use Rattle.std.specs.{Borrow.Bor, Io.KnownBytes.{IsAtEnd}, List.list_all, Prelude.unwrap_or}
+use Rattle.std.specs.{Borrow.Bor, Io.KnownBytes.{IsAtEnd}, List.list_all}
+use Rattle.std.proofs.KnownBytes.{Keeps-refl}
 use Rattle.std.proofs.lemmas.List.Folds.{list_all-append}
-use Rattle.uimg_tool.specs.declared.check_keys.Keyed.{Keyed}
-use Rattle.uimg_tool.specs.Checking.{AnswersKeyed, AnswersRequest, KeysAt, keys_read, nothing_told, terms_of}
+use Rattle.uimg_tool.specs.declared.keys.Keyed.{Keyed}
+use Rattle.uimg_tool.specs.{Answering.Comes, Checking.{ChecksBy, EndsWith, KeysAt, MeansCheck, keys_read, nothing_told, terms_of}}
 use Rattle.uimg_cli.specs.declared.command_line.check.CheckRequest.{CheckRequest}
 use Rattle.uimg_base.specs.{Device.Device, Named.{FileMap, Opens, SameFiles}}
 use Rattle.uimg_checks.specs.{CheckEnds.{AnswersLine, Shows}, Verdicts.verdict_of}
-use Rattle.uimg_tool.specs.Checks.{Answers, AnswersAll, AnswersBytes, AnswersEach, AnswersFile, AnswersNamed, AnswersFrom, AnswersUnlessEmpty, AreNames, Told, after_names, names_end, names_path}
+use Rattle.uimg_tool.specs.Checks.{Answers, AnswersAll, AnswersBytes, AnswersEach, AnswersFile, AnswersNamed, AnswersFrom, AnswersUnlessEmpty, AreNames, Told, after_names, names_end, names_path, told}
 use Rattle.uimg_tool.specs.Paths.{is_name, paths_in}
 use Rattle.uimg_tool.proofs.PathLaws.{Left, left_ends}
-use Rattle.uimg_base.specs.declared.status.Status.{Status, TheVariants.{Done, NotRight}}
-use Rattle.uimg_checks.specs.{Answers.{answer_status, exit_status}, Finding.status_of}
 use Rattle.uimg_checks.specs.declared.answer.Answer.{Answer}
 use Rattle.uimg_checks.specs.declared.answer.Answer.TheVariants.{Found, Missing, Loose, Refused, Failed}
-use Rattle.uimg_tool.specs.{Complaining.ComplainsCheck, Complaints.ComplainsBetween, FaultTexts.{told_of_check, told_of_greatest}}
-use Rattle.uimg_tool.specs.Statuses.{checked_status}
-use Rattle.uimg_tool.specs.declared.complaints.Complaints.{Complaints}
-use Rattle.uimg_tool.specs.declared.check_program.Stop.{Stop}
-use Rattle.uimg_unpacking.specs.Deeds.{Deed}
+use Rattle.uimg_tool.specs.declared.checks.Checks.{Checks}
+use Rattle.uimg_world.specs.Deeds.{Deed}
 
 pub on_ok : {X F P Q : Type 0} (r : Result X F) → (P → Q) → OnOk r P → OnOk r Q
 on_ok (Ok x) f h = f h
@@ -133,69 +129,6 @@ all_named files then_files asked file old mid new stay is each names = (
       (names.0, names_same files then_files asked file.now names.0 stay names.1, each_same files then_files asked names.0 (after_names file.now mid) new stay names.2),
 )
 
-chosen : (b : Bool) (greatest : ℕ) (done : Unit) → checked_status (Ok done) (if b then Some greatest else None) ≡ (if b then greatest else 2)
-chosen true greatest done = refl
-chosen false greatest done = refl
-
--- the buffer is empty, unless the checks stopped
-pub flushed_unless : (ended : Result Unit Stop) (found : Option ℕ) (status : ℕ) (left : List ℕ) → status ≡ checked_status ended found → OnOk ended (left ≡ []) → status ≢ 3 → left ≡ []
-flushed_unless (Ok done) found status left is flushed other = flushed
-flushed_unless (Err stop) found status left is flushed other = absurd (other is)
-
--- no image is answered with the status of wrong words
-exit_is : (status : Status) → exit_status status ≢ 2
-exit_is Done = λ is. omega (arith, is)
-exit_is NotRight = λ is. omega (arith, is)
-
-answer_is : (answer : Answer) → answer_status answer ≢ 2
-answer_is (Found found more) = exit_is (status_of found)
-answer_is (Missing configuration property name) = λ is. omega (arith, is)
-answer_is (Loose format why place signatures) = λ is. omega (arith, is)
-answer_is (Refused stop) = λ is. omega (arith, is)
-answer_is (Failed stop) = λ is. omega (arith, is)
-
-greater_is : (a b : ℕ) → a ≢ 2 → b ≢ 2 → max a b ≢ 2
-greater_is a b first second = λ is. omega (arith, first, second, is)
-
-each_is : (files : FileMap) (asked : Keyed) (paths : List (List ℕ)) (old new : Told) → AnswersEach files asked paths old new → old.greatest ≢ 2 → new.greatest ≢ 2
-each_is files asked [] old new each is = subst (λ (it : Told). it.greatest ≢ 2) (sym each) is
-each_is files asked (path ∷ paths) old new each is =
-    let next = subst (λ (n : ℕ). n ≢ 2) (sym each.1.1.status) (greater_is old.greatest (answer_status each.1.0) is (answer_is each.1.0)) in
-    each_is files asked paths each.0 new each.2 next
-
-from_is : (files : FileMap) (asked : Keyed) (from : Option (Bor (List ℕ))) (old new : Told) → AnswersFrom files asked from old new → old.greatest ≢ 2 → new.greatest ≢ 2
-from_is files asked None old new from is = subst (λ (it : Told). it.greatest ≢ 2) (sym from) is
-from_is files asked (Some path) old new from is = each_is files asked from.0 (after_names path.now old) new from.2 is
-
-greatest_of : (b : Bool) (n m : ℕ) → Some n ≡ (if b then Some m else None) → n ≡ m
-greatest_of true n m is = ap (λ (o : Option ℕ). unwrap_or o 0) is
-greatest_of false n m is = absurd (true≢false (ap is_some is))
-
-not_told : (status : ℕ) → status ≢ 2 → told_of_check status ≡ None
-not_told status other = ap (λ (b : Bool). if b then told_of_greatest None else None) (ne_eqb status 2 other)
-
--- what is told of all checks
-pub check_told : {V : Type 0} (contents : V → Option (List ℕ)) (files : FileMap) (asked : Keyed) (ended : Result Unit Stop) (found : Option ℕ) (status : ℕ) (old new : Told) (before after : Complaints V)
-    → status ≡ checked_status ended found → found ≡ (if new.has_checked || asked.request.now.allows_none then Some new.greatest else None) → old.greatest ≡ 0 → OnOk ended (AnswersAll files asked old new)
-    → (status ≡ 3) ⊎ ComplainsBetween contents (told_of_greatest found) before after → ComplainsCheck contents status before after
-check_told contents files asked ended found status old new before after is greatest begins all (inl failed) = inl failed
-check_told contents files asked (Err stop) found status old new before after is greatest begins all (inr told) = inl is
-check_told contents files asked (Ok done) None status old new before after is greatest begins all (inr told) =
-    inr (subst (λ (n : ℕ). ComplainsBetween contents (told_of_check n) before after) (sym is) told)
-check_told contents files asked (Ok done) (Some n) status old new before after is greatest begins all (inr told) =
-    let first : all.0.greatest ≢ 2 = each_is files asked (map (λ (path : Bor (List ℕ)). path.now) asked.request.now.images.items) old all.0 all.1 (λ two. omega (arith, begins, two)) in
-    let last : new.greatest ≢ 2 = from_is files asked asked.request.now.files_from all.0 new all.2 first in
-    let other : status ≢ 2 = λ two. last (sym (is ∙ greatest_of (new.has_checked || asked.request.now.allows_none) n new.greatest greatest) ∙ two) in
-    inr (subst (λ (it : Option (Option (List ℕ))). ComplainsBetween contents it before after) (sym (not_told status other)) told)
-
--- the end of all checks
-pub request_told : (files : FileMap) (asked : Keyed) (ended : Result Unit Stop) (found : Option ℕ) (status : ℕ) (before after : Option (List ℕ)) (asked_before asked_after : List Deed) (old new : Told)
-    → status ≡ checked_status ended found → found ≡ (if new.has_checked || asked.request.now.allows_none then Some new.greatest else None) → old ≡ nothing_told before asked_before
-    → OnOk ended (AnswersAll files asked old new) → OnOk ended (new.text ≡ after) → new.trace ≡ asked_after → AnswersKeyed files asked status before after asked_before asked_after
-request_told files asked (Err stop) found status before after asked_before asked_after old new is greatest begins all text noted = inl is
-request_told files asked (Ok done) found status before after asked_before asked_after old new is greatest begins all text noted =
-    inr (new, subst (λ (it : Told). AnswersAll files asked it new) begins all, text, noted, is ∙ ap (checked_status (Ok done)) greatest ∙ chosen (new.has_checked || asked.request.now.allows_none) new.greatest done)
-
 from_same : (old_files new_files : FileMap) (asked : Keyed) (from : Option (Bor (List ℕ))) (old new : Told) → SameFiles old_files new_files → AnswersFrom new_files asked from old new
     → AnswersFrom old_files asked from old new
 from_same old_files new_files asked None old new same told = told
@@ -206,11 +139,23 @@ all_same : (old_files new_files : FileMap) (asked : Keyed) (old new : Told) → 
 all_same old_files new_files asked old new same all =
     (all.0, each_same old_files new_files asked (map (λ path. path.now) asked.request.now.images.items) old all.0 same all.1, from_same old_files new_files asked asked.request.now.files_from all.0 new same all.2)
 
--- the end of all checks by keys that were read before
-pub keys_told : (files then_files : FileMap) (asked : CheckRequest) (keyed : Keyed) (status : ℕ) (before after : Option (List ℕ)) (trace noted last : List Deed) → keyed.request.now ≡ asked
-    → keyed.terms ≡ terms_of asked keyed.terms.required
-    → SameFiles files then_files → KeysAt files asked.key keyed.terms.required → noted ≡ keys_read asked.key trace → AnswersKeyed then_files keyed status before after noted last
-    → AnswersRequest files asked status before after trace last
-keys_told files then_files asked keyed status before after trace noted last is terms same keys noted_so (inl failed) = inl failed
-keys_told files then_files asked keyed status before after trace noted last is terms same keys noted_so (inr told) =
-    inr (keyed, is, terms, keys, inr (told.0, subst (λ (t : List Deed). AnswersAll files keyed (nothing_told before t) told.0) noted_so (all_same files then_files keyed (nothing_told before noted) told.0 same told.1), told.2, told.3, told.4))
+-- the end of all checks
+pub checks_told : (files : FileMap) (asked : Keyed) (checks : Checks) (before after : List Deed) (old new : Option (List ℕ)) (first : Told) (status : ℕ) (tells : Option (Option (List ℕ))) → first ≡ nothing_told old before
+    → AnswersAll files asked first (told checks new after) → EndsWith (checks.has_checked || asked.request.now.allows_none) checks.greatest status tells → Comes (ChecksBy asked files before after) status tells old new
+checks_told files asked checks before after old new first status tells begins all ends =
+    inr (told checks new after, subst (λ (it : Told). AnswersAll files asked it (told checks new after)) begins all, refl, ends, Keeps-refl new)
+
+-- the same by keys that were read before
+pub keys_told : (files then_files : FileMap) (asked : CheckRequest) (keyed : Keyed) (before noted after : List Deed) (status : ℕ) (told : Option (Option (List ℕ))) (old new : Option (List ℕ)) → keyed.request.now ≡ asked
+    → keyed.terms ≡ terms_of asked keyed.terms.required → SameFiles files then_files → KeysAt files asked.key keyed.terms.required → noted ≡ keys_read asked.key before
+    → Comes (ChecksBy keyed then_files noted after) status told old new → Comes (MeansCheck asked files before after) status told old new
+keys_told files then_files asked keyed before noted after status told old new is terms same keys read (inl failed) = inl failed
+keys_told files then_files asked keyed before noted after status told old new is terms same keys read (inr checks) =
+    inr (
+      keyed,
+      is,
+      terms,
+      keys,
+      subst (λ (t : List Deed). ChecksBy keyed files t after status told old new) read
+          (checks.0, all_same files then_files keyed (nothing_told old noted) checks.0 same checks.1, checks.2, checks.3, checks.4),
+    )

@@ -1,15 +1,15 @@
 -- What the drawing of a map asks of a world.
-use Rattle.std.proofs.Common.{◌≡◌, ℕ, List, ◌∷◌, Bool, true, false, Option, Some, Result, Ok, Err, ap, subst, sym, ◌∙◌, string_bytes}
+use Rattle.std.proofs.Common.{◌≡◌, ℕ, List, ◌∷◌, Bool, true, false, Option, Some, Result, Ok, Err, subst, sym, string_bytes}
 use Rattle.std.specs.Borrow.{Bor}
 use Rattle.std.specs.declared.io.Error.{Error}
 use Rattle.uimg_cli.specs.declared.command_line.map.MapRequest.{MapRequest}
-use Rattle.uimg_tool.specs.Drawing.{AsksToMap, Draws, DrawsTo, DrawsUnlessTaken, LooksTaken, NamesPicture, apart, beside_it, in_place, no_memory, to_pipe, uncreated}
-use Rattle.uimg_tool.specs.{Extracting.{Overwrites, looked}, Running.ComparesFiles, Writings.WritesFor}
+use Rattle.uimg_tool.specs.Drawing.{AsksToMap, Draws, DrawsTo, DrawsUnlessTaken, LooksTaken, NamesPicture, Overwrites, apart, beside_it, in_place, no_memory, to_pipe, uncreated}
+use Rattle.uimg_tool.specs.{Images.Compares, Writings.WritesFor}
 use Rattle.uimg_tool.specs.declared.safe_path.SafePath.{SafePath}
 use Rattle.uimg_tool.specs.declared.safe_path.Writing.{Writing}
 use Rattle.uimg_tool.specs.declared.safe_path.Writing.TheVariants as writing
-use Rattle.uimg_unpacking.specs.Deeds as deed
-use Rattle.uimg_unpacking.specs.Deeds.{Answer, Deed, Opens}
+use Rattle.uimg_world.specs.Deeds.{Deed, Opens}
+use Rattle.uimg_world.specs.declared.call.Answer.{Answer}
 use Rattle.uimg_unpacking.specs.Naming.{GivesName}
 
 pub gives_as : (one two new whole : List ℕ) (is_forced : Bool) (answer last : Answer) (before after : List Deed) → one ≡ new → two ≡ whole → answer ≡ last → GivesName one two is_forced answer before after → GivesName new whole is_forced last before after
@@ -28,13 +28,12 @@ drawn_beside path is_forced result file safe before begun after is writes names 
 
 pub drawn_in_place : {F Z : Type 0} (path : List ℕ) (is_forced : Bool) (result : Result (Writing F) Z) (before seen after : List Deed) → result ≡ Ok writing.InPlace
     → WritesFor path result before seen → Overwrites path seen after → DrawsTo path is_forced before after
-drawn_in_place path is_forced result before seen after is writes over =
-    in_place over.0 seen (writes_as path result (Ok writing.InPlace) before seen is writes) over.1
+drawn_in_place path is_forced result before seen after is writes over = in_place seen (writes_as path result (Ok writing.InPlace) before seen is writes) over
 
 pub drawn_to_pipe : {F Z : Type 0} (path : List ℕ) (is_forced : Bool) (result : Result (Writing F) Z) (before seen after : List Deed) → result ≡ Ok writing.Pipe
     → WritesFor path result before seen → Overwrites path seen after → DrawsTo path is_forced before after
 drawn_to_pipe path is_forced result before seen after is writes over =
-    to_pipe over.0 (over.1 ∙ ap (λ (t : List Deed). deed.Overwrites path over.0 ∷ t) (writes_as path result (Ok writing.Pipe) before seen is writes))
+    to_pipe (subst (λ (t : List Deed). Overwrites path t after) (writes_as path result (Ok writing.Pipe) before seen is writes) over)
 
 pub not_created : {F Z : Type 0} (path : List ℕ) (is_forced : Bool) (result : Result (Writing F) Z) (reason : Error) (before after : List Deed) → result ≡ Ok (writing.Nowhere reason)
     → WritesFor path result before after → DrawsTo path is_forced before after
@@ -49,11 +48,10 @@ not_begun path is_forced result refused before after is writes =
 pub looks_as : (path : List ℕ) (is_taken last : Bool) (before after : List Deed) → is_taken ≡ last → LooksTaken path is_taken before after → LooksTaken path last before after
 looks_as path is_taken last before after is looks = subst (λ (b : Bool). LooksTaken path b before after) is looks
 
-pub drawn_apart : (image path : List ℕ) (is_forced is_same : Bool) (before opened seen after : List Deed) → opened ≡ Opens image true ∷ before → ComparesFiles path image is_same opened seen → is_same ≡ false
+pub drawn_apart : (image path : List ℕ) (is_forced is_same : Bool) (before opened seen after : List Deed) → opened ≡ Opens image true ∷ before → Compares path image is_same opened seen → is_same ≡ false
     → DrawsUnlessTaken path is_forced seen after → Draws image path is_forced before after
 drawn_apart image path is_forced is_same before opened seen after is compares differ draws =
-    apart compares.0 compares.1 (sym compares.3 ∙ differ)
-    (subst (λ (t : List Deed). DrawsUnlessTaken path is_forced t after) (compares.2 ∙ ap (λ (t : List Deed). looked image path compares.0 compares.1 t) is) draws)
+    apart seen (subst (λ (b : Bool). Compares path image b (Opens image true ∷ before) seen) differ (subst (λ (t : List Deed). Compares path image is_same t seen) is compares)) draws
 
 pub drawn_for : (asked : MapRequest) (picture : Option (Bor (List ℕ))) (path : Bor (List ℕ)) (before after : List Deed) → picture ≡ Some path → Draws asked.image.now path.now asked.is_forced before after → AsksToMap asked picture before after
 drawn_for asked picture path before after is draws = subst (λ (p : Option (Bor (List ℕ))). AsksToMap asked p before after) (sym is) draws

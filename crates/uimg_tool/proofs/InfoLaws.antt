@@ -1,6 +1,6 @@
 -- What is answered of a file by its facts.
 use Rattle.std.proofs.Common.{◌≡◌, ℕ, List, ◌++◌, length, codes, Bool, true, false, if◌then◌else◌, Option, Some, None, Result, Ok, Err, Vec, inl, inr, refl, ap, sym, subst, ◌∙◌, arith, true≢false}
-use Rattle.std.specs.{Borrow.Bor, Prelude.{◌⊎◌, ◌≢◌, IfOk, IsTrue}, Io.KnownBytes.Appends}
+use Rattle.std.specs.{Borrow.Bor, Prelude.{◌⊎◌, IfErr, IfOk, IsTrue, OnOk}, Io.KnownBytes.Appends}
 use Rattle.json.specs.{Json.Json}
 use Rattle.uimg_base.specs.{Device.{Device, SameDevice}, Named.FileMap, Results.◌>>=◌, declared.spans.Span.Span}
 use Rattle.uimg_blob_reading.specs.Faults.{refuses_memory}
@@ -27,10 +27,11 @@ use Rattle.uimg_checks.specs.declared.answer.Answer.{Answer}
 use Rattle.uimg_checks.specs.declared.answer.Answer.TheVariants as answer
 use Rattle.uimg_printing.specs.Members.{Member, object_of, number_if, number_member, string_member, text_members}
 use Rattle.uimg_checks.specs.{CheckEnds.{AnswersFault, AnswersLine, TellsFault, format_of, told_name}, FaultStatuses.fault_status}
-use Rattle.uimg_tool.specs.{Answering.AnswersBy, JsonLines.shown_line}
-use Rattle.uimg_tool.specs.{InfoEnds.{stop_of_parts, stop_of_survey}, declared.info_program.Stop.Stop as NoFacts}
-use Rattle.uimg_tool.specs.declared.info_program.Stop.TheVariants as stop
-use Rattle.uimg_tool.specs.Facts.{GivesFacts, IsFactsAnswer, IsObjectOf, IsTextOf, StopsBy, TellsFacts, code_member, facts_in, facts_of, facts_with, fault_as, legacy_facts, refusal_json}
+use Rattle.uimg_tool.specs.{Answering.{Comes, OfFile}, FaultTexts.told_of_exit, JsonLines.shown_line, Statuses.{exit_status, request_status}}
+use Rattle.uimg_tool.specs.declared.request_fault.RequestFault.{RequestFault}
+use Rattle.uimg_tool.specs.{InfoEnds.{stop_of_parts, stop_of_survey}, declared.facts.Stop.Stop as NoFacts}
+use Rattle.uimg_tool.specs.declared.facts.Stop.TheVariants as stop
+use Rattle.uimg_tool.specs.Facts.{GivesFacts, IsFacts, IsObjectOf, IsTextOf, StopsBy, TellsFacts, code_member, facts_in, facts_of, facts_with, fault_as, legacy_facts, refusal_json}
 
 as_blob : (path file : List ℕ) → true ≡ begins_as_blob file → facts_of path file ≡ fault_as of_fit (info_of path file)
 as_blob path file blob = ap (λ (b : Bool). facts_in b path file) (sym blob)
@@ -160,10 +161,6 @@ pub unread_told : {Z E : Type 0} (files : FileMap) (path : List ℕ) (told : Ans
 unread_told files path told (Ok found) line status = inl (status ∙ line_fails told line)
 unread_told files path told (Err failed) line status = tt
 
-pub unread_fails : {Z E : Type 0} (P : Type 0) (told : Answer) (r : Result (Vec ℕ Z × ℕ) E) → AnswersLine false told → IfOk r (λ found. found.1 ≡ answer_status told) → IfOk r (λ found. found.1 ≢ 3 → P)
-unread_fails P told (Ok found) line status = λ other. absurd (other (status ∙ line_fails told line))
-unread_fails P told (Err failed) line status = tt
-
 -- a file that was opened
 pub object_told : {Z E : Type 0} (files : FileMap) (path file : List ℕ) (r : Result (Vec ℕ Z × ℕ) E) → files.bytes path ≡ Some file
     → IfOk r (λ found. (found.1 ≡ 3) ⊎ TellsFacts path (facts_of path file) found.1 found.0.items) → IfOk r (λ found. IsObjectOf files path found.1 found.0.items)
@@ -172,13 +169,9 @@ object_told files path file (Ok found) bytes (inr tells) = inr (file, bytes, tel
 object_told files path file (Err failed) bytes told = tt
 
 -- the line of an object
-pub line_told : (files : FileMap) (path text : List ℕ) (given status : ℕ) (old new : Option (List ℕ)) → IsObjectOf files path given text
-    → (status ≡ 3) ⊎ ((status ≡ given) × Appends old new (shown_line text)) → AnswersBy files path (IsFactsAnswer path) status old new
-line_told files path text given status old new object (inl failed) = inl failed
-line_told files path text given status old new (inl failed) (inr put) = inl (put.0 ∙ failed)
-line_told files path text given status old new (inr found) (inr put) =
-    inr (found.0, found.1, (text, subst (λ (n : ℕ). TellsFacts path (facts_of path found.0) n text) (sym put.0) found.2, put.1))
-
-pub status_given : {P : Type 0} (given status : ℕ) → (status ≡ 3) ⊎ ((status ≡ given) × P) → status ≢ 3 → given ≢ 3
-status_given given status (inl failed) other = absurd (other failed)
-status_given given status (inr put) other = λ failed. other (put.0 ∙ failed)
+pub facts_come : (files : FileMap) (path text : List ℕ) (given : ℕ) (end : Result ℕ RequestFault) (old new : Option (List ℕ)) → IsObjectOf files path given text → OnOk end (Appends old new (shown_line text))
+    → IfOk end (λ status. status ≡ given) → IfErr end (λ fault. request_status fault ≡ 3) → Comes (OfFile files path (IsFacts path)) (exit_status end) (told_of_exit end) old new
+facts_come files path text given (Ok status) old new (inl failed) put is fails = inl (is ∙ failed)
+facts_come files path text given (Ok status) old new (inr found) put is fails =
+    inr (found.0, found.1, (refl, (text, subst (λ (n : ℕ). TellsFacts path (facts_of path found.0) n text) (sym is) found.2, put)))
+facts_come files path text given (Err fault) old new object put is fails = inl fails

@@ -1,14 +1,14 @@
 -- What is known of a source, by what was read and compiled.
-use Rattle.std.proofs.Common.{◌≡◌, ◌&&◌, ◌==◌, ℕ, List, [], Option, Some, Bool, true, false, not, IsTrue, ap, subst, sym, ◌∙◌}
+use Rattle.std.proofs.Common.{◌≡◌, ◌&&◌, ◌==◌, ℕ, List, Option, Some, Bool, true, false, not, IsTrue, ap, subst, sym, ◌∙◌}
 use Rattle.uimg_base.specs.Named.{FileMap}
 use Rattle.uimg_blob_reading.specs.Plain.{Nodes}
 use Rattle.uimg_blob_writing.specs.Content.{AreKept, Unread, in_full}
 use Rattle.uimg_its.specs.{Grammar.Spells, Words.words}
+use Rattle.uimg_tool.specs.LeavingOut.{in_folder, seen_in}
 
 -- a folder alone is as honest as what opens its files
-pub alone : (honest : Bool) (others : ℕ) → IsTrue honest → others ≡ 0 → IsTrue (honest && others == 0)
-alone true others is none = ap (λ (n : ℕ). n == 0) none
-alone false others is none = is
+pub alone : (honest : Bool) (others : ℕ) → IsTrue honest → others ≡ 0 → IsTrue (others == 0 && honest)
+alone honest others is none = subst (λ (n : ℕ). IsTrue (n == 0 && honest)) (sym none) is
 
 pub some_is : (a b : List ℕ) → (let x : Option (List ℕ) = Some a in x ≡ Some b) → a ≡ b
 some_is a b e = cc
@@ -18,9 +18,12 @@ never true e f = cc
 never false e f = cc
 
 -- a text was compiled over the files of a folder alone, which are as honest as what opens them
-module _ (files : List ℕ → Option (List ℕ)) (honest : Bool) (others : ℕ) (here : FileMap) (is : here ≡ record { bytes = files; honest = honest && others == 0; complete = false; refusals = 0; opened = [] }) (true_of : IsTrue honest) (none : others ≡ 0) where
+module _ (folder : List ℕ) (others : ℕ) (lent here : FileMap) (is : here ≡ seen_in folder others lent) (true_of : IsTrue lent.honest) (none : others ≡ 0) where
+  abbrev files : List ℕ → Option (List ℕ)
+  files = in_folder folder lent.bytes
+
   pub true_here : IsTrue here.honest
-  true_here = subst (λ (m : FileMap). IsTrue m.honest) (sym is) (alone honest others true_of none)
+  true_here = subst (λ (m : FileMap). IsTrue m.honest) (sym is) (alone lent.honest others true_of none)
 
   pub are : here.bytes ≡ files
   are = ap (λ (m : FileMap). m.bytes) is

@@ -1,6 +1,6 @@
 -- The status and the text of a making are those of its result, unless the status is 3.
 use Rattle.std.proofs.Common.{◌≡◌, ◌⊎◌, inl, inr, ℕ, List, Option, Bool, true, false, IsTrue, Result, Ok, Err, refl, ap, sym, subst, ◌∙◌, ◌≤◌, arith, true≢false}
-use Rattle.std.specs.{Bool.OnFalse, Borrow.Bor, Io.KnownBytes.Keeps, List.list_any, Prelude.is_err, declared.io.Error.Error}
+use Rattle.std.specs.{Bool.OnFalse, Borrow.Bor, List.list_any, Prelude.is_err}
 use Rattle.uimg_base.specs.{Device.{Device, RisesIf}, Named.{FileMap, SameFiles}, Sink.Sink}
 use Rattle.uimg_base.specs.declared.status.Status.{Status}
 use Rattle.uimg_engine.specs.{Commands.{MakesCommandBetween, OpensToBuild}, OpenedFiles.OpensCommand}
@@ -15,14 +15,13 @@ use Rattle.uimg_its.specs.declared.fault.FaultKind.TheVariants as source
 use Rattle.uimg_requests.specs.declared.make_command.MakeCommand.{MakeCommand}
 use Rattle.uimg_requests.specs.declared.make_command.MakeCommand.TheVariants.{Parts, Tree}
 use Rattle.uimg_requests.specs.declared.requests.MakeRequest.{MakeRequest}
-use Rattle.uimg_tool.specs.{Complaining.ComplainsMake, Complaints.ComplainsBetween, FaultTexts.told_of_end}
-use Rattle.uimg_tool.specs.declared.complaints.Complaints.{Complaints}
+use Rattle.uimg_tool.specs.FaultTexts.{told_of_end}
 use Rattle.uimg_checks.specs.FaultStatuses.{fault_status, fit_status, source_status}
-use Rattle.uimg_tool.specs.{MadeEnds.end_printed, RequestEnds.{AsMade, StoppedAs}, Statuses.{end_status, request_status}}
-use Rattle.uimg_tool.specs.{LeavingOut.leads_to, Makings.{AnswersMaking, IsMadeStatus, MakesAt, MakesRequested, OpensRequested, TellsMaking, files_of, made_status, opens_outfile}}
+use Rattle.uimg_tool.specs.{RequestEnds.{AsMade, StoppedAs}, Statuses.{end_status, request_status}}
+use Rattle.uimg_tool.specs.{LeavingOut.leads_to, Makings.{IsMadeStatus, MakesAt, MakesRequested, OpensRequested, TellsMaking, files_of, made_status, opens_outfile}}
 use Rattle.uimg_tool.specs.declared.request_fault.RequestFault.{RequestFault}
 use Rattle.uimg_tool.specs.declared.request_fault.RequestFault.TheVariants as request
-use Rattle.uimg_unpacking.specs.declared.file_id.FileId.{FileId}
+use Rattle.uimg_world.specs.declared.file_id.FileId.{FileId}
 
 -- a making that stopped has the status of its fault
 stopped : (asked : MakeRequest) (fault : Fault) (told : RequestFault) → StoppedAs asked fault told → request_status told ≡ fault_status fault
@@ -157,40 +156,3 @@ made_written device identities asked files end last s t is stays makes = record 
   is = subst (λ (n : ℕ). IsMadeStatus makes.made (opens_outfile identities asked makes.last) n) (sym is) makes.is;
   tells = written_tells asked makes.made end last makes.tells is stays;
 }
-
--- with the flush of what it printed
-pub answers : {K : Type 0} (device : K → Device) (identities : List ℕ → Option FileId) (asked : MakeRequest) (files : FileMap) (end : Result Status RequestFault) (printed : Result Unit Error) (status : ℕ) (s t : Sink) (old new : Option (List ℕ))
-    → MakesAt device identities asked files end s t → status ≡ end_status (end_printed end printed) → s.contents ≡ old → Keeps t.contents new → AnswersMaking device identities asked files status old new
-answers device identities asked files end (Err error) status s t old new makes is before after = inl is
-answers device identities asked files end (Ok flushes) status s t old new makes is before after = inr (record {
-  made = makes.made;
-  before = s;
-  after = t;
-  makes = makes.makes;
-  last = makes.last;
-  opens = makes.opens;
-  is = subst (λ (n : ℕ). IsMadeStatus makes.made (opens_outfile identities asked makes.last) n) (sym is) makes.is;
-  begins = before;
-  ends = after;
-})
-
-module _ {K V : Type 0} (device : K → Device) (contents : V → Option (List ℕ)) (asked : MakeRequest) (files : FileMap) (status : ℕ) (old new : Complaints V) where
-  end_told : (made : Result K Fault) (end : Result Status RequestFault) (s t : Sink) → MakesRequested device asked files.bytes made s t → TellsMaking asked made end → status ≡ end_status end
-      → ComplainsBetween contents (told_of_end end) old new → ComplainsMake contents device asked files status old new
-  end_told made end s t makes (inl failed) is told = inl (is ∙ failed)
-  end_told made end s t makes (inr (inl same)) is told =
-      inr (inl (is ∙ ap end_status same, subst (λ (it : Result Status RequestFault). ComplainsBetween contents (told_of_end it) old new) same told))
-  end_told made end s t makes (inr (inr tells)) is told = inr (inr (record {
-    made = made;
-    before = s;
-    after = t;
-    makes = makes;
-    is = is ∙ tells.0;
-    told = subst (λ (it : Option (Option (List ℕ))). ComplainsBetween contents it old new) tells.1 told;
-  }))
-
-  -- what is told of it, with the flush of what it printed
-  pub made_told : (identities : List ℕ → Option FileId) (end : Result Status RequestFault) (printed : Result Unit Error) (s t : Sink) → MakesAt device identities asked files end s t
-      → status ≡ end_status (end_printed end printed) → ComplainsBetween contents (told_of_end (end_printed end printed)) old new → ComplainsMake contents device asked files status old new
-  made_told identities end (Err error) s t makes is told = inl is
-  made_told identities end (Ok flushes) s t makes is told = end_told makes.made end s t makes.makes makes.tells is told

@@ -11,7 +11,7 @@ use Rattle.uimg_tool.specs.Writings.{WritesNew}
 use Rattle.uimg_tool.specs.declared.{old_files.Begun.Begun, request_fault.RequestFault.RequestFault}
 use Rattle.uimg_tool.specs.declared.safe_path.{SafePath.SafePath, Writing.Writing}
 use Rattle.uimg_tool.specs.declared.safe_path.Writing.TheVariants as writing
-use Rattle.uimg_unpacking.specs.declared.file_id.FileId.{FileId}
+use Rattle.uimg_world.specs.declared.file_id.FileId.{FileId}
 
 -- nothing is in a file that was created
 pub is_new : {F Z : Type 0} (contents : F → Option (List ℕ)) (result : Result (Writing F) Z) (file : F) (safe : SafePath) → result ≡ Ok (writing.Beside file safe)

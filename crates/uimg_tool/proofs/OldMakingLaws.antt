@@ -12,7 +12,9 @@ use Rattle.uimg_tool.specs.Writings.{WritesFor}
 use Rattle.uimg_tool.specs.declared.request_fault.RequestFault.{RequestFault}
 use Rattle.uimg_tool.specs.declared.safe_path.{SafePath.SafePath, Writing.Writing}
 use Rattle.uimg_tool.specs.declared.safe_path.Writing.TheVariants as writing
-use Rattle.uimg_unpacking.specs.Deeds.{Answer, Deed, Done, LendsShelf, Removes, Renames, changes}
+use Rattle.uimg_world.specs.Deeds.{Deed, LendsShelf, Removes, Renames, changes}
+use Rattle.uimg_world.specs.declared.call.Answer.{Answer}
+use Rattle.uimg_world.specs.declared.call.Answer.TheVariants.{Done}
 use Rattle.uimg_unpacking.specs.Naming.{is_done}
 
 pub made_beside : {F Z : Type 0} (path : List ℕ) (status : ℕ) (result : Result (Writing F) Z) (file : F) (safe : SafePath) (before begun after : List Deed) → result ≡ Ok (writing.Beside file safe)

@@ -1,7 +1,6 @@
 -- The image of a tree that a source spells is kept, by what a making answered.
-use Rattle.std.proofs.Common.{Global, ◌≡◌, ◌≤◌, ◌⊎◌, ◌++◌, inl, inr, ℕ, List, [], length, drop, Option, Some, Result, Ok, Err, Bool, true, false, IsTrue, refl, ap, subst, sym, ◌∙◌, arith}
+use Rattle.std.proofs.Common.{◌≡◌, inl, inr, ℕ, List, [], length, drop, Option, Ok, Bool, true, false, IsTrue, ap, subst, sym, ◌∙◌}
 use Rattle.std.proofs.Math.Seq.{drop-append_seam}
-use Rattle.std.specs.Prelude.{◌&&◌, ◌==◌}
 use Rattle.uimg_base.specs.{Device.Device, Named.{FileMap, SameFiles}}
 use Rattle.uimg_blob_reading.specs.Plain.{Nodes}
 use Rattle.uimg_blob_writing.specs.Content.{AreKept, Unread, in_full}
@@ -16,7 +15,7 @@ use Rattle.uimg_requests.specs.Requests.{AsksSource, folder_of}
 use Rattle.uimg_requests.specs.declared.make_command.MakeCommand.{MakeCommand, TheVariants.{Parts, Tree}}
 use Rattle.uimg_tool.proofs.KnownLaws.{alone, some_is}
 use Rattle.uimg_tool.specs.KnownSources.{HasText}
-use Rattle.uimg_tool.specs.LeavingOut.{in_folder}
+use Rattle.uimg_tool.specs.LeavingOut.{in_folder, seen_in}
 use Rattle.uimg_tool.specs.TreesMade.{BuildsPath, BuildsText, KeepsAsked, KeepsEither, KeepsFilled, KeepsIn, KeepsKnown, KeepsTree, MakesFrom, MakesKept}
 use Rattle.uimg_tool.specs.declared.tree_program.TreeRequest.{TreeRequest}
 
@@ -60,7 +59,7 @@ builds_path there new asked command folder path text a b status asks at same has
     (text_at command folder path asked.placement a.bytes text asks (has honest none) t here))
 
 -- what holds over the files of a folder of a world that lent what opens them
-pub over_folder : (files lent here : FileMap) (folder : List ℕ) (others : ℕ) (u : Unread) (P : Nodes → Type 0) → SameFiles files lent → here ≡ record { bytes = in_folder folder lent.bytes; honest = lent.honest && others == 0; complete = false; refusals = 0; opened = [] }
+pub over_folder : (files lent here : FileMap) (folder : List ℕ) (others : ℕ) (u : Unread) (P : Nodes → Type 0) → SameFiles files lent → here ≡ seen_in folder others lent
     → (IsTrue here.honest → AreKept here.bytes u → P (in_full here.bytes u)) → IsTrue files.honest → others ≡ 0 → AreKept (in_folder folder files.bytes) u → P (in_full (in_folder folder files.bytes) u)
 over_folder files lent here folder others u P same is claim honest none kept =
     let true_here = subst (λ (m : FileMap). IsTrue m.honest) (sym is) (alone lent.honest others (same.honest ∙ honest) none) in

@@ -3,8 +3,8 @@ use Rattle.std.proofs.Common.{◌≡◌, ◌⊎◌, inl, inr, ℕ, List, [], ◌
 use mathlib.Core.List.{append_assoc}
 use Rattle.std.proofs.lemmas.List.Folds.{list_all-append}
 use Rattle.uimg_unpacking.proofs.Placing.{no_more, stays_naming}
-use Rattle.uimg_unpacking.specs.Deeds.{Deed, Opens, Identifies, changes, changes_only}
-use Rattle.uimg_unpacking.specs.declared.file_id.FileId.{FileId}
+use Rattle.uimg_world.specs.Deeds.{Deed, Opens, Identifies, changes, changes_only}
+use Rattle.uimg_world.specs.declared.file_id.FileId.{FileId}
 use Rattle.std.specs.Prelude.{Option, Some, None}
 use Rattle.std.specs.Borrow.{Bor}
 use Rattle.uimg_base.specs.Named.{FileMap, SameFiles}

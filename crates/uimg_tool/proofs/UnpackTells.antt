@@ -7,11 +7,10 @@ use Rattle.uimg_checks.specs.declared.judging.Terms.{Terms}
 use Rattle.uimg_engine.specs.Headline.{is_fit}
 use Rattle.uimg_verifying.specs.declared.required.Required.{Required}
 use Rattle.uimg_requests.specs.declared.command.Form.TheVariants as form
-use Rattle.uimg_tool.specs.{Complaints.ComplainsBetween, EndingStatuses.{HasEndingStatus, ending_status}, Unpackings.{signed_terms, unpacking_of}}
-use Rattle.uimg_tool.specs.UnpackComplaints.{ComplainsImage, EndsAsked, EndsAt, EndsIn, EndsOver, EndsSigned, EndsUnsigned, told_of_unpacking}
-use Rattle.uimg_tool.specs.declared.complaints.Complaints.{Complaints}
+use Rattle.uimg_tool.specs.{EndingStatuses.{HasEndingStatus, ending_status}, Unpacked.TellsImage, Unpackings.{signed_terms, unpacking_of}}
+use Rattle.uimg_tool.specs.UnpackComplaints.{EndsAsked, EndsAt, EndsIn, EndsOver, EndsSigned, EndsUnsigned, told_of_unpacking}
 use Rattle.uimg_tool.specs.declared.unpack_answers.Ending.{Ending}
-use Rattle.uimg_unpacking.specs.declared.file_id.FileId.{FileId}
+use Rattle.uimg_world.specs.declared.file_id.FileId.{FileId}
 use Rattle.uimg_unpacking.specs.declared.unpacking.Unpacking.{Unpacking}
 
 -- The definition does not ask which file the image is.
@@ -43,16 +42,16 @@ by_json json false end status is has = without (has_status end status (has is)) 
   without (inl failed) = inl failed
   without (inr same) = inr (λ _. same)
 
-module _ {V : Type 0} (contents : V → Option (List ℕ)) (files : FileMap) (asked : UnpackRequest) (keys : Option Required) (path : Bor (List ℕ)) (end : Ending) (status : ℕ) (old new : Complaints V) where
+module _ (files : FileMap) (asked : UnpackRequest) (keys : Option Required) (path : Bor (List ℕ)) (end : Ending) (status : ℕ) (told : Option (Option (List ℕ))) where
   both : EndsAsked files asked keys path end → (status ≡ 3) ⊎ (asked.as_json ≡ false → status ≡ ending_status end)
-      → (status ≡ 3) ⊎ ComplainsBetween contents (told_of_unpacking path.now asked.as_json end) old new → ComplainsImage contents files asked keys (Some path) status old new
-  both ends (inl failed) told = inl failed
+      → (status ≡ 3) ⊎ (told ≡ told_of_unpacking path.now asked.as_json end) → (status ≡ 3) ⊎ TellsImage files asked keys (Some path) status told
+  both ends (inl failed) tells = inl failed
   both ends (inr is) (inl failed) = inl failed
-  both ends (inr is) (inr told) = inr (record { end = end; ends = ends; is = is; told = told })
+  both ends (inr is) (inr tells) = inr (record { end = end; ends = ends; is = is; tells = tells })
 
   pub image_told : EndsAsked files asked keys path end → (asked.as_json ≡ false → HasEndingStatus end status)
-      → (status ≡ 3) ⊎ ComplainsBetween contents (told_of_unpacking path.now asked.as_json end) old new → ComplainsImage contents files asked keys (Some path) status old new
-  image_told ends has told = both ends (by_json asked.as_json asked.as_json end status refl has) told
+      → (status ≡ 3) ⊎ (told ≡ told_of_unpacking path.now asked.as_json end) → (status ≡ 3) ⊎ TellsImage files asked keys (Some path) status told
+  image_told ends has tells = both ends (by_json asked.as_json asked.as_json end status refl has) tells
 
 -- the same of files that are the same
 ends_same : (old_files new_files : FileMap) (asked : UnpackRequest) (keys : Option Required) (path : Bor (List ℕ)) (end : Ending) → SameFiles old_files new_files → EndsAsked new_files asked keys path end → EndsAsked old_files asked keys path end
@@ -62,15 +61,16 @@ ends_same old_files new_files asked keys path end same (inl (inr ends)) =
 ends_same old_files new_files asked keys path end same (inr ends) =
     inr (ends.0, sym (ap (λ (bytes : List ℕ → Option (List ℕ)). bytes path.now) same.bytes) ∙ ends.1, ends.2)
 
-files_same : {V : Type 0} (contents : V → Option (List ℕ)) (old_files new_files : FileMap) (asked : UnpackRequest) (keys : Option Required) (image : Option (Bor (List ℕ))) (status : ℕ) (old new : Complaints V) → SameFiles old_files new_files
-    → ComplainsImage contents new_files asked keys image status old new → ComplainsImage contents old_files asked keys image status old new
-files_same contents old_files new_files asked keys None status old new same told = told
-files_same contents old_files new_files asked keys (Some path) status old new same (inl failed) = inl failed
-files_same contents old_files new_files asked keys (Some path) status old new same (inr told) =
-    inr (record { end = told.end; ends = ends_same old_files new_files asked keys path told.end same told.ends; is = told.is; told = told.told })
+pub image_same : (old_files new_files : FileMap) (asked : UnpackRequest) (keys : Option Required) (image : Option (Bor (List ℕ))) (status : ℕ) (told : Option (Option (List ℕ))) → SameFiles old_files new_files
+    → TellsImage new_files asked keys image status told → TellsImage old_files asked keys image status told
+image_same old_files new_files asked keys None status told same tells = tells
+image_same old_files new_files asked keys (Some path) status told same tells =
+    record { end = tells.end; ends = ends_same old_files new_files asked keys path tells.end same tells.ends; is = tells.is; tells = tells.tells }
 
--- .. and where nothing was told before
-pub image_same : {V : Type 0} (contents : V → Option (List ℕ)) (old_files new_files : FileMap) (asked : UnpackRequest) (keys : Option Required) (image : Option (Bor (List ℕ))) (status : ℕ) (old middle new : Complaints V) → SameFiles old_files new_files
-    → middle ≡ old → ComplainsImage contents new_files asked keys image status middle new → ComplainsImage contents old_files asked keys image status old new
-image_same {V} contents old_files new_files asked keys image status old middle new same silent told =
-    subst (λ (before : Complaints V). ComplainsImage contents old_files asked keys image status before new) silent (files_same contents old_files new_files asked keys image status middle new same told)
+-- Where the folder is cleaned before, nothing is said.
+pub unless_cleaned : {P Q : Type 0} (cleans is : Bool) (status : ℕ) → cleans ≡ is → (cleans ≡ false → (status ≡ 3) ⊎ Q) → (cleans ≡ false → Q → P) → (status ≡ 3) ⊎ (cleans ≡ false → P)
+unless_cleaned cleans true status is given so = inr (λ kept. absurd (true≢false (sym is ∙ kept)))
+unless_cleaned {P = P} {Q = Q} cleans false status is given so = each (given is) where
+  each : (status ≡ 3) ⊎ Q → (status ≡ 3) ⊎ (cleans ≡ false → P)
+  each (inl failed) = inl failed
+  each (inr told) = inr (λ kept. so kept told)

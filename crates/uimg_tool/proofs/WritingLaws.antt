@@ -1,7 +1,9 @@
 -- What a path leads to, and what is created beside it.
-use Rattle.std.proofs.Common.{◌≡◌, ℕ, ◌+◌, List, ◌∷◌, ◌++◌, Result, Ok, Err, ap, subst, sym, ◌∙◌, codes, decimal, string_bytes}
+use Rattle.std.proofs.Common.{◌≡◌, ℕ, ◌+◌, List, ◌∷◌, Result, Ok, Err, ap, subst, sym, ◌∙◌}
 use Rattle.std.specs.declared.io.Error.{Error}
-use Rattle.uimg_unpacking.specs.Deeds.{Answer, Creates, Deed, Exists}
+use Rattle.uimg_world.specs.Deeds.{Creates, Deed}
+use Rattle.uimg_world.specs.declared.call.Answer.{Answer}
+use Rattle.uimg_world.specs.declared.call.Answer.TheVariants.{Exists}
 use Rattle.uimg_tool.proofs.BesideLaws.{next_tried}
 use Rattle.uimg_tool.specs.Writings.{CreatesBeside, IsAt, IsFile, LeadsTo, beside, tried}
 use Rattle.uimg_tool.specs.declared.safe_path.NewBeside.{NewBeside}

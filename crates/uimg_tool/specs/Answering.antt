@@ -1,18 +1,18 @@
--- What a command answers of the file at a path: an exit status, and a text on its output.
+-- How a command ends: an exit status, what is told on standard error, and what its output has before and
+-- after it, if contracts know that. Of a line that is told the text is given, unless it has a reason of the
+-- system.
 use Rattle.std.specs.Prelude.{◌≡◌, ◌⊎◌, ℕ, List, Option, Some}
-use Rattle.std.specs.Io.KnownBytes.{Appends}
 use Rattle.uimg_base.specs.Named.{FileMap}
 
--- The status is that of a failure, or there is a file at the path whose bytes have this answer: a
--- status, and what the output has before and after, if contracts know it.
-abbrev pub AnswersBy : FileMap → List ℕ → (List ℕ → ℕ → Option (List ℕ) → Option (List ℕ) → Type 0) → ℕ → Option (List ℕ) → Option (List ℕ) → Type 0
-AnswersBy files path Answer status old new =
-    (status ≡ 3) ⊎ ((file : List ℕ) × (files.bytes path ≡ Some file) × Answer file status old new)
+-- what may be meant: of a status, what is told, and an output
+abbrev pub Meant : Type 1
+Meant = ℕ → Option (Option (List ℕ)) → (old new : Option (List ℕ)) → Type 0
 
--- a status and a text are those of a file by definitions
-abbrev pub IsAnswer : (List ℕ → ℕ) → (List ℕ → List ℕ) → List ℕ → ℕ → Option (List ℕ) → Option (List ℕ) → Type 0
-IsAnswer status_of text_of file status old new = (status ≡ status_of file) × Appends old new (text_of file)
+-- What is meant came to be, unless the status is that of a failure.
+abbrev pub Comes : Meant → Meant
+Comes Means status told old new = (status ≡ 3) ⊎ Means status told old new
 
--- the same where definitions give the status and the text
-abbrev pub AnswersAs : FileMap → List ℕ → (List ℕ → ℕ) → (List ℕ → List ℕ) → ℕ → Option (List ℕ) → Option (List ℕ) → Type 0
-AnswersAs files path status_of text_of status old new = AnswersBy files path (IsAnswer status_of text_of) status old new
+-- what the file at a path means
+abbrev pub OfFile : FileMap → List ℕ → (List ℕ → Meant) → Meant
+OfFile files path Means status told old new =
+    (file : List ℕ) × (files.bytes path ≡ Some file) × Means file status told old new

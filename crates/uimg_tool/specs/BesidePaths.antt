@@ -1,7 +1,9 @@
 -- Files that are written beside their names.
 use Rattle.std.specs.Prelude.{◌≡◌, ℕ, List, ◌∷◌, ◌++◌, codes, Bool, true, false}
 use Rattle.std.specs.{List.list_all, Option.option_map_or}
-use Rattle.uimg_unpacking.specs.Deeds.{Answer, Done, Deed, Removes, Renames}
+use Rattle.uimg_world.specs.Deeds.{Deed, Removes, Renames}
+use Rattle.uimg_world.specs.declared.call.Answer.{Answer}
+use Rattle.uimg_world.specs.declared.call.Answer.TheVariants.{Done}
 use Rattle.uimg_unpacking.specs.Naming.{is_done}
 use Rattle.uimg_unpacking.specs.Places.{behind, is_digit}
 

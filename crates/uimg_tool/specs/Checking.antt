@@ -1,13 +1,15 @@
 -- The whole of a check: its status is the greatest of those that are answered.
-use Rattle.std.specs.Prelude.{◌≡◌, ◌⊎◌, ℕ, List, ◌∷◌, Option, Some, None, IfSome, IsTrue, true, false, ◌||◌, if◌then◌else◌, option_map}
-use Rattle.std.specs.Borrow.{Bor}
+use Rattle.std.specs.Prelude.{◌≡◌, ℕ, List, ◌∷◌, Option, Some, None, IfSome, IsTrue, Bool, true, false, ◌||◌, option_map}
+use Rattle.std.specs.{Borrow.Bor, Io.KnownBytes.Keeps}
 use Rattle.uimg_base.specs.Named.{FileMap}
 use Rattle.uimg_checks.specs.declared.judging.Terms.{Terms}
 use Rattle.uimg_cli.specs.declared.command_line.{check.CheckRequest.CheckRequest, keys.KeyRequest.KeyRequest}
 use Rattle.uimg_keys.specs.{Keys.HasKeys, declared.keys.Keys.Keys}
-use Rattle.uimg_tool.specs.Checks.{AnswersAll, Told}
-use Rattle.uimg_tool.specs.declared.check_keys.Keyed.{Keyed}
-use Rattle.uimg_unpacking.specs.Deeds.{Deed, Opens}
+use Rattle.uimg_cli.specs.FaultTexts.{text_of}
+use Rattle.uimg_cli.specs.declared.command_line.words_fault.WordsFault.TheVariants.{NoImages}
+use Rattle.uimg_tool.specs.{Answering.Meant, Checks.{AnswersAll, Told}}
+use Rattle.uimg_tool.specs.declared.keys.Keyed.{Keyed}
+use Rattle.uimg_world.specs.Deeds.{Deed, Opens}
 use Rattle.uimg_verifying.specs.{Configurations.only_of, declared.required.Required.Required}
 
 abbrev pub nothing_told : Option (List ℕ) → List Deed → Told
@@ -32,23 +34,21 @@ KeysAt files (Some asked) None = ⊥
 KeysAt files (Some asked) (Some required) = (read : Keys) × IsRequired asked read required
     × (IsTrue files.honest → IfSome (files.bytes asked.path.now) (λ file. HasKeys file read))
 
--- the status if they cannot be read
-abbrev pub KeysFail : Option KeyRequest → ℕ → Type 0
-KeysFail None status = ⊥
-KeysFail (Some asked) status = status ≡ 3
-
 -- what was opened, after the file of keys was
 abbrev pub keys_read : Option KeyRequest → List Deed → List Deed
 keys_read None trace = trace
 keys_read (Some asked) trace = Opens asked.path.now true ∷ trace
 
--- Unless the status is 3, all images are answered, each by the file at its path, and nothing else is
--- opened but the file of names. If there is no image, the words are wrong unless none is allowed.
-abbrev pub AnswersKeyed : FileMap → Keyed → ℕ → (before after : Option (List ℕ)) → (asked_before asked_after : List Deed) → Type 0
-AnswersKeyed files asked status before after asked_before asked_after = (status ≡ 3)
-    ⊎ ((last : Told) × AnswersAll files asked (nothing_told before asked_before) last
-    × (last.text ≡ after) × (last.trace ≡ asked_after)
-    × (status ≡ (if last.has_checked || asked.request.now.allows_none then last.greatest else 2)))
+-- If there is no image, the command line is wrong unless none is allowed, which is told.
+abbrev pub EndsWith : (is_enough : Bool) → (greatest status : ℕ) → Option (Option (List ℕ)) → Type 0
+EndsWith true greatest status told = (status ≡ greatest) × (told ≡ None)
+EndsWith false greatest status told = (status ≡ 2) × (told ≡ Some (Some (text_of NoImages)))
+
+-- All images are answered, each by the file at its path, and nothing else is opened but the file of names.
+abbrev pub ChecksBy : Keyed → FileMap → (before after : List Deed) → Meant
+ChecksBy asked files before after status told old new =
+    (last : Told) × AnswersAll files asked (nothing_told old before) last × (last.trace ≡ after)
+    × EndsWith (last.has_checked || asked.request.now.allows_none) last.greatest status told × Keeps last.text new
 
 -- what a request asks of an image, with these keys
 abbrev pub terms_of : CheckRequest → Option Required → Terms
@@ -61,9 +61,7 @@ terms_of asked required = record {
 }
 
 -- The same with the keys of the file of keys, which is opened before, if there is one.
-abbrev pub AnswersRequest : FileMap → CheckRequest → ℕ → (before after : Option (List ℕ)) → (asked_before asked_after : List Deed) → Type 0
-AnswersRequest files asked status before after asked_before asked_after = (status ≡ 3)
-    ⊎ ((keyed : Keyed) × (keyed.request.now ≡ asked)
-    × (keyed.terms ≡ terms_of asked keyed.terms.required)
-    × KeysAt files asked.key keyed.terms.required
-    × AnswersKeyed files keyed status before after (keys_read asked.key asked_before) asked_after)
+abbrev pub MeansCheck : CheckRequest → FileMap → (before after : List Deed) → Meant
+MeansCheck asked files before after status told old new = (keyed : Keyed) × (keyed.request.now ≡ asked)
+    × (keyed.terms ≡ terms_of asked keyed.terms.required) × KeysAt files asked.key keyed.terms.required
+    × ChecksBy keyed files (keys_read asked.key before) after status told old new

@@ -1,14 +1,15 @@
 -- The checks of many images: what is answered of each, in order.
 use Rattle.std.specs.Prelude.{◌≡◌, ◌⊎◌, ℕ, max, List, [], ◌∷◌, map, codes, Option, Some, None, Bool, true, false, ◌&&◌, if◌then◌else◌, IsTrue, IfSome}
-use Rattle.std.specs.{Borrow.Bor, Io.{Buffered.writer_contents, KnownBytes.Appends}, List.list_all, Str.bytes_eq}
+use Rattle.std.specs.{Borrow.Bor, Io.KnownBytes.Appends, List.list_all, Str.bytes_eq}
 use Rattle.uimg_base.specs.Named.{FileMap}
 use Rattle.uimg_checks.specs.Answers.{answer_status, answer_word}
 use Rattle.uimg_checks.specs.declared.answer.Answer.{Answer}
-use Rattle.uimg_tool.specs.declared.check_keys.Keyed.{Keyed}
+use Rattle.uimg_tool.specs.declared.keys.Keyed.{Keyed}
 use Rattle.uimg_checks.specs.{CheckEnds.Shows, Verdicts.verdict_of}
 use Rattle.uimg_tool.specs.{AnswerTexts.answer_text, Paths.{is_name, paths_in}}
-use Rattle.uimg_tool.specs.declared.check_program.Checks.{Checks}
-use Rattle.uimg_unpacking.specs.Deeds.{Deed, Done, Explains, Opens, Reads}
+use Rattle.uimg_tool.specs.declared.checks.Checks.{Checks}
+use Rattle.uimg_world.specs.Deeds.{Deed, Explains, Opens, Reads}
+use Rattle.uimg_world.specs.declared.call.Answer.TheVariants.{Done}
 
 -- The greatest status so far, whether any image was checked, what the output has, if contracts know
 -- it, and what the world was asked.
@@ -18,11 +19,11 @@ pub record Told : Type 0 where
   pub text : Option (List ℕ)
   pub trace : List Deed
 
-abbrev pub told : {W : Type 0} → (W → Option (List ℕ)) → Checks W → List Deed → Told
-told contents checks trace = record {
+abbrev pub told : Checks → Option (List ℕ) → List Deed → Told
+told checks text trace = record {
   greatest = checks.greatest;
   has_checked = checks.has_checked;
-  text = writer_contents contents checks.out;
+  text = text;
   trace = trace;
 }
 

@@ -2,15 +2,16 @@
 use Rattle.std.specs.Prelude.{◌≡◌, ◌⊎◌, ℕ, List, ◌∷◌, Bool, true, false, Option, Some, None}
 use Rattle.std.specs.Borrow.{Bor}
 use Rattle.uimg_cli.specs.declared.command_line.map.MapRequest.{MapRequest}
-use Rattle.uimg_tool.specs.Extracting.{IsSame, looked}
+use Rattle.uimg_tool.specs.Images.{Compares}
 use Rattle.uimg_tool.specs.Writings.{CreatesNew, CreatesNone, IsAt, IsInPlace, StopsTrying}
-use Rattle.uimg_unpacking.specs.Allowing.{is_image}
-use Rattle.uimg_unpacking.specs.Deeds.{Answer, Deed, Done, Explains, Finds, Looks, Opens, Overwrites, Removes, changes}
-use Rattle.uimg_unpacking.specs.Kinds.{is_something}
+use Rattle.uimg_world.specs.Deeds as deed
+use Rattle.uimg_world.specs.Deeds.{Deed, Explains, Finds, Looks, Opens, Removes, changes}
+use Rattle.uimg_world.specs.declared.call.Answer.{Answer}
+use Rattle.uimg_world.specs.declared.call.Answer.TheVariants.{Done}
+use Rattle.uimg_world.specs.Kinds.{is_something}
 use Rattle.uimg_unpacking.specs.Naming.{GivesName, is_done}
-use Rattle.uimg_unpacking.specs.declared.file_id.FileId.{FileId}
-use Rattle.uimg_unpacking.specs.declared.kind.Kind.{Kind}
-use Rattle.uimg_unpacking.specs.declared.kind.Target.TheVariants as target
+use Rattle.uimg_world.specs.declared.kind.Kind.{Kind}
+use Rattle.uimg_world.specs.declared.kind.Target.TheVariants as target
 
 -- A path is looked at. A file there is replaced, and so is what exists though it leads nowhere; a pipe
 -- or a device is written to.
@@ -26,12 +27,16 @@ pub data NamesPicture (new whole : List ℕ) (is_forced : Bool) (before after : 
   unnamed : (answer removed : Answer) (seen : List Deed) → is_done answer ≡ false → GivesName new whole is_forced answer before seen → after ≡ Removes new removed ∷ seen → NamesPicture new whole is_forced before after
   unfinished : (removed : Answer) → after ≡ Removes new removed ∷ before → NamesPicture new whole is_forced before after
 
+-- the file at a path was created or emptied, or could not be
+abbrev pub Overwrites : List ℕ → (before after : List Deed) → Type 0
+Overwrites path before after = (answer : Answer) × (after ≡ deed.Overwrites path answer ∷ before)
+
 -- A picture is written to a new file beside the one that its path leads to, which gets that path; or in
 -- place, to a device or a pipe. Nothing is changed if the new file cannot be created.
 pub data DrawsTo (path : List ℕ) (is_forced : Bool) (before after : List Deed) : Type 0 where
   beside_it : (whole new : List ℕ) (seen begun : List Deed) → IsAt path whole before seen → CreatesNew whole new seen begun → NamesPicture new whole is_forced begun after → DrawsTo path is_forced before after
-  in_place : (answer : Answer) (seen : List Deed) → IsInPlace path before seen → after ≡ Overwrites path answer ∷ seen → DrawsTo path is_forced before after
-  to_pipe : (answer : Answer) → after ≡ Overwrites path answer ∷ Finds path target.Pipe ∷ before → DrawsTo path is_forced before after
+  in_place : (seen : List Deed) → IsInPlace path before seen → Overwrites path seen after → DrawsTo path is_forced before after
+  to_pipe : Overwrites path (Finds path target.Pipe ∷ before) after → DrawsTo path is_forced before after
   uncreated : (whole : List ℕ) (seen : List Deed) → IsAt path whole before seen → CreatesNone whole seen after → DrawsTo path is_forced before after
   no_memory : (whole : List ℕ) (seen : List Deed) → IsAt path whole before seen → (seen ≡ after) ⊎ StopsTrying whole seen after → DrawsTo path is_forced before after
 
@@ -45,8 +50,8 @@ pub data DrawsUnlessTaken (path : List ℕ) (is_forced : Bool) (before after : L
 pub data Draws (image path : List ℕ) (is_forced : Bool) (before after : List Deed) : Type 0 where
   unread : after ≡ Explains image ∷ Opens image false ∷ before → Draws image path is_forced before after
   unmapped : after ≡ Opens image true ∷ before → Draws image path is_forced before after
-  same : IsSame image path (Opens image true ∷ before) after → Draws image path is_forced before after
-  apart : (one two : Option FileId) → is_image one two ≡ false → DrawsUnlessTaken path is_forced (looked image path one two (Opens image true ∷ before)) after → Draws image path is_forced before after
+  same : Compares path image true (Opens image true ∷ before) after → Draws image path is_forced before after
+  apart : (seen : List Deed) → Compares path image false (Opens image true ∷ before) seen → DrawsUnlessTaken path is_forced seen after → Draws image path is_forced before after
 
 -- What a map asks of a world: lines change no file.
 abbrev pub AsksToMap : MapRequest → Option (Bor (List ℕ)) → (before after : List Deed) → Type 0

@@ -12,9 +12,9 @@ use Rattle.uimg_engine.specs.declared.fault.Fault.{Fault, TheVariants.Legacy}
 use Rattle.uimg_checks.specs.Objects.{format_if}
 use Rattle.uimg_printing.specs.Members.{Member, object_of, number_if, number_member, string_member, text_members}
 use Rattle.uimg_checks.specs.{CheckEnds.{format_of, offset_of}, FaultStatuses.fault_status}
-use Rattle.uimg_tool.specs.JsonLines.{shown_line}
-use Rattle.uimg_tool.specs.declared.info_program.Stop.{Stop as NoFacts}
-use Rattle.uimg_tool.specs.declared.info_program.Stop.TheVariants as stop
+use Rattle.uimg_tool.specs.{Answering.Meant, JsonLines.shown_line}
+use Rattle.uimg_tool.specs.declared.facts.Stop.{Stop as NoFacts}
+use Rattle.uimg_tool.specs.declared.facts.Stop.TheVariants as stop
 
 -- the object of a legacy image with this header at a path, or its first fault
 abbrev pub facts_with : List ℕ → List ℕ → Header → Result Json LegacyFault
@@ -78,11 +78,10 @@ abbrev pub TellsFacts : List ℕ → Result Json Fault → ℕ → List ℕ → 
 TellsFacts path (Ok told) status text = (status ≡ 0) × IsTextOf told text
 TellsFacts path (Err fault) status text = (status ≡ 1) × IsRefusal path fault text
 
--- the same for the facts of a file, with the text as a line
-abbrev pub IsFactsAnswer : List ℕ → List ℕ → ℕ → Option (List ℕ) → Option (List ℕ) → Type 0
-IsFactsAnswer path file status old new =
-    (text : List ℕ) × TellsFacts path (facts_of path file) status text
-    × Appends old new (shown_line text)
+-- the same for the facts of a file, with the text as a line, and nothing is told
+abbrev pub IsFacts : List ℕ → List ℕ → Meant
+IsFacts path file status told old new = (told ≡ None) × ((text : List ℕ)
+    × TellsFacts path (facts_of path file) status text × Appends old new (shown_line text))
 
 -- A status and a text are those of the facts of the file at a path, unless the status is that of a
 -- failure.

@@ -1,6 +1,7 @@
 -- How a file that was written beside its name ends, by its paths.
 use Rattle.std.specs.Prelude.{◌≡◌, List, Bool, string_bytes}
-use Rattle.uimg_unpacking.specs.Deeds.{Answer, Deed, changes}
+use Rattle.uimg_world.specs.Deeds.{Deed, changes}
+use Rattle.uimg_world.specs.declared.call.Answer.{Answer}
 use Rattle.uimg_tool.specs.BesidePaths.{Finishes}
 use Rattle.uimg_tool.specs.declared.safe_path.SafePath.{SafePath}
 

@@ -4,8 +4,8 @@ use Rattle.uimg_fit_checking.specs.declared.surveying.fault.SurveyFault.{SurveyF
 use Rattle.uimg_fit_checking.specs.declared.surveying.fault.SurveyFault.TheVariants as survey
 use Rattle.uimg_legacy.specs.declared.placing.PartsFault.{PartsFault}
 use Rattle.uimg_legacy.specs.declared.placing.PartsFault.TheVariants as parts
-use Rattle.uimg_tool.specs.declared.info_program.Stop.{Stop}
-use Rattle.uimg_tool.specs.declared.info_program.Stop.TheVariants as stop
+use Rattle.uimg_tool.specs.declared.facts.Stop.{Stop}
+use Rattle.uimg_tool.specs.declared.facts.Stop.TheVariants as stop
 
 -- a survey of a FIT image that stopped
 abbrev pub stop_of_survey : SurveyFault → Stop

@@ -4,7 +4,7 @@ use Rattle.std.specs.declared.io.Error.{Error}
 use Rattle.uimg_base.specs.declared.status.Status.{Status}
 use Rattle.uimg_tool.specs.declared.request_fault.RequestFault.{RequestFault}
 use Rattle.uimg_tool.specs.declared.request_fault.RequestFault.TheVariants as request
-use Rattle.uimg_tool.specs.declared.requests.Made.{Made}
+use Rattle.uimg_tool.specs.declared.made.Made.{Made}
 
 -- A text that could not be printed comes before what ended the request.
 abbrev pub end_printed : Result Status RequestFault → Result ⊤ Error → Result Status RequestFault

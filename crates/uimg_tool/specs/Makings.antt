@@ -1,5 +1,5 @@
 -- The answer of a build, over the files of a world.
-use Rattle.std.specs.Prelude.{◌≡◌, ◌⊎◌, ℕ, List, [], Option, Result, Ok, Err, Bool, true, false, is_err}
+use Rattle.std.specs.Prelude.{◌≡◌, ◌⊎◌, ℕ, List, Option, Result, Ok, Err, Bool, true, false, is_err}
 use Rattle.std.specs.{Io.KnownBytes.Keeps, List.list_any}
 use Rattle.uimg_base.specs.{Device.Device, Named.FileMap, Sink.Sink}
 use Rattle.uimg_base.specs.declared.status.Status.{Status}
@@ -7,19 +7,13 @@ use Rattle.uimg_engine.specs.{Commands.MakesCommandBetween, OpenedFiles.OpensCom
 use Rattle.uimg_engine.specs.declared.fault.Fault.{Fault}
 use Rattle.uimg_requests.specs.declared.requests.MakeRequest.{MakeRequest}
 use Rattle.uimg_checks.specs.FaultStatuses.{fault_status}
-use Rattle.uimg_tool.specs.{FaultTexts.{told_of_end, told_of_made}, LeavingOut.{in_folder, leads_to}, Statuses.end_status}
+use Rattle.uimg_tool.specs.{FaultTexts.{told_of_end, told_of_made}, LeavingOut.{in_folder, leads_to, seen_in}, Statuses.end_status}
 use Rattle.uimg_tool.specs.declared.request_fault.RequestFault.{RequestFault, TheVariants.WritesWhatIsRead}
-use Rattle.uimg_unpacking.specs.declared.file_id.FileId.{FileId}
+use Rattle.uimg_world.specs.declared.file_id.FileId.{FileId}
 
 -- the files of the folder of a request, none of them opened
 abbrev pub files_of : MakeRequest → FileMap → FileMap
-files_of asked files = record {
-  bytes = in_folder asked.folder.now files.bytes;
-  honest = files.honest;
-  complete = false;
-  refusals = 0;
-  opened = [];
-}
+files_of asked files = seen_in asked.folder.now 0 files
 
 -- The requested making opens all files of its definition, in order, or the first ones if it failed.
 abbrev pub OpensRequested : {K : Type 0} → MakeRequest → Result K Fault → FileMap → FileMap → Type 0
@@ -80,6 +74,3 @@ pub record AnswersMade {K : Type 0} (device : K → Device) (identities : List �
   -- what the output had, and has
   pub begins : before.contents ≡ old
   pub ends : Keeps after.contents new
-
-abbrev pub AnswersMaking : {K : Type 0} → (K → Device) → (List ℕ → Option FileId) → MakeRequest → FileMap → ℕ → (old new : Option (List ℕ)) → Type 0
-AnswersMaking device identities asked files status old new = (status ≡ 3) ⊎ AnswersMade device identities asked files status old new

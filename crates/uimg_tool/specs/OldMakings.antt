@@ -7,10 +7,11 @@ use Rattle.uimg_base.specs.declared.status.Status.{Status}
 use Rattle.uimg_requests.specs.declared.requests.MakeRequest.{MakeRequest}
 use Rattle.uimg_tool.specs.{Finishing.FinishesBy, Makings.{AnswersMade, MakesAt}, Statuses.end_status}
 use Rattle.uimg_tool.specs.Writings.{CreatesNew, CreatesNone, IsAt, IsInPlace, StopsTrying}
-use Rattle.uimg_tool.specs.declared.{old_files.{Begun.Begun, How.How}, request_fault.RequestFault.RequestFault, safe_path.SafePath.SafePath}
-use Rattle.uimg_unpacking.specs.Deeds.{Deed, Done, Explains, Finds, LendsShelf, Opens, Renames, changes}
-use Rattle.uimg_unpacking.specs.declared.file_id.FileId.{FileId}
-use Rattle.uimg_unpacking.specs.declared.kind.Target.TheVariants as target
+use Rattle.uimg_tool.specs.declared.{old_files.{Begun.Begun}, request_fault.RequestFault.RequestFault, safe_path.SafePath.SafePath}
+use Rattle.uimg_world.specs.Deeds.{Deed, Explains, Finds, LendsShelf, Opens, Renames, changes}
+use Rattle.uimg_world.specs.declared.call.Answer.TheVariants.{Done}
+use Rattle.uimg_world.specs.declared.file_id.FileId.{FileId}
+use Rattle.uimg_world.specs.declared.kind.Target.TheVariants as target
 
 -- A shelf is lent in the file at a path, and no file is changed otherwise; or a making failed before that.
 abbrev pub LendsAt : List ℕ → (has_failed : Bool) → (before after : List Deed) → Type 0

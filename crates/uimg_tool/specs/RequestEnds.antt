@@ -1,43 +1,15 @@
 -- How a request ends: which faults it can have, and that each names a path of the command line.
-use Rattle.std.specs.Prelude.{◌≡◌, ⊤, ◌⊎◌, ℕ, List, [], map, slice_get, Some, None, Result, Ok, Err, Bool, true, false}
+use Rattle.std.specs.Prelude.{◌≡◌, ⊤, ◌⊎◌, ℕ, List, [], map, slice_get, Some, Result, Ok, Err, Bool, true, false}
 use Rattle.std.specs.Borrow.{Bor}
 use Rattle.uimg_base.specs.declared.status.Status.{Status, TheVariants.Done}
-use Rattle.uimg_engine.specs.Faults.{is_of_making}
 use Rattle.uimg_engine.specs.declared.fault.Fault.{Fault}
 use Rattle.uimg_engine.specs.declared.fault.Fault.TheVariants as engine
 use Rattle.uimg_fit_base.specs.declared.fault.FitFault.TheVariants as fit
 use Rattle.uimg_requests.specs.declared.make_command.MakeCommand.{MakeCommand}
 use Rattle.uimg_requests.specs.declared.make_command.MakeCommand.TheVariants.{Parts, Tree}
-use Rattle.uimg_requests.specs.declared.requests.{MakeRequest.MakeRequest, RunRequest.RunRequest}
+use Rattle.uimg_requests.specs.declared.requests.{MakeRequest.MakeRequest}
 use Rattle.uimg_tool.specs.declared.request_fault.RequestFault.{RequestFault}
 use Rattle.uimg_tool.specs.declared.request_fault.RequestFault.TheVariants as request
-
--- a command on an open image: it stops by no fault of a making
-abbrev pub OverEnds : Result Status RequestFault → Type 0
-OverEnds (Ok status) = ⊤
-OverEnds (Err (request.Stopped fault)) = is_of_making {X = ⊤} (Err fault) ≡ false
-OverEnds (Err fault) = ⊥
-
--- a file that cannot be written, at a path
-abbrev pub IsUnwritten : Bor (List ℕ) → RequestFault → Type 0
-IsUnwritten path (request.CannotWrite told reason) = told ≡ path
-IsUnwritten path fault = ⊥
-
--- A failed write to the file of a command is told with the file's path. It stops by no fault of a
--- making.
-abbrev pub StopsRun : RunRequest → Fault → Type 0
-StopsRun asked engine.Put = asked.outfile ≡ None
-StopsRun asked fault = is_of_making {X = ⊤} (Err fault) ≡ false
-
--- a command on an image
-abbrev pub RunEnds : RunRequest → Result Status RequestFault → Type 0
-RunEnds asked (Ok status) = ⊤
-RunEnds asked (Err (request.CannotRead path)) = path ≡ asked.image
-RunEnds asked (Err (request.WritesWhatIsRead path)) = asked.outfile ≡ Some path
-RunEnds asked (Err (request.CannotWrite path reason)) = asked.outfile ≡ Some path
-RunEnds asked (Err (request.NotPut path reason)) = asked.outfile ≡ Some path
-RunEnds asked (Err (request.Stopped fault)) = StopsRun asked fault
-RunEnds asked (Err fault) = ⊥
 
 -- The path is the source's, or the name of the file of a number, or none if there is no such name.
 abbrev pub IsFileOf : MakeCommand → List ℕ → ℕ → List ℕ → Type 0
@@ -86,12 +58,6 @@ TreeEnds image (Err (request.NotPut path reason)) = path ≡ image
 TreeEnds image (Err request.OutOfMemory) = ⊤
 TreeEnds image (Err (request.Stopped fault)) = ⊤
 TreeEnds image (Err fault) = ⊥
-
--- the printing of a text
-abbrev pub ShowEnds : Result Status RequestFault → Type 0
-ShowEnds (Ok status) = status ≡ Done
-ShowEnds (Err (request.NotPrinted reason)) = ⊤
-ShowEnds (Err fault) = ⊥
 
 -- The end is about the source, whose text or tree is refused, and not about the image.
 abbrev pub is_about_source : Result Status RequestFault → Bool

@@ -1,5 +1,5 @@
 -- What an unpacking prints on standard error, over the files of a world.
-use Rattle.std.specs.Prelude.{◌≡◌, ⊤, ◌⊎◌, ℕ, List, codes, Bool, true, false, IsTrue, is_some, Option, Some, None, if◌then◌else◌}
+use Rattle.std.specs.Prelude.{◌≡◌, ◌⊎◌, ℕ, List, codes, Bool, true, false, IsTrue, is_some, Option, Some, None, if◌then◌else◌}
 use Rattle.std.specs.Borrow.{Bor}
 use Rattle.uimg_base.specs.Named.{FileMap}
 use Rattle.uimg_cli.specs.declared.command_line.unpack.UnpackRequest.{UnpackRequest}
@@ -7,19 +7,17 @@ use Rattle.uimg_engine.specs.{FaultTexts.text_of, Headline.is_fit}
 use Rattle.uimg_requests.specs.declared.command.Form.TheVariants as form
 use Rattle.uimg_checks.specs.{CheckEnds.Shows, Lines.answer_line, Verdicts.verdict_of, declared.{answer.Answer.Answer, judging.Terms.Terms}}
 use Rattle.uimg_verifying.specs.declared.required.Required.{Required}
-use Rattle.uimg_tool.specs.{Checking.{KeysAt, KeysFail}, Complaints.ComplainsBetween, EndingStatuses.ending_status, Statuses.is_of_command, UnpackEnds.{end_of, end_of_parts}, Unpackings.{signed_terms, unpacking_of}}
-use Rattle.uimg_tool.specs.declared.complaints.Complaints.{Complaints}
+use Rattle.uimg_tool.specs.{EndingStatuses.ending_status, Statuses.is_of_command, UnpackEnds.end_of, Unpackings.{signed_terms, unpacking_of}}
 use Rattle.uimg_tool.specs.declared.unpack_answers.Ending.{Ending}
 use Rattle.uimg_tool.specs.declared.unpack_answers.Ending.TheVariants as ending
 use Rattle.uimg_unpacking.specs.Ends.{EndsByFile}
-use Rattle.uimg_unpacking.specs.declared.part_unpacking.PartsEnded.{PartsEnded}
 use Rattle.uimg_unpacking.specs.declared.unpacking.Ended.{Ended}
 use Rattle.uimg_unpacking.specs.declared.unpacking.Unpacking.{Unpacking}
 
 -- How the unpacking of a file can end: for a FIT image, unless something fails, as the definition says.
 abbrev pub EndsIn : Bool → Unpacking → List ℕ → Ending → Type 0
 EndsIn true asked file end = (ended : Ended) × (end ≡ end_of ended) × EndsByFile asked file ended
-EndsIn false asked file end = (ended : PartsEnded) × (end ≡ end_of_parts ended)
+EndsIn false asked file end = (ended : Ended) × (end ≡ end_of ended)
 
 -- Or a read of it failed.
 abbrev pub EndsOver : Unpacking → List ℕ → Ending → Type 0
@@ -65,24 +63,3 @@ told_beside_object end = None
 abbrev pub told_of_unpacking : List ℕ → Bool → Ending → Option (Option (List ℕ))
 told_of_unpacking path true end = told_beside_object end
 told_of_unpacking path false end = told_of_ending path end
-
--- What is told is that of how the unpacking of the file at a path ended. Without JSON the status is that of it, too.
-pub record ComplainsUnpacked {V : Type 0} (contents : V → Option (List ℕ)) (files : FileMap) (asked : UnpackRequest)
-    (keys : Option Required) (path : Bor (List ℕ)) (status : ℕ) (old new : Complaints V) : Type 0 where
-  pub end : Ending
-  pub ends : EndsAsked files asked keys path end
-  pub is : asked.as_json ≡ false → status ≡ ending_status end
-  pub told : ComplainsBetween contents (told_of_unpacking path.now asked.as_json end) old new
-
--- the same of the image of a request, unless the status is 3; without an image nothing is told
-abbrev pub ComplainsImage : {V : Type 0} → (V → Option (List ℕ)) → FileMap → UnpackRequest → Option Required → Option (Bor (List ℕ)) → ℕ → (old new : Complaints V) → Type 0
-ComplainsImage contents files asked keys None status old new = ComplainsBetween contents None old new
-ComplainsImage contents files asked keys (Some path) status old new =
-    (status ≡ 3) ⊎ ComplainsUnpacked contents files asked keys path status old new
-
--- The same with the keys of the file of keys, if there is one, or that cannot be read. Where the folder is cleaned
--- before, this is not said.
-abbrev pub ComplainsUnpack : {V : Type 0} → (V → Option (List ℕ)) → FileMap → UnpackRequest → ℕ → (old new : Complaints V) → Type 0
-ComplainsUnpack contents files asked status old new =
-    asked.cleans ≡ false → KeysFail asked.key status ⊎ ((keys : Option Required) × KeysAt files asked.key keys
-    × ComplainsImage contents files asked keys asked.image status old new)

@@ -8,26 +8,19 @@ use Rattle.uimg_fit_checking.specs.declared.checking.Finding.TheVariants as find
 use Rattle.uimg_tool.specs.Statuses.{trouble_status}
 use Rattle.uimg_engine.specs.Faults.{of_fit, of_legacy}
 use Rattle.uimg_unpacking.specs.declared.unpacking.Ended.{Ended}
-use Rattle.uimg_unpacking.specs.declared.unpacking.Ended.TheVariants as fit
-use Rattle.uimg_unpacking.specs.declared.part_unpacking.PartsEnded.{PartsEnded}
-use Rattle.uimg_unpacking.specs.declared.part_unpacking.PartsEnded.TheVariants as legacy
+use Rattle.uimg_unpacking.specs.declared.unpacking.Ended.TheVariants as ended
 use Rattle.uimg_tool.specs.declared.unpack_answers.Ending.{Ending}
 use Rattle.uimg_tool.specs.declared.unpack_answers.Ending.TheVariants as ending
 
--- the end of a FIT image's
+-- the same with the fault of either format as that of any
 abbrev pub end_of : Ended → Ending
-end_of fit.Kept = ending.Told Done
-end_of fit.Refused = ending.Told NotRight
-end_of fit.NoImage = ending.NoImage
-end_of (fit.Stopped fault) = ending.Stopped (of_fit fault)
-end_of (fit.Troubled trouble) = ending.Troubled trouble
-
--- the end of a legacy image's
-abbrev pub end_of_parts : PartsEnded → Ending
-end_of_parts legacy.Kept = ending.Told Done
-end_of_parts legacy.Weak = ending.Weak
-end_of_parts (legacy.Stopped fault) = ending.Stopped (of_legacy fault)
-end_of_parts (legacy.Troubled trouble) = ending.Troubled trouble
+end_of ended.Kept = ending.Told Done
+end_of ended.Refused = ending.Told NotRight
+end_of ended.NoImage = ending.NoImage
+end_of ended.Weak = ending.Weak
+end_of (ended.Stopped fault) = ending.Stopped (of_fit fault)
+end_of (ended.StoppedLegacy fault) = ending.Stopped (of_legacy fault)
+end_of (ended.Troubled trouble) = ending.Troubled trouble
 
 -- what is answered where the end of an unpacking is told by no line
 abbrev pub AnswersEnding : Ending → Answer → Type 0

@@ -8,19 +8,18 @@ use Rattle.uimg_checks.specs.declared.answer.Answer.{Answer, TheVariants.{Found}
 use Rattle.uimg_checks.specs.declared.answer.Configurations.TheVariants.{Signed}
 use Rattle.uimg_checks.specs.declared.judging.Terms.{Terms}
 use Rattle.uimg_requests.specs.declared.command.Form.TheVariants as form
-use Rattle.uimg_tool.specs.{Checking.{KeysAt, KeysFail, keys_read}, Leavings.LeavesImage}
 use Rattle.uimg_verifying.specs.{Configurations.unsigned_of, Covering.uncovered_of, declared.required.Required.Required}
-use Rattle.uimg_unpacking.specs.{Deeds.{Deed, Identifies, Opens, changes}, Ends.{asked_name, end_of_file}, Filling.{FillsIf, takes_of}, PartEnds.KeepsRight, PartFilling.FillsParts, Places.{Obeys, terms_of}}
-use Rattle.uimg_unpacking.specs.declared.file_id.FileId.{FileId}
-use Rattle.uimg_unpacking.specs.declared.part_unpacking.PartsEnded.TheVariants as legacy
-use Rattle.uimg_unpacking.specs.declared.unpacking.Ended.TheVariants as fit
+use Rattle.uimg_unpacking.specs.{Ends.{asked_name, end_of_file}, Filling.{FillsIf, takes_of}, PartEnds.KeepsRight, PartFilling.FillsParts, Places.{Obeys, terms_of}}
+use Rattle.uimg_world.specs.Deeds.{Deed, Identifies, Opens, changes}
+use Rattle.uimg_world.specs.declared.file_id.FileId.{FileId}
+use Rattle.uimg_unpacking.specs.declared.unpacking.Ended.TheVariants.{Kept}
 use Rattle.uimg_unpacking.specs.declared.unpacking.Unpacking.{Unpacking}
 
 -- By the definition, all that is asked for is right: the payloads of a FIT image, or the data and some
 -- parts of a legacy image.
 abbrev pub IsRightIn : Bool → Unpacking → List ℕ → Type 0
-IsRightIn true asked file = end_of_file asked file ≡ fit.Kept
-IsRightIn false asked file = KeepsRight asked file legacy.Kept
+IsRightIn true asked file = end_of_file asked file ≡ Kept
+IsRightIn false asked file = KeepsRight asked file Kept
 
 abbrev pub IsRight : Unpacking → List ℕ → Type 0
 IsRight asked file = IsRightIn (is_fit form.Guess file) asked file
@@ -101,17 +100,3 @@ KeepsAt files keys path before after =
 abbrev pub KeepsImage : FileMap → Option Required → Option (Bor (List ℕ)) → (before after : List Deed) → Type 0
 KeepsImage files keys None before after = changes after ≡ changes before
 KeepsImage files keys (Some path) before after = KeepsAt files keys path.now before after
-
--- Files are changed only if the keys sign the image. The status is 0 only if all that is asked for is right. At status 1
--- or 2 a FIT image leaves the folder as it was.
-pub record UnpacksBy (files : FileMap) (asked : UnpackRequest) (keys : Option Required) (status : ℕ) (before after : List Deed) : Type 0 where
-  pub kept : KeepsImage files keys asked.image before after
-  pub right : status ≡ 0 → RightAt files asked keys asked.image before after
-  pub left : LeavesImage files asked asked.image status before after
-
--- The keys are those of the file of keys, which is opened before, if there is one. Or it cannot be read, and no file is
--- changed. Where the folder is cleaned before, this is not said.
-abbrev pub AnswersUnpacking : FileMap → UnpackRequest → ℕ → (before after : List Deed) → Type 0
-AnswersUnpacking files asked status before after = asked.cleans ≡ false
-    → (KeysFail asked.key status × (changes after ≡ changes before))
-    ⊎ ((keys : Option Required) × KeysAt files asked.key keys × UnpacksBy files asked keys status (keys_read asked.key before) after)

@@ -1,11 +1,12 @@
 -- Where the file for a path is written, and the requests to the world that find this.
 use Rattle.std.specs.Prelude.{◌≡◌, ⊤, ◌⊎◌, ◌<◌, ◌+◌, ℕ, zero, suc, List, [], ◌∷◌, ◌++◌, codes, decimal, Option, Some, None, Result, Ok, Err, Bool, true, false, string_bytes}
 use Rattle.std.specs.declared.io.Error.{Error}
-use Rattle.uimg_unpacking.specs.Deeds.{Deed, Creates, Done, Exists, Failed, Finds, Looks, Resolves}
-use Rattle.uimg_unpacking.specs.Kinds.{is_something}
-use Rattle.uimg_unpacking.specs.declared.kind.Kind.{Kind}
-use Rattle.uimg_unpacking.specs.declared.kind.Kind.TheVariants as kind
-use Rattle.uimg_unpacking.specs.declared.kind.Target.TheVariants as target
+use Rattle.uimg_world.specs.Deeds.{Deed, Creates, Finds, Looks, Resolves}
+use Rattle.uimg_world.specs.declared.call.Answer.TheVariants.{Done, Exists, Failed}
+use Rattle.uimg_world.specs.Kinds.{is_something}
+use Rattle.uimg_world.specs.declared.kind.Kind.{Kind}
+use Rattle.uimg_world.specs.declared.kind.Kind.TheVariants as kind
+use Rattle.uimg_world.specs.declared.kind.Target.TheVariants as target
 use Rattle.uimg_tool.specs.declared.safe_path.NewBeside.{NewBeside}
 use Rattle.uimg_tool.specs.declared.safe_path.Writing.{Writing}
 use Rattle.uimg_tool.specs.declared.safe_path.Writing.TheVariants as writing

@@ -2,21 +2,22 @@
 
 ghost use Rattle.std.specs.Prelude.{◌≡◌};
 ghost use Rattle.uimg_tool.specs.{Complaints.Ends, OldMakings.MakesWithin};
-ghost use Rattle.uimg_unpacking.specs.Deeds.{changes};
+ghost use Rattle.uimg_world.specs.Deeds.{changes};
 
 use crate::complaints::Complaints;
 use crate::dts_program::make_compiled;
 use crate::fit_program::is_key;
+use crate::folder_files::FolderFiles;
 use crate::known_sources::unread;
+use crate::lookup::Folders;
 use crate::old_files::{about_end, tell_end};
 use crate::request_fault::WRONG_LINE;
-use crate::searched_files::SearchedFiles;
 use crate::tree_program::TreeRequest;
 use std::io::Write;
 use uimg_compat::{AutoRequest, AutoSource, OldFault};
 use uimg_engine::Fault;
 use uimg_its::compile;
-use uimg_unpacking::{MakingWorld, World};
+use uimg_world::{MakingWorld, World};
 
 /// What faults call the source.
 const SOURCE_NAME: &str = "-f auto";
@@ -57,7 +58,8 @@ fn make_of_source<'p, D: MakingWorld<'p>, W: Write, V: Write>(
     if write!(text, "{}", request.source).is_err() {
         return complaints.tell_no_memory();
     }
-    let mut files = SearchedFiles::new(world.reader(), alloc, "", &[], request.outfile);
+    let folders = Folders::new(world.reader(), alloc, "", &[], request.outfile);
+    let mut files = FolderFiles::<_, ()>::new(folders, false);
     let compiled = compile(alloc, &text, &mut files);
     drop(text);
     match compiled {
@@ -98,47 +100,17 @@ fn tree_request<'p>(request: &AutoRequest<'p>) -> TreeRequest<'p, 'p>
 fn unread_file<'a, D: World>(world: &mut D, source: &AutoSource<'a>) -> Option<&'a str>
     ensures { changes (D.trace world.new) ≡ changes (D.trace world.old) }
 {
-    match unless_opened(world, source.data) {
-        Some(path) => Some(path),
-        None => unread_part(world, source),
+    if world.open(source.data).is_err() {
+        return Some(source.data);
     }
-}
-
-fn unread_part<'a, D: World>(world: &mut D, source: &AutoSource<'a>) -> Option<&'a str>
-    ensures { changes (D.trace world.new) ≡ changes (D.trace world.old) }
-{
-    match unread_tree(world, source) {
-        Some(path) => Some(path),
-        None => unread_ramdisk(world, source),
-    }
-}
-
-fn unread_tree<'a, D: World>(world: &mut D, source: &AutoSource<'a>) -> Option<&'a str>
-    ensures { changes (D.trace world.new) ≡ changes (D.trace world.old) }
-{
     let mut left = source.trees();
     while let Some(path) = left.take() {
         if world.open(path).is_err() {
             return Some(path);
         }
     }
-    None
-}
-
-fn unread_ramdisk<'a, D: World>(world: &mut D, source: &AutoSource<'a>) -> Option<&'a str>
-    ensures { changes (D.trace world.new) ≡ changes (D.trace world.old) }
-{
     match source.ramdisk {
-        Some(path) => unless_opened(world, path),
-        None => None,
-    }
-}
-
-fn unless_opened<'a, D: World>(world: &mut D, path: &'a str) -> Option<&'a str>
-    ensures { changes (D.trace world.new) ≡ changes (D.trace world.old) }
-{
-    match world.open(path) {
-        Ok(_) => None,
-        Err(_) => Some(path),
+        Some(path) if world.open(path).is_err() => Some(path),
+        _ => None,
     }
 }

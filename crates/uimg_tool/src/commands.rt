@@ -1,210 +1,153 @@
-//! Carries out a request of `uimg` over a world of files. Returns its end as a line and an exit
-//! status.
+//! What a command of `uimg` does: it opens what the request names, and runs an engine over it. What
+//! that comes to is told in one place.
 
-ghost use Rattle.std.specs.Prelude.{◌≡◌, ◌≢◌, ◌∷◌, [], IsTrue};
-ghost use Rattle.std.specs.Io.Buffered.{writer_buffer, writer_contents, writer_inner};
-ghost use Rattle.uimg_tool.specs.Complaining.{ComplainsAsked, ComplainsMake, ComplainsNot, ComplainsOne, ComplainsRun};
-ghost use Rattle.uimg_tool.specs.{Commands.{AnswersAsked, AnswersImage, AnswersOne, Changes, ChangesOne, Flushes}, Complaints.{Complains, Ends}, FaultTexts.told_of_end, Statuses.end_status};
-ghost use Rattle.uimg_tool.specs.{Extracting.AsksToRun, Makings.AnswersMaking, Running.AnswersShow};
-ghost use Rattle.uimg_unpacking.specs.Deeds.{Deed};
+ghost use Rattle.std.specs.Prelude.{◌≡◌, ◌≤◌, ◌⊎◌, IfOk, IsTrue};
+ghost use Rattle.std.specs.Io.{Buffered.writer_contents, KnownBytes.Keeps};
+ghost use Rattle.uimg_tool.specs.{Answering.Comes, FaultTexts.{told_of_complaint, told_of_end, told_of_exit}, Statuses.{closing_status, end_status, exit_status, request_status}};
+ghost use Rattle.uimg_tool.specs.Commands.{Changes, ChangesOne, Guards, IsShown, Means, MeansOne};
+ghost use Rattle.uimg_tool.specs.Complaints.{ComplainsBetween, Ends};
 
-use crate::check_program::check_images;
-use crate::complaints::{Complaints, is_closed};
-use crate::info_program::tell_facts;
+use crate::checks::check_images;
+use crate::complaint::{Complaint, told};
+use crate::complaints::{Complaints, is_closed, unprinted};
+use crate::facts::tell_facts;
+use crate::images::run_image;
 use crate::making::make_in;
-use crate::map_program::map_image;
-use crate::request_fault::{DONE, FAILED, REFUSED, RequestFault, status_of};
-use crate::requests::{Made, run_command, show};
-use crate::unpack_program::unpack_image;
+use crate::maps::map_image;
+use crate::request_fault::{DONE, REFUSED, RequestFault};
+use crate::unpacks::unpack_image;
 use std::alloc::Global;
 use std::fmt::Display;
+use std::io;
 use std::io::{BufWriter, Write};
 use uimg_base::{Out, Status};
 use uimg_cli::{Asked, Request};
-use uimg_requests::{MakeRequest, RunRequest};
-use uimg_unpacking::{MakingWorld, World};
+use uimg_world::MakingWorld;
 
-/// Returns the status and what `out` buffers for.
-pub(crate) fn carry_out_asked<'a, D: MakingWorld<'a>, W: Write + Drop, V: Write>(
+/// Carries out a request. Returns its status or a complaint, and `out`.
+pub(crate) fn run<'x, 'a, D: MakingWorld<'a>, W: Write + Drop>(
     world: &mut D,
-    asked: &Asked<'a>,
-    out: BufWriter<W, Global>,
+    asked: &'x Asked<'a>,
+    mut out: W,
+) -> (Result<u8, Complaint<'x>>, W)
+    ensures most { IfOk result.0 (λ status. status ≤ 3) }
+    ensures changes { Changes asked.now (D.trace world.old) (D.trace world.new) }
+    ensures guards { Guards asked.now (D.map world.old) (closing_status result.0)
+        (D.trace world.old) (D.trace world.new) }
+    ensures means { IsTrue (D.map world.old).honest → Comes (Means D.Shelf.Kept.device
+        (D.identities world.old) asked.now (D.map world.old) (D.trace world.old)
+        (D.trace world.new)) (closing_status result.0) (told_of_complaint result.0)
+        (W.contents out) (W.contents result.1) }
+{
+    match asked {
+        Asked::One(request) => {
+            let (end, out) = run_one(world, request, out);
+            (told(end), out)
+        }
+        Asked::Check(request) => {
+            let end = check_images(world, request, &mut out);
+            (told(end), out)
+        }
+        Asked::Unpack(request) => {
+            let end = unpack_image(world, request, &mut out);
+            (end, out)
+        }
+        Asked::Map(request) => {
+            let end = map_image(world, request, &mut out);
+            (told(end), out)
+        }
+        Asked::Info(request) => {
+            let end = tell_facts(world, request, &mut out);
+            (told(end), out)
+        }
+    }
+}
+
+// The request is a command on one image, a build, or a text to print.
+fn run_one<'x, 'a, D: MakingWorld<'a>, W: Write>(
+    world: &mut D,
+    request: &'x Request<'a>,
+    mut out: W,
+) -> (Result<u8, RequestFault<'x>>, W)
+    ensures most { IfOk result.0 (λ status. status ≤ 3) }
+    ensures changes { ChangesOne request.now (D.trace world.old) (D.trace world.new) }
+    ensures means { IsTrue (D.map world.old).honest → Comes (MeansOne D.Shelf.Kept.device
+        (D.identities world.old) request.now (D.map world.old) (D.trace world.old)
+        (D.trace world.new)) (exit_status result.0) (told_of_exit result.0) (W.contents out)
+        (W.contents result.1) }
+{
+    match request {
+        Request::Run(request) => {
+            let (end, out) = run_image(world, request, out);
+            (exit_of(end), out)
+        }
+        Request::Make(request) => {
+            let mut listing = Out::new(out);
+            let end = make_in(world, request, &mut listing);
+            (exit_of(end), listing.into_inner())
+        }
+        Request::Show(text) => {
+            let end = show(text, &mut out);
+            (end, out)
+        }
+    }
+}
+
+fn exit_of<'a>(end: Result<Status, RequestFault<'a>>) -> Result<u8, RequestFault<'a>>
+    ensures most { IfOk result (λ status. status ≤ 3) }
+    ensures status { exit_status result ≡ end_status end.entry }
+    ensures told { told_of_exit result ≡ told_of_end end.entry }
+{
+    match end {
+        Ok(Status::Done) => Ok(DONE),
+        Ok(Status::NotRight) => Ok(REFUSED),
+        Err(fault) => Err(fault),
+    }
+}
+
+// Prints help or the version.
+fn show<'a, D: Display, W: Write>(text: &D, out: &mut W) -> Result<u8, RequestFault<'a>>
+    ensures most { IfOk result (λ status. status ≤ 3) }
+    ensures means { Comes IsShown (exit_status result) (told_of_exit result) (W.contents out.old)
+        (W.contents out.new) }
+{
+    match write!(out, "{text}") {
+        Ok(()) => Ok(DONE),
+        Err(error) => Err(RequestFault::NotPrinted(error)),
+    }
+}
+
+/// Ends a request: writes what is buffered, tells a fault in a line, and returns the status and what
+/// `out` buffers for.
+pub(crate) fn close<W: Write + Drop, V: Write>(
+    asked: &Asked<'_>,
+    end: Result<u8, Complaint<'_>>,
+    mut out: BufWriter<W, Global>,
     complaints: &mut Complaints<'_, V>,
 ) -> (u8, W)
-    requires { writer_buffer out ≡ [] }
+    requires { IfOk end (λ status. status ≤ 3) }
     ensures ends { Ends result.0 complaints.old.count complaints.new.count }
-    ensures told { IsTrue (D.map world.old).honest → AnswersAsked D.File.contents
-        D.Shelf.Kept.device (D.identities world.old) asked.now (D.map world.old) result.0
-        (W.contents (writer_inner out)) (W.contents result.1) (D.trace world.old)
-        (D.trace world.new) }
-    ensures changed { Changes asked.now (D.trace world.old) (D.trace world.new) }
-    ensures line { IsTrue (D.map world.old).honest → ComplainsAsked V.contents
-        D.Shelf.Kept.device asked.now (D.map world.old) result.0 complaints.old
-        complaints.new }
+    ensures closed { (result.0 ≡ 3) ⊎ ((result.0 ≡ closing_status end.entry)
+        × ComplainsBetween V.contents (told_of_complaint end.entry) complaints.old complaints.new
+        × Keeps (writer_contents W.contents out) (W.contents result.1)) }
 {
-    let (status, out) = carry_out_buffered(world, asked, out, complaints);
+    let end = match out.flush() {
+        Ok(()) => end,
+        Err(error) => Err(Complaint::Request(unflushed(asked, error))),
+    };
+    let status = complaints.tell_end(&end);
     // A failed write leaves text in the buffer, which its drop would try to write again.
     let (out, _) = out.into_parts();
     (status, out)
 }
 
-fn carry_out_buffered<'a, D: MakingWorld<'a>, W: Write + Drop, V: Write>(
-    world: &mut D,
-    asked: &Asked<'a>,
-    mut out: BufWriter<W, Global>,
-    complaints: &mut Complaints<'_, V>,
-) -> (u8, BufWriter<W, Global>)
-    requires { writer_buffer out ≡ [] }
-    ensures ends { Ends result.0 complaints.old.count complaints.new.count }
-    ensures told { IsTrue (D.map world.old).honest → AnswersAsked D.File.contents
-        D.Shelf.Kept.device (D.identities world.old) asked.now (D.map world.old) result.0
-        (writer_contents W.contents out) (writer_contents W.contents result.1)
-        (D.trace world.old) (D.trace world.new) }
-    ensures flushed { Flushes asked.now result.0 (writer_buffer result.1) }
-    ensures changed { Changes asked.now (D.trace world.old) (D.trace world.new) }
-    ensures line { IsTrue (D.map world.old).honest → ComplainsAsked V.contents
-        D.Shelf.Kept.device asked.now (D.map world.old) result.0 complaints.old
-        complaints.new }
+// If the reader has closed the output, only commands on one image tell that.
+fn unflushed<'a>(asked: &Asked<'_>, error: io::Error) -> RequestFault<'a>
+    ensures { request_status result ≡ 3 }
 {
     match asked {
-        Asked::One(request) => carry_out_one(world, request, out, complaints),
-        Asked::Check(request) => check_images(world, request, out, complaints),
-        Asked::Unpack(request) => {
-            let status = unpack_image(world, request, &mut out, complaints);
-            (status, out)
-        }
-        Asked::Map(request) => {
-            let status = map_image(world, request, &mut out, complaints);
-            (status, out)
-        }
-        Asked::Info(request) => {
-            let status = tell_facts(world, request, &mut out, complaints);
-            (status, out)
-        }
-    }
-}
-
-// The request is a command on one image, a build, or a text to print. Returns `out`, too.
-fn carry_out_one<'a, D: MakingWorld<'a>, W: Write + Drop, V: Write>(
-    world: &mut D,
-    request: &Request<'a>,
-    out: BufWriter<W, Global>,
-    complaints: &mut Complaints<'_, V>,
-) -> (u8, BufWriter<W, Global>)
-    ensures ends { Ends result.0 complaints.old.count complaints.new.count }
-    ensures told { IsTrue (D.map world.old).honest → AnswersOne D.File.contents
-        D.Shelf.Kept.device (D.identities world.old) request.now (D.map world.old) result.0
-        (writer_contents W.contents out) (writer_contents W.contents result.1)
-        (D.trace world.old) (D.trace world.new) }
-    ensures flushed { result.0 ≢ 3 → writer_buffer result.1 ≡ [] }
-    ensures changed { ChangesOne request.now (D.trace world.old) (D.trace world.new) }
-    ensures line { IsTrue (D.map world.old).honest → ComplainsOne V.contents
-        D.Shelf.Kept.device request.now (D.map world.old) result.0 complaints.old
-        complaints.new }
-{
-    match request {
-        Request::Run(request) => run_image(world, request, out, complaints),
-        Request::Make(request) => make_one(world, request, out, complaints),
-        Request::Show(text) => show_text(text, out, complaints),
-    }
-}
-
-fn run_image<D: World, W: Write + Drop, V: Write>(
-    world: &mut D,
-    request: &RunRequest<'_>,
-    out: BufWriter<W, Global>,
-    complaints: &mut Complaints<'_, V>,
-) -> (u8, BufWriter<W, Global>)
-    ensures ends { Ends result.0 complaints.old.count complaints.new.count }
-    ensures told { IsTrue (D.map world.old).honest → AnswersImage D.File.contents
-        request.now.outfile request.now (D.map world.old) result.0
-        (writer_contents W.contents out) (writer_contents W.contents result.1)
-        (D.trace world.old) (D.trace world.new) }
-    ensures flushed { result.0 ≢ 3 → writer_buffer result.1 ≡ [] }
-    ensures asks { AsksToRun request.now request.now.outfile (D.trace world.old)
-        (D.trace world.new) }
-    ensures line { IsTrue (D.map world.old).honest → ComplainsRun V.contents request.now
-        (D.map world.old) result.0 complaints.old complaints.new }
-{
-    let mut out = Out::new(out);
-    let end = run_command(world, request, &mut out);
-    let mut out = out.into_inner();
-    let made = Made {
-        end,
-        printed: out.flush(),
-    };
-    (tell_end(&made.told(), complaints), out)
-}
-
-fn make_one<'a, D: MakingWorld<'a>, W: Write + Drop, V: Write>(
-    world: &mut D,
-    request: &MakeRequest<'a>,
-    out: BufWriter<W, Global>,
-    complaints: &mut Complaints<'_, V>,
-) -> (u8, BufWriter<W, Global>)
-    ensures ends { Ends result.0 complaints.old.count complaints.new.count }
-    ensures told { IsTrue (D.map world.old).honest → AnswersMaking D.Shelf.Kept.device
-        (D.identities world.old) request.now (D.map world.old) result.0
-        (writer_contents W.contents out) (writer_contents W.contents result.1) }
-    ensures flushed { result.0 ≢ 3 → writer_buffer result.1 ≡ [] }
-    ensures lent { D.trace world.new
-        ≡ Deed.LendsShelf request.now.outfile.now ∷ Deed.LendsReader ∷ D.trace world.old }
-    ensures line { IsTrue (D.map world.old).honest → ComplainsMake V.contents
-        D.Shelf.Kept.device request.now (D.map world.old) result.0 complaints.old
-        complaints.new }
-{
-    let mut out = Out::new(out);
-    let end = make_in(world, request, &mut out);
-    let mut out = out.into_inner();
-    let made = Made {
-        end,
-        printed: out.flush(),
-    };
-    (tell_end(&made.told(), complaints), out)
-}
-
-// Prints help or the version. A closed output is not reported.
-fn show_text<D: Display, W: Write + Drop, V: Write>(
-    text: &D,
-    mut out: BufWriter<W, Global>,
-    complaints: &mut Complaints<'_, V>,
-) -> (u8, BufWriter<W, Global>)
-    ensures ends { Ends result.0 complaints.old.count complaints.new.count }
-    ensures told { AnswersShow (D.output text.now) result.0 (writer_contents W.contents out)
-        (writer_contents W.contents result.1) }
-    ensures flushed { result.0 ≢ 3 → writer_buffer result.1 ≡ [] }
-    ensures line { ComplainsNot V.contents result.0 complaints.old complaints.new }
-{
-    let made = Made {
-        end: show(text, &mut out),
-        printed: out.flush(),
-    };
-    let end = made.told();
-    if is_unread(&end) {
-        return (FAILED, out);
-    }
-    (tell_end(&end, complaints), out)
-}
-
-// The request ended because the reader has closed the output.
-fn is_unread(end: &Result<Status, RequestFault<'_>>) -> bool {
-    match end {
-        Err(RequestFault::NotPrinted(error)) => is_closed(error),
-        _ => false,
-    }
-}
-
-fn tell_end<V: Write>(
-    end: &Result<Status, RequestFault<'_>>,
-    complaints: &mut Complaints<'_, V>,
-) -> u8
-    ensures status { result ≡ end_status end.now }
-    ensures ends { Ends result complaints.old.count complaints.new.count }
-    ensures line { Complains V.contents (told_of_end end.now) complaints }
-{
-    match end {
-        Ok(Status::Done) => DONE,
-        Ok(Status::NotRight) => REFUSED,
-        Err(fault) => complaints.tell(fault, status_of(fault)),
+        Asked::One(Request::Show(_)) if is_closed(&error) => RequestFault::Closed,
+        Asked::One(_) => RequestFault::NotPrinted(error),
+        _ => unprinted(error),
     }
 }

@@ -1,16 +1,18 @@
 //! Standard error, which has one line for a fault.
 
-ghost use Rattle.std.specs.{Prelude.{◌≡◌, ◌∷◌, ◌+◌, ◌-◌, ◌^◌, ◌≤◌, None, Some, codes, false, min}, IoError.error_kind};
-ghost use Rattle.uimg_tool.specs.Complaints.{AddsText, Complains, is_closed_pipe};
-ghost use Rattle.uimg_unpacking.specs.Deeds.{Deed};
+ghost use Rattle.std.specs.{Prelude.{◌≡◌, ◌∷◌, ◌+◌, ◌-◌, ◌^◌, ◌≤◌, IfOk, None, Some, codes, false, min}, IoError.error_kind};
+ghost use Rattle.uimg_tool.specs.{FaultTexts.{told_of, told_of_complaint}, Statuses.{closing_status, request_status}};
+ghost use Rattle.uimg_tool.specs.Complaints.{AddsText, Complains, Ends, is_closed_pipe};
+ghost use Rattle.uimg_world.specs.Deeds.{Deed};
 ghost use Rattle.uimg_base.specs.Named.{SameFiles};
 
+use crate::complaint::{Complaint, status_of_complaint};
 use crate::request_fault::{FAILED, RequestFault};
 use std::fmt::Display;
 use std::io;
 use std::io::{ErrorKind, Write};
 use uimg_printing::Printed;
-use uimg_unpacking::World;
+use uimg_world::World;
 
 /// Standard error of a program. The program's name begins each line of a fault. Failed writes are
 /// ignored.
@@ -64,6 +66,20 @@ impl<'a, V: Write> Complaints<'a, V> {
         }
     }
 
+    /// Tells how a command ended, if that is a fault. Returns the status.
+    pub(crate) fn tell_end(&mut self, end: &Result<u8, Complaint<'_>>) -> u8
+        requires { IfOk end.now (λ status. status ≤ 3) }
+        ensures status { result ≡ closing_status end.now }
+        ensures ends { Ends result self.old.count self.new.count }
+        ensures line { Complains V.contents (told_of_complaint end.now) self }
+    {
+        match end {
+            Ok(status) => *status,
+            Err(Complaint::Request(RequestFault::Closed)) => FAILED,
+            Err(complaint) => self.tell(complaint, status_of_complaint(complaint)),
+        }
+    }
+
     pub(crate) fn tell_no_memory(&mut self) -> u8
         ensures status { result ≡ 3 }
         ensures once { self.new.count ≤ self.old.count + 1 }
@@ -80,15 +96,7 @@ impl<'a, V: Write> Complaints<'a, V> {
         ensures asked { D.trace world.new ≡ Deed.Explains path.now ∷ D.trace world.old }
         ensures same { SameFiles (D.map world.old) (D.map world.new) }
     {
-        let reason = world.reason_unread(path);
-        let path = Printed(path.as_bytes());
-        match reason {
-            Some(reason) => self.tell(&RequestFault::Unread(path, reason), FAILED),
-            None => self.tell(
-                &format_args!("cannot read {path}: it can be opened now"),
-                FAILED,
-            ),
-        }
+        self.tell(&unread(world, path), FAILED)
     }
 
     pub(crate) fn tell_unwritten(&mut self, path: &str, reason: &io::Error) -> u8
@@ -113,6 +121,32 @@ impl<'a, V: Write> Complaints<'a, V> {
             &format_args!("cannot write standard output: {error}"),
             FAILED,
         )
+    }
+}
+
+/// Returns why a file cannot be opened to be read.
+pub(crate) fn unread<'a, D: World>(world: &mut D, path: &'a str) -> RequestFault<'a>
+    ensures status { request_status result ≡ 3 }
+    ensures told { told_of result ≡ Some None }
+    ensures asked { D.trace world.new ≡ Deed.Explains path.now ∷ D.trace world.old }
+    ensures same { SameFiles (D.map world.old) (D.map world.new) }
+{
+    let reason = world.reason_unread(path);
+    let path = Printed(path.as_bytes());
+    match reason {
+        Some(reason) => RequestFault::Unread(path, reason),
+        None => RequestFault::OpensNow(path),
+    }
+}
+
+/// A closed output is not told.
+pub(crate) fn unprinted<'a>(error: io::Error) -> RequestFault<'a>
+    ensures { request_status result ≡ 3 }
+{
+    if is_closed(&error) {
+        RequestFault::Closed
+    } else {
+        RequestFault::Unprinted(error)
     }
 }
 

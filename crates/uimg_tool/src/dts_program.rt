@@ -4,7 +4,7 @@ ghost use Rattle.std.specs.Prelude.{◌≡◌, [], IsTrue};
 ghost use Rattle.uimg_blob_writing.specs.{Content.FilesAtData, LentFiles.IfInFull, Trees.node_of};
 ghost use Rattle.uimg_fit_base.specs.Placements.{aligned_by};
 ghost use Rattle.uimg_tool.specs.{Complaints.Ends, OldMakings.MakesWithin, SourceStatuses.refused_status, TreesMade.KeepsEither};
-ghost use Rattle.uimg_unpacking.specs.Deeds.{changes};
+ghost use Rattle.uimg_world.specs.Deeds.{changes};
 
 use crate::complaints::Complaints;
 use crate::known_sources::files_of;
@@ -23,7 +23,7 @@ use uimg_its::{FaultKind, ItsFault};
 use uimg_names::Naming;
 use uimg_printing::Printed;
 use uimg_requests::MakeRequest;
-use uimg_unpacking::{MakingWorld, World};
+use uimg_world::{MakingWorld, World};
 
 /// A source that the profile refuses: its request, its text, and the fault.
 #[derive(Drop)]
@@ -54,7 +54,7 @@ pub(crate) fn make_beyond<'x, 'p, D: MakingWorld<'p>, W: Write, V: Write>(
         let end = Err(RequestFault::WritesWhatIsRead(making.outfile));
         return tell_end(world, &end, making.outfile, complaints);
     }
-    if files.is_ambiguous() {
+    if files.folders.is_ambiguous {
         let source = Printed(making.source.as_bytes());
         let reason = format_args!(
             "{source}: a file that it includes is in several folders of -D -i"
@@ -71,7 +71,10 @@ pub(crate) fn make_beyond<'x, 'p, D: MakingWorld<'p>, W: Write, V: Write>(
             make_compiled(world, making, tree, &mut files, out, complaints)
         }
         Err(fault) if fault.kind == DtsKind::NoFile => {
-            let (source, name) = (Printed(making.source.as_bytes()), Printed(files.missing()));
+            let (source, name) = (
+                Printed(making.source.as_bytes()),
+                Printed(files.missing.as_slice()),
+            );
             let line = fault.line;
             let reason = format_args!("{source}: cannot read {name}, which line {line} names");
             complaints.tell(&reason, FAILED)

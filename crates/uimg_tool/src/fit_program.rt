@@ -6,14 +6,14 @@ ghost use Rattle.uimg_blob_writing.specs.{Content.FilesAtData, Trees.node_of};
 ghost use Rattle.uimg_requests.specs.{Plain.IsAt, Requests.{AsksSource, folder_of}};
 ghost use Rattle.uimg_tool.specs.{Complaints.Ends, OldMakings.MakesWithin};
 ghost use Rattle.uimg_tool.specs.TreesMade.{BuildsPath, BuildsText, KeepsKnown};
-ghost use Rattle.uimg_unpacking.specs.Deeds.{changes};
+ghost use Rattle.uimg_world.specs.Deeds.{changes};
 
 use crate::complaints::Complaints;
 use crate::dts_program::{Beyond, make_beyond, make_compiled, tree_request};
+use crate::images::is_same_file;
 use crate::known_sources::{Known, files_of, known_text, source_text};
 use crate::old_files::{about_end, tell_end};
 use crate::request_fault::{REFUSED, RequestFault, WRONG_LINE};
-use crate::requests::is_same_file;
 use std::alloc::{AllocError, Global};
 use std::io;
 use std::io::{Read, Write};
@@ -21,7 +21,7 @@ use std::path::{Path, PathBuf};
 use uimg_blob_writing::Tree;
 use uimg_compat::{FitRequest, OldFault, has_labels, warn};
 use uimg_requests::MakeRequest;
-use uimg_unpacking::{MakingWorld, Target, World};
+use uimg_world::{MakingWorld, Target, World};
 
 /// The name of standard input as a source, and its path.
 const INPUT_NAME: &str = "-";

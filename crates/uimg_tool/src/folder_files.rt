@@ -1,74 +1,79 @@
-//! The files of a folder of a world, opened by their names.
+//! The files of a request, opened by their names in folders.
 
-ghost use Rattle.std.specs.Prelude.{◌≡◌, ◌≤◌, ◌||◌, ℕ, List, [], Bool, IfOk, IsTrue, is_err, true, false};
-ghost use Rattle.std.specs.{List.list_any, Path.{path_buf_bytes, path_join}};
-ghost use Rattle.uimg_base.specs.Named.{Opens, SameFiles};
-ghost use Rattle.uimg_tool.specs.LeavingOut.{NotesMet, in_folder, leads_to};
-ghost use Rattle.uimg_unpacking.specs.Allowing.{is_image};
+ghost use Rattle.std.specs.Prelude.{◌≡◌, ◌≤◌, ℕ, List, Bool, IfOk, IsTrue, length, true, false};
+ghost use Rattle.std.specs.List.{list_any};
+ghost use Rattle.uimg_tool.specs.{Bodies.{IsBody, bodies_of}, LeavingOut.{leads_to, seen_in}};
 
+use crate::body_source::BodySource;
+use crate::lookup::Folders;
+use crate::source_names::own_name;
 use std::alloc::Global;
 use std::marker::{Brand, PhantomData};
-use std::path::{Path, PathBuf};
 use uimg_base::{Files, OpenedNames, Source, SourceFault};
-use uimg_unpacking::Reader;
+use uimg_world::Reader;
 
 /// The file that is left out of a folder. Only contracts use it.
 pub(crate) trait LeftOut {
+    /// Whether contracts know the names that lead to it.
+    ghost known: { Bool };
+
     /// Whether a name leads to it.
     ghost leads: { List ℕ → Bool };
 }
 
 impl LeftOut for Brand {
+    ghost known = { true };
+
     ghost leads = { λ _. false };
 }
 
-/// The files of a folder, opened by their paths. A name that begins with `/` is a path of its own;
-/// any other name is a path in the folder. One file is left out: one that is written while the
-/// others are read.
+impl LeftOut for () {
+    ghost known = { false };
+
+    ghost leads = { λ _. false };
+}
+
+/// The files of folders, without one that is written while the others are read. Those of an image
+/// that runs in place are without the room for a header at their beginning.
+///
+/// Of a folder alone, contracts say what its files have. Where others are searched, they do not.
 #[derive(Drop)]
 pub(crate) struct FolderFiles<'a, R: Reader, L: LeftOut> {
-    reader: R,
-    alloc: Global,
-    folder: &'a str,
-    left_out: &'a str,
-    has_met_left_out: bool,
+    pub(crate) folders: Folders<'a, R>,
+    is_xip: bool,
+    /// A file was refused because it has no room for a header.
+    pub(crate) has_met_no_room: bool,
+    /// The name of the last file that was not opened, as the source calls it.
+    pub(crate) missing: Vec<u8>,
     refusals: u64,
     opened: OpenedNames,
     marker: PhantomData<L>,
-    ghost leads: { leads_to (R.identities reader) folder.now left_out.now ≡ L.leads },
-    ghost met: { IsTrue (R.map reader).honest → has_met_left_out ≡ true →
-        list_any L.leads opened.names ≡ true },
-    ghost refused: { IsTrue (R.map reader).honest → list_any L.leads opened.names ≡ true →
-        1 ≤ refusals },
+    ghost leads: { IsTrue L.known →
+        leads_to (R.identities folders.reader) folders.folder.now folders.left_out.now ≡ L.leads },
+    ghost met: { IsTrue L.known →
+        IsTrue (seen_in folders.folder.now (length folders.others.now) (R.map folders.reader)).honest
+        → folders.has_met_left_out ≡ true → list_any L.leads opened.names ≡ true },
+    ghost refused: { IsTrue L.known →
+        IsTrue (seen_in folders.folder.now (length folders.others.now) (R.map folders.reader)).honest
+        → list_any L.leads opened.names ≡ true → 1 ≤ refusals },
 }
 
 impl<'a, R: Reader, L: LeftOut> FolderFiles<'a, R, L> {
-    /// No file is opened yet. An open of the file at the path that is left out is refused.
-    pub(crate) fn new(
-        reader: R,
-        alloc: Global,
-        folder: &'a str,
-        left_out: &'a str,
-    ) -> FolderFiles<'a, R, L>
-        requires { leads_to (R.identities reader) folder.now left_out.now ≡ L.leads }
-        ensures reader { result.reader ≡ reader }
-        ensures folder { result.folder ≡ folder.entry }
-        ensures left_out { result.left_out ≡ left_out.entry }
-        ensures unmet { result.has_met_left_out ≡ false }
-        ensures map { ⟦<FolderFiles<'a, R, L> as Files>⟧.map result ≡ record {
-          bytes = in_folder folder.now (R.map reader).bytes;
-          honest = (R.map reader).honest;
-          complete = false;
-          refusals = 0;
-          opened = [];
-        } }
+    /// No file is opened yet.
+    pub(crate) fn new(folders: Folders<'a, R>, is_xip: bool) -> FolderFiles<'a, R, L>
+        requires leads { IsTrue L.known → leads_to (R.identities folders.reader) folders.folder.now
+            folders.left_out.now ≡ L.leads }
+        requires unmet { folders.has_met_left_out ≡ false }
+        ensures map { ⟦<FolderFiles<'a, R, L> as Files>⟧.map result ≡ bodies_of is_xip
+            (seen_in folders.entry.folder.now (length folders.entry.others.now)
+            (R.map folders.entry.reader)) }
     {
+        let missing = Vec::new(folders.alloc);
         FolderFiles {
-            reader,
-            alloc,
-            folder,
-            left_out,
-            has_met_left_out: false,
+            folders,
+            is_xip,
+            has_met_no_room: false,
+            missing,
             refusals: 0,
             opened: OpenedNames::new(),
             marker: PhantomData,
@@ -77,119 +82,62 @@ impl<'a, R: Reader, L: LeftOut> FolderFiles<'a, R, L> {
 
     /// The file that is left out was requested, and so refused.
     pub(crate) fn has_met_left_out(&self) -> bool
-        ensures noted { result ≡ self.now.has_met_left_out }
-        ensures met { IsTrue (R.map self.now.reader).honest → result ≡ true →
-            list_any L.leads self.now.opened.names ≡ true }
-        ensures refused { IsTrue (R.map self.now.reader).honest →
-            list_any L.leads self.now.opened.names ≡ true → 1 ≤ self.now.refusals }
+        ensures met { IsTrue L.known →
+            IsTrue (⟦<FolderFiles<'a, R, L> as Files>⟧.map self.now).honest → result ≡ true →
+            list_any L.leads (⟦<FolderFiles<'a, R, L> as Files>⟧.map self.now).opened ≡ true }
+        ensures refused { IsTrue L.known →
+            IsTrue (⟦<FolderFiles<'a, R, L> as Files>⟧.map self.now).honest →
+            list_any L.leads (⟦<FolderFiles<'a, R, L> as Files>⟧.map self.now).opened ≡ true →
+            1 ≤ (⟦<FolderFiles<'a, R, L> as Files>⟧.map self.now).refusals }
     {
-        self.has_met_left_out
+        self.folders.has_met_left_out
     }
 }
 
 impl<'a, R: Reader, L: LeftOut> Files for FolderFiles<'a, R, L> {
-    type Opened = R::Opened;
+    type Opened = BodySource<R::Opened>;
 
-    ghost map = { λ files. record {
-      bytes = in_folder files.folder.now (R.map files.reader).bytes;
-      honest = (R.map files.reader).honest;
-      complete = false;
-      refusals = files.refusals;
-      opened = files.opened.names;
-    } };
+    ghost map = { λ files. record (bodies_of files.is_xip (seen_in files.folders.folder.now
+        (length files.folders.others.now) (R.map files.folders.reader))) {
+          refusals = files.refusals;
+          opened = files.opened.names;
+        } };
 
-    /// Returns `SourceFault` if the name is not UTF-8, if memory for the path was refused, if the
-    /// file is left out, or if the reader does.
-    fn open(&mut self, name: &[u8]) -> Result<R::Opened, SourceFault> {
+    /// Returns `SourceFault` as `Folders::open` does, if the file lacks the room that is left out,
+    /// or if that cannot be read.
+    fn open(&mut self, name: &[u8]) -> Result<BodySource<R::Opened>, SourceFault> {
         self.opened.note(name);
-        let opened = open_in(
-            &mut self.reader,
-            self.alloc,
-            self.folder,
-            name,
-            self.left_out,
-            &mut self.has_met_left_out,
-        );
+        let opened = match self.folders.open(name) {
+            Ok(source) => body_of(source, self.is_xip, &mut self.has_met_no_room),
+            Err(fault) => Err(fault),
+        };
         if opened.is_err() {
+            self.missing.clear();
+            let _ = self.missing.extend_from_slice(own_name(name));
             self.refusals = self.refusals.saturating_add(1);
         }
         opened
     }
 }
 
-/// Opens the file, unless it is left out. Notes whether it is, if there is a path of this name and
-/// memory for it.
-pub(crate) fn open_in<R: Reader>(
-    reader: &mut R,
-    alloc: Global,
-    folder: &str,
-    name: &[u8],
-    left_out: &str,
-    has_met_left_out: &mut bool,
-) -> Result<R::Opened, SourceFault>
-    ensures same { SameFiles (R.map reader.old) (R.map reader.new) }
-    ensures kept { R.identities reader.new ≡ R.identities reader.old }
-    ensures met { IsTrue (R.map reader.old).honest → NotesMet
-        (leads_to (R.identities reader.old) folder.now left_out.now name.now)
-        (is_err result) has_met_left_out.old has_met_left_out.new }
-    ensures refused { IsTrue (R.map reader.old).honest →
-        leads_to (R.identities reader.old) folder.now left_out.now name.now ≡ true →
-        is_err result ≡ true }
-    ensures opened { IfOk result (λ opened.
-        Opens (R.map reader.old) (path_join folder.now name.now) (R.Opened.device opened)) }
+// Notes whether the source has no room for a header, if that is left out.
+fn body_of<S: Source>(
+    source: S,
+    is_xip: bool,
+    has_met_no_room: &mut bool,
+) -> Result<BodySource<S>, SourceFault>
+    ensures { IfOk result (λ body.
+        IsBody is_xip (S.device source) (⟦<BodySource<S> as Source>⟧.device body)) }
 {
-    match path_in(alloc, folder, name) {
-        Ok(path) => open_other(reader, path.as_str(), left_out, has_met_left_out),
+    if !is_xip {
+        return Ok(BodySource::whole(source));
+    }
+    match BodySource::of(source) {
+        Ok(Some(body)) => Ok(body),
+        Ok(None) => {
+            *has_met_no_room = true;
+            Err(SourceFault)
+        }
         Err(fault) => Err(fault),
-    }
-}
-
-// Notes whether the file is left out.
-fn open_other<R: Reader>(
-    reader: &mut R,
-    path: &str,
-    left_out: &str,
-    has_met_left_out: &mut bool,
-) -> Result<R::Opened, SourceFault>
-    ensures same { SameFiles (R.map reader.old) (R.map reader.new) }
-    ensures kept { R.identities reader.new ≡ R.identities reader.old }
-    ensures met { IsTrue (R.map reader.old).honest → has_met_left_out.new
-        ≡ (has_met_left_out.old || is_image (R.identities reader.old path.now)
-        (R.identities reader.old left_out.now)) }
-    ensures refused { IsTrue (R.map reader.old).honest → is_image (R.identities reader.old path.now)
-        (R.identities reader.old left_out.now) ≡ true → is_err result ≡ true }
-    ensures opened { IfOk result
-        (λ opened. Opens (R.map reader.old) path.now (R.Opened.device opened)) }
-{
-    if is_same_file(reader, path, left_out) {
-        *has_met_left_out = true;
-        return Err(SourceFault);
-    }
-    reader.open(path)
-}
-
-// The paths may be links.
-fn is_same_file<R: Reader>(reader: &mut R, path: &str, other: &str) -> bool
-    ensures same { SameFiles (R.map reader.old) (R.map reader.new) }
-    ensures kept { R.identities reader.new ≡ R.identities reader.old }
-    ensures is { IsTrue (R.map reader.old).honest → result
-        ≡ is_image (R.identities reader.old path.now) (R.identities reader.old other.now) }
-{
-    match (reader.file_at(path), reader.file_at(other)) {
-        (Some(one), Some(two)) => one == two,
-        _ => false,
-    }
-}
-
-// The path is the name itself if it begins with `/`.
-fn path_in(alloc: Global, folder: &str, name: &[u8]) -> Result<PathBuf, SourceFault>
-    ensures { IfOk result (λ path. path_buf_bytes path ≡ path_join folder.now name.now) }
-{
-    let Ok(name) = str::from_utf8(name) else {
-        return Err(SourceFault);
-    };
-    match Path::new(folder).join(alloc, name) {
-        Ok(path) => Ok(path),
-        Err(_) => Err(SourceFault),
     }
 }

@@ -1,9 +1,8 @@
 //! The commands of `uimg` over files in memory, which are honest: the theorem without a premise on
 //! the world.
 
-ghost use Rattle.std.specs.Prelude.{◌≡◌, ◌⊎◌, [], List, None, Some};
-ghost use Rattle.uimg_tool.specs.{InMemory.files_in, WordAnswers.AnswersLine};
-ghost use Rattle.uimg_unpacking.specs.Deeds.{Deed};
+ghost use Rattle.std.specs.Prelude.{◌≡◌, ◌⊎◌};
+ghost use Rattle.uimg_tool.specs.InMemory.{AnswersInMemory, files_in};
 
 use crate::command_line::CommandLine;
 use crate::complaints::Complaints;
@@ -11,7 +10,7 @@ use crate::main_program::run_as_uimg;
 use std::alloc::Global;
 use std::io::Write;
 use uimg_base::{MemKept, Source};
-use uimg_unpacking::{MemoryFile, MemoryWorld, NewFiles};
+use uimg_world::{MemoryWorld, NewFiles};
 
 /// What a command answered: its exit status, what it printed on standard output, and what it made.
 #[derive(Drop)]
@@ -31,10 +30,11 @@ pub struct Answered {
 /// [`program`](crate::program); a fault is one line on `err`.
 ///
 /// Unless the status is 3, the arguments are refused by their definition, or the output is what the
-/// definitions give for the bytes at the paths. This holds for a listing, a verification, a check,
-/// facts, the lines of a map, and the listing of an image that is made. If an image is unpacked
-/// with status 0 and without `--clean`, new files hold exactly the requested payloads or parts. The
-/// file of an extraction and an image that is made are not among the new files.
+/// definitions give for the bytes at the paths, and so is the line of a fault. This holds for a
+/// listing, a verification, a check, facts, the lines of a map, and the listing of an image that is
+/// made. If an image is unpacked with status 0 and without `--clean`, new files hold exactly the
+/// requested payloads or parts, and after an extraction its file holds the text. An image that is
+/// made is not among the new files.
 pub fn answer_in_memory<'f, V: Write>(
     alloc: Global,
     words: &[&str],
@@ -43,12 +43,9 @@ pub fn answer_in_memory<'f, V: Write>(
     files: &'f [(&'f [u8], &'f [u8])],
     err: &mut V,
 ) -> Answered
-    ensures { (result.status ≡ 3) ⊎ ((trace : List Deed)
-        × AnswersLine ⟦<MemoryFile<'f> as Write>⟧.contents
-        ⟦<MemKept<Global> as Source>⟧.device (λ _. None)
+    ensures { (result.status ≡ 3) ⊎ AnswersInMemory ⟦<MemKept<Global> as Source>⟧.device V.contents
         (record { words = words.entry; epoch = epoch.entry; time = now })
-        (files_in files.entry.now) result.status (Some []) (Some result.printed.items)
-        [] trace) }
+        (files_in files.entry.now) result.status result.printed.items }
 {
     let line = CommandLine {
         words,

@@ -1,11 +1,12 @@
 //! The source of an image, before the image is made.
 
-ghost use Rattle.std.specs.Prelude.{◌≡◌, ◌==◌, ◌&&◌, [], IfOk, IsTrue, false, length, not};
+ghost use Rattle.std.specs.Prelude.{◌≡◌, IfOk, IsTrue, length, not};
 ghost use Rattle.uimg_its.specs.Answers.{is_outside_text};
-ghost use Rattle.uimg_tool.specs.{KnownSources.{HasFilesAtData, HasText, KnowsText}, LeavingOut.in_folder};
+ghost use Rattle.uimg_tool.specs.{KnownSources.{HasFilesAtData, HasText, KnowsText}, LeavingOut.{in_folder, seen_in}};
 
+use crate::folder_files::FolderFiles;
+use crate::lookup::Folders;
 use crate::request_fault::RequestFault;
-use crate::searched_files::SearchedFiles;
 use std::alloc::Global;
 use uimg_base::Files;
 use uimg_blob_writing::Tree;
@@ -13,7 +14,7 @@ use uimg_compat::DtcWords;
 use uimg_engine::{Fault, read_text};
 use uimg_its::{FaultKind, ItsFault, compile};
 use uimg_requests::{MakeCommand, MakeRequest};
-use uimg_unpacking::Reader;
+use uimg_world::Reader;
 
 /// What is known of the text of a source before its image is made.
 #[derive(Drop)]
@@ -98,17 +99,15 @@ pub(crate) fn files_of<'a, R: Reader>(
     alloc: Global,
     request: &MakeRequest<'a>,
     dtc: &'a DtcWords<'_>,
-) -> SearchedFiles<'a, R>
-    ensures { ⟦<SearchedFiles<'a, R> as Files>⟧.map result ≡ record {
-      bytes = in_folder request.now.folder.now (R.map reader).bytes;
-      honest = (R.map reader).honest && length dtc.now.folders.items == 0;
-      complete = false;
-      refusals = 0;
-      opened = [];
-    } }
+) -> FolderFiles<'a, R, ()>
+    ensures { ⟦<FolderFiles<'a, R, ()> as Files>⟧.map result ≡
+        seen_in request.now.folder.now (length dtc.now.folders.items) (R.map reader) }
 {
     let others = dtc.folders.as_slice();
-    SearchedFiles::new(reader, alloc, request.folder, others, request.outfile)
+    FolderFiles::new(
+        Folders::new(reader, alloc, request.folder, others, request.outfile),
+        false,
+    )
 }
 
 // The fault is of the text only.

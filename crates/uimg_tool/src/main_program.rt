@@ -2,12 +2,11 @@
 
 ghost use Rattle.std.specs.Prelude.{◌≡◌, ◌≤◌, None, Some, map, option_map};
 ghost use Rattle.uimg_cli.specs.Reading.{AsksNothing, ReadsWords};
-ghost use Rattle.uimg_tool.specs.Complaining.{ComplainsLine, ComplainsWords};
 ghost use Rattle.uimg_tool.specs.{Complaints.Ends, Programs.{AskNothing, epoch_of, words_of}, Statuses.words_status};
-ghost use Rattle.uimg_tool.specs.WordAnswers.{AnswersLine, printed};
+ghost use Rattle.uimg_tool.specs.WordAnswers.{AnswersLine, ComplainsWords, printed};
 
 use crate::command_line::CommandLine;
-use crate::commands::carry_out_asked;
+use crate::commands::{close, run};
 use crate::complaints::Complaints;
 use crate::old_program::run_as_tool;
 use crate::old_tools::Tool;
@@ -16,7 +15,7 @@ use std::alloc::Global;
 use std::io::{BufWriter, Write};
 use std::rt::Files;
 use uimg_cli::{Asked, WordsFault, read_words};
-use uimg_unpacking::{DiskWorld, MakingWorld, World};
+use uimg_world::{DiskWorld, MakingWorld, World};
 
 /// Carries out a command line, the program's name first, and returns the exit status. A program
 /// whose name, after its last slash, is `mkimage`, `dumpimage`, `uimg-mkimage` or `uimg-dumpimage`
@@ -83,21 +82,27 @@ pub fn run_as_uimg<'a, D: MakingWorld<'a>, W: Write + Drop, V: Write>(
     ensures unprinted { AsksNothing (epoch_of line.entry) line.entry.time (words_of line.entry)
         → result.1 ≡ Some out }
     ensures lost { result.1 ≡ None → result.0 ≡ 3 }
-    ensures told { AnswersLine D.File.contents D.Shelf.Kept.device (D.identities world.old)
-        line.entry (D.map world.old) result.0 (W.contents out) (printed W.contents result.1)
-        (D.trace world.old) (D.trace world.new) }
-    ensures complained { ComplainsLine V.contents D.Shelf.Kept.device line.entry
-        (D.map world.old) result.0 complaints.old complaints.new }
+    ensures answers { AnswersLine D.Shelf.Kept.device (D.identities world.old) V.contents line.entry
+        (D.map world.old) result.0 (record {
+          text = W.contents out;
+          err = complaints.old;
+          trace = D.trace world.old;
+        }) (record {
+          text = printed W.contents result.1;
+          err = complaints.new;
+          trace = D.trace world.new;
+        }) }
 {
     let alloc = world.alloc();
     let asked = match read_line(alloc, line) {
         Ok(asked) => asked,
         Err(fault) => return (tell_words_fault(&fault, complaints), Some(out)),
     };
-    let Ok(gathered) = BufWriter::new(alloc, out) else {
+    let Ok(out) = BufWriter::new(alloc, out) else {
         return (complaints.tell_no_memory(), None);
     };
-    let (status, out) = carry_out_asked(world, &asked, gathered, complaints);
+    let (end, out) = run(world, &asked, out);
+    let (status, out) = close(&asked, end, out, complaints);
     (status, Some(out))
 }
 

@@ -5,14 +5,13 @@ ghost use Rattle.uimg_engine.specs.{Commands.{HonestFiles, MakesCommand, OpensTo
 ghost use Rattle.uimg_tool.specs.{LeavingOut.leads_to, Makings.MakesAt, Statuses.end_status};
 ghost use Rattle.uimg_tool.specs.OldMakings.{IsNew, MakesIn, path_for};
 ghost use Rattle.uimg_tool.specs.RequestEnds.{AsMade, IsFileAt, MakeEnds, StoppedAs};
-ghost use Rattle.uimg_unpacking.specs.Deeds.{Deed};
+ghost use Rattle.uimg_world.specs.Deeds.{Deed};
 
 use crate::folder_files::{FolderFiles, LeftOut};
+use crate::lookup::Folders;
 use crate::old_files::{Begun, How};
 use crate::reasons::Watched;
 use crate::request_fault::RequestFault;
-use crate::searched_files::SearchedFiles;
-use crate::xip_files::XipFiles;
 use std::alloc::Global;
 use std::cell::Cell;
 use std::io;
@@ -21,7 +20,7 @@ use std::marker::Brand;
 use uimg_base::{Files, Out, Room, Shelf, Status};
 use uimg_engine::{Fault, make_by};
 use uimg_requests::{MakeCommand, MakeRequest};
-use uimg_unpacking::{MakingWorld, Reader};
+use uimg_world::{MakingWorld, Reader};
 
 /// Makes the image on a shelf of its path, of the files in the folder of the request.
 pub(crate) fn make_in<'a, 'p, D: MakingWorld<'p>, W: Write>(
@@ -39,7 +38,7 @@ pub(crate) fn make_in<'a, 'p, D: MakingWorld<'p>, W: Write>(
     let reader = world.reader();
     let code = Cell::new(None);
     let shelf = Watched::new(world.shelf_at(request.outfile), &code);
-    let end = make_among::<_, _, _, Brand>(alloc, request, reader, shelf, out);
+    let end = make_among::<_, _, _, Brand>(alloc, request, false, reader, shelf, out);
     end_written(request, end, code.get())
 }
 
@@ -47,21 +46,31 @@ pub(crate) fn make_in<'a, 'p, D: MakingWorld<'p>, W: Write>(
 fn make_among<'a, R: Reader, H: Shelf, W: Write, L: LeftOut>(
     alloc: Global,
     request: &'a MakeRequest<'_>,
+    is_xip: bool,
     reader: R,
     shelf: H,
     out: &mut Out<W>,
 ) -> Result<Status, RequestFault<'a>>
-    requires { leads_to (R.identities reader) request.now.folder.now request.now.outfile.now
+    requires known { IsTrue L.known }
+    requires leads { leads_to (R.identities reader) request.now.folder.now request.now.outfile.now
         ≡ L.leads }
+    requires xip { is_xip ≡ true → request.now.is_xip ≡ true }
     ensures ends { MakeEnds request.now result }
     ensures told { IsTrue (R.map reader).honest → IsTrue H.honest → H.contents shelf ≡ Some [] →
-        MakesAt H.Kept.device (R.identities reader) request.now (R.map reader) result out.old
-        out.new }
+        is_xip ≡ false → MakesAt H.Kept.device (R.identities reader) request.now (R.map reader)
+        result out.old out.new }
 {
-    let mut files = FolderFiles::<R, L>::new(reader, alloc, request.folder, request.outfile);
+    let folders = Folders::new(reader, alloc, request.folder, &[], request.outfile);
+    let mut files = FolderFiles::<R, L>::new(folders, is_xip);
     let made = make_over(alloc, request, &mut files, shelf, out);
     let has_met_outfile = files.has_met_left_out();
-    end_of(request, made, has_met_outfile)
+    end_of(
+        request,
+        made,
+        has_met_outfile,
+        is_xip,
+        files.has_met_no_room,
+    )
 }
 
 /// Writes to a file that was begun, or else to one at the path of the image.
@@ -87,55 +96,16 @@ pub(crate) fn make_command<'a, 'p, D: MakingWorld<'p>, W: Write>(
         Some(Begun { file, path }) => match world.shelf_in(path.new.as_str(), file) {
             Ok(shelf) => {
                 let shelf = Watched::new(shelf, &code);
-                make_image(alloc, request, reader, shelf, out)
+                make_among::<_, _, _, Brand>(alloc, request, request.is_xip, reader, shelf, out)
             }
             Err(_) => Err(RequestFault::OutOfMemory),
         },
         None => {
             let shelf = Watched::new(world.shelf_at(how.outfile), &code);
-            make_image(alloc, request, reader, shelf, out)
+            make_among::<_, _, _, Brand>(alloc, request, request.is_xip, reader, shelf, out)
         }
     };
     end_written(request, made, code.get())
-}
-
-fn make_image<'a, R: Reader, H: Shelf, W: Write>(
-    alloc: Global,
-    request: &'a MakeRequest<'_>,
-    reader: R,
-    shelf: H,
-    out: &mut Out<W>,
-) -> Result<Status, RequestFault<'a>>
-    ensures ends { MakeEnds request.now result }
-    ensures told { IsTrue (R.map reader).honest → IsTrue H.honest → H.contents shelf ≡ Some [] →
-        request.now.is_xip ≡ false → MakesAt H.Kept.device
-        (R.identities reader) request.now (R.map reader) result out.old out.new }
-{
-    if request.is_xip {
-        return make_xip(alloc, request, reader, shelf, out);
-    }
-    make_among::<_, _, _, Brand>(alloc, request, reader, shelf, out)
-}
-
-// The image's header replaces the beginning of its file.
-fn make_xip<'a, R: Reader, H: Shelf, W: Write>(
-    alloc: Global,
-    request: &'a MakeRequest<'_>,
-    reader: R,
-    shelf: H,
-    out: &mut Out<W>,
-) -> Result<Status, RequestFault<'a>>
-    requires { request.now.is_xip ≡ true }
-    ensures { MakeEnds request.now result }
-{
-    let files = SearchedFiles::new(reader, alloc, request.folder, &[], request.outfile);
-    let mut files = XipFiles::new(files);
-    match make_over(alloc, request, &mut files, shelf, out) {
-        Err(Fault::NoFile(number)) if files.has_met_no_room() => {
-            Err(RequestFault::NoRoom(file_path(request, number)))
-        }
-        made => end_of(request, made, files.whole().has_met_left_out()),
-    }
 }
 
 fn make_over<F: Files, H: Shelf, W: Write>(
@@ -169,11 +139,18 @@ fn end_of<'a, K: Drop>(
     request: &'a MakeRequest<'a>,
     made: Result<K, Fault>,
     has_met_outfile: bool,
+    is_xip: bool,
+    has_met_no_room: bool,
 ) -> Result<Status, RequestFault<'a>>
-    ensures { AsMade request.now made has_met_outfile result }
+    requires { is_xip ≡ true → request.now.is_xip ≡ true }
+    ensures ends { MakeEnds request.now result }
+    ensures made { is_xip ≡ false → AsMade request.now made has_met_outfile result }
 {
     match made {
         Ok(_) => Ok(Status::Done),
+        Err(Fault::NoFile(number)) if is_xip && has_met_no_room => {
+            Err(RequestFault::NoRoom(file_path(request, number)))
+        }
         Err(_) if has_met_outfile => Err(RequestFault::WritesWhatIsRead(request.outfile)),
         Err(fault) => Err(stopped_making(request, fault)),
     }

@@ -1,30 +1,30 @@
-//! The files of mkimage and dumpimage: what they write is beside its name until it is complete.
+//! The images that mkimage makes: each is beside its name until it is complete.
 
-ghost use Rattle.std.specs.Prelude.{◌≡◌, ◌≢◌, ◌∷◌, ◌⊎◌, List, ℕ, Option, [], IfOk, IfSome, IsTrue, None, OnErr, false, is_err, is_ok, true, if◌then◌else◌};
+ghost use Rattle.std.specs.Prelude.{◌≡◌, ◌∷◌, ◌⊎◌, [], IsTrue, false, is_err, is_ok, true, if◌then◌else◌};
 ghost use Rattle.std.specs.Io.Buffered.{writer_buffer, writer_contents};
 ghost use Rattle.uimg_tool.specs.{Complaints.{Complains, Ends}, Finishing.FinishesBy, RequestEnds.{MakeEnds, is_about_source}};
 ghost use Rattle.uimg_tool.specs.OldMakings.{AnswersOldMaking, IsNew, LendsAt, ListsIn, MakesFor, Named, path_for};
 ghost use Rattle.uimg_tool.specs.{OldTexts.told_of_old};
-ghost use Rattle.uimg_tool.specs.{Extracting.{AnswersOldExtraction, ExtractsTo, IsNewFile}, Running.{AnswersRun, IntoEnds}, Statuses.end_status};
-ghost use Rattle.uimg_unpacking.specs.Deeds.{Deed, changes};
+ghost use Rattle.uimg_tool.specs.Statuses.{end_status};
+ghost use Rattle.uimg_world.specs.Deeds.{Deed, changes};
 
 use crate::complaints::Complaints;
+use crate::made::Made;
 use crate::making::make_command;
 use crate::request_fault::{DONE, FAILED, REFUSED, RequestFault, status_of};
-use crate::requests::{Made, extract_to, run_command};
 use crate::safe_path::{SafePath, Writing};
 use crate::writing::writing_of;
 use std::alloc::Global;
 use std::io;
 use std::io::{BufWriter, Write};
-use uimg_base::{Out, Source, SourceFault, Status};
+use uimg_base::{Out, Status};
 use uimg_checks::status_of_fault;
 use uimg_compat::OldFault;
 use uimg_engine::Fault;
 use uimg_fit_base::FitFault;
 use uimg_printing::Printed;
-use uimg_requests::{MakeRequest, RunRequest};
-use uimg_unpacking::{MakingWorld, World};
+use uimg_requests::MakeRequest;
+use uimg_world::{MakingWorld, World};
 
 /// How an image is made: whether nothing is printed, and the path of the image.
 #[derive(Clone, Copy)]
@@ -39,123 +39,6 @@ impl<'a> How<'a> {
         ensures outfile { result.outfile ≡ outfile.entry }
     {
         How { is_quiet, outfile }
-    }
-}
-
-/// A quiet command prints nothing. An extracted part is written beside its name, which it gets when
-/// it is complete. Returns `out`, too.
-pub(crate) fn run_old<D: World, W: Write + Drop, V: Write>(
-    world: &mut D,
-    is_quiet: bool,
-    request: &RunRequest<'_>,
-    out: BufWriter<W, Global>,
-    complaints: &mut Complaints<'_, V>,
-) -> (u8, BufWriter<W, Global>)
-    ensures ends { Ends result.0 complaints.old.count complaints.new.count }
-    ensures told { IsTrue (D.map world.old).honest → request.now.outfile ≡ None →
-        AnswersRun is_quiet request.now (D.map world.old) result.0
-        (writer_contents W.contents out) (writer_contents W.contents result.1) }
-    ensures flushed { request.now.outfile ≡ None → result.0 ≢ 3 → writer_buffer out ≡ [] →
-        writer_buffer result.1 ≡ [] }
-    ensures kept { request.now.outfile ≡ None →
-        changes (D.trace world.new) ≡ changes (D.trace world.old) }
-    ensures extracted { IsTrue (D.map world.old).honest → IfSome request.now.outfile (λ path.
-        AnswersOldExtraction D.File.contents request.now path.now (D.map world.old) result.0
-        (writer_contents W.contents out) (writer_contents W.contents result.1)
-        (D.trace world.old)) }
-{
-    match request.outfile {
-        Some(path) => (extract_old(world, request, path, complaints), out),
-        None => run_printed(world, is_quiet, request, out, complaints),
-    }
-}
-
-fn run_printed<D: World, W: Write + Drop, V: Write>(
-    world: &mut D,
-    is_quiet: bool,
-    request: &RunRequest<'_>,
-    out: BufWriter<W, Global>,
-    complaints: &mut Complaints<'_, V>,
-) -> (u8, BufWriter<W, Global>)
-    requires { request.now.outfile ≡ None }
-    ensures ends { Ends result.0 complaints.old.count complaints.new.count }
-    ensures told { IsTrue (D.map world.old).honest →
-        AnswersRun is_quiet request.now (D.map world.old) result.0
-        (writer_contents W.contents out) (writer_contents W.contents result.1) }
-    ensures flushed { result.0 ≢ 3 → writer_buffer out ≡ [] → writer_buffer result.1 ≡ [] }
-    ensures kept { changes (D.trace world.new) ≡ changes (D.trace world.old) }
-{
-    if is_quiet {
-        let end = run_command(world, request, &mut Out::new(io::sink()));
-        return (tell_end(world, &end, request.image, complaints), out);
-    }
-    let mut out = Out::new(out);
-    let end = run_command(world, request, &mut out);
-    let mut out = out.into_inner();
-    let made = Made {
-        end,
-        printed: out.flush(),
-    };
-    (
-        tell_end(world, &made.told(), request.image, complaints),
-        out,
-    )
-}
-
-// The image is opened before the new file is created, so that it cannot be another one.
-fn extract_old<D: World, V: Write>(
-    world: &mut D,
-    request: &RunRequest<'_>,
-    path: &str,
-    complaints: &mut Complaints<'_, V>,
-) -> u8
-    ensures ends { Ends result complaints.old.count complaints.new.count }
-    ensures extracted { IsTrue (D.map world.old).honest → (known : Option (List ℕ)) →
-        AnswersOldExtraction D.File.contents request.now path.now (D.map world.old) result
-        known known (D.trace world.old) }
-{
-    let source = world.open(request.image);
-    match writing_of(world, world.alloc(), path) {
-        Ok(Writing::InPlace) => extract_in_place(world, request, path, source, complaints),
-        Ok(Writing::Pipe) => extract_in_place(world, request, path, source, complaints),
-        Ok(Writing::Beside(file, beside)) => {
-            let end = extract_opened(world, request, path, Some(file), source);
-            tell_written(world, &beside, &end, request.image, complaints)
-        }
-        Ok(Writing::Nowhere(reason)) => complaints.tell_unwritten(path, &reason),
-        Err(_) => complaints.tell_no_memory(),
-    }
-}
-
-fn extract_in_place<D: World, S: Source, V: Write>(
-    world: &mut D,
-    request: &RunRequest<'_>,
-    path: &str,
-    source: Result<S, SourceFault>,
-    complaints: &mut Complaints<'_, V>,
-) -> u8
-    ensures { Ends result complaints.old.count complaints.new.count }
-{
-    let end = extract_opened(world, request, path, None, source);
-    tell_end(world, &end, request.image, complaints)
-}
-
-fn extract_opened<'a, D: World, S: Source>(
-    world: &mut D,
-    request: &RunRequest<'a>,
-    path: &'a str,
-    file: Option<D::File>,
-    source: Result<S, SourceFault>,
-) -> Result<Status, RequestFault<'a>>
-    ensures ends { IfOk source (λ opened. IntoEnds path.entry result) }
-    ensures extracted { IsNewFile (D.map world.old).honest D.File.contents file →
-        IfOk source (λ opened. IsTrue (S.device opened).honest → ExtractsTo D.File.contents
-        request.now (S.device opened).bytes result) }
-    ensures unread { OnErr source (end_status result ≡ 3) }
-{
-    match source {
-        Ok(mut source) => extract_to(world, request, path, file, &mut source),
-        Err(_) => Err(RequestFault::CannotRead(request.image)),
     }
 }
 
@@ -287,8 +170,8 @@ pub(crate) fn about_end<'a>(
     }
 }
 
-// Gives the written file its name or removes it. Reports the end with its path.
-fn tell_written<D: World, V: Write>(
+/// Gives the written file its name or removes it. Reports the end with its path.
+pub(crate) fn tell_written<D: World, V: Write>(
     world: &mut D,
     path: &SafePath,
     end: &Result<Status, RequestFault<'_>>,

@@ -10,7 +10,8 @@ use crate::auto_program::make_auto;
 use crate::command_line::CommandLine;
 use crate::complaints::Complaints;
 use crate::fit_program::make_fit;
-use crate::old_files::{How, make_old, run_old};
+use crate::old_files::{How, make_old};
+use crate::old_images::run_old;
 use crate::old_tools::Tool;
 use crate::request_fault::{DONE, WRONG_LINE};
 use crate::update_program::update_image;
@@ -23,7 +24,7 @@ use uimg_compat::{
 };
 use uimg_names::Field;
 use uimg_requests::{MakeRequest, RunRequest, VERSION};
-use uimg_unpacking::DiskWorld;
+use uimg_world::DiskWorld;
 
 /// Carries out the arguments of a tool of U-Boot 2023.01. An image is written to a new file and
 /// gets its name when it is complete, unless something exists there that is not a regular file.
@@ -49,7 +50,7 @@ pub(crate) fn run_as_tool<R: Files + AllocGlobal, W: Write, V: Write>(
             make_on_disk(rt, is_quiet, request, out, complaints)
         }
         Ok(OldRequest::MakeFit(request)) => make_fit_on_disk(rt, &request, out, complaints),
-        Ok(OldRequest::MakeAuto(request)) => make_auto_on_disk(rt, &request, out, complaints),
+        Ok(OldRequest::MakeAuto(request)) => make_auto_on_disk(rt, request, out, complaints),
         Ok(OldRequest::Update(request)) => {
             update_image(&mut DiskWorld::new(rt), &request, out, complaints)
         }
@@ -86,19 +87,6 @@ fn make_on_disk<R: Files + AllocGlobal, W: Write, V: Write>(
 ) -> u8
     ensures { Ends result complaints.old.count complaints.new.count }
 {
-    make_over(rt, is_quiet, request, out, complaints)
-}
-
-// As `make_on_disk`, where the system and the request live equally long.
-fn make_over<'a, R: Files + AllocGlobal, W: Write, V: Write>(
-    rt: &'a R,
-    is_quiet: bool,
-    request: MakeRequest<'a>,
-    out: &mut W,
-    complaints: &mut Complaints<'_, V>,
-) -> u8
-    ensures { Ends result complaints.old.count complaints.new.count }
-{
     let Ok(gathered) = BufWriter::new(rt.alloc(), out) else {
         return complaints.tell_no_memory();
     };
@@ -110,21 +98,9 @@ fn make_over<'a, R: Files + AllocGlobal, W: Write, V: Write>(
     status
 }
 
-fn make_fit_on_disk<R: Files + AllocGlobal, W: Write, V: Write>(
-    rt: &R,
-    request: &FitRequest<'_>,
-    out: &mut W,
-    complaints: &mut Complaints<'_, V>,
-) -> u8
-    ensures { Ends result complaints.old.count complaints.new.count }
-{
-    make_fit_over(rt, request, out, complaints)
-}
-
-// As `make_fit_on_disk`, where the system and the request live equally long.
-fn make_fit_over<'a, R: Files + AllocGlobal, W: Write, V: Write>(
+fn make_fit_on_disk<'a, R: Files + AllocGlobal, W: Write, V: Write>(
     rt: &'a R,
-    request: &'a FitRequest<'a>,
+    request: &FitRequest<'a>,
     out: &mut W,
     complaints: &mut Complaints<'_, V>,
 ) -> u8
@@ -135,25 +111,13 @@ fn make_fit_over<'a, R: Files + AllocGlobal, W: Write, V: Write>(
 
 fn make_auto_on_disk<R: Files + AllocGlobal, W: Write, V: Write>(
     rt: &R,
-    request: &AutoRequest<'_>,
+    request: AutoRequest<'_>,
     out: &mut W,
     complaints: &mut Complaints<'_, V>,
 ) -> u8
     ensures { Ends result complaints.old.count complaints.new.count }
 {
-    make_auto_over(rt, request, out, complaints)
-}
-
-// As `make_auto_on_disk`, where the system and the request live equally long.
-fn make_auto_over<'a, R: Files + AllocGlobal, W: Write, V: Write>(
-    rt: &'a R,
-    request: &'a AutoRequest<'a>,
-    out: &mut W,
-    complaints: &mut Complaints<'_, V>,
-) -> u8
-    ensures { Ends result complaints.old.count complaints.new.count }
-{
-    make_auto(&mut DiskWorld::new(rt), request, out, complaints)
+    make_auto(&mut DiskWorld::new(rt), &request, out, complaints)
 }
 
 // Not inlined, to free the stack that this takes before the request is carried out.

@@ -2,10 +2,10 @@
 
 ghost use Rattle.std.specs.Prelude.{◌≡◌, true, string_bytes};
 ghost use Rattle.uimg_tool.specs.BesidePaths.{Finishes, is_beside};
-ghost use Rattle.uimg_unpacking.specs.Deeds.{answer_of};
+ghost use Rattle.uimg_world.specs.Deeds.{answer_of};
 
 use std::io;
-use uimg_unpacking::World;
+use uimg_world::World;
 
 /// Where the file for a path is written.
 #[derive(Drop)]

@@ -5,10 +5,10 @@ ghost use Rattle.uimg_blob_writing.specs.{LentFiles.IfInFull, Trees.node_of};
 ghost use Rattle.uimg_tool.specs.{Complaints.Ends, OldMakings.{IsNew, LendsAt, MakesFor, path_for}, RequestEnds.TreeEnds, TreesMade.{KeepsBegun, KeepsTree, MakesKept}};
 
 use crate::complaints::Complaints;
+use crate::made::Made;
 use crate::old_files::{Begun, about_end, tell_end, tell_made};
 use crate::reasons::{Watched, reason_of_code};
 use crate::request_fault::{FAILED, RequestFault};
-use crate::requests::Made;
 use crate::safe_path::Writing;
 use crate::writing::writing_of;
 use std::alloc::Global;
@@ -22,7 +22,7 @@ use uimg_engine::{Fault, TreeManner, make_tree};
 use uimg_fit_base::AlignedPlacement;
 use uimg_printing::Printed;
 use uimg_requests::Manner;
-use uimg_unpacking::MakingWorld;
+use uimg_world::MakingWorld;
 
 /// The image that is made of a tree: the path of its source, its own path, whether a device there is
 /// written in place, how it is made, and the memory that it reserves.

@@ -1,16 +1,18 @@
 //! Turns the end of an unpacking into the result that a check would have.
 
 ghost use Rattle.std.specs.Prelude.{◌≡◌};
-ghost use Rattle.uimg_tool.specs.{Statuses.trouble_status, UnpackEnds.AnswersEnding};
-ghost use Rattle.uimg_unpacking.specs.Deeds.{changes};
+ghost use Rattle.uimg_tool.specs.UnpackEnds.{AnswersEnding};
+ghost use Rattle.uimg_world.specs.Deeds.{changes};
 
-use crate::request_fault::{FAILED, REFUSED, WRONG_LINE};
+use crate::complaint::status_of_trouble;
+use crate::request_fault::REFUSED;
 use crate::unread::answer_of_unread;
 use uimg_base::Status;
 use uimg_checks::{Answer, Checked, Names, answer_of_fault, answer_of_line};
 use uimg_engine::Fault;
 use uimg_fit_checking::Finding;
-use uimg_unpacking::{Ended, PartsEnded, Trouble, World};
+use uimg_unpacking::{Ended, Trouble};
+use uimg_world::World;
 
 /// How the unpacking of an image ended.
 #[derive(Drop)]
@@ -48,24 +50,10 @@ impl<'a> From<Ended> for Ending<'a> {
             Ended::Kept => Ending::Told(Status::Done),
             Ended::Refused => Ending::Told(Status::NotRight),
             Ended::NoImage => Ending::NoImage,
+            Ended::Weak => Ending::Weak,
             Ended::Stopped(fault) => Ending::Stopped(Fault::from(fault)),
+            Ended::StoppedLegacy(fault) => Ending::Stopped(Fault::from(fault)),
             Ended::Troubled(trouble) => Ending::Troubled(trouble),
-        }
-    }
-}
-
-impl<'a> From<PartsEnded> for Ending<'a> {
-    ghost use Rattle.std.specs.Prelude.{◌≡◌};
-    ghost use Rattle.uimg_tool.specs.UnpackEnds.{end_of_parts};
-
-    ghost from_gives = { λ ended ending. ending ≡ end_of_parts ended };
-
-    fn from(ended: PartsEnded) -> Ending<'a> {
-        match ended {
-            PartsEnded::Kept => Ending::Told(Status::Done),
-            PartsEnded::Weak => Ending::Weak,
-            PartsEnded::Stopped(fault) => Ending::Stopped(Fault::from(fault)),
-            PartsEnded::Troubled(trouble) => Ending::Troubled(trouble),
         }
     }
 }
@@ -91,18 +79,5 @@ pub(crate) fn answer_of_ending<'a, D: World>(
             let is_refused = status_of_trouble(&trouble) == REFUSED;
             answer_of_line(&trouble, is_refused, names)
         }
-    }
-}
-
-pub(crate) fn status_of_trouble(trouble: &Trouble) -> u8
-    ensures { result ≡ trouble_status trouble.now }
-{
-    match trouble {
-        Trouble::IsImage(_) => WRONG_LINE,
-        Trouble::RemovesImage(_) => WRONG_LINE,
-        Trouble::NoName => REFUSED,
-        Trouble::TooManyFiles(_) => REFUSED,
-        Trouble::TooManyBytes(_) => REFUSED,
-        _ => FAILED,
     }
 }

@@ -3,12 +3,12 @@
 ghost use Rattle.std.specs.Prelude.{◌≡◌, ◌∷◌, false};
 ghost use Rattle.uimg_base.specs.Named.{SameFiles};
 ghost use Rattle.uimg_checks.specs.CheckEnds.{AnswersLine};
-ghost use Rattle.uimg_unpacking.specs.Deeds.{Deed};
+ghost use Rattle.uimg_world.specs.Deeds.{Deed};
 
 use std::io;
 use thiserror::Error;
 use uimg_checks::{Answer, Names, answer_of_line};
-use uimg_unpacking::World;
+use uimg_world::World;
 
 pub(crate) fn answer_of_unread<'a, D: World>(
     world: &mut D,

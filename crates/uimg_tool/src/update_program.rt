@@ -2,7 +2,7 @@
 
 ghost use Rattle.std.specs.Prelude.{◌≡◌, IsTrue, false};
 ghost use Rattle.uimg_tool.specs.{Complaints.Ends, OldMakings.UpdatesFor, SourceStatuses.update_status, TreesMade.{KeepsUpdated, placed_by, update_time}};
-ghost use Rattle.uimg_unpacking.specs.Deeds.{changes};
+ghost use Rattle.uimg_world.specs.Deeds.{changes};
 
 use crate::complaints::Complaints;
 use crate::old_files::tell_end;
@@ -15,7 +15,7 @@ use uimg_engine::Fault;
 use uimg_fit_base::{AlignedPlacement, Placement};
 use uimg_fit_updating::{UpdateFault, Updated, update};
 use uimg_printing::Printed;
-use uimg_unpacking::{MakingWorld, World};
+use uimg_world::{MakingWorld, World};
 
 /// Makes the new image beside its name, which it gets when it is complete.
 pub(crate) fn update_image<'p, D: MakingWorld<'p>, W: Write, V: Write>(

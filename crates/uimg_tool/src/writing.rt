@@ -7,7 +7,7 @@ use crate::safe_path::{NewBeside, SafePath, Writing};
 use std::alloc::{AllocError, Global};
 use std::io;
 use std::io::ErrorKind;
-use uimg_unpacking::{Kind, Target, World};
+use uimg_world::{Kind, Target, World};
 
 /// How many names are tried beside a path. Commands that were stopped left those that exist.
 const TRIED: u32 = 10_000;

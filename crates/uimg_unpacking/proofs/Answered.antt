@@ -4,7 +4,7 @@ use Rattle.std.specs.declared.io.Error.{Error}
 use Rattle.std.specs.IoError.{error_kind}
 use Rattle.std.specs.declared.io.ErrorKind.{ErrorKind}
 use Rattle.std.specs.declared.io.ErrorKind.TheVariants.{AlreadyExists}
-use Rattle.uimg_unpacking.specs.Deeds.{refusal, answer_of}
+use Rattle.uimg_world.specs.Deeds.{refusal, answer_of}
 use Rattle.uimg_unpacking.specs.Naming.{is_done}
 
 -- a refused call is not done

@@ -1,8 +1,9 @@
 -- Worked cases of what files hold.
 use Rattle.std.proofs.Common.{◌≡◌, ◌∷◌, [], List, bytes_eq, codes, true, Some, None, is_some, if◌then◌else◌, refl, ap, true≢false}
 use Rattle.uimg_unpacking.specs.Contents.{Files, IsTrueTo, files_after, held}
-use Rattle.uimg_unpacking.specs.Deeds.{Done, Exists, Failed, Deed, Creates, Closes, Links, Looks, Renames, Removes, MakesFolder, Overwrites}
-use Rattle.uimg_unpacking.specs.declared.kind.Kind.TheVariants.{Nothing, File}
+use Rattle.uimg_world.specs.Deeds.{Deed, Creates, Closes, Links, Looks, Renames, Removes, MakesFolder, Overwrites}
+use Rattle.uimg_world.specs.declared.call.Answer.TheVariants.{Done, Exists, Failed}
+use Rattle.uimg_world.specs.declared.kind.Kind.TheVariants.{Nothing, File}
 
 -- a file that was written and closed
 abbrev written : List Deed

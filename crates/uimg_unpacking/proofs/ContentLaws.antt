@@ -9,41 +9,43 @@ use Rattle.std.proofs.lemmas.Bool.{and_parts, lt-ltb, ltb-true}
 use Rattle.std.proofs.lemmas.Slice.Eq.{bytes_eq-Decides}
 use Rattle.std.proofs.lemmas.Fmt.{decimal_injective}
 use Rattle.uimg_unpacking.specs.Contents.{Files, at, files_after, bytes_in, held}
-use Rattle.uimg_unpacking.specs.Deeds.{Answer, Done, Exists, Failed, Deed, Creates, Closes, Links, Renames, Removes, MakesFolder, RemovesFolder}
+use Rattle.uimg_world.specs.Deeds.{Deed, Creates, Closes, Links, Renames, Removes, MakesFolder, RemovesFolder}
+use Rattle.uimg_world.specs.declared.call.Answer.{Answer}
+use Rattle.uimg_world.specs.declared.call.Answer.TheVariants.{Done, Exists, Failed}
 use Rattle.uimg_unpacking.specs.FileNames.{is_file_name}
 use Rattle.uimg_unpacking.specs.Places.{behind, is_digit, is_file_of, is_temporary_file, is_temporary_folder, is_inner, may_change, past_digits}
 use Rattle.uimg_unpacking.specs.Staged.{has_paths, are_numbered}
-use Rattle.uimg_unpacking.specs.declared.begun.Begun.{Begun}
+use Rattle.uimg_unpacking.specs.declared.staged_file.StagedFile.{StagedFile}
 use Rattle.uimg_unpacking.proofs.Placing.{cancel, differs, old_new_path}
 
 -- the paths of a number, as facts
-pub record HasPaths (made : List ℕ) (number : ℕ) (its : Begun) : Type 0 where
+pub record HasPaths (made : List ℕ) (number : ℕ) (its : StagedFile) : Type 0 where
   pub small : number < 2 ^ 64
   pub new : string_bytes its.new ≡ made ++ codes "/new-" ++ decimal number
   pub old : string_bytes its.old ≡ made ++ codes "/old-" ++ decimal number
 
-abbrev pub Numbered : List ℕ → ℕ → List Begun → Type 0
+abbrev pub Numbered : List ℕ → ℕ → List StagedFile → Type 0
 Numbered made number [] = ⊤
 Numbered made number (its ∷ files) = HasPaths made number its × Numbered made (suc number) files
 
-pub has_its_paths : (made : List ℕ) (number : ℕ) (its : Begun) → has_paths made number its ≡ true → HasPaths made number its
+pub has_its_paths : (made : List ℕ) (number : ℕ) (its : StagedFile) → has_paths made number its ≡ true → HasPaths made number its
 unfolding has_paths
 has_its_paths made number its is =
     let h = and_parts _ _ is in
     let k = and_parts _ _ h.0 in
     record { small = ltb-true _ _ k.0; new = (bytes_eq-Decides _ _).0 k.1; old = (bytes_eq-Decides _ _).0 h.1 }
 
-pub paths_told : (made : List ℕ) (number : ℕ) (its : Begun) → HasPaths made number its → has_paths made number its ≡ true
+pub paths_told : (made : List ℕ) (number : ℕ) (its : StagedFile) → HasPaths made number its → has_paths made number its ≡ true
 unfolding has_paths
 paths_told made number its has = ap₂ (λ (a b : Bool). a && b) (ap₂ (λ (a b : Bool). a && b) (lt-ltb _ _ has.small) ((bytes_eq-Decides _ _).1 has.new)) ((bytes_eq-Decides _ _).1 has.old)
 
-pub all_numbered : (made : List ℕ) (number : ℕ) (files : List Begun) → are_numbered made number files ≡ true → Numbered made number files
+pub all_numbered : (made : List ℕ) (number : ℕ) (files : List StagedFile) → are_numbered made number files ≡ true → Numbered made number files
 all_numbered made number [] is = tt
 all_numbered made number (its ∷ files) is =
     let h = and_parts (has_paths made number its) (are_numbered made (suc number) files) is in
     (has_its_paths made number its h.0, all_numbered made (suc number) files h.1)
 
-pub numbers_told : (made : List ℕ) (number : ℕ) (files : List Begun) → Numbered made number files → are_numbered made number files ≡ true
+pub numbers_told : (made : List ℕ) (number : ℕ) (files : List StagedFile) → Numbered made number files → are_numbered made number files ≡ true
 numbers_told made number [] has = refl
 numbers_told made number (its ∷ files) has = ap₂ (λ (a b : Bool). a && b) (paths_told made number its has.0) (numbers_told made (suc number) files has.1)
 
@@ -176,13 +178,13 @@ two_new made i j a b other is = other (decimal_injective i j a b (cancel (made +
 pub two_old : (made : List ℕ) (i j : ℕ) → i < 2 ^ 64 → j < 2 ^ 64 → (i ≡ j → ⊥) → made ++ codes "/old-" ++ decimal i ≡ made ++ codes "/old-" ++ decimal j → ⊥
 two_old made i j a b other is = other (decimal_injective i j a b (cancel (made ++ codes "/old-") (decimal i) (decimal j) is))
 
-pub new_apart : (made : List ℕ) (i j : ℕ) (a b : Begun) → HasPaths made i a → HasPaths made j b → (i ≡ j → ⊥) → bytes_eq (string_bytes a.new) (string_bytes b.new) ≡ false
+pub new_apart : (made : List ℕ) (i j : ℕ) (a b : StagedFile) → HasPaths made i a → HasPaths made j b → (i ≡ j → ⊥) → bytes_eq (string_bytes a.new) (string_bytes b.new) ≡ false
 new_apart made i j a b p q other = differs (string_bytes a.new) (string_bytes b.new) (λ is. two_new made i j p.small q.small other (sym p.new ∙ is ∙ q.new))
 
-pub old_apart : (made : List ℕ) (i j : ℕ) (a b : Begun) → HasPaths made i a → HasPaths made j b → bytes_eq (string_bytes a.old) (string_bytes b.new) ≡ false
+pub old_apart : (made : List ℕ) (i j : ℕ) (a b : StagedFile) → HasPaths made i a → HasPaths made j b → bytes_eq (string_bytes a.old) (string_bytes b.new) ≡ false
 old_apart made i j a b p q = differs (string_bytes a.old) (string_bytes b.new) (λ is. old_new_path made (decimal i) (decimal j) (sym p.old ∙ is ∙ q.new))
 
-pub olds_apart : (made : List ℕ) (i j : ℕ) (a b : Begun) → HasPaths made i a → HasPaths made j b → (i ≡ j → ⊥) → bytes_eq (string_bytes a.old) (string_bytes b.old) ≡ false
+pub olds_apart : (made : List ℕ) (i j : ℕ) (a b : StagedFile) → HasPaths made i a → HasPaths made j b → (i ≡ j → ⊥) → bytes_eq (string_bytes a.old) (string_bytes b.old) ≡ false
 olds_apart made i j a b p q other = differs (string_bytes a.old) (string_bytes b.old) (λ is. two_old made i j p.small q.small other (sym p.old ∙ is ∙ q.old))
 
 -- what is true of each of some files

@@ -10,9 +10,10 @@ use Rattle.uimg_fit_checking.specs.declared.unpacking.node_names.NodeName.{NodeN
 use Rattle.uimg_unpacking.specs.declared.trouble.Trouble.{Trouble}
 use Rattle.uimg_unpacking.specs.declared.trouble.Trouble.TheVariants as of
 use Rattle.uimg_unpacking.specs.declared.unpacking.Ended.{Ended}
-use Rattle.uimg_unpacking.specs.declared.unpacking.Ended.TheVariants.{Kept, Refused, NoImage, Stopped, Troubled}
+use Rattle.uimg_unpacking.specs.declared.unpacking.Ended.TheVariants.{Kept, Refused, NoImage, Weak, Stopped, StoppedLegacy, Troubled}
 use Rattle.uimg_unpacking.specs.declared.unpacking.Unpacking.{Unpacking}
-use Rattle.uimg_unpacking.specs.{Deeds.Deed, Leaving.{Leaves, are_undone, is_left}, Places.{Obeys, Terms}, Plan.gives_names}
+use Rattle.uimg_unpacking.specs.{Leaving.{Leaves, are_undone, is_left}, Places.{Obeys, Terms}}
+use Rattle.uimg_world.specs.Deeds.{Deed}
 use Rattle.uimg_unpacking.specs.Ends.{asked_name, end_of_taken, end_of, end_by_name, has_failed, is_whole, Ends, EndsByFile}
 use Rattle.uimg_unpacking.proofs.Placing.{obeys_naming}
 
@@ -58,7 +59,9 @@ by_result asked told (Ok (Overlapping name)) count trouble Refused old new ends 
 by_result asked told (Ok (Overlapping name)) count trouble (Troubled bad) old new ends is good = absurd (true_false good)
 by_result asked told (Ok (Overlapping name)) count trouble Kept old new ends is good = absurd is
 by_result asked told (Ok (Overlapping name)) count trouble NoImage old new ends is good = absurd is
+by_result asked told (Ok (Overlapping name)) count trouble Weak old new ends is good = absurd is
 by_result asked told (Ok (Overlapping name)) count trouble (Stopped fault) old new ends is good = absurd is
+by_result asked told (Ok (Overlapping name)) count trouble (StoppedLegacy fault) old new ends is good = absurd is
 by_result asked told (Err (Blob fault at)) count trouble end old new ends is good = is ∙ sym (ap (end_of asked) (ends.0 (sym (ap has_failed is) ∙ good)))
 by_result asked told (Err (Fit fault)) count trouble end old new ends is good = is ∙ sym (ap (end_of asked) ends.0)
 by_result asked told (Err Read) count trouble end old new ends is good = failed end (Stopped Read) _ is refl good
@@ -95,7 +98,9 @@ whole_at asked (Ok (Taken all)) count None end old new is good =
 whole_at asked (Ok (Overlapping name)) count trouble Kept old new is good = absurd is
 whole_at asked (Ok (Overlapping name)) count trouble Refused old new is good = other_end Refused Refused refl refl good
 whole_at asked (Ok (Overlapping name)) count trouble NoImage old new is good = absurd is
+whole_at asked (Ok (Overlapping name)) count trouble Weak old new is good = absurd is
 whole_at asked (Ok (Overlapping name)) count trouble (Stopped fault) old new is good = absurd is
+whole_at asked (Ok (Overlapping name)) count trouble (StoppedLegacy fault) old new is good = absurd is
 whole_at asked (Ok (Overlapping name)) count trouble (Troubled bad) old new is good = other_end (Troubled bad) (Troubled bad) refl refl good
 whole_at asked (Err (Blob fault at)) count trouble end old new is good = other_end end (Stopped (Blob fault at)) is refl good
 whole_at asked (Err (Fit fault)) count trouble end old new is good = other_end end (Stopped (Fit fault)) is refl good
@@ -136,9 +141,9 @@ taken_left asked names count left = by_case (count == 0) refl
     by_case false is = absurd (true_false (sym left ∙ ap (λ (b : Bool). is_left (by_count asked true b)) is))
 
 pub left_by : (asked : Unpacking) (unpacked : Result Unpacked Fault) (count : ℕ) (trouble : Option Trouble) (end : Ended) (old new : Option (List ℕ)) → Ends asked unpacked count trouble end old new → asked.keeps_good ≡ false → is_left end ≡ true
-    → Unnamed (gives_names asked.keeps_good (is_whole unpacked)) count trouble
+    → Unnamed (asked.keeps_good || is_whole unpacked) count trouble
 left_by asked (Ok (Taken true)) count (Some trouble) end old new ends good left = undone (ap is_left (sym ends) ∙ left)
-left_by asked (Ok (Taken true)) count None end old new ends good left = taken_left asked (gives_names asked.keeps_good true) count (ap is_left (sym ends) ∙ left)
+left_by asked (Ok (Taken true)) count None end old new ends good left = taken_left asked (asked.keeps_good || true) count (ap is_left (sym ends) ∙ left)
 left_by asked (Ok (Taken false)) count trouble end old new ends good left = none_named (ap (λ (b : Bool). b || false) good)
 left_by asked (Ok (Overlapping name)) count trouble end old new ends good left = none_named (ap (λ (b : Bool). b || false) good)
 left_by asked (Err fault) count trouble end old new ends good left = none_named (ap (λ (b : Bool). b || false) good)

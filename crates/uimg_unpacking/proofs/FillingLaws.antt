@@ -7,12 +7,11 @@ use Rattle.uimg_fit_base.specs.declared.fault.FitFault.TheVariants.{NoSuchImage}
 use Rattle.uimg_fit_checking.specs.Unpacking.{Take, UnpackOutcome, taken, overlaps, unpack_of, Unpacks}
 use Rattle.uimg_fit_checking.specs.declared.unpacking.Unpacked.{Unpacked, TheVariants.{Taken, Overlapping}}
 use Rattle.uimg_unpacking.specs.Contents.{differ, held_in}
-use Rattle.uimg_unpacking.specs.Deeds.{Deed}
+use Rattle.uimg_world.specs.Deeds.{Deed}
 use Rattle.uimg_unpacking.specs.Ends.{asked_name, end_of_taken, is_whole, Ends}
 use Rattle.uimg_unpacking.specs.Filling.{names_of_kept, kept_bytes, takes_by, takes_of, are_kept, Holds, FillsIf, Fills}
 use Rattle.uimg_unpacking.specs.FileNames.{is_file_name}
 use Rattle.uimg_unpacking.specs.Given.{seen_of, with_contents}
-use Rattle.uimg_unpacking.specs.Plan.{gives_names}
 use Rattle.uimg_unpacking.specs.declared.trouble.Trouble.{Trouble}
 use Rattle.uimg_unpacking.specs.declared.unpacking.Ended.{Ended}
 use Rattle.uimg_unpacking.specs.declared.unpacking.Ended.TheVariants.{Kept, Refused, NoImage, Stopped, Troubled}
@@ -40,7 +39,7 @@ names_by asked false true all is = absurd (true≢false (sym is))
 names_by asked false false true is = or_true asked.keeps_good
 names_by asked false false false is = or_false asked.keeps_good is
 
-pub named_at : (asked : Unpacking) (all : Bool) (count : ℕ) → are_kept asked (end_of_taken asked all count) ≡ true → gives_names asked.keeps_good all ≡ true
+pub named_at : (asked : Unpacking) (all : Bool) (count : ℕ) → are_kept asked (end_of_taken asked all count) ≡ true → (asked.keeps_good || all) ≡ true
 named_at asked all count is = names_by asked (count == 0 && is_some asked.only) (count == 0 && is_some asked.need) all is
 
 filled_by : (folder : List ℕ) (noted : List Take) (contents : List (Option (List ℕ))) (takes : List Take) (calls : List Deed) → length contents ≡ length (kept_bytes noted) → with_contents noted contents ≡ flat_map seen_of takes → HeldAs folder noted contents calls → Holds folder takes calls
@@ -57,7 +56,7 @@ not_kept asked end other is bad good = absurd (true≢false (sym good ∙ ap (ar
 
 by_result : (asked : Unpacking) (told : Result UnpackOutcome Fault) (r : Result Unpacked Fault) (count : ℕ) (trouble : Option Trouble) (end : Ended) (old new : Option (List ℕ)) (noted : List Take) (contents : List (Option (List ℕ))) (takes : List Take) (calls : List Deed)
     → Unpacks seen_of r told [] takes → takes ≡ with_contents noted contents → length contents ≡ length (kept_bytes noted) → Ends asked r count trouble end old new
-    → (gives_names asked.keeps_good (is_whole r) ≡ true → trouble ≡ None → HeldAs asked.folder.path.now noted contents calls)
+    → ((asked.keeps_good || is_whole r) ≡ true → trouble ≡ None → HeldAs asked.folder.path.now noted contents calls)
     → are_kept asked end ≡ true → FillsIf asked.folder.path.now (takes_by told) calls
 by_result asked told (Ok (Taken all)) count (Some trouble) end old new noted contents takes calls unpacks are same is holds good = not_kept asked end (Troubled trouble) is refl good
 by_result asked (Ok (taken ts)) (Ok (Taken all)) count None end old new noted contents takes calls unpacks are same is holds good =
@@ -77,7 +76,7 @@ by_result asked told (Err Put) count None end old new noted contents takes calls
 pub fills : (asked : Unpacking) (file : List ℕ) (only : Option (List ℕ)) (r : Result Unpacked Fault) (count : ℕ) (trouble : Option Trouble) (end : Ended) (old new : Option (List ℕ)) (folder : List ℕ) (noted : List Take) (contents : List (Option (List ℕ))) (before takes : List Take) (calls : List Deed)
     → Some only ≡ asked_name asked.only → before ≡ [] → folder ≡ asked.folder.path.now
     → Unpacks seen_of r (unpack_of asked.need only file) before takes → takes ≡ with_contents noted contents → length contents ≡ length (kept_bytes noted) → Ends asked r count trouble end old new
-    → (gives_names asked.keeps_good (is_whole r) ≡ true → trouble ≡ None → HeldAs folder noted contents calls)
+    → ((asked.keeps_good || is_whole r) ≡ true → trouble ≡ None → HeldAs folder noted contents calls)
     → Fills asked file end calls
 fills asked file only r count trouble end old new folder noted contents before takes calls named none at unpacks are same is holds good =
     subst (λ (o : Option (Option (List ℕ))). FillsIf asked.folder.path.now (takes_of asked o file) calls) named

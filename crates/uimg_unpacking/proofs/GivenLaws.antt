@@ -10,14 +10,14 @@ use Rattle.uimg_fit_checking.specs.Unpacking.{Take, kept, refused, AddsIf}
 use Rattle.uimg_fit_checking.specs.Checks.{NamedFinding}
 use Rattle.uimg_fit_checking.specs.declared.checking.Finding.TheVariants as finding
 use Rattle.uimg_fit_checking.specs.declared.unpacking.taker.Vouched.{Vouched}
-use Rattle.uimg_unpacking.specs.Deeds.{Deed}
+use Rattle.uimg_world.specs.Deeds.{Deed}
 use Rattle.uimg_unpacking.specs.FileNames.{file_name, is_among}
 use Rattle.uimg_unpacking.specs.Filling.{names_of_kept, kept_bytes}
 use Rattle.uimg_unpacking.specs.Given.{shown, seen_of, noted_takes, as_take, with_contents, MayGive, image_of, names_after, AreNamed, AreWhole}
 use Rattle.uimg_unpacking.specs.Refusals.{last_name}
 use Rattle.uimg_unpacking.specs.Staged.{complete, complete_names, staged}
 use Rattle.uimg_unpacking.specs.Troubles.{done_in, noted}
-use Rattle.uimg_unpacking.specs.declared.begun.Begun.{Begun}
+use Rattle.uimg_unpacking.specs.declared.staged_file.StagedFile.{StagedFile}
 use Rattle.uimg_unpacking.specs.declared.trouble.Trouble.{Trouble}
 
 -- the names with one payload more
@@ -47,16 +47,16 @@ count_same (kept other some by ∷ takes) image told = ap suc (count_same takes 
 count_same (refused other why ∷ takes) image told = count_same takes image told
 
 -- no file is begun
-pub none_named : (files : List Begun) (is_writing : Bool) (names : List (List ℕ)) (image : List ℕ) → files ≡ [] → is_writing ≡ false → names ≡ [] → AreNamed files is_writing [] names image
+pub none_named : (files : List StagedFile) (is_writing : Bool) (names : List (List ℕ)) (image : List ℕ) → files ≡ [] → is_writing ≡ false → names ≡ [] → AreNamed files is_writing [] names image
 none_named files is_writing names image none complete empty =
-    subst (λ (fs : List Begun). AreNamed fs is_writing [] names image) (sym none)
+    subst (λ (fs : List StagedFile). AreNamed fs is_writing [] names image) (sym none)
     (subst (λ (b : Bool). AreNamed [] b [] names image) (sym complete) (record { whole = refl; given = empty; next = λ is. absurd (true≢false (sym is)) }))
 
-pub none_whole : (files : List Begun) (is_writing : Bool) → files ≡ [] → is_writing ≡ false → AreWhole files is_writing []
-none_whole files is_writing none complete = ap₂ (λ (fs : List Begun) (b : Bool). length (complete_names fs b)) none complete
+pub none_whole : (files : List StagedFile) (is_writing : Bool) → files ≡ [] → is_writing ≡ false → AreWhole files is_writing []
+none_whole files is_writing none complete = ap₂ (λ (fs : List StagedFile) (b : Bool). length (complete_names fs b)) none complete
 
 -- a file is begun
-pub begun_named : (files now : List Begun) (was is_writing : Bool) (takes : List Take) (names new : List (List ℕ)) (other image name : List ℕ) → was ≡ false → is_writing ≡ true → complete_names now is_writing ≡ complete_names files was → last_name now ≡ name
+pub begun_named : (files now : List StagedFile) (was is_writing : Bool) (takes : List Take) (names new : List (List ℕ)) (other image name : List ℕ) → was ≡ false → is_writing ≡ true → complete_names now is_writing ≡ complete_names files was → last_name now ≡ name
     → name ≡ file_name names image → new ≡ name ∷ names → AreNamed files was takes names other → AreNamed now is_writing takes new image
 begun_named files now was is_writing takes names new other image name complete writing same last is more named =
     let before : names ≡ names_after [] takes = (subst (λ (b : Bool). AreNamed files b takes names other) complete named).given in
@@ -69,7 +69,7 @@ begun_named files now was is_writing takes names new other image name complete w
     }
 
 -- it is complete, and kept
-pub kept_named : (files now : List Begun) (was is_writing : Bool) (takes : List Take) (names : List (List ℕ)) (image its : List ℕ) → was ≡ true → is_writing ≡ false → image ≡ its → complete_names now is_writing ≡ complete_names files was ++ last_name files ∷ [] → AreNamed files was takes names image
+pub kept_named : (files now : List StagedFile) (was is_writing : Bool) (takes : List Take) (names : List (List ℕ)) (image its : List ℕ) → was ≡ true → is_writing ≡ false → image ≡ its → complete_names now is_writing ≡ complete_names files was ++ last_name files ∷ [] → AreNamed files was takes names image
     → AreNamed now is_writing (takes ++ kept its [] None ∷ []) names image
 kept_named files now was is_writing takes names image its writing complete same more named =
     let before : names ≡ file_name (names_after [] takes) image ∷ names_after [] takes = (subst (λ (b : Bool). AreNamed files b takes names image) writing named).given in
@@ -80,7 +80,7 @@ kept_named files now was is_writing takes names image its writing complete same 
     })
 
 -- it is refused
-pub refused_named : (files now : List Begun) (was is_writing : Bool) (takes : List Take) (names : List (List ℕ)) (image its : List ℕ) (told : NamedFinding) → was ≡ true → is_writing ≡ false → image ≡ its → complete_names now is_writing ≡ complete_names files was → AreNamed files was takes names image
+pub refused_named : (files now : List StagedFile) (was is_writing : Bool) (takes : List Take) (names : List (List ℕ)) (image its : List ℕ) (told : NamedFinding) → was ≡ true → is_writing ≡ false → image ≡ its → complete_names now is_writing ≡ complete_names files was → AreNamed files was takes names image
     → AreNamed now is_writing (takes ++ refused its told ∷ []) names image
 refused_named files now was is_writing takes names image its told writing complete same none named =
     let before : names ≡ file_name (names_after [] takes) image ∷ names_after [] takes = (subst (λ (b : Bool). AreNamed files b takes names image) writing named).given in
@@ -90,11 +90,11 @@ refused_named files now was is_writing takes names image its told writing comple
       next = λ still. absurd (true≢false (sym still ∙ complete));
     })
 
-pub kept_whole : (files now : List Begun) (was is_writing : Bool) (takes : List Take) (image : List ℕ) → complete_names now is_writing ≡ complete_names files was ++ last_name files ∷ [] → AreWhole files was takes → AreWhole now is_writing (takes ++ kept image [] None ∷ [])
+pub kept_whole : (files now : List StagedFile) (was is_writing : Bool) (takes : List Take) (image : List ℕ) → complete_names now is_writing ≡ complete_names files was ++ last_name files ∷ [] → AreWhole files was takes → AreWhole now is_writing (takes ++ kept image [] None ∷ [])
 kept_whole files now was is_writing takes image more whole =
     ap (λ (l : List (List ℕ)). length l) more ∙ length-append (complete_names files was) (last_name files ∷ []) ∙ omega (arith, whole) ∙ sym (count_more takes image [] None)
 
-pub refused_whole : (files now : List Begun) (was is_writing : Bool) (takes : List Take) (image : List ℕ) (told : NamedFinding) → complete_names now is_writing ≡ complete_names files was → AreWhole files was takes → AreWhole now is_writing (takes ++ refused image told ∷ [])
+pub refused_whole : (files now : List StagedFile) (was is_writing : Bool) (takes : List Take) (image : List ℕ) (told : NamedFinding) → complete_names now is_writing ≡ complete_names files was → AreWhole files was takes → AreWhole now is_writing (takes ++ refused image told ∷ [])
 refused_whole files now was is_writing takes image told same whole = ap (λ (l : List (List ℕ)). length l) same ∙ whole ∙ sym (count_same takes image told)
 
 -- a payload is noted: the name of its image, and then a mark
@@ -105,7 +105,7 @@ pub noted_refused : (noted middle new : List (List ℕ)) (image its : List ℕ) 
 noted_refused noted middle new image its same first last = ap noted_takes (last ∙ ap (λ (ns : List (List ℕ)). [] ∷ ns) (first ∙ ap (λ (n : List ℕ). n ∷ noted) same))
 
 -- as many contents as complete files
-pub as_many : (calls : List Deed) (files : List Begun) (is_writing : Bool) (takes : List Take) → AreWhole files is_writing takes → length (staged calls files is_writing) ≡ length (kept_bytes takes)
+pub as_many : (calls : List Deed) (files : List StagedFile) (is_writing : Bool) (takes : List Take) → AreWhole files is_writing takes → length (staged calls files is_writing) ≡ length (kept_bytes takes)
 as_many calls files is_writing takes whole = length-map (complete files is_writing) _ ∙ sym (length-map (complete files is_writing) _) ∙ whole
 
 -- what is shown, with one payload more

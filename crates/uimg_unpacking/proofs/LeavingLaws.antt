@@ -1,21 +1,23 @@
 -- What calls leave as it was, and what names that are taken back restore.
-use Rattle.std.proofs.Common.{◌≡◌, ℕ, ◌+◌, List, [], ◌∷◌, ◌++◌, length, append_assoc, codes, decimal, string_bytes, bytes_eq, is_some, Bool, true, false, ◌||◌, if◌then◌else◌, Option, Some, None, refl, ap, sym, subst, ◌∙◌, true≢false, arith, length-append}
+use Rattle.std.proofs.Common.{◌≡◌, ℕ, List, [], ◌∷◌, ◌++◌, length, append_assoc, codes, decimal, string_bytes, bytes_eq, is_some, Bool, true, false, ◌||◌, if◌then◌else◌, Option, Some, None, refl, ap, sym, subst, ◌∙◌, true≢false, arith, length-append}
 use Rattle.std.proofs.lemmas.Bool.{and_parts}
 use Rattle.std.specs.Option.{option_map_or}
 use Rattle.std.proofs.lemmas.Slice.Eq.{bytes_eq-Decides}
 use Rattle.uimg_unpacking.specs.Allowing.{Allows, is_the_image, is_looked_at, Refused}
 use Rattle.uimg_unpacking.specs.Contents.{Files, IsTrueTo, at, files_after, is_in, differ}
-use Rattle.uimg_unpacking.specs.Deeds.{Answer, Done, Exists, Failed, Deed, Creates, Closes, Links, Looks, Renames, Removes, MakesFolder, RemovesFolder, RemovesAll, Overwrites, LendsShelf}
-use Rattle.uimg_unpacking.specs.Kinds.{is_something}
+use Rattle.uimg_world.specs.Deeds.{Deed, Creates, Closes, Links, Looks, Renames, Removes, MakesFolder, RemovesFolder, RemovesAll, Overwrites, LendsShelf}
+use Rattle.uimg_world.specs.declared.call.Answer.{Answer}
+use Rattle.uimg_world.specs.declared.call.Answer.TheVariants.{Done, Exists, Failed}
+use Rattle.uimg_world.specs.Kinds.{is_something}
 use Rattle.uimg_unpacking.specs.Leaving.{Leaves, KeepsNone, NamesAll, is_undone}
 use Rattle.uimg_unpacking.specs.Naming.{is_done, GivesName, over, linked, exists, taken, moved, Moves, recovered, NamesIt, PutsItBack}
 use Rattle.uimg_unpacking.specs.Places.{Obeys, Terms, is_begun_in, is_file_of, may_call, obeys, since}
 use Rattle.uimg_unpacking.specs.Staged.{LeavesOthers}
-use Rattle.uimg_unpacking.specs.declared.begun.Begun.{Begun}
-use Rattle.uimg_unpacking.specs.declared.file_id.FileId.{FileId}
-use Rattle.uimg_unpacking.specs.declared.kind.Kind.{Kind}
+use Rattle.uimg_unpacking.specs.declared.staged_file.StagedFile.{StagedFile}
+use Rattle.uimg_world.specs.declared.file_id.FileId.{FileId}
+use Rattle.uimg_world.specs.declared.kind.Kind.{Kind}
 use Rattle.uimg_unpacking.specs.declared.trouble.Trouble.{Trouble}
-use Rattle.uimg_unpacking.specs.declared.kind.Kind.TheVariants.{Nothing, File, Folder, Link}
+use Rattle.uimg_world.specs.declared.kind.Kind.TheVariants.{Nothing, File, Folder, Link}
 use Rattle.uimg_unpacking.proofs.ContentLaws.{HasPaths, at_it, closes_other, creates_other, early_other, flipped, links_other, makes_other, own_name, removes_other, renames_other, temporary_other, unmakes_other}
 use Rattle.uimg_unpacking.proofs.Placing.{begun_apart, begun_new, begun_old, begun_whole, differs, old_new_path, own_in}
 
@@ -187,7 +189,7 @@ either_kept true x y is = refl
 either_kept false x y is = ap (λ (b : Bool). if b then x else y) is
 
 -- a file that gets no name, where nothing is changed
-pub names_none : (its : Begun) (before after : List Deed) → ((start : Files) → IsTrueTo start after → IsTrueTo start before) → ((start : Files) (p : List ℕ) → files_after start after p ≡ files_after start before p) → NamesIt its false before after
+pub names_none : (its : StagedFile) (before after : List Deed) → ((start : Files) → IsTrueTo start after → IsTrueTo start before) → ((start : Files) (p : List ℕ) → files_after start after p ≡ files_after start before p) → NamesIt its false before after
 names_none its before after told same = record {
   earlier = told;
   there = λ done. absurd (true≢false (sym done));
@@ -197,12 +199,12 @@ names_none its before after told same = record {
 }
 
 -- the paths of a file that was begun differ
-pub record Apart (its : Begun) : Type 0 where
+pub record Apart (its : StagedFile) : Type 0 where
   pub new_whole : bytes_eq (string_bytes its.new) (string_bytes its.whole) ≡ false
   pub old_whole : bytes_eq (string_bytes its.old) (string_bytes its.whole) ≡ false
   pub old_new : bytes_eq (string_bytes its.old) (string_bytes its.new) ≡ false
 
-pub apart : (folder : List ℕ) (its : Begun) → is_begun_in folder its ≡ true → Apart its
+pub apart : (folder : List ℕ) (its : StagedFile) → is_begun_in folder its ≡ true → Apart its
 apart folder its begun = record {
   new_whole = temporary_other folder (string_bytes its.new) (string_bytes its.whole) (begun_new folder its begun) (begun_whole folder its begun);
   old_whole = temporary_other folder (string_bytes its.old) (string_bytes its.whole) (begun_old folder its begun) (begun_whole folder its begun);
@@ -223,7 +225,7 @@ saw path kind before seen is = record {
 }
 
 -- a file that gets its name where nothing is
-pub names_fresh : (its : Begun) (is_named : Bool) (before seen after : List Deed) → Apart its → Saw (string_bytes its.whole) false before seen → Moves (string_bytes its.new) (string_bytes its.whole) is_named seen after → NamesIt its is_named before after
+pub names_fresh : (its : StagedFile) (is_named : Bool) (before seen after : List Deed) → Apart its → Saw (string_bytes its.whole) false before seen → Moves (string_bytes its.new) (string_bytes its.whole) is_named seen after → NamesIt its is_named before after
 names_fresh its true before seen after ap-its looked m =
     let new = string_bytes its.new in
     let old = string_bytes its.old in
@@ -240,7 +242,7 @@ names_fresh its false before seen after ap-its looked m =
     names_none its before after (λ start told. looked.earlier start (m.earlier start told)) (λ start p. m.failed refl start p ∙ looked.same start p)
 
 -- a file that gets its name where something is, which is kept, or is not
-pub names_over : (its : Begun) (is_named : Bool) (before seen middle after : List Deed) → Apart its → Saw (string_bytes its.whole) true before seen → Moves (string_bytes its.whole) (string_bytes its.old) true seen middle
+pub names_over : (its : StagedFile) (is_named : Bool) (before seen middle after : List Deed) → Apart its → Saw (string_bytes its.whole) true before seen → Moves (string_bytes its.whole) (string_bytes its.old) true seen middle
     → Moves (string_bytes its.new) (string_bytes its.whole) is_named middle after → NamesIt its is_named before after
 names_over its is_named before seen middle after ap-its looked k m =
     let new = string_bytes its.new in
@@ -257,11 +259,11 @@ names_over its is_named before seen middle after ap-its looked k m =
       rest = λ start p x y z. m.rest start p x z ∙ k.rest start p z y ∙ looked.same start p;
     }
 
-pub names_unkept : (its : Begun) (before seen after : List Deed) (whole old : List ℕ) {is_there : Bool} → Saw whole is_there before seen → Moves whole old false seen after → NamesIt its false before after
+pub names_unkept : (its : StagedFile) (before seen after : List Deed) (whole old : List ℕ) {is_there : Bool} → Saw whole is_there before seen → Moves whole old false seen after → NamesIt its false before after
 names_unkept its before seen after whole old looked k =
     names_none its before after (λ start told. looked.earlier start (k.earlier start told)) (λ start p. k.failed refl start p ∙ looked.same start p)
 
-pub names_refused : (its : Begun) (t : Terms) (before after : List Deed) → Obeys t true before after → ((start : Files) → files_after start after ≡ files_after start before) → NamesIt its false before after
+pub names_refused : (its : StagedFile) (t : Terms) (before after : List Deed) → Obeys t true before after → ((start : Files) → files_after start after ≡ files_after start before) → NamesIt its false before after
 names_refused its t before after does same = names_none its before after (earlier t true before after does) (λ start p. ap (λ (x : Files). x p) (same start))
 
 pub allowed : (image : Option FileId) (path : List ℕ) (before after : List Deed) → Allows image false path None before after → Saw path false before after
@@ -276,7 +278,7 @@ allowed image path before after (is_looked_at found Folder e g is) = absurd (tru
 allowed image path before after (is_looked_at found Link e g is) = absurd (true≢false (ap is_some (sym g)))
 
 -- after looks that changed nothing
-pub names_later : (its : Begun) (is_named : Bool) (t : Terms) (before seen after : List Deed) → Obeys t true before seen → ((start : Files) → files_after start seen ≡ files_after start before) → NamesIt its is_named seen after → NamesIt its is_named before after
+pub names_later : (its : StagedFile) (is_named : Bool) (t : Terms) (before seen after : List Deed) → Obeys t true before seen → ((start : Files) → files_after start seen ≡ files_after start before) → NamesIt its is_named seen after → NamesIt its is_named before after
 names_later its b t before seen after does same one = record {
   earlier = λ start told. earlier t true before seen does start (one.earlier start told);
   there = λ done start. one.there done start ∙ ap (λ (x : Files). x (string_bytes its.new)) (same start);
@@ -286,7 +288,7 @@ names_later its b t before seen after does same one = record {
 }
 
 -- what had the name is put back
-pub puts_nothing : (its : Begun) (kind : Kind) (before after : List Deed) → is_something kind ≡ false → after ≡ Looks (string_bytes its.old) kind ∷ before → PutsItBack its false true before after
+pub puts_nothing : (its : StagedFile) (kind : Kind) (before after : List Deed) → is_something kind ≡ false → after ≡ Looks (string_bytes its.old) kind ∷ before → PutsItBack its false true before after
 puts_nothing its kind before after free is = record {
   earlier = λ start told. (subst (IsTrueTo start) is told).1;
   back = λ done start told.
@@ -300,7 +302,7 @@ removed_it start q Done before is = at_it q None (files_after start before)
 removed_it start q Exists before is = absurd (true≢false (sym is))
 removed_it start q Failed before is = absurd (true≢false (sym is))
 
-pub puts_removed : (its : Begun) (kind : Kind) (a : Answer) (before after : List Deed) → is_something kind ≡ false → after ≡ Removes (string_bytes its.whole) a ∷ Looks (string_bytes its.old) kind ∷ before → PutsItBack its true (is_done a) before after
+pub puts_removed : (its : StagedFile) (kind : Kind) (a : Answer) (before after : List Deed) → is_something kind ≡ false → after ≡ Removes (string_bytes its.whole) a ∷ Looks (string_bytes its.old) kind ∷ before → PutsItBack its true (is_done a) before after
 puts_removed its kind a before after free is = record {
   earlier = λ start told. (subst (IsTrueTo start) is told).1;
   back = λ done start told.
@@ -309,14 +311,14 @@ puts_removed its kind a before after free is = record {
   rest = λ start p x y. ap (λ (t : List Deed). files_after start t p) is ∙ removes_other start (string_bytes its.whole) p a (Looks (string_bytes its.old) kind ∷ before) y;
 }
 
-pub puts_lost : (its : Begun) (has_name : Bool) (kind : Kind) (a : Answer) (before after : List Deed) → after ≡ Renames (string_bytes its.old) (string_bytes its.whole) a ∷ Looks (string_bytes its.old) kind ∷ before → PutsItBack its has_name false before after
+pub puts_lost : (its : StagedFile) (has_name : Bool) (kind : Kind) (a : Answer) (before after : List Deed) → after ≡ Renames (string_bytes its.old) (string_bytes its.whole) a ∷ Looks (string_bytes its.old) kind ∷ before → PutsItBack its has_name false before after
 puts_lost its h kind a before after is = record {
   earlier = λ start told. (subst (IsTrueTo start) is told).1;
   back = λ done. absurd (true≢false (sym done));
   rest = λ start p x y. ap (λ (t : List Deed). files_after start t p) is ∙ renames_other start (string_bytes its.old) (string_bytes its.whole) p a (Looks (string_bytes its.old) kind ∷ before) x y;
 }
 
-pub puts_back : (its : Begun) (has_name : Bool) (kind : Kind) (a : Answer) (before after : List Deed) → Apart its → is_something kind ≡ true
+pub puts_back : (its : StagedFile) (has_name : Bool) (kind : Kind) (a : Answer) (before after : List Deed) → Apart its → is_something kind ≡ true
     → after ≡ Removes (string_bytes its.old) a ∷ Renames (string_bytes its.old) (string_bytes its.whole) Done ∷ Looks (string_bytes its.old) kind ∷ before → PutsItBack its has_name true before after
 puts_back its h kind a before after ap-its there is =
     let old = string_bytes its.old in
@@ -371,16 +373,16 @@ pub none_same : (made : Option (List ℕ)) (before after : List Deed) → ((star
 none_same made before after told same none = still_none made before after told (λ start p gone. ap (λ (x : Files). x p) (same start) ∙ gone) none
 
 -- a file is created or closed there under another path
-new_other : (made : List ℕ) (n number : ℕ) (its : Begun) → HasPaths made n its → bytes_eq (string_bytes its.new) (made ++ codes "/old-" ++ decimal number) ≡ false
+new_other : (made : List ℕ) (n number : ℕ) (its : StagedFile) → HasPaths made n its → bytes_eq (string_bytes its.new) (made ++ codes "/old-" ++ decimal number) ≡ false
 new_other made n number its paths =
     differs (string_bytes its.new) (made ++ codes "/old-" ++ decimal number) (λ e. old_new_path made (decimal number) (decimal n) (sym e ∙ paths.new))
 
-pub none_created : (made : List ℕ) (n : ℕ) (its : Begun) (a : Answer) (before after : List Deed) → HasPaths made n its → after ≡ Creates (string_bytes its.new) a ∷ before → KeepsNone (Some made) before → KeepsNone (Some made) after
+pub none_created : (made : List ℕ) (n : ℕ) (its : StagedFile) (a : Answer) (before after : List Deed) → HasPaths made n its → after ≡ Creates (string_bytes its.new) a ∷ before → KeepsNone (Some made) before → KeepsNone (Some made) after
 none_created made n its a before after paths is none = some_path made after (λ start told number.
     let p = made ++ codes "/old-" ++ decimal number in
     ap (λ (t : List Deed). files_after start t p) is ∙ creates_other start (string_bytes its.new) p a before (new_other made n number its paths) ∙ none start (subst (IsTrueTo start) is told) made refl number)
 
-pub none_closed : (made : List ℕ) (n : ℕ) (its : Begun) (s : Bool) (c : Option (List ℕ)) (a : Answer) (before after : List Deed) → HasPaths made n its → after ≡ Closes (string_bytes its.new) s c a ∷ before → KeepsNone (Some made) before → KeepsNone (Some made) after
+pub none_closed : (made : List ℕ) (n : ℕ) (its : StagedFile) (s : Bool) (c : Option (List ℕ)) (a : Answer) (before after : List Deed) → HasPaths made n its → after ≡ Closes (string_bytes its.new) s c a ∷ before → KeepsNone (Some made) before → KeepsNone (Some made) after
 none_closed made n its s c a before after paths is none = some_path made after (λ start told number.
     let p = made ++ codes "/old-" ++ decimal number in
     ap (λ (t : List Deed). files_after start t p) is ∙ closes_other start (string_bytes its.new) p s c a before (new_other made n number its paths) ∙ none start (subst (IsTrueTo start) is told) made refl number)

@@ -7,7 +7,6 @@ pub mod FillingLaws
 pub mod GivenLaws
 pub mod LeavingLaws
 pub mod LimitLaws
-pub mod MadeLaws
 pub mod NameLaws
 pub mod NameUses
 pub mod NamingLaws

@@ -1,10 +1,9 @@
 -- What was claimed is within the limits.
-use Rattle.std.proofs.Common.{◌≡◌, ℕ, ◌+◌, ◌-◌, ◌^◌, ◌<◌, min, length, length-append, sum_by, List, [], ◌∷◌, ◌++◌, Bool, true, false, not, ◌&&◌, nat_lt, Option, Some, None, is_none, if◌then◌else◌, refl, ap, ap₂, sym, subst, ◌∙◌, true≢false, arith}
+use Rattle.std.proofs.Common.{◌≡◌, ℕ, ◌+◌, ◌-◌, ◌^◌, ◌<◌, min, length-append, sum_by, List, [], ◌∷◌, ◌++◌, Bool, true, false, not, ◌&&◌, nat_lt, Option, Some, None, is_none, if◌then◌else◌, refl, ap, sym, subst, ◌∙◌, true≢false, arith}
 use Rattle.uimg_fit_checking.specs.Claiming.{Claim, ClaimsTo, claim, claims_of}
 use Rattle.uimg_unpacking.specs.Ends.{FitsFor, asked_name, is_whole}
-use Rattle.uimg_unpacking.specs.Limiting.{bytes_in, claims_by, exceeded, exceeded_bytes, files_in, fits, is_over, none_claimed, sum64}
+use Rattle.uimg_unpacking.specs.Limiting.{bytes_in, claims_by, exceeded, exceeded_bytes, files_in, fits, is_over, sum64}
 use Rattle.uimg_unpacking.specs.Troubles.{noted, trouble_in}
-use Rattle.uimg_unpacking.specs.declared.limits.Claimed.{Claimed}
 use Rattle.uimg_unpacking.specs.declared.limits.Limits.{Limits}
 use Rattle.std.specs.Prelude.{Result, Ok, Err}
 use Rattle.uimg_fit_base.specs.declared.fault.Fault.{Fault}
@@ -42,10 +41,10 @@ by_files : (is_more : Bool) (t : Trouble) (o : Option ℕ) (bytes : ℕ) → is_
 by_files true t o bytes is = absurd (true≢false (sym is))
 by_files false t o bytes is = none_over o bytes is
 
-pub within : (claimed : Claimed) → is_none (exceeded claimed) ≡ true → (not (nat_lt claimed.limits.files claimed.files) && not (is_over claimed.limits.bytes claimed.bytes)) ≡ true
-within claimed is = by_files (nat_lt claimed.limits.files claimed.files) _ claimed.limits.bytes claimed.bytes is
+within : (limits : Limits) (claims : List Claim) → is_none (exceeded limits claims) ≡ true → fits limits claims ≡ true
+within limits claims is = by_files (nat_lt limits.files (files_in claims)) _ limits.bytes (bytes_in claims) is
 
-pub none_exceeds : (limits : Limits) → is_none (exceeded (none_claimed limits)) ≡ true
+pub none_exceeds : (limits : Limits) → is_none (exceeded limits []) ≡ true
 none_exceeds limits = by_files_none limits.files limits.bytes _
   where
     at_none : (o : Option ℕ) → is_none (exceeded_bytes o 0) ≡ true
@@ -56,20 +55,16 @@ none_exceeds limits = by_files_none limits.files limits.bytes _
     by_files_none files o t = ap (λ (b : Bool). is_none (if b then Some t else exceeded_bytes o 0)) (le-ltb files 0 (omega arith)) ∙ at_none o
 
 -- a trouble is noted where a limit is exceeded
-pub fits_noted : {X : Type 0} (r : Result X Trouble) (old new : Option Trouble) (claimed : Claimed) → trouble_in r ≡ exceeded claimed → new ≡ noted r old → is_none new ≡ true → is_none (exceeded claimed) ≡ true
-fits_noted (Ok done) old new claimed told is none = ap is_none (sym told)
-fits_noted (Err trouble) old new claimed told is none = absurd (true≢false (sym none ∙ ap is_none is))
+pub fits_noted : {X : Type 0} (r : Result X Trouble) (old new : Option Trouble) (limits : Limits) (claims : List Claim) → trouble_in r ≡ exceeded limits claims → new ≡ noted r old → is_none new ≡ true → is_none (exceeded limits claims) ≡ true
+fits_noted (Ok done) old new limits claims told is none = ap is_none (sym told)
+fits_noted (Err trouble) old new limits claims told is none = absurd (true≢false (sym none ∙ ap is_none is))
 
-pub fits_kept : {X : Type 0} (r : Result X Trouble) (old new : Option Trouble) (claimed : Claimed) → new ≡ noted r old → (is_none old ≡ true → is_none (exceeded claimed) ≡ true) → is_none new ≡ true → is_none (exceeded claimed) ≡ true
-fits_kept (Ok done) old new claimed is fits none = fits (sym (ap is_none is) ∙ none)
-fits_kept (Err trouble) old new claimed is fits none = absurd (true≢false (sym none ∙ ap is_none is))
+pub fits_kept : {X : Type 0} (r : Result X Trouble) (old new : Option Trouble) (limits : Limits) (claims : List Claim) → new ≡ noted r old → (is_none old ≡ true → is_none (exceeded limits claims) ≡ true) → is_none new ≡ true → is_none (exceeded limits claims) ≡ true
+fits_kept (Ok done) old new limits claims is fits none = fits (sym (ap is_none is) ∙ none)
+fits_kept (Err trouble) old new limits claims is fits none = absurd (true≢false (sym none ∙ ap is_none is))
 
-pub fits_by : (limits : Limits) (claimed : Claimed) (its : ℕ × Option ℕ) (claims : List Claim) → (limits.files, limits.bytes) ≡ its → (claimed.limits.files, claimed.limits.bytes) ≡ its → claimed.files ≡ files_in claims → claimed.bytes ≡ bytes_in claims → is_none (exceeded claimed) ≡ true → fits limits claims ≡ true
-fits_by limits claimed its claims these those files bytes is =
-    let same : (claimed.limits.files, claimed.limits.bytes) ≡ (limits.files, limits.bytes) = those ∙ sym these in
-    subst (λ (l : ℕ × Option ℕ). (not (nat_lt l.0 (files_in claims)) && not (is_over l.1 (bytes_in claims))) ≡ true) same
-    (subst (λ (n : ℕ). (not (nat_lt claimed.limits.files (files_in claims)) && not (is_over claimed.limits.bytes n)) ≡ true) bytes
-    (subst (λ (n : ℕ). (not (nat_lt claimed.limits.files n) && not (is_over claimed.limits.bytes claimed.bytes)) ≡ true) files (within claimed is)))
+pub fits_by : (asked limits its : Limits) (claims : List Claim) → asked ≡ its → limits ≡ its → is_none (exceeded limits claims) ≡ true → fits asked claims ≡ true
+fits_by asked limits its claims these those is = subst (λ (l : Limits). fits l claims ≡ true) (those ∙ sym these) (within limits claims is)
 
 pub all_claimed : (r : Result Unpacked Fault) (all before after : List Claim) → is_whole r ≡ true → before ≡ [] → ClaimsTo all r before after → after ≡ all
 all_claimed (Ok (Taken whole)) all before after is none told = told ∙ ap (λ (cs : List Claim). cs ++ all) none

@@ -1,12 +1,12 @@
 -- How files get their names one after another, and lose them.
 use Rattle.std.proofs.Common.{◌≡◌, ℕ, zero, suc, ◌+◌, ◌<◌, length, slice_index_or, drop-cons, List, [], ◌∷◌, Bool, true, false, ◌&&◌, nat_lt, refl, sym, ap₂, subst, drop, ◌∙◌, arith}
 use Rattle.std.proofs.lemmas.Bool.{lt-ltb, le-ltb, ltb-true, ltb-false}
-use Rattle.uimg_unpacking.specs.Deeds.{Deed}
+use Rattle.uimg_world.specs.Deeds.{Deed}
 use Rattle.uimg_unpacking.specs.Naming.{NamesIt, NamesFiles, PutsItBack, PutsBackFiles, UnlessLater}
-use Rattle.uimg_unpacking.specs.declared.begun.Begun.{Begun}
+use Rattle.uimg_unpacking.specs.declared.staged_file.StagedFile.{StagedFile}
 
 -- what is left to take back of the files from a number on
-abbrev pub LeftBack : List Begun → ℕ → ℕ → Bool → List Deed → List Deed → Type 0
+abbrev pub LeftBack : List StagedFile → ℕ → ℕ → Bool → List Deed → List Deed → Type 0
 LeftBack files zero named back before after = PutsBackFiles files named back before after
 LeftBack files (suc number) zero back before after = (back ≡ true) × (after ≡ before)
 LeftBack files (suc number) (suc named) back before after = LeftBack files number named back before after
@@ -33,7 +33,7 @@ with_done : (one back : Bool) → back ≡ true → (one && back) ≡ one
 with_done true back is = is
 with_done false back is = refl
 
-pub one_back : (its : Begun) (files : List Begun) (number named : ℕ) (one back : Bool) (s m t : List Deed)
+pub one_back : (its : StagedFile) (files : List StagedFile) (number named : ℕ) (one back : Bool) (s m t : List Deed)
     → UnlessLater (nat_lt named number) its (nat_lt number named) one s m → LeftBack files (suc number) named back m t
     → LeftBack (its ∷ files) number named (one && back) s t
 one_back its files zero zero one back s m t p q =
@@ -54,24 +54,24 @@ first_of xs i d inside =
     subst (λ (n : ℕ). drop i xs ≡ slice_index_or xs i d ∷ drop n xs) e (drop-cons xs i d inside)
 
 -- what one more named file adds
-pub one_named : (files : List Begun) (i : ℕ) (its : Begun) (named : ℕ) (are_all : Bool) (s m t : List Deed)
+pub one_named : (files : List StagedFile) (i : ℕ) (its : StagedFile) (named : ℕ) (are_all : Bool) (s m t : List Deed)
     → drop i files ≡ its ∷ drop (i + 1) files → NamesIt its true s m
     → NamesFiles (drop (i + 1) files) named are_all m t → NamesFiles (drop i files) (suc named) are_all s t
 one_named files i its named are_all s m t is p q =
-    subst (λ (fs : List Begun). NamesFiles fs (suc named) are_all s t) (sym is) (m, (p, q))
+    subst (λ (fs : List StagedFile). NamesFiles fs (suc named) are_all s t) (sym is) (m, (p, q))
 
-pub not_named_next : (files : List Begun) (i : ℕ) (its : Begun) (s t : List Deed)
+pub not_named_next : (files : List StagedFile) (i : ℕ) (its : StagedFile) (s t : List Deed)
     → drop i files ≡ its ∷ drop (i + 1) files → NamesIt its false s t → NamesFiles (drop i files) 0 false s t
 not_named_next files i its s t is p =
-    subst (λ (fs : List Begun). NamesFiles fs 0 false s t) (sym is) (refl, p)
+    subst (λ (fs : List StagedFile). NamesFiles fs 0 false s t) (sym is) (refl, p)
 
 -- what taking back one more file adds
-pub back_of : (files : List Begun) (i named : ℕ) (its : Begun) (one back : Bool) (s m t : List Deed)
+pub back_of : (files : List StagedFile) (i named : ℕ) (its : StagedFile) (one back : Bool) (s m t : List Deed)
     → drop i files ≡ its ∷ drop (i + 1) files → UnlessLater (nat_lt named i) its (nat_lt i named) one s m
     → LeftBack (drop (i + 1) files) (i + 1) named back m t → LeftBack (drop i files) i named (one && back) s t
 back_of files i named its one back s m t is p q =
     let e : i + 1 ≡ suc i = omega arith in
-    subst (λ (fs : List Begun). LeftBack fs i named (one && back) s t) (sym is)
+    subst (λ (fs : List StagedFile). LeftBack fs i named (one && back) s t) (sym is)
     (one_back its (drop (i + 1) files) i named one back s m t p (subst (λ (n : ℕ). LeftBack (drop (i + 1) files) n named back m t) e q))
 
 pub and_assoc : (a b c : Bool) → ((a && b) && c) ≡ (a && (b && c))

@@ -3,9 +3,10 @@ use Rattle.std.proofs.Common.{◌≡◌, ℕ, List, [], ◌∷◌, ◌++◌, Boo
 use mathlib.Core.List.{append_assoc}
 use Rattle.std.proofs.lemmas.List.Folds.{list_all-append}
 use Rattle.std.proofs.lemmas.Bool.{and_parts}
-use Rattle.uimg_unpacking.specs.Deeds.{Answer, Deed, changes, changes_only, Creates, Links, Renames, Removes, MakesFolder, RemovesFolder, RemovesAll, Syncs, Resolves, Looks, Identifies, Opens, Explains, Reads, Finds, Overwrites, LendsReader, LendsShelf, Closes}
+use Rattle.uimg_world.specs.Deeds.{Deed, changes, changes_only, Creates, Links, Renames, Removes, MakesFolder, RemovesFolder, RemovesAll, Syncs, Resolves, Looks, Identifies, Opens, Explains, Reads, Finds, Overwrites, LendsReader, LendsShelf, Closes}
+use Rattle.uimg_world.specs.declared.call.Answer.{Answer}
 use Rattle.uimg_unpacking.specs.Places.{ChangesWithin, Obeys, Terms, is_temporary_folder, may_change, since, stays_within}
-use Rattle.uimg_unpacking.specs.declared.kind.Kind.{Kind}
+use Rattle.uimg_world.specs.declared.kind.Kind.{Kind}
 use Rattle.uimg_unpacking.proofs.Placing.{both, folder_changes, obeys_within}
 
 changes_of : (new old : List Deed) → changes (new ++ old) ≡ changes new ++ changes old

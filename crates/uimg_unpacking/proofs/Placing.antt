@@ -6,15 +6,17 @@ use Rattle.std.proofs.lemmas.Bool.{and_parts, cases_eq}
 use Rattle.std.proofs.lemmas.Slice.Eq.{bytes_eq-Decides}
 use Rattle.std.proofs.lemmas.List.Folds.{list_all-append, list_all_at}
 use mathlib.Core.List.{append_assoc}
-use Rattle.uimg_unpacking.specs.Deeds.{Answer, Done, Exists, Failed, Deed, Creates, Links, Renames, Removes, MakesFolder, RemovesFolder, RemovesAll, Looks, Identifies, Overwrites, LendsShelf, Closes, changes_only}
+use Rattle.uimg_world.specs.Deeds.{Deed, Creates, Links, Renames, Removes, MakesFolder, RemovesFolder, RemovesAll, Looks, Identifies, Overwrites, LendsShelf, Closes, changes_only}
+use Rattle.uimg_world.specs.declared.call.Answer.{Answer}
+use Rattle.uimg_world.specs.declared.call.Answer.TheVariants.{Done, Exists, Failed}
 use Rattle.uimg_unpacking.specs.FileNames.{is_file_name, is_allowed}
 use Rattle.uimg_unpacking.specs.Naming.{GivesName, over, linked, exists, taken, moved}
 use Rattle.uimg_unpacking.specs.Allowing.{Allows, is_the_image, is_looked_at, Refused}
-use Rattle.uimg_unpacking.specs.declared.file_id.FileId.{FileId}
-use Rattle.uimg_unpacking.specs.declared.kind.Kind.{Kind}
+use Rattle.uimg_world.specs.declared.file_id.FileId.{FileId}
+use Rattle.uimg_world.specs.declared.kind.Kind.{Kind}
 use Rattle.uimg_unpacking.specs.Places.{behind, is_digit, past_digits, is_file_of, is_temporary_folder, is_inner, is_temporary_file, is_kept_file, may_change, stays_within, is_begun_in, Terms, saw_nothing, may_call, obeys, since, Obeys}
-use Rattle.uimg_unpacking.specs.declared.kind.Kind.TheVariants.{Nothing}
-use Rattle.uimg_unpacking.specs.declared.begun.Begun.{Begun}
+use Rattle.uimg_world.specs.declared.kind.Kind.TheVariants.{Nothing}
+use Rattle.uimg_unpacking.specs.declared.staged_file.StagedFile.{StagedFile}
 
 -- what holds of each number below n
 abbrev all_below : (ℕ → Bool) → ℕ → Bool
@@ -166,7 +168,7 @@ old_new_path made x y is =
     omega (arith, n)
 
 -- the paths of a file that was begun
-begun_parts : (folder : List ℕ) (begun : Begun) → is_begun_in folder begun ≡ true
+begun_parts : (folder : List ℕ) (begun : StagedFile) → is_begun_in folder begun ≡ true
     → (is_temporary_file folder (string_bytes begun.new) ≡ true) × ((is_kept_file folder (string_bytes begun.old) ≡ true) × ((is_file_name (string_bytes begun.name) ≡ true)
     × ((bytes_eq (string_bytes begun.whole) (folder ++ codes "/" ++ string_bytes begun.name) ≡ true) × (not (bytes_eq (string_bytes begun.old) (string_bytes begun.new)) ≡ true))))
 unfolding is_begun_in
@@ -177,32 +179,32 @@ begun_parts folder begun is =
     let d = and_parts _ _ c.0 in
     (d.0, (d.1, (c.1, (b.1, a.1))))
 
-pub begun_new : (folder : List ℕ) (begun : Begun) → is_begun_in folder begun ≡ true → is_temporary_file folder (string_bytes begun.new) ≡ true
+pub begun_new : (folder : List ℕ) (begun : StagedFile) → is_begun_in folder begun ≡ true → is_temporary_file folder (string_bytes begun.new) ≡ true
 begun_new folder begun is = (begun_parts folder begun is).0
 
-pub begun_kept : (folder : List ℕ) (begun : Begun) → is_begun_in folder begun ≡ true → is_kept_file folder (string_bytes begun.old) ≡ true
+pub begun_kept : (folder : List ℕ) (begun : StagedFile) → is_begun_in folder begun ≡ true → is_kept_file folder (string_bytes begun.old) ≡ true
 begun_kept folder begun is = (begun_parts folder begun is).1.0
 
-pub begun_old : (folder : List ℕ) (begun : Begun) → is_begun_in folder begun ≡ true → is_temporary_file folder (string_bytes begun.old) ≡ true
+pub begun_old : (folder : List ℕ) (begun : StagedFile) → is_begun_in folder begun ≡ true → is_temporary_file folder (string_bytes begun.old) ≡ true
 begun_old folder begun is = kept_is folder (string_bytes begun.old) (begun_kept folder begun is)
 
-pub begun_named : (folder : List ℕ) (begun : Begun) → is_begun_in folder begun ≡ true → is_file_name (string_bytes begun.name) ≡ true
+pub begun_named : (folder : List ℕ) (begun : StagedFile) → is_begun_in folder begun ≡ true → is_file_name (string_bytes begun.name) ≡ true
 begun_named folder begun is = (begun_parts folder begun is).1.1.0
 
-pub begun_path : (folder : List ℕ) (begun : Begun) → is_begun_in folder begun ≡ true → string_bytes begun.whole ≡ folder ++ codes "/" ++ string_bytes begun.name
+pub begun_path : (folder : List ℕ) (begun : StagedFile) → is_begun_in folder begun ≡ true → string_bytes begun.whole ≡ folder ++ codes "/" ++ string_bytes begun.name
 begun_path folder begun is = (bytes_eq-Decides _ _).0 (begun_parts folder begun is).1.1.1.0
 
-pub begun_whole : (folder : List ℕ) (begun : Begun) → is_begun_in folder begun ≡ true → is_file_of folder (string_bytes begun.whole) ≡ true
+pub begun_whole : (folder : List ℕ) (begun : StagedFile) → is_begun_in folder begun ≡ true → is_file_of folder (string_bytes begun.whole) ≡ true
 begun_whole folder begun is = ap (is_file_of folder) (begun_path folder begun is) ∙ own_in folder (string_bytes begun.name) (begun_named folder begun is)
 
 pub not_eq : (b : Bool) → not b ≡ true → b ≡ false
 not_eq true is = cc
 not_eq false is = refl
 
-pub begun_apart : (folder : List ℕ) (begun : Begun) → is_begun_in folder begun ≡ true → bytes_eq (string_bytes begun.old) (string_bytes begun.new) ≡ false
+pub begun_apart : (folder : List ℕ) (begun : StagedFile) → is_begun_in folder begun ≡ true → bytes_eq (string_bytes begun.old) (string_bytes begun.new) ≡ false
 begun_apart folder begun is = not_eq _ (begun_parts folder begun is).1.1.1.1
 
-begun_of : (folder : List ℕ) (begun : Begun) → is_temporary_file folder (string_bytes begun.new) ≡ true → is_kept_file folder (string_bytes begun.old) ≡ true → is_file_name (string_bytes begun.name) ≡ true → string_bytes begun.whole ≡ folder ++ codes "/" ++ string_bytes begun.name
+begun_of : (folder : List ℕ) (begun : StagedFile) → is_temporary_file folder (string_bytes begun.new) ≡ true → is_kept_file folder (string_bytes begun.old) ≡ true → is_file_name (string_bytes begun.name) ≡ true → string_bytes begun.whole ≡ folder ++ codes "/" ++ string_bytes begun.name
     → bytes_eq (string_bytes begun.old) (string_bytes begun.new) ≡ false → is_begun_in folder begun ≡ true
 unfolding is_begun_in
 begun_of folder begun a b c d e = both _ _ (both _ _ (both _ _ (both _ _ a b) c) ((bytes_eq-Decides _ _).1 d)) (ap not e)
@@ -399,7 +401,7 @@ created_within t is_naming path answer before after ok is = one_more t is_naming
 pub removed_within : (t : Terms) (is_naming : Bool) (path : List ℕ) (answer : Answer) (before after : List Deed) → is_temporary_file t.0 path ≡ true → after ≡ Removes path answer ∷ before → Obeys t is_naming before after
 removed_within t is_naming path answer before after ok is = one_more t is_naming (Removes path answer) before after is (file_changes t.0 path is_naming ok)
 
-pub begun_paths : (folder made : List ℕ) (k : ℕ) (begun : Begun) → is_temporary_folder folder made ≡ true → is_file_name (string_bytes begun.name) ≡ true → string_bytes begun.new ≡ made ++ codes "/new-" ++ decimal k → string_bytes begun.old ≡ made ++ codes "/old-" ++ decimal k → string_bytes begun.whole ≡ folder ++ codes "/" ++ string_bytes begun.name → is_begun_in folder begun ≡ true
+pub begun_paths : (folder made : List ℕ) (k : ℕ) (begun : StagedFile) → is_temporary_folder folder made ≡ true → is_file_name (string_bytes begun.name) ≡ true → string_bytes begun.new ≡ made ++ codes "/new-" ++ decimal k → string_bytes begun.old ≡ made ++ codes "/old-" ++ decimal k → string_bytes begun.whole ≡ folder ++ codes "/" ++ string_bytes begun.name → is_begun_in folder begun ≡ true
 begun_paths folder made k begun is named new old whole =
     begun_of folder begun
     (ap (is_temporary_file folder) new ∙ new_in folder made k is)

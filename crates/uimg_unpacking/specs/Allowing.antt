@@ -1,18 +1,10 @@
 -- Which paths may be written.
-use Rattle.std.specs.Prelude.{◌≡◌, ℕ, ◌==◌, List, ◌∷◌, Bool, true, false, ◌&&◌, Option, Some, None}
-use Rattle.uimg_unpacking.specs.Deeds.{Deed, Looks, Identifies}
-use Rattle.uimg_unpacking.specs.declared.kind.Kind.{Kind}
-use Rattle.uimg_unpacking.specs.declared.kind.Kind.TheVariants.{Nothing, File, Folder, Link}
-use Rattle.uimg_unpacking.specs.declared.file_id.FileId.{FileId}
-
--- two files are the same: by device and inode
-abbrev pub is_same : FileId → FileId → Bool
-is_same a b = a.device == b.device && a.inode == b.inode
-
-abbrev pub is_image : Option FileId → Option FileId → Bool
-is_image (Some found) (Some image) = is_same found image
-is_image (Some found) None = false
-is_image None image = false
+use Rattle.std.specs.Prelude.{◌≡◌, ℕ, List, ◌∷◌, Bool, true, false, Option, Some, None}
+use Rattle.uimg_world.specs.Deeds.{Deed, Looks, Identifies}
+use Rattle.uimg_world.specs.declared.kind.Kind.{Kind}
+use Rattle.uimg_world.specs.declared.kind.Kind.TheVariants.{Nothing, File, Folder, Link}
+use Rattle.uimg_world.specs.FileIds.{is_image}
+use Rattle.uimg_world.specs.declared.file_id.FileId.{FileId}
 
 -- why a path may not be written
 pub data Refused : Type 0 where

@@ -1,8 +1,9 @@
 -- What is at paths by the calls that were made, and what files hold, so far as the calls show it.
 use Rattle.std.specs.Prelude.{◌≡◌, ⊤, ℕ, List, [], ◌∷◌, ◌++◌, map, codes, bytes_eq, Bool, true, ◌&&◌, not, is_some, Option, Some, None, if◌then◌else◌}
 use Rattle.std.specs.List.{list_any}
-use Rattle.uimg_unpacking.specs.Deeds.{Done, Deed, Creates, Closes, Links, Looks, Renames, Removes, MakesFolder, RemovesFolder, RemovesAll, Overwrites, LendsShelf}
-use Rattle.uimg_unpacking.specs.Kinds.{is_something}
+use Rattle.uimg_world.specs.Deeds.{Deed, Creates, Closes, Links, Looks, Renames, Removes, MakesFolder, RemovesFolder, RemovesAll, Overwrites, LendsShelf}
+use Rattle.uimg_world.specs.declared.call.Answer.TheVariants.{Done}
+use Rattle.uimg_world.specs.Kinds.{is_something}
 
 -- What is at each path: nothing, or something, with its bytes if these are known.
 abbrev pub Files : Type 0
@@ -13,8 +14,8 @@ abbrev pub at : List ℕ → Option (Option (List ℕ)) → Files → Files
 at path found files asked = if bytes_eq path asked then found else files asked
 
 -- The calls of POSIX that are done change this. A new file holds nothing that is known before it is closed. A link is
--- another path of its file, and a rename moves the path. Where a call may change files at other paths than its own,
--- nothing is known any more.
+-- another path of its file, and a rename moves the path; of two links to one file, which it leaves both, the first is
+-- taken to be gone. Where a call may change files at other paths than its own, nothing is known any more.
 abbrev pub then_at : Deed → Files → Files
 then_at (Creates path Done) files = at path (Some None) files
 then_at (Closes path is_synced contents Done) files = at path (Some contents) files

@@ -35,9 +35,7 @@ abbrev pub TellsOverlap : Option (Bor (List ℕ)) → List ℕ → Ended → Opt
 TellsOverlap path name Refused old new =
     Appends old new (told_as path (printed true name ++ codes ": overlapping") (about_payload 1 (codes "overlapping") name))
 TellsOverlap path name (Troubled trouble) old new = ⊤
-TellsOverlap path name Kept old new = ⊥
-TellsOverlap path name NoImage old new = ⊥
-TellsOverlap path name (Stopped fault) old new = ⊥
+TellsOverlap path name _ old new = ⊥
 
 -- whether each requested payload was given and is kept
 abbrev pub is_whole : Result Unpacked Fault → Bool
@@ -82,15 +80,18 @@ is_failure result = is_read result || is_out_of_memory result
 
 -- whether an end is a trouble or such a fault
 abbrev pub has_failed : Ended → Bool
-has_failed Kept = false
-has_failed Refused = false
-has_failed NoImage = false
 has_failed (Stopped fault) = is_failure (Err fault)
 has_failed (Troubled trouble) = true
+has_failed _ = false
 
 -- It is the end of the file by the definition, unless something failed.
 abbrev pub EndsByFile : Unpacking → List ℕ → Ended → Type 0
 EndsByFile asked file result = has_failed result ≡ false → result ≡ end_of_file asked file
+
+-- This is so if all is kept.
+abbrev pub IfKept : Ended → Type 0 → Type 0
+IfKept Kept claim = claim
+IfKept _ claim = ⊤
 
 -- If all is kept, the requested payloads are no more than the limits allow.
 abbrev pub FitsFor : Unpacking → Option (Option (List ℕ)) → List ℕ → Type 0

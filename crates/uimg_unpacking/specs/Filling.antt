@@ -4,11 +4,11 @@ use Rattle.std.specs.List.{list_all}
 use Rattle.uimg_fit_base.specs.declared.fault.Fault.{Fault}
 use Rattle.uimg_fit_checking.specs.Unpacking.{Take, kept, refused, UnpackOutcome, taken, overlaps, unpack_of}
 use Rattle.uimg_unpacking.specs.Contents.{differ, held_in}
-use Rattle.uimg_unpacking.specs.Deeds.{Deed}
+use Rattle.uimg_world.specs.Deeds.{Deed}
 use Rattle.uimg_unpacking.specs.Ends.{asked_name}
 use Rattle.uimg_unpacking.specs.FileNames.{file_name, is_file_name}
 use Rattle.uimg_unpacking.specs.declared.unpacking.Ended.{Ended}
-use Rattle.uimg_unpacking.specs.declared.unpacking.Ended.TheVariants.{Kept, Refused, NoImage, Stopped, Troubled}
+use Rattle.uimg_unpacking.specs.declared.unpacking.Ended.TheVariants.{Kept, Refused}
 use Rattle.uimg_unpacking.specs.declared.unpacking.Unpacking.{Unpacking}
 
 -- the names of the files of payloads that are kept, after files of some names; a refused one takes a name too
@@ -38,9 +38,7 @@ takes_of asked (Some only) file = takes_by (unpack_of asked.need only file)
 abbrev pub are_kept : Unpacking → Ended → Bool
 are_kept asked Kept = true
 are_kept asked Refused = asked.keeps_good
-are_kept asked NoImage = false
-are_kept asked (Stopped fault) = false
-are_kept asked (Troubled trouble) = false
+are_kept asked _ = false
 
 -- By the calls that were made, the files of a folder that have the names of the kept payloads hold their bytes. These
 -- names are file names, and differ.

@@ -6,7 +6,7 @@ use Rattle.uimg_unpacking.specs.FileNames.{file_name}
 use Rattle.uimg_unpacking.specs.Filling.{names_of_kept, kept_bytes}
 use Rattle.uimg_unpacking.specs.Refusals.{last_name}
 use Rattle.uimg_unpacking.specs.Staged.{complete_names}
-use Rattle.uimg_unpacking.specs.declared.begun.Begun.{Begun}
+use Rattle.uimg_unpacking.specs.declared.staged_file.StagedFile.{StagedFile}
 
 -- What a list of takes shows of one: the name of its image, and whether it is kept, with its bytes then.
 abbrev pub shown : Take → Take
@@ -63,12 +63,12 @@ names_after names (one ∷ takes) = names_after (file_name names (image_of one) 
 
 -- After some payloads, these names are given. The complete files have those of the kept payloads, and the file that is
 -- being written has that of the next one, of this image.
-pub record AreNamed (files : List Begun) (is_writing : Bool) (takes : List Take) (names : List (List ℕ)) (image : List ℕ) : Type 0 where
+pub record AreNamed (files : List StagedFile) (is_writing : Bool) (takes : List Take) (names : List (List ℕ)) (image : List ℕ) : Type 0 where
   pub whole : complete_names files is_writing ≡ names_of_kept [] takes
   pub given : names
       ≡ (if is_writing then file_name (names_after [] takes) image ∷ names_after [] takes else names_after [] takes)
   pub next : is_writing ≡ true → last_name files ≡ file_name (names_after [] takes) image
 
 -- there is a complete file for each kept payload
-abbrev pub AreWhole : List Begun → Bool → List Take → Type 0
+abbrev pub AreWhole : List StagedFile → Bool → List Take → Type 0
 AreWhole files is_writing takes = length (complete_names files is_writing) ≡ length (kept_bytes takes)

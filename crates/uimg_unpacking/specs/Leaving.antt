@@ -2,13 +2,13 @@
 use Rattle.std.specs.Prelude.{◌≡◌, ℕ, List, ◌++◌, codes, decimal, Bool, true, false, Option, Some, None}
 use Rattle.std.specs.Option.{option_map_or}
 use Rattle.uimg_unpacking.specs.Contents.{Files, IsTrueTo, differ, files_after, held_in}
-use Rattle.uimg_unpacking.specs.Deeds.{Deed}
+use Rattle.uimg_world.specs.Deeds.{Deed}
 use Rattle.uimg_unpacking.specs.Places.{is_file_of}
 use Rattle.uimg_unpacking.specs.Staged.{LeavesOthers}
 use Rattle.uimg_unpacking.specs.declared.trouble.Trouble.{Trouble}
 use Rattle.uimg_unpacking.specs.declared.trouble.Trouble.TheVariants.{NotPutBack, CannotPrint, Closed}
 use Rattle.uimg_unpacking.specs.declared.unpacking.Ended.{Ended}
-use Rattle.uimg_unpacking.specs.declared.unpacking.Ended.TheVariants.{Kept, Refused, NoImage, Stopped, Troubled}
+use Rattle.uimg_unpacking.specs.declared.unpacking.Ended.TheVariants.{Kept, Troubled}
 use Rattle.uimg_unpacking.specs.declared.unpacking.Unpacking.{Unpacking}
 
 -- Calls leave at each `FOLDER/NAME` what was there, for all files of which their answers are true.
@@ -30,10 +30,8 @@ are_undone trouble = option_map_or is_undone trouble false
 -- no file has its name at an end
 abbrev pub is_left : Ended → Bool
 is_left Kept = false
-is_left Refused = true
-is_left NoImage = true
-is_left (Stopped fault) = true
 is_left (Troubled trouble) = is_undone trouble
+is_left _ = true
 
 -- At such an end the files of the folder are as they were, unless good payloads are kept.
 abbrev pub LeavesAt : Unpacking → Ended → (before after : List Deed) → Type 0

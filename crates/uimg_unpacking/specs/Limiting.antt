@@ -3,34 +3,12 @@ use Rattle.std.specs.Prelude.{ℕ, ◌+◌, ◌-◌, ◌^◌, min, nat_lt, if◌
 use Rattle.std.specs.Int.{from_be_bytes, w64}
 use Rattle.uimg_fit_checking.specs.Claiming.{Claim, claim}
 use Rattle.uimg_unpacking.specs.declared.limits.Limits.{Limits}
-use Rattle.uimg_unpacking.specs.declared.limits.Claimed.{Claimed}
 use Rattle.uimg_unpacking.specs.declared.trouble.Trouble.{Trouble}
 use Rattle.uimg_unpacking.specs.declared.trouble.Trouble.TheVariants.{TooManyFiles, TooManyBytes}
 
 -- a sum of 64 bits: it stays at the greatest number
 abbrev pub sum64 : ℕ → ℕ → ℕ
 sum64 a b = min (a + b) (2 ^ 64 - 1)
-
-abbrev pub none_claimed : Limits → Claimed
-none_claimed limits = record { limits = limits; files = 0; bytes = 0 }
-
--- one file more, of this length
-abbrev pub with_file : ℕ → Claimed → Claimed
-with_file length claimed = record {
-  limits = claimed.limits;
-  files = sum64 claimed.files 1;
-  bytes = sum64 claimed.bytes length;
-}
-
-abbrev pub exceeded_bytes : Option ℕ → ℕ → Option Trouble
-exceeded_bytes None bytes = None
-exceeded_bytes (Some most) bytes = if nat_lt most bytes then Some (TooManyBytes most) else None
-
--- too many files, or else too many bytes
-abbrev pub exceeded : Claimed → Option Trouble
-exceeded claimed =
-    if nat_lt claimed.limits.files claimed.files then Some (TooManyFiles claimed.limits.files)
-    else exceeded_bytes claimed.limits.bytes claimed.bytes
 
 -- the claims of which first the name and then the length were noted, the newest first
 abbrev pub claims_by : List (List ℕ) → List Claim
@@ -52,3 +30,13 @@ is_over (Some most) bytes = nat_lt most bytes
 -- These are no more than the limits allow.
 abbrev pub fits : Limits → List Claim → Bool
 fits limits claims = not (nat_lt limits.files (files_in claims)) && not (is_over limits.bytes (bytes_in claims))
+
+abbrev pub exceeded_bytes : Option ℕ → ℕ → Option Trouble
+exceeded_bytes None bytes = None
+exceeded_bytes (Some most) bytes = if nat_lt most bytes then Some (TooManyBytes most) else None
+
+-- too many files, or else too many bytes
+abbrev pub exceeded : Limits → List Claim → Option Trouble
+exceeded limits claims =
+    if nat_lt limits.files (files_in claims) then Some (TooManyFiles limits.files)
+    else exceeded_bytes limits.bytes (bytes_in claims)

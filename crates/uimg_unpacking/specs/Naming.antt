@@ -1,11 +1,13 @@
 -- How a file gets its name, and how the name is taken back, by what is at its paths. A trace has the newest call first.
 use Rattle.std.specs.Prelude.{◌≡◌, ℕ, zero, suc, List, [], ◌∷◌, bytes_eq, Bool, true, false, ◌&&◌, ◌||◌, is_some, if◌then◌else◌, Option, None, string_bytes}
 use Rattle.uimg_unpacking.specs.Contents.{Files, IsTrueTo, files_after}
-use Rattle.uimg_unpacking.specs.Deeds.{Answer, Done, Exists, Failed, Deed, Links, Renames, Removes, Looks}
-use Rattle.uimg_unpacking.specs.Kinds.{is_something}
-use Rattle.uimg_unpacking.specs.declared.begun.Begun.{Begun}
-use Rattle.uimg_unpacking.specs.declared.kind.Kind.{Kind}
-use Rattle.uimg_unpacking.specs.declared.kind.Kind.TheVariants.{Nothing}
+use Rattle.uimg_world.specs.Deeds.{Deed, Links, Renames, Removes, Looks}
+use Rattle.uimg_world.specs.declared.call.Answer.{Answer}
+use Rattle.uimg_world.specs.declared.call.Answer.TheVariants.{Done, Exists, Failed}
+use Rattle.uimg_world.specs.Kinds.{is_something}
+use Rattle.uimg_unpacking.specs.declared.staged_file.StagedFile.{StagedFile}
+use Rattle.uimg_world.specs.declared.kind.Kind.{Kind}
+use Rattle.uimg_world.specs.declared.kind.Kind.TheVariants.{Nothing}
 
 abbrev pub is_done : Answer → Bool
 is_done Done = true
@@ -35,7 +37,7 @@ abbrev pub recovered : Bool → Files → (old whole : List ℕ) → Option (Opt
 recovered has_name files old whole = if has_name || is_some (files old) then files old else files whole
 
 -- A file gets its name, or not. In both cases, what had the name can be put back.
-pub record NamesIt (its : Begun) (is_named : Bool) (before after : List Deed) : Type 0 where
+pub record NamesIt (its : StagedFile) (is_named : Bool) (before after : List Deed) : Type 0 where
   pub earlier : (start : Files) → IsTrueTo start after → IsTrueTo start before
   pub there : is_named ≡ true → (start : Files)
       → files_after start after (string_bytes its.whole) ≡ files_after start before (string_bytes its.new)
@@ -47,7 +49,7 @@ pub record NamesIt (its : Begun) (is_named : Bool) (before after : List Deed) : 
       → files_after start after path ≡ files_after start before path
 
 -- What had the name of a file is put back, if that is done.
-pub record PutsItBack (its : Begun) (has_name is_back : Bool) (before after : List Deed) : Type 0 where
+pub record PutsItBack (its : StagedFile) (has_name is_back : Bool) (before after : List Deed) : Type 0 where
   pub earlier : (start : Files) → IsTrueTo start after → IsTrueTo start before
   pub back : is_back ≡ true → (start : Files) → IsTrueTo start after → files_after start after (string_bytes its.whole)
       ≡ recovered has_name (files_after start before) (string_bytes its.old) (string_bytes its.whole)
@@ -55,14 +57,14 @@ pub record PutsItBack (its : Begun) (has_name is_back : Bool) (before after : Li
       → bytes_eq (string_bytes its.whole) path ≡ false → files_after start after path ≡ files_after start before path
 
 -- Files get their names one after another, up to one that does not: `named` files have theirs.
-abbrev pub NamesFiles : List Begun → ℕ → Bool → List Deed → List Deed → Type 0
+abbrev pub NamesFiles : List StagedFile → ℕ → Bool → List Deed → List Deed → Type 0
 NamesFiles [] named are_all before after = (named ≡ 0) × ((are_all ≡ true) × (after ≡ before))
 NamesFiles (its ∷ files) zero are_all before after = (are_all ≡ false) × NamesIt its false before after
 NamesFiles (its ∷ files) (suc named) are_all before after =
     (seen : List Deed) × (NamesIt its true before seen × NamesFiles files named are_all seen after)
 
 -- The named files lose their names one after another, then the next one what was kept for it.
-abbrev pub PutsBackFiles : List Begun → ℕ → Bool → List Deed → List Deed → Type 0
+abbrev pub PutsBackFiles : List StagedFile → ℕ → Bool → List Deed → List Deed → Type 0
 PutsBackFiles [] named are_back before after = (are_back ≡ true) × (after ≡ before)
 PutsBackFiles (its ∷ files) zero are_back before after = PutsItBack its false are_back before after
 PutsBackFiles (its ∷ files) (suc named) are_back before after =
@@ -70,6 +72,6 @@ PutsBackFiles (its ∷ files) (suc named) are_back before after =
     × (PutsItBack its true is_back before seen × PutsBackFiles files named others seen after))))
 
 -- a file whose number is greater than how many have names is left as it is
-abbrev pub UnlessLater : Bool → Begun → Bool → Bool → List Deed → List Deed → Type 0
+abbrev pub UnlessLater : Bool → StagedFile → Bool → Bool → List Deed → List Deed → Type 0
 UnlessLater true its has_name is_back before after = (is_back ≡ true) × (after ≡ before)
 UnlessLater false its has_name is_back before after = PutsItBack its has_name is_back before after

@@ -3,11 +3,10 @@ use Rattle.std.specs.Prelude.{◌≡◌, ◌⊎◌, ⊤, ℕ, ◌-◌, ◌^◌, 
 use Rattle.std.specs.Borrow.{Bor}
 use Rattle.std.specs.List.{AllByRecursion}
 use Rattle.uimg_legacy.specs.Unpacking.{Part, part_if, unpack_of}
-use Rattle.uimg_unpacking.specs.Contents.{held, held_in}
-use Rattle.uimg_unpacking.specs.Deeds.{Deed}
-use Rattle.uimg_unpacking.specs.FileNames.{image_name}
-use Rattle.uimg_unpacking.specs.declared.part_unpacking.PartsEnded.{PartsEnded}
-use Rattle.uimg_unpacking.specs.declared.part_unpacking.PartsEnded.TheVariants.{Kept, Weak, Stopped, Troubled}
+use Rattle.uimg_unpacking.specs.Contents.{held}
+use Rattle.uimg_world.specs.Deeds.{Deed}
+use Rattle.uimg_unpacking.specs.{Ends.IfKept, FileNames.image_name}
+use Rattle.uimg_unpacking.specs.declared.unpacking.Ended.{Ended}
 use Rattle.uimg_unpacking.specs.declared.unpacking.Unpacking.{Unpacking}
 
 -- the names of the files of parts, by their numbers and lengths
@@ -25,16 +24,12 @@ parts_by [] contents = []
 parts_by (part ∷ parts) [] = []
 parts_by (part ∷ parts) (one ∷ contents) = known_part part.0 one ++ parts_by parts contents
 
--- the same with what the files of their names hold in a folder
-abbrev pub parts_in : List ℕ → List Deed → List (ℕ × ℕ) → List Part
-parts_in folder calls parts = parts_by parts (held_in folder calls (part_names parts))
-
--- Parts are held until their files get their names, and kept then.
+-- Parts are held until they are kept.
 abbrev pub held_parts : Bool → List (ℕ × ℕ) → List (Option (List ℕ)) → List Part
-held_parts is_named parts contents = if is_named then [] else parts_by parts contents
+held_parts is_kept parts contents = if is_kept then [] else parts_by parts contents
 
-abbrev pub kept_parts : Bool → List ℕ → List Deed → List (ℕ × ℕ) → List Part
-kept_parts is_named folder calls parts = if is_named then parts_in folder calls parts else []
+abbrev pub kept_parts : Bool → List (ℕ × ℕ) → List (Option (List ℕ)) → List Part
+kept_parts is_kept parts contents = if is_kept then parts_by parts contents else []
 
 -- The number of the part whose file has a name. For a name that no part's file has it is 2^32 - 1, which is the number of
 -- no part.
@@ -63,8 +58,5 @@ pub record FillsParts (asked : Unpacking) (image : List ℕ) (calls : List Deed)
   pub holds : HoldsParts asked.folder.path.now parts calls
 
 -- the same, if the parts are kept
-abbrev pub FillsKept : Unpacking → List ℕ → PartsEnded → List Deed → Type 0
-FillsKept asked image Kept calls = FillsParts asked image calls
-FillsKept asked image Weak calls = ⊤
-FillsKept asked image (Stopped fault) calls = ⊤
-FillsKept asked image (Troubled trouble) calls = ⊤
+abbrev pub FillsKept : Unpacking → List ℕ → Ended → List Deed → Type 0
+FillsKept asked image end calls = IfKept end (FillsParts asked image calls)

@@ -4,11 +4,11 @@ use Rattle.std.specs.Prelude.{◌≡◌, ℕ, nat_le, ◌-◌, List, [], ◌∷�
 use Rattle.std.specs.Prelude.{Option, Some, None, string_bytes, bytes_eq}
 use Rattle.std.specs.List.{list_all}
 use Rattle.std.specs.Option.{option_map_or}
-use Rattle.uimg_unpacking.specs.Deeds.{Deed, Closes, LendsShelf, Looks, Overwrites, RemovesAll, Renames, changes, changes_only}
+use Rattle.uimg_world.specs.Deeds.{Deed, Closes, LendsShelf, Looks, Overwrites, RemovesAll, Renames, changes, changes_only}
 use Rattle.uimg_unpacking.specs.FileNames.{is_file_name}
-use Rattle.uimg_unpacking.specs.declared.begun.Begun.{Begun}
+use Rattle.uimg_unpacking.specs.declared.staged_file.StagedFile.{StagedFile}
 use Rattle.uimg_unpacking.specs.declared.folder.Folder.{Folder}
-use Rattle.uimg_unpacking.specs.declared.kind.Kind.TheVariants.{Nothing}
+use Rattle.uimg_world.specs.declared.kind.Kind.TheVariants.{Nothing}
 
 -- what follows a text at the start of a path
 abbrev pub behind : List ℕ → List ℕ → Option (List ℕ)
@@ -109,7 +109,7 @@ pub record Obeys (terms : Terms) (is_naming : Bool) (old new : List Deed) : Type
   pub rules : obeys terms is_naming (since old new) ≡ true
 
 -- the paths of a file that was begun, which differ: `FOLDER/NAME` is that of its name
-unfoldable pub is_begun_in : List ℕ → Begun → Bool
+unfoldable pub is_begun_in : List ℕ → StagedFile → Bool
 is_begun_in folder begun =
     is_temporary_file folder (string_bytes begun.new) && is_kept_file folder (string_bytes begun.old)
     && is_file_name (string_bytes begun.name)

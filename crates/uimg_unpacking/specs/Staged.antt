@@ -2,51 +2,52 @@
 use Rattle.std.specs.Prelude.{◌≡◌, ℕ, suc, ◌^◌, nat_lt, List, [], ◌∷◌, ◌++◌, map, codes, decimal, string_bytes, bytes_eq, Bool, true, false, ◌&&◌, not, if◌then◌else◌, Option, Some, None}
 use Rattle.std.specs.List.{list_all}
 use Rattle.uimg_unpacking.specs.Contents.{Files, files_after, held, is_in, differ}
-use Rattle.uimg_unpacking.specs.Deeds.{Answer, ClosesFile, Deed}
+use Rattle.uimg_world.specs.Deeds.{ClosesFile, Deed}
+use Rattle.uimg_world.specs.declared.call.Answer.{Answer}
 use Rattle.uimg_unpacking.specs.FileNames.{is_file_name}
-use Rattle.uimg_unpacking.specs.declared.begun.Begun.{Begun}
+use Rattle.uimg_unpacking.specs.declared.staged_file.StagedFile.{StagedFile}
 
 -- whether its paths in the temporary folder are those of its number
-unfoldable pub has_paths : List ℕ → ℕ → Begun → Bool
+unfoldable pub has_paths : List ℕ → ℕ → StagedFile → Bool
 has_paths made number its =
     nat_lt number (2 ^ 64) && bytes_eq (string_bytes its.new) (made ++ codes "/new-" ++ decimal number)
     && bytes_eq (string_bytes its.old) (made ++ codes "/old-" ++ decimal number)
 
 -- the same of files by their numbers, from one on
-abbrev pub are_numbered : List ℕ → ℕ → List Begun → Bool
+abbrev pub are_numbered : List ℕ → ℕ → List StagedFile → Bool
 are_numbered made number [] = true
 are_numbered made number (its ∷ files) = has_paths made number its && are_numbered made (suc number) files
 
 -- in the temporary folder, if it was made
-unfoldable pub are_numbered_in : Option (List ℕ) → List Begun → Bool
+unfoldable pub are_numbered_in : Option (List ℕ) → List StagedFile → Bool
 are_numbered_in None [] = true
 are_numbered_in None (its ∷ files) = false
 are_numbered_in (Some made) files = are_numbered made 0 files
 
 -- all files but the last one
-abbrev pub without_last : List Begun → List Begun
+abbrev pub without_last : List StagedFile → List StagedFile
 without_last [] = []
 without_last (its ∷ []) = []
 without_last (its ∷ next ∷ files) = its ∷ without_last (next ∷ files)
 
 -- the files that are complete: not the last one if it is being written
-abbrev pub complete : List Begun → Bool → List Begun
+abbrev pub complete : List StagedFile → Bool → List StagedFile
 complete files true = without_last files
 complete files false = files
 
 -- what files hold at their paths in the temporary folder
-abbrev pub held_new : List Deed → List Begun → List (Option (List ℕ))
+abbrev pub held_new : List Deed → List StagedFile → List (Option (List ℕ))
 held_new calls = map (λ its. held calls (string_bytes its.new))
 
-abbrev pub staged : List Deed → List Begun → Bool → List (Option (List ℕ))
+abbrev pub staged : List Deed → List StagedFile → Bool → List (Option (List ℕ))
 staged calls files is_writing = held_new calls (complete files is_writing)
 
 -- the names that they get
-abbrev pub names_of : List Begun → List (List ℕ)
+abbrev pub names_of : List StagedFile → List (List ℕ)
 names_of = map (λ its. string_bytes its.name)
 
 -- the names of those that are complete
-abbrev pub complete_names : List Begun → Bool → List (List ℕ)
+abbrev pub complete_names : List StagedFile → Bool → List (List ℕ)
 complete_names files is_writing = names_of (complete files is_writing)
 
 -- One name more, unless that failed.
@@ -71,7 +72,7 @@ uses_names is_used names others =
     && differ names && list_all (λ name. not (is_in name others)) names
 
 -- The last file was closed, after a wait for its bytes if it is synced. If there is none, nothing is done.
-abbrev pub ClosesLast : Bool → Bool → Option Begun → Option (List ℕ) → Answer → (old new : List Deed) → Type 0
+abbrev pub ClosesLast : Bool → Bool → Option StagedFile → Option (List ℕ) → Answer → (old new : List Deed) → Type 0
 ClosesLast is_known is_synced None contents answer old new = new ≡ old
 ClosesLast is_known is_synced (Some its) contents answer old new =
     ClosesFile is_known (string_bytes its.new) is_synced contents answer old new

@@ -2,18 +2,17 @@
 
 ghost use Rattle.std.specs.Prelude.{◌≡◌, ◌++◌, ℕ, List, Some, codes, IfOk, string_bytes, decimal, false, true, Bool};
 ghost use Rattle.uimg_unpacking.specs.Allowing.{Allows};
-ghost use Rattle.uimg_unpacking.specs.{Deeds.changes, Leaving.KeepsNone};
-ghost use Rattle.uimg_unpacking.specs.Kinds.{is_no_link};
+ghost use Rattle.uimg_unpacking.specs.Leaving.{KeepsNone};
+ghost use Rattle.uimg_world.specs.Deeds.{changes};
+ghost use Rattle.uimg_world.specs.Kinds.{is_no_link};
 ghost use Rattle.uimg_unpacking.specs.Places.{ChangesWithin, Obeys, Terms, is_temporary_folder, terms_of};
 ghost use Rattle.uimg_unpacking.specs.Refusing.{refused_of};
 
-use crate::file_id::FileId;
-use crate::kind::Kind;
 use crate::trouble::{ShownPath, Trouble};
-use crate::world::World;
 use std::alloc::{AllocError, Global};
 use std::io;
 use std::io::{ErrorKind, Write};
+use uimg_world::{FileId, Kind, World};
 
 /// How many names are tried for a temporary folder. Commands that were stopped left those that exist.
 const TRIED: u32 = 10_000;
@@ -65,24 +64,23 @@ impl<'a> Folder<'a> {
     }
 
     /// Creates the first free one of `.uimg-new1` to `.uimg-new10000`. Returns why none can be
-    /// created. Returns its path twice. Fails if memory for the paths is refused.
+    /// created. Fails if memory for a path is refused.
     pub(crate) fn new_folder<W: World>(
         &self,
         world: &mut W,
         alloc: Global,
-    ) -> Result<io::Result<(String, String)>, AllocError>
-        ensures made { IfOk result (λ made. IfOk made (λ paths.
-            is_temporary_folder self.now.path.now (string_bytes paths.0) ≡ true)) }
-        ensures none { IfOk result (λ made. IfOk made (λ paths.
-            KeepsNone (Some (string_bytes paths.0)) (W.trace world.new))) }
+    ) -> Result<io::Result<String>, AllocError>
+        ensures made { IfOk result (λ made. IfOk made (λ path.
+            is_temporary_folder self.now.path.now (string_bytes path) ≡ true)) }
+        ensures none { IfOk result (λ made. IfOk made (λ path.
+            KeepsNone (Some (string_bytes path)) (W.trace world.new))) }
         ensures within { (is_naming : Bool) → Obeys (terms_of self.now) is_naming
             (W.trace world.old) (W.trace world.new) }
     {
         for number in 1..=TRIED {
             let path = self.unnamed(alloc, number)?;
-            let shown = self.unnamed(alloc, number)?;
             match world.create_dir(path.as_str()) {
-                Ok(()) => return Ok(Ok((path, shown))),
+                Ok(()) => return Ok(Ok(path)),
                 Err(error) if error.kind() == ErrorKind::AlreadyExists => {}
                 Err(error) => return Ok(Err(error)),
             }

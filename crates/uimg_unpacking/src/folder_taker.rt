@@ -1,10 +1,10 @@
 //! Writes payloads to a folder, with a line for each.
 
-ghost use Rattle.std.specs.Prelude.{◌≡◌, ◌++◌, ◌&&◌, ◌||◌, ℕ, List, [], Bool, None, Some, IsTrue, OnOk, length, nat_lt, not, is_none, is_ok, false, true};
+ghost use Rattle.std.specs.Prelude.{◌≡◌, ◌++◌, ◌∷◌, ◌&&◌, ◌||◌, ℕ, List, [], Bool, None, Some, IfOk, IsTrue, OnOk, length, nat_lt, not, is_none, is_ok, false, true};
 ghost use Rattle.std.specs.Io.Buffered.{writer_contents};
-ghost use Rattle.uimg_fit_checking.specs.Unpacking.{as_bytes, kept, refused};
+ghost use Rattle.uimg_fit_checking.specs.{Claiming.{claim}, Unpacking.{as_bytes, kept, refused}};
 ghost use Rattle.uimg_fit_checking.specs.declared.checking.Finding.TheVariants as finding;
-ghost use Rattle.uimg_unpacking.specs.Contents.{differ, held_in};
+ghost use Rattle.uimg_unpacking.specs.Contents.{held_in};
 ghost use Rattle.uimg_unpacking.specs.FileNames.{is_among};
 ghost use Rattle.uimg_unpacking.specs.Given.{AreNamed, AreWhole, MayGive, newest, noted_takes, seen_of, takes_given};
 ghost use Rattle.uimg_unpacking.specs.Leaving.{Leaves, are_undone};
@@ -12,9 +12,9 @@ ghost use Rattle.uimg_unpacking.specs.Limiting.{claims_by, exceeded};
 ghost use Rattle.uimg_unpacking.specs.Objects.{told_of, kept_told, refused_told};
 ghost use Rattle.uimg_unpacking.specs.Places.{Obeys, terms_of};
 ghost use Rattle.uimg_unpacking.specs.Refusals.{last_name};
-ghost use Rattle.uimg_unpacking.specs.Staged.{LeavesOthers, complete_names, names_of, staged, uses_names};
-ghost use Rattle.uimg_unpacking.specs.Telling.{with_kept, with_refused, TellsIf, is_named, naming_trouble};
-ghost use Rattle.uimg_unpacking.specs.Troubles.{trouble_in};
+ghost use Rattle.uimg_unpacking.specs.Staged.{Completes, complete_names, names_of, staged, uses_names, with_name};
+ghost use Rattle.uimg_unpacking.specs.Telling.{with_kept, with_refused, TellsIf};
+ghost use Rattle.uimg_unpacking.specs.Troubles.{done_in};
 
 use crate::limits::Claims;
 use crate::lines::Line;
@@ -22,14 +22,15 @@ use crate::names::Names;
 use crate::new_file::{ErrorCode, NewFile};
 use crate::objects::told;
 use crate::staging::Staging;
-use crate::task::{Lent, Task};
-use crate::trouble::{Trouble, kept, printed};
+use crate::task::Task;
+use crate::telling::{may_name, name, tell};
+use crate::trouble::{Trouble, kept};
 use crate::unpacking::Unpacking;
-use crate::world::World;
 use std::alloc::Global;
 use std::io::Write;
 use uimg_base::{OpenedNames, PutFault};
 use uimg_fit_checking::{NodeName, Refusal, Taker, Vouched};
+use uimg_world::World;
 
 // The mark of a payload that is kept, and of a refused one.
 const KEPT: &[u8] = b"kept";
@@ -40,19 +41,19 @@ const REFUSED: &[u8] = b"";
 /// or, if one is refused, none or only the good ones.
 #[derive(Drop)]
 pub(crate) struct FolderTaker<'w, 'a, 'c, W: World, M: Task, O: Write + Drop> {
-    alloc: Global,
+    pub(crate) alloc: Global,
     keeps_good: bool,
-    json: Option<&'a str>,
+    pub(crate) json: Option<&'a str>,
     out: O,
-    staging: Staging<'w, 'a, 'c, W, M>,
+    pub(crate) staging: Staging<'w, 'a, 'c, W, M>,
     // The lines to print once the files have their names, or if none gets one.
-    lines: Vec<u8>,
+    pub(crate) lines: Vec<u8>,
     has_refused: bool,
     // The names of the files that were checked, then of those that were begun: the same ones.
     looked: Names,
     taken: Names,
     // For contracts alone: the images for which a shelf was requested.
-    begun: OpenedNames,
+    pub(crate) begun: OpenedNames,
     // For contracts alone: of each payload that was kept or refused, its image's name, then a mark.
     given: OpenedNames,
     claims: Claims,
@@ -61,33 +62,35 @@ pub(crate) struct FolderTaker<'w, 'a, 'c, W: World, M: Task, O: Write + Drop> {
     ghost whole: { AreWhole staging.files.items staging.is_writing (noted_takes given.names) },
     ghost named: { is_none trouble ≡ true → AreNamed staging.files.items staging.is_writing (noted_takes given.names) taken.named.names (newest begun.names) },
     ghost apart: { is_none trouble ≡ true → uses_names (is_among taken.named.names) (names_of staging.files.items) (names_of staging.outdated.items) ≡ true },
-    ghost limits: { (claims.claimed.limits.files, claims.claimed.limits.bytes) ≡ M.limits },
-    ghost fits: { is_none trouble ≡ true → is_none (exceeded claims.claimed) ≡ true },
+    ghost limits: { claims.limits ≡ M.limits },
+    ghost fits: { is_none trouble ≡ true → is_none (exceeded claims.limits (claims_by claims.noted.names)) ≡ true },
 }
 
 impl<'w, 'a, 'c, W: World, M: Task, O: Write + Drop> FolderTaker<'w, 'a, 'c, W, M, O> {
     /// Writes lines to `out`. Notes failed writes in `code`.
     pub(crate) fn new(
-        lent: Lent<'w, W, M>,
+        world: &'w mut W,
         alloc: Global,
         asked: &Unpacking<'a>,
         out: O,
         code: &'c ErrorCode,
     ) -> FolderTaker<'w, 'a, 'c, W, M, O>
-        requires before { W.trace lent.world.now ≡ M.before }
+        requires named { world.ghost_name ≡ M.name }
+        requires before { W.trace world.now ≡ M.before }
         requires agreed { terms_of asked.now.folder ≡ M.terms }
-        requires limits { (asked.now.limits.files, asked.now.limits.bytes) ≡ M.limits }
+        requires limits { asked.now.limits ≡ M.limits }
         ensures claims { claims_by result.claims.noted.names ≡ [] }
         ensures folder { result.staging.folder ≡ asked.now.folder }
         ensures none { result.taken.named.names ≡ [] }
         ensures empty { result.given.names ≡ [] }
+        ensures complete { complete_names result.staging.files.items result.staging.is_writing ≡ [] }
     {
         FolderTaker {
             alloc,
             keeps_good: asked.keeps_good,
             json: asked.json,
             out,
-            staging: Staging::new(lent, alloc, asked.folder, code),
+            staging: Staging::new(world, alloc, asked.folder, code),
             lines: Vec::new(alloc),
             has_refused: false,
             looked: Names::new(alloc),
@@ -140,7 +143,8 @@ impl<'w, 'a, 'c, W: World, M: Task, O: Write + Drop> FolderTaker<'w, 'a, 'c, W, 
         let names = may_name(names, keeps_good, &trouble);
         let named = name(&mut staging, names, keeps_good);
         let told = tell(named, &mut out, lines.as_slice(), names || has_refused);
-        (staging.end(), out, taken.count(), trouble.or(told.err()))
+        let (world, trouble) = staging.end(trouble.or(told.err()));
+        (world, out, taken.count(), trouble)
     }
 
     // Checks, before any payload is written, whether the file of this one may be.
@@ -149,12 +153,56 @@ impl<'w, 'a, 'c, W: World, M: Task, O: Write + Drop> FolderTaker<'w, 'a, 'c, W, 
         ensures claims { self.new.claims ≡ self.old.claims }
         ensures taken { self.new.taken ≡ self.old.taken }
         ensures given { self.new.given ≡ self.old.given }
+        ensures begun { self.new.begun ≡ self.old.begun }
+        ensures complete { complete_names self.new.staging.files.items self.new.staging.is_writing
+            ≡ complete_names self.old.staging.files.items self.old.staging.is_writing }
         ensures staged { staged (W.trace self.new.staging.world.now) self.new.staging.files.items
             self.new.staging.is_writing ≡ staged (W.trace self.old.staging.world.now)
             self.old.staging.files.items self.old.staging.is_writing }
     {
         let file = self.looked.next(name)?;
         self.staging.look(file.as_str())
+    }
+
+    /// Returns the length of a payload's file in bytes. The file is complete then.
+    pub(crate) fn complete(
+        &mut self,
+        name: &NodeName,
+        file: NewFile<'c, W::File>,
+    ) -> Result<u64, Trouble>
+        requires { newest self.old.begun.names ≡ as_bytes name.now }
+        ensures size { IfOk result (λ size. size ≡ file.entry.size) }
+        ensures folder { self.new.staging.folder ≡ self.old.staging.folder }
+        ensures taken { self.new.taken ≡ self.old.taken }
+        ensures claims { self.new.claims ≡ self.old.claims }
+        ensures files { self.new.staging.files ≡ self.old.staging.files }
+        ensures begun { self.new.begun ≡ self.old.begun }
+        ensures lines { self.new.lines ≡ self.old.lines × self.new.json ≡ self.old.json }
+        ensures refused { self.new.has_refused ≡ self.old.has_refused
+            × self.new.keeps_good ≡ self.old.keeps_good }
+        ensures complete { complete_names self.new.staging.files.items self.new.staging.is_writing
+            ≡ with_name (is_ok result)
+            (complete_names self.old.staging.files.items self.old.staging.is_writing)
+            (last_name self.old.staging.files.items) }
+        ensures staged { IsTrue W.knows → (bytes : List ℕ) →
+            writer_contents W.File.contents file.entry.file ≡ Some bytes →
+            Completes (is_ok result) (Some bytes)
+            (staged (W.trace self.old.staging.world.now) self.old.staging.files.items
+            self.old.staging.is_writing)
+            (staged (W.trace self.new.staging.world.now) self.new.staging.files.items
+            self.new.staging.is_writing) }
+        ensures given { IsTrue W.knows → (bytes : List ℕ) →
+            writer_contents W.File.contents file.entry.file ≡ Some bytes →
+            MayGive (is_ok result) (kept (as_bytes name.now) bytes None)
+            (takes_given self.old.given.names (staged (W.trace self.old.staging.world.now)
+            self.old.staging.files.items self.old.staging.is_writing))
+            (takes_given self.new.given.names (staged (W.trace self.new.staging.world.now)
+            self.new.staging.files.items self.new.staging.is_writing)) }
+    {
+        let size = self.staging.complete(file)?;
+        self.given.note(name.bytes());
+        self.given.note(KEPT);
+        Ok(size)
     }
 
     fn finish(
@@ -180,9 +228,7 @@ impl<'w, 'a, 'c, W: World, M: Task, O: Write + Drop> FolderTaker<'w, 'a, 'c, W, 
             (kept_told self.old.json (as_bytes name.now) (last_name self.old.staging.files.items)
             file.entry.size vouched)) }
     {
-        let size = self.staging.complete(file)?;
-        self.given.note(name.bytes());
-        self.given.note(KEPT);
+        let size = self.complete(name, file)?;
         if self.has_refused && !self.keeps_good {
             return Ok(());
         }
@@ -196,8 +242,10 @@ impl<'w, 'a, 'c, W: World, M: Task, O: Write + Drop> FolderTaker<'w, 'a, 'c, W, 
         self.add(&line)
     }
 
-    fn add(&mut self, line: &Line<'_>) -> Result<(), Trouble>
+    pub(crate) fn add(&mut self, line: &Line<'_>) -> Result<(), Trouble>
         ensures staging { self.new.staging ≡ self.old.staging }
+        ensures begun { self.new.begun ≡ self.old.begun }
+        ensures json { self.new.json ≡ self.old.json }
         ensures taken { self.new.taken ≡ self.old.taken }
         ensures claims { self.new.claims ≡ self.old.claims }
         ensures given { self.new.given ≡ self.old.given }
@@ -237,70 +285,19 @@ impl<'w, 'a, 'c, W: World, M: Task, O: Write + Drop> FolderTaker<'w, 'a, 'c, W, 
         self.has_refused = true;
         self.add(&Line::Refused(name, refusal))
     }
-}
 
-fn may_name(names: bool, keeps_good: bool, trouble: &Option<Trouble>) -> bool
-    ensures { result ≡ (names && (keeps_good || is_none trouble.now)) }
-{
-    names && (keeps_good || trouble.is_none())
-}
-
-// Gives the files their names, if `names`. If good ones are kept, removes what refused ones were to
-// replace. Returns the trouble that no file has its name, or that old files are left.
-fn name<W: World, M: Task>(
-    staging: &mut Staging<'_, '_, '_, W, M>,
-    names: bool,
-    keeps_good: bool,
-) -> Result<Result<(), Trouble>, Trouble>
-    requires { staging.old.is_naming ≡ false }
-    ensures folder { staging.new.folder ≡ staging.old.folder }
-    ensures naming { staging.new.is_naming ≡ names }
-    ensures holds { names ≡ true → is_named result ≡ true → (used : List ℕ → Bool) →
-        uses_names used (names_of staging.old.files.items) (names_of staging.old.outdated.items) ≡ true →
-        held_in staging.old.folder.path.now (W.trace staging.new.world.now)
-        (complete_names staging.old.files.items staging.old.is_writing)
-        ≡ staged (W.trace staging.old.world.now) staging.old.files.items staging.old.is_writing }
-    ensures unnamed { names ≡ false →
-        W.trace staging.new.world.now ≡ W.trace staging.old.world.now }
-    ensures others { keeps_good ≡ false → is_named result ≡ true →
-        LeavesOthers staging.old.folder.path.now (complete_names staging.old.files.items
-        staging.old.is_writing) (W.trace staging.old.world.now) (W.trace staging.new.world.now) }
-    ensures back { keeps_good ≡ false → are_undone (naming_trouble result) ≡ true →
-        differ (complete_names staging.old.files.items staging.old.is_writing) ≡ true →
-        Leaves staging.old.folder.path.now
-        (W.trace staging.old.world.now) (W.trace staging.new.world.now) }
-{
-    if !names {
-        return Ok(Ok(()));
+    /// Notes the trouble of what failed.
+    #[tactic(auto, using(crate::proofs::LimitLaws::fits_kept))]
+    pub(crate) fn noted<X>(&mut self, done: Result<X, Trouble>) -> Result<X, PutFault>
+        ensures done { done_in result ≡ done_in done }
+        ensures staging { self.new.staging ≡ self.old.staging }
+        ensures taken { self.new.taken ≡ self.old.taken }
+        ensures claims { self.new.claims ≡ self.old.claims }
+        ensures given { self.new.given ≡ self.old.given }
+        ensures begun { self.new.begun ≡ self.old.begun }
+    {
+        kept(done, &mut self.trouble)
     }
-    if let Err(trouble) = staging.name_all() {
-        return Err(trouble);
-    }
-    if !keeps_good {
-        return Ok(Ok(()));
-    }
-    Ok(staging.remove_outdated())
-}
-
-// Prints the lines of files that have their names, or of refused ones.
-fn tell<O: Write>(
-    named: Result<Result<(), Trouble>, Trouble>,
-    out: &mut O,
-    lines: &[u8],
-    is_told: bool,
-) -> Result<(), Trouble>
-    ensures told { OnOk result (TellsIf is_told (O.contents out.old) (O.contents out.new) lines.now) }
-    ensures named { OnOk result (is_named named ≡ true) }
-    ensures undone { are_undone (trouble_in result) ≡ true →
-        naming_trouble named ≡ trouble_in result }
-    ensures untold { is_ok named && is_told ≡ false → out.new ≡ out.old }
-{
-    let removed = named?;
-    if is_told {
-        printed(out.write_all(lines))?;
-        printed(out.flush())?;
-    }
-    removed
 }
 
 impl<'w, 'a, 'c, W: World, M: Task, O: Write + Drop> Taker for FolderTaker<'w, 'a, 'c, W, M, O> {
@@ -323,16 +320,44 @@ impl<'w, 'a, 'c, W: World, M: Task, O: Write + Drop> Taker for FolderTaker<'w, '
 
     ghost begun = { λ t. nat_lt 0 (length t.taken.named.names) };
 
-    #[tactic(auto, using(crate::proofs::LimitLaws::fits_noted, crate::proofs::LimitLaws::fits_kept))]
-    fn claim(&mut self, name: &NodeName, length: u64) -> Result<(), PutFault> {
+    #[tactic(auto, using(crate::proofs::LimitLaws::fits_noted))]
+    fn claim(&mut self, name: &NodeName, length: u64) -> Result<(), PutFault>
+        ensures folder { self.new.staging.folder ≡ self.old.staging.folder }
+        ensures claims { claims_by self.new.claims.noted.names
+            ≡ claims_by self.old.claims.noted.names ++ claim (as_bytes name.now) length ∷ [] }
+        ensures taken { self.new.taken ≡ self.old.taken }
+        ensures given { ⟦<FolderTaker<'w, 'a, 'c, W, M, O> as Taker>⟧.takes self.new
+            ≡ ⟦<FolderTaker<'w, 'a, 'c, W, M, O> as Taker>⟧.takes self.old }
+        ensures begun { self.new.begun ≡ self.old.begun }
+        ensures complete { complete_names self.new.staging.files.items self.new.staging.is_writing
+            ≡ complete_names self.old.staging.files.items self.old.staging.is_writing }
+        ensures staged { staged (W.trace self.new.staging.world.now) self.new.staging.files.items
+            self.new.staging.is_writing ≡ staged (W.trace self.old.staging.world.now)
+            self.old.staging.files.items self.old.staging.is_writing }
+    {
         let claimed = self.claims.claim(name, length);
         kept(claimed, &mut self.trouble)?;
         let looked = self.look(name);
-        kept(looked, &mut self.trouble)
+        self.noted(looked)
     }
 
     #[tactic(auto, using(crate::proofs::LimitLaws::fits_kept))]
-    fn shelf(&mut self, name: &NodeName) -> Result<NewFile<'c, W::File>, PutFault> {
+    fn shelf(&mut self, name: &NodeName) -> Result<NewFile<'c, W::File>, PutFault>
+        ensures folder { self.new.staging.folder ≡ self.old.staging.folder }
+        ensures claims { claims_by self.new.claims.noted.names
+            ≡ claims_by self.old.claims.noted.names }
+        ensures taken { OnOk result (nat_lt 0 (length self.new.taken.named.names) ≡ true) }
+        ensures given { ⟦<FolderTaker<'w, 'a, 'c, W, M, O> as Taker>⟧.takes self.new
+            ≡ ⟦<FolderTaker<'w, 'a, 'c, W, M, O> as Taker>⟧.takes self.old }
+        ensures begun { OnOk result (newest self.new.begun.names ≡ as_bytes name.now) }
+        ensures empty { IsTrue W.knows → IfOk result (λ new.
+            writer_contents W.File.contents new.file ≡ Some []) }
+        ensures complete { complete_names self.new.staging.files.items self.new.staging.is_writing
+            ≡ complete_names self.old.staging.files.items self.old.staging.is_writing }
+        ensures staged { staged (W.trace self.new.staging.world.now) self.new.staging.files.items
+            self.new.staging.is_writing ≡ staged (W.trace self.old.staging.world.now)
+            self.old.staging.files.items self.old.staging.is_writing }
+    {
         self.begun.note(name.bytes());
         match self.taken.next(name) {
             Ok(file) => {

@@ -2,7 +2,7 @@
 
 ghost use Rattle.std.specs.Prelude.{◌≡◌, ◌++◌, ◌∷◌, []};
 ghost use Rattle.uimg_fit_checking.specs.{Claiming.claim, Unpacking.as_bytes};
-ghost use Rattle.uimg_unpacking.specs.Limiting.{bytes_in, claims_by, exceeded, files_in, none_claimed, with_file};
+ghost use Rattle.uimg_unpacking.specs.Limiting.{bytes_in, claims_by, exceeded, files_in};
 ghost use Rattle.uimg_unpacking.specs.Troubles.{trouble_in};
 
 use crate::trouble::Trouble;
@@ -19,32 +19,49 @@ pub struct Limits {
     pub bytes: Option<u64>,
 }
 
-/// What was claimed of the limits.
-#[derive(Clone, Copy, Debug)]
-pub(crate) struct Claimed {
+/// The payloads that were claimed, how many they are, and how many bytes they have together.
+#[derive(Drop)]
+pub(crate) struct Claims {
     limits: Limits,
     files: u64,
     bytes: u64,
+    // For contracts alone: the name and then the length of each.
+    noted: OpenedNames,
+    ghost file_count: { files ≡ files_in (claims_by noted.names) },
+    ghost byte_count: { bytes ≡ bytes_in (claims_by noted.names) },
 }
 
-impl Claimed {
-    pub(crate) fn new(limits: Limits) -> Claimed
-        ensures { result ≡ none_claimed limits }
+impl Claims {
+    pub(crate) fn new(limits: Limits) -> Claims
+        ensures limits { result.limits ≡ limits }
+        ensures noted { claims_by result.noted.names ≡ [] }
     {
-        Claimed {
+        Claims {
             limits,
             files: 0,
             bytes: 0,
+            noted: OpenedNames::new(),
         }
     }
 
-    /// Fails if the files are too many or too long with this one.
-    pub(crate) fn claim(&mut self, length: u64) -> Result<(), Trouble>
-        ensures claimed { self.new ≡ with_file length self.old }
-        ensures told { trouble_in result ≡ exceeded self.new }
+    /// Fails if the payloads are too many or too long with this one.
+    pub(crate) fn claim(&mut self, name: &NodeName, length: u64) -> Result<(), Trouble>
+        ensures limits { self.new.limits ≡ self.old.limits }
+        ensures noted { claims_by self.new.noted.names
+            ≡ claims_by self.old.noted.names ++ claim (as_bytes name.now) length ∷ [] }
+        ensures told { trouble_in result
+            ≡ exceeded self.new.limits (claims_by self.new.noted.names) }
     {
+        self.noted.note(name.bytes());
+        self.noted.note(length.to_be_bytes().as_slice());
         self.files = self.files.saturating_add(1);
         self.bytes = self.bytes.saturating_add(length);
+        self.judge()
+    }
+
+    fn judge(&self) -> Result<(), Trouble>
+        ensures { trouble_in result ≡ exceeded self.now.limits (claims_by self.now.noted.names) }
+    {
         if self.files > self.limits.files {
             return Err(Trouble::TooManyFiles(self.limits.files));
         }
@@ -52,39 +69,5 @@ impl Claimed {
             Some(most) if self.bytes > most => Err(Trouble::TooManyBytes(most)),
             _ => Ok(()),
         }
-    }
-}
-
-/// What was claimed of the limits by payloads of images.
-#[derive(Drop)]
-pub(crate) struct Claims {
-    claimed: Claimed,
-    // For contracts alone: the name and then the length of each.
-    noted: OpenedNames,
-    ghost files: { claimed.files ≡ files_in (claims_by noted.names) },
-    ghost bytes: { claimed.bytes ≡ bytes_in (claims_by noted.names) },
-}
-
-impl Claims {
-    pub(crate) fn new(limits: Limits) -> Claims
-        ensures claimed { result.claimed ≡ none_claimed limits }
-        ensures noted { claims_by result.noted.names ≡ [] }
-    {
-        Claims {
-            claimed: Claimed::new(limits),
-            noted: OpenedNames::new(),
-        }
-    }
-
-    /// Fails if the payloads are too many or too long with this one.
-    pub(crate) fn claim(&mut self, name: &NodeName, length: u64) -> Result<(), Trouble>
-        ensures limits { self.new.claimed.limits ≡ self.old.claimed.limits }
-        ensures noted { claims_by self.new.noted.names
-            ≡ claims_by self.old.noted.names ++ claim (as_bytes name.now) length ∷ [] }
-        ensures told { trouble_in result ≡ exceeded self.new.claimed }
-    {
-        self.noted.note(name.bytes());
-        self.noted.note(length.to_be_bytes().as_slice());
-        self.claimed.claim(length)
     }
 }

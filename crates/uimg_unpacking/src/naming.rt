@@ -3,19 +3,18 @@
 ghost use Rattle.std.specs.Prelude.{◌≡◌, ℕ, List, None, bytes_eq, length, nat_lt, is_ok, is_some, not, false, true, string_bytes};
 ghost use Rattle.std.specs.List.{list_all};
 ghost use Rattle.uimg_unpacking.specs.Contents.{Files, files_after};
-ghost use Rattle.uimg_unpacking.specs.Deeds.{answer_of};
+ghost use Rattle.uimg_world.specs.Deeds.{answer_of};
 ghost use Rattle.uimg_unpacking.specs.Naming.{GivesName, Moves, NamesFiles, NamesIt, PutsBackFiles, PutsItBack, UnlessLater};
 ghost use Rattle.uimg_unpacking.specs.Places.{Obeys, Terms, is_begun_in, is_file_of, is_temporary_file, terms_of};
 ghost use Rattle.uimg_unpacking.specs.Staged.{LeavesOthers, names_of};
 
-use crate::begun::Begun;
 use crate::folder::Folder;
-use crate::kind::Kind;
+use crate::staged_file::StagedFile;
 use crate::trouble::{ShownPath, Trouble};
-use crate::world::World;
 use std::alloc::Global;
 use std::io;
 use std::io::ErrorKind;
+use uimg_world::{Kind, World};
 
 /// Moves a file to another path. Unless it replaces an existing file, makes a hard link first,
 /// which fails if something exists there. On a file system without links it checks that itself.
@@ -58,7 +57,7 @@ pub(crate) fn keep_as<W: World>(world: &mut W, whole: &str, old: &str) -> io::Re
 
 /// Puts back what was kept under another name. If there is nothing, removes what got the name.
 /// Returns whether that is done.
-fn put_back<W: World>(world: &mut W, its: &Begun, has_name: bool) -> bool
+fn put_back<W: World>(world: &mut W, its: &StagedFile, has_name: bool) -> bool
     ensures told { (terms : Terms) → is_begun_in terms.0 its.now ≡ true →
         PutsItBack its.now has_name result (W.trace world.old) (W.trace world.new) }
     ensures within { (terms : Terms) → is_begun_in terms.0 its.now ≡ true →
@@ -84,7 +83,7 @@ pub(crate) fn name_files<W: World>(
     world: &mut W,
     alloc: Global,
     folder: &Folder<'_>,
-    files: &[Begun],
+    files: &[StagedFile],
 ) -> (usize, Option<Trouble>)
     requires { list_all (is_begun_in folder.now.path.now) files.now ≡ true }
     ensures all { result.1 ≡ None → result.0 ≡ length files.now }
@@ -106,7 +105,7 @@ pub(crate) fn name_files<W: World>(
 pub(crate) fn put_back_all<W: World>(
     world: &mut W,
     folder: &Folder<'_>,
-    files: &[Begun],
+    files: &[StagedFile],
     number: usize,
 ) -> bool
     requires { list_all (is_begun_in folder.now.path.now) files.now ≡ true }
@@ -123,7 +122,7 @@ pub(crate) fn put_back_all<W: World>(
 
 // Puts back what a file was to replace, unless its number is greater than another. Returns whether
 // it is back.
-fn put_back_before<W: World>(world: &mut W, its: &Begun, before: usize, number: usize) -> bool
+fn put_back_before<W: World>(world: &mut W, its: &StagedFile, before: usize, number: usize) -> bool
     ensures told { (terms : Terms) → is_begun_in terms.0 its.now ≡ true →
         UnlessLater (nat_lt number before) its.now (nat_lt before number) result
         (W.trace world.old) (W.trace world.new) }
@@ -137,7 +136,7 @@ fn put_back_before<W: World>(world: &mut W, its: &Begun, before: usize, number: 
 }
 
 /// Removes what files have replaced.
-pub(crate) fn forget_old<W: World>(world: &mut W, folder: &Folder<'_>, files: &[Begun])
+pub(crate) fn forget_old<W: World>(world: &mut W, folder: &Folder<'_>, files: &[StagedFile])
     requires { list_all (is_begun_in folder.now.path.now) files.now ≡ true }
     ensures within { Obeys (terms_of folder.now) false (W.trace world.old) (W.trace world.new) }
 {
@@ -151,7 +150,7 @@ fn name<W: World>(
     world: &mut W,
     alloc: Global,
     folder: &Folder<'_>,
-    its: &Begun,
+    its: &StagedFile,
 ) -> Result<(), Trouble>
     requires { is_begun_in folder.now.path.now its.now ≡ true }
     ensures told { NamesIt its.now (is_ok result) (W.trace world.old) (W.trace world.new) }
@@ -171,7 +170,7 @@ fn name<W: World>(
 }
 
 // Something may exist at the name.
-fn name_over<W: World>(world: &mut W, its: &Begun) -> io::Result<()>
+fn name_over<W: World>(world: &mut W, its: &StagedFile) -> io::Result<()>
     ensures told { (terms : Terms) → is_begun_in terms.0 its.now ≡ true →
         NamesIt its.now (is_ok result) (W.trace world.old) (W.trace world.new) }
     ensures within { (terms : Terms) → is_begun_in terms.0 its.now ≡ true → terms.1 ≡ true →
@@ -200,7 +199,7 @@ pub(crate) fn remove_all_old<W: World>(
     world: &mut W,
     alloc: Global,
     folder: &Folder<'_>,
-    files: &[Begun],
+    files: &[StagedFile],
 ) -> Result<(), Trouble>
     requires { list_all (is_begun_in folder.now.path.now) files.now ≡ true }
     ensures within { Obeys (terms_of folder.now) true (W.trace world.old) (W.trace world.new) }
@@ -217,7 +216,7 @@ fn remove_old<W: World>(
     world: &mut W,
     alloc: Global,
     folder: &Folder<'_>,
-    its: &Begun,
+    its: &StagedFile,
 ) -> Result<(), Trouble>
     requires { is_begun_in folder.now.path.now its.now ≡ true }
     ensures within { Obeys (terms_of folder.now) true (W.trace world.old) (W.trace world.new) }

@@ -7,40 +7,26 @@ ghost use Rattle.uimg_base.specs.Device.{SameDevice};
 ghost use Rattle.uimg_base.specs.Honest.{HonestSource, IfHonest};
 ghost use Rattle.uimg_base.specs.Using.{Asks};
 ghost use Rattle.uimg_legacy.specs.Unpacking.{is_part_asked};
-ghost use Rattle.uimg_unpacking.specs.PartEnds.{KeepsRight, end_of_parts, has_leading_zero, is_number, stands_by_crc32, size_at, EndsUnlessRefused};
+ghost use Rattle.uimg_unpacking.specs.Leaving.{Leaves, is_left};
+ghost use Rattle.uimg_unpacking.specs.PartEnds.{KeepsRight, end_of_parts, has_leading_zero, is_number, is_right, stands_by_crc32, size_at, EndsUnlessRefused};
 ghost use Rattle.uimg_unpacking.specs.PartFilling.{FillsKept, IsNumberOf, Requests};
 ghost use Rattle.uimg_unpacking.specs.Places.{ChangesWithin, Obeys, terms_of};
 
+use crate::folder_taker::FolderTaker;
 use crate::new_file::ErrorCode;
 use crate::part_folder::PartFolder;
-use crate::task::{Lent, Task};
+use crate::task::Task;
 use crate::trouble::Trouble;
-use crate::unpacking::Unpacking;
-use crate::world::World;
+use crate::unpacking::{Ended, Unpacking};
 use std::alloc::Global;
 use std::io::Write;
-use std::marker::{Brand, PhantomData};
+use std::marker::Brand;
 use uimg_base::{Algo, MULTI, Room, SCRIPT, Source, SourceFault};
 use uimg_legacy::{Fault, LegacyFault, read_header};
+use uimg_world::World;
 
 /// The offset of the table of sizes: the length of the header.
 const TABLE: u64 = 64;
-
-/// How the unpacking of a legacy image ended.
-#[derive(Debug, Drop)]
-pub enum PartsEnded {
-    /// All requested parts are kept.
-    Kept,
-
-    /// A stronger checksum than CRC-32 is needed, which a legacy image does not have.
-    Weak,
-
-    /// The image is refused, or a read of it failed.
-    Stopped(Fault),
-
-    /// A file or a line could not be written.
-    Troubled(Trouble),
-}
 
 /// Writes the parts of a legacy image to a folder, with a line for each on `out`. The files get
 /// their names if the checksum of the data is right. For the types multi and script these are its
@@ -54,6 +40,10 @@ pub enum PartsEnded {
 ///
 /// Files get their names once all are written; unless all get them, the folder is unchanged.
 ///
+/// Contracts say so of all files of which the answers of the calls are true (`IsTrueTo`): each file
+/// name of the folder has what it had, unless the end is `Kept`, or a trouble that comes after files
+/// got their names: `NotPutBack`, `CannotPrint` or `Closed`.
+///
 /// Where parts are kept, the source is honest and contracts know what new files hold, the file of
 /// each requested part holds exactly its bytes.
 pub fn unpack_parts<W: World, S: Source, O: Write + Drop>(
@@ -61,16 +51,18 @@ pub fn unpack_parts<W: World, S: Source, O: Write + Drop>(
     asked: &Unpacking<'_>,
     source: &mut S,
     out: O,
-) -> PartsEnded
+) -> Ended
     ensures within { ChangesWithin asked.now.folder.path.now true (W.trace world.old) (W.trace world.new) }
     ensures same { SameDevice (S.device source.old) (S.device source.new) }
     ensures kept { IfHonest S.device source (λ file. KeepsRight asked.now file result) }
     ensures obeys { Obeys (terms_of asked.now.folder) true (W.trace world.old) (W.trace world.new) }
     ensures holds { IfHonest S.device source (λ file. IsTrue W.knows →
         FillsKept asked.now file result (W.trace world.new)) }
+    ensures back { is_left result ≡ true →
+        Leaves asked.now.folder.path.now (W.trace world.old) (W.trace world.new) }
 {
     let alloc = world.alloc();
-    let mut end = PartsEnded::Weak;
+    let mut end = Ended::Weak;
     let _world = unpack_parts_in::<_, _, _, Brand>(world, alloc, asked, source, out, &mut end);
     end
 }
@@ -83,55 +75,72 @@ fn unpack_parts_in<'w, W: World, S: Source, O: Write + Drop, M: Task>(
     asked: &Unpacking<'_>,
     source: &mut S,
     out: O,
-    end: &mut PartsEnded,
+    end: &mut Ended,
 ) -> &'w mut W
     requires named { world.ghost_name ≡ M.name }
     requires before { W.trace world.now ≡ M.before }
     requires agreed { terms_of asked.now.folder ≡ M.terms }
+    requires limits { asked.now.limits ≡ M.limits }
     ensures named { result.ghost_name ≡ M.name }
     ensures obeys { Obeys M.terms true M.before (W.trace result.now) }
     ensures same { SameDevice (S.device source.old) (S.device source.new) }
     ensures kept { IfHonest S.device source (λ file. KeepsRight asked.now file end.new) }
     ensures holds { IfHonest S.device source (λ file. IsTrue W.knows →
         FillsKept asked.now file end.new (W.trace result.now)) }
+    ensures back { is_left end.new ≡ true →
+        Leaves asked.now.folder.path.now M.before (W.trace result.now) }
 {
     let mut room = Room::new(alloc);
     if !stands_by_crc32(asked.need) {
-        *end = unless_refused(source, &mut room, PartsEnded::Weak);
+        *end = unless_refused(source, &mut room, Ended::Weak);
         return world;
     }
     let only = requested(asked.only);
     match excess(asked.limits.bytes, only, source) {
         Ok(Some(trouble)) => {
-            *end = unless_refused(source, &mut room, PartsEnded::Troubled(trouble));
+            *end = unless_refused(source, &mut room, Ended::Troubled(trouble));
             return world;
         }
         Ok(None) => {}
         Err(fault) => {
-            *end = PartsEnded::Stopped(fault);
+            *end = Ended::StoppedLegacy(fault);
             return world;
         }
     }
     let code = ErrorCode::new(None);
-    let lent = Lent::<'w, W, M> {
-        world,
-        task: PhantomData,
+    let mut folder = PartFolder {
+        taker: FolderTaker::<'w, '_, '_, W, M, O>::new(world, alloc, asked, out, &code),
+        parts: Vec::new(alloc),
+        begun: None,
+        is_kept: false,
     };
-    let mut taker = PartFolder::new(lent, alloc, asked, out, &code);
-    let unpacked = uimg_legacy::unpack(only, source, &mut room, &mut taker);
-    let (world, trouble) = taker.end();
+    let unpacked = uimg_legacy::unpack(only, source, &mut room, &mut folder);
+    let names = is_right(&unpacked);
+    let (world, trouble) = folder.end(names);
     *end = ended(unpacked, trouble);
     world
 }
 
-fn ended(unpacked: Result<bool, Fault>, trouble: Option<Trouble>) -> PartsEnded
+fn is_right(unpacked: &Result<bool, Fault>) -> bool
+    ensures { result ≡ is_right unpacked.now }
+{
+    match unpacked {
+        Ok(is_right) => *is_right,
+        Err(_) => false,
+    }
+}
+
+fn ended(unpacked: Result<bool, Fault>, trouble: Option<Trouble>) -> Ended
     ensures { result ≡ end_of_parts unpacked trouble }
 {
     match unpacked {
-        Ok(true) => PartsEnded::Kept,
-        Ok(false) => PartsEnded::Stopped(Fault::Legacy(LegacyFault::BadDataCrc)),
-        Err(Fault::Put) => PartsEnded::Troubled(trouble.unwrap_or(Trouble::Put)),
-        Err(fault) => PartsEnded::Stopped(fault),
+        Ok(true) => match trouble {
+            Some(trouble) => Ended::Troubled(trouble),
+            None => Ended::Kept,
+        },
+        Ok(false) => Ended::StoppedLegacy(Fault::Legacy(LegacyFault::BadDataCrc)),
+        Err(Fault::Put) => Ended::Troubled(trouble.unwrap_or(Trouble::Put)),
+        Err(fault) => Ended::StoppedLegacy(fault),
     }
 }
 
@@ -154,13 +163,13 @@ fn excess<S: Source>(
 }
 
 // Returns the end, unless the image's header or its table of parts is refused.
-fn unless_refused<S: Source>(source: &mut S, room: &mut Room<Global>, end: PartsEnded) -> PartsEnded
+fn unless_refused<S: Source>(source: &mut S, room: &mut Room<Global>, end: Ended) -> Ended
     ensures told { IfHonest S.device source (λ file. EndsUnlessRefused file end result) }
     ensures same { SameDevice (S.device source.old) (S.device source.new) }
 {
     match uimg_legacy::check(source, room) {
         Ok(_) => end,
-        Err(fault) => PartsEnded::Stopped(fault),
+        Err(fault) => Ended::StoppedLegacy(fault),
     }
 }
 

@@ -1,28 +1,29 @@
 //! Files that are written in a folder of their own, and get their names all at once.
 
-ghost use Rattle.std.specs.Prelude.{◌≡◌, ◌++◌, ◌∷◌, [], List, ℕ, Bool, Some, true, false, codes, IfOk, IfSome, IsTrue, MatchOption, OnErr, OnOk, is_ok, not, string_bytes};
+ghost use Rattle.std.specs.Prelude.{◌≡◌, ◌++◌, ◌∷◌, [], List, ℕ, Bool, Some, true, false, codes, IfOk, IsTrue, OnErr, OnOk, is_ok, not, string_bytes};
 ghost use Rattle.std.specs.{Io.Buffered.writer_contents, List.list_all};
 ghost use Rattle.std.specs.Option.{option_map, option_map_or};
-ghost use Rattle.uimg_unpacking.specs.Deeds.{Answer, ClosesFile, Deed, answer_of};
+ghost use Rattle.uimg_world.specs.Deeds.{answer_of};
 ghost use Rattle.uimg_unpacking.specs.Contents.{held};
 ghost use Rattle.uimg_unpacking.specs.FileNames.{is_file_name};
 ghost use Rattle.uimg_unpacking.specs.Leaving.{KeepsNone};
 ghost use Rattle.uimg_unpacking.specs.Places.{is_temporary_folder, is_temporary_file, is_begun_in, Obeys, terms_of};
 ghost use Rattle.uimg_unpacking.specs.Refusals.{last_of, last_name, TellsUnwritten};
-ghost use Rattle.uimg_unpacking.specs.Staged.{ClosesLast, Completes, Drops, are_numbered_in, complete_names, names_of, staged, with_name};
+ghost use Rattle.uimg_unpacking.specs.Staged.{ClosesLast, Completes, are_numbered_in, complete_names, names_of, staged, with_name};
 
 mod naming_all;
+mod removing;
 
-use crate::begun::{Begun, begun_in};
 use crate::folder::Folder;
 use crate::new_file::{ErrorCode, NewFile};
-use crate::task::{Lent, Task};
+use crate::staged_file::{StagedFile, staged_in};
+use crate::task::Task;
 use crate::trouble::{ShownPath, Trouble};
-use crate::world::World;
 use std::alloc::{AllocError, Global};
 use std::io;
 use std::io::{BufWriter, ErrorKind};
 use std::marker::PhantomData;
+use uimg_world::World;
 
 /// New files for a folder. Until they get their names, they are in a temporary folder within it.
 #[derive(Drop)]
@@ -33,15 +34,13 @@ pub(crate) struct Staging<'w, 'a, 'c, W: World, M: Task> {
     folder: Folder<'a>,
     // The path of the temporary folder, once it is created.
     made: Option<String>,
-    // The same, for the trouble that old files are left there: memory may be refused then.
-    shown: Option<String>,
     // The files that were begun. File number N is `new-N` in the temporary folder, and what it
     // replaces is `old-N`.
-    files: Vec<Begun>,
+    files: Vec<StagedFile>,
     // The paths of all files that were created in the temporary folder.
     created: Vec<String>,
     // Refused files. What they were to replace is removed with the names.
-    outdated: Vec<Begun>,
+    outdated: Vec<StagedFile>,
     // Whether the last file is not complete.
     is_writing: bool,
     // Whether files get their names.
@@ -62,26 +61,25 @@ pub(crate) struct Staging<'w, 'a, 'c, W: World, M: Task> {
 impl<'w, 'a, 'c, W: World, M: Task> Staging<'w, 'a, 'c, W, M> {
     /// Notes failed writes in `code`.
     pub(crate) fn new(
-        lent: Lent<'w, W, M>,
+        world: &'w mut W,
         alloc: Global,
         folder: Folder<'a>,
         code: &'c ErrorCode,
     ) -> Staging<'w, 'a, 'c, W, M>
-        requires before { W.trace lent.world.now ≡ M.before }
+        requires named { world.ghost_name ≡ M.name }
+        requires before { W.trace world.now ≡ M.before }
         requires agreed { terms_of folder ≡ M.terms }
         ensures folder { result.folder ≡ folder.entry }
         ensures unnamed { result.is_naming ≡ false }
         ensures none { result.files.items ≡ [] × result.outdated.items ≡ []
             × result.is_writing ≡ false }
     {
-        let Lent { world, task } = lent;
         Staging {
             world,
-            task,
+            task: PhantomData,
             alloc,
             folder,
             made: None,
-            shown: None,
             files: Vec::new(alloc),
             created: Vec::new(alloc),
             outdated: Vec::new(alloc),
@@ -154,9 +152,8 @@ impl<'w, 'a, 'c, W: World, M: Task> Staging<'w, 'a, 'c, W, M> {
             return Ok(Ok(()));
         }
         match self.folder.new_folder(self.world, self.alloc) {
-            Ok(Ok((made, shown))) => {
+            Ok(Ok(made)) => {
                 self.made = Some(made);
-                self.shown = Some(shown);
                 Ok(Ok(()))
             }
             Ok(Err(reason)) => Ok(Err(reason)),
@@ -164,7 +161,7 @@ impl<'w, 'a, 'c, W: World, M: Task> Staging<'w, 'a, 'c, W, M> {
         }
     }
 
-    fn begun(&self, name: String, whole: String) -> Result<Begun, Trouble>
+    fn begun(&self, name: String, whole: String) -> Result<StagedFile, Trouble>
         requires named { is_file_name (string_bytes name) ≡ true }
         requires whole { string_bytes whole
             ≡ self.now.folder.path.now ++ codes "/" ++ string_bytes name }
@@ -176,13 +173,13 @@ impl<'w, 'a, 'c, W: World, M: Task> Staging<'w, 'a, 'c, W, M> {
         let Some(made) = &self.made else {
             return Err(Trouble::NoName);
         };
-        match begun_in(self.alloc, made.as_str(), self.files.len(), name, whole) {
+        match staged_in(self.alloc, made.as_str(), self.files.len(), name, whole) {
             Ok(begun) => Ok(begun),
             Err(error) => Err(Trouble::from(error)),
         }
     }
 
-    fn note(&mut self, begun: &Begun) -> Result<(), Trouble>
+    fn note(&mut self, begun: &StagedFile) -> Result<(), Trouble>
         requires { is_begun_in self.old.folder.path.now begun.now ≡ true }
         ensures folder { self.new.folder ≡ self.old.folder }
         ensures naming { self.new.is_naming ≡ self.old.is_naming }
@@ -199,7 +196,7 @@ impl<'w, 'a, 'c, W: World, M: Task> Staging<'w, 'a, 'c, W, M> {
         }
     }
 
-    fn create(&mut self, begun: &Begun) -> io::Result<W::File>
+    fn create(&mut self, begun: &StagedFile) -> io::Result<W::File>
         requires begun { is_begun_in self.old.folder.path.now begun.now ≡ true }
         requires numbered { are_numbered_in (option_map string_bytes self.old.made)
             (self.old.files.items ++ begun.now ∷ []) ≡ true }
@@ -218,7 +215,7 @@ impl<'w, 'a, 'c, W: World, M: Task> Staging<'w, 'a, 'c, W, M> {
     }
 
     // The file was created, and is not complete.
-    fn add(&mut self, begun: Begun) -> Result<(), Trouble>
+    fn add(&mut self, begun: StagedFile) -> Result<(), Trouble>
         requires begun { is_begun_in self.old.folder.path.now begun ≡ true }
         requires numbered { are_numbered_in (option_map string_bytes self.old.made)
             (self.old.files.items ++ begun ∷ []) ≡ true }
@@ -317,90 +314,6 @@ impl<'w, 'a, 'c, W: World, M: Task> Staging<'w, 'a, 'c, W, M> {
         }
     }
 
-    /// Removes the last file, which gets no name. If it is outdated, what it was to replace is removed
-    /// with the names.
-    pub(crate) fn refuse_last(&mut self, is_outdated: bool) -> Result<(), Trouble>
-        requires { self.old.is_writing ≡ true }
-        ensures folder { self.new.folder ≡ self.old.folder }
-        ensures names { Drops (names_of self.old.files.items) (names_of self.new.files.items)
-            (names_of self.old.outdated.items) (names_of self.new.outdated.items) }
-        ensures staged { staged (W.trace self.new.world.now) self.new.files.items self.new.is_writing
-            ≡ staged (W.trace self.old.world.now) self.old.files.items self.old.is_writing }
-        ensures naming { self.new.is_naming ≡ self.old.is_naming }
-        ensures writing { self.new.is_writing ≡ false }
-        ensures complete { complete_names self.new.files.items self.new.is_writing
-            ≡ complete_names self.old.files.items self.old.is_writing }
-    {
-        let refused = self.drop_last()?;
-        if !is_outdated {
-            return Ok(());
-        }
-        self.outdated.push(refused)?;
-        Ok(())
-    }
-
-    fn drop_last(&mut self) -> Result<Begun, Trouble>
-        ensures begun { IfOk result (λ last. is_begun_in self.old.folder.path.now last ≡ true) }
-        ensures folder { self.new.folder ≡ self.old.folder }
-        ensures last { IfOk result (λ last. self.old.files.items ≡ self.new.files.items ++ last ∷ []
-            × W.trace self.new.world.now
-            ≡ Deed.Removes (string_bytes last.new) Answer.Done ∷ W.trace self.old.world.now) }
-        ensures within { Obeys (terms_of self.old.folder) false
-            (W.trace self.old.world.now) (W.trace self.new.world.now) }
-        ensures made { self.new.made ≡ self.old.made }
-        ensures none { KeepsNone (option_map string_bytes self.old.made) (W.trace self.old.world.now)
-            → KeepsNone (option_map string_bytes self.old.made) (W.trace self.new.world.now) }
-        ensures outdated { self.new.outdated ≡ self.old.outdated }
-        ensures naming { self.new.is_naming ≡ self.old.is_naming }
-        ensures writing { self.new.is_writing ≡ false }
-        ensures names { Drops (names_of self.old.files.items) (names_of self.new.files.items)
-            (names_of self.old.outdated.items) (names_of self.new.outdated.items) }
-        ensures staged { self.old.is_writing ≡ true →
-            staged (W.trace self.new.world.now) self.new.files.items self.new.is_writing
-            ≡ staged (W.trace self.old.world.now) self.old.files.items true }
-        ensures complete { self.old.is_writing ≡ true →
-            complete_names self.new.files.items self.new.is_writing
-            ≡ complete_names self.old.files.items true }
-    {
-        let Some(last) = self.pop() else {
-            return Err(Trouble::NoName);
-        };
-        match self.remove(&last) {
-            Ok(()) => Ok(last),
-            Err(reason) => Err(Trouble::CannotRemove(ShownPath(last.new), reason)),
-        }
-    }
-
-    fn pop(&mut self) -> Option<Begun>
-        ensures begun { IfSome result (λ last. is_begun_in self.old.folder.path.now last ≡ true) }
-        ensures folder { self.new.folder ≡ self.old.folder }
-        ensures last { MatchOption result
-            ((self.old.files.items ≡ []) × (self.new.files.items ≡ []))
-            (λ last. self.old.files.items ≡ self.new.files.items ++ last ∷ []) }
-        ensures made { self.new.made ≡ self.old.made }
-        ensures world { self.new.world ≡ self.old.world }
-        ensures outdated { self.new.outdated ≡ self.old.outdated }
-        ensures naming { self.new.is_naming ≡ self.old.is_naming }
-        ensures writing { self.new.is_writing ≡ false }
-    {
-        self.is_writing = false;
-        self.files.pop()
-    }
-
-    fn remove(&mut self, begun: &Begun) -> io::Result<()>
-        requires { is_begun_in self.old.folder.path.now begun.now ≡ true }
-        ensures folder { self.new.folder ≡ self.old.folder }
-        ensures made { self.new.made ≡ self.old.made }
-        ensures files { self.new.files ≡ self.old.files }
-        ensures outdated { self.new.outdated ≡ self.old.outdated }
-        ensures writing { self.new.is_writing ≡ self.old.is_writing }
-        ensures removed { W.trace self.new.world.now
-            ≡ Deed.Removes (string_bytes begun.now.new) (answer_of result) ∷ W.trace self.old.world.now }
-        ensures naming { self.new.is_naming ≡ self.old.is_naming }
-    {
-        self.world.remove_file(begun.new.as_str())
-    }
-
     pub(crate) fn last_name(&self) -> &str
         ensures { result.now ≡ last_name self.now.files.items }
     {
@@ -429,46 +342,4 @@ impl<'w, 'a, 'c, W: World, M: Task> Staging<'w, 'a, 'c, W, M> {
             None => io::Error::from(ErrorKind::WriteZero),
         }
     }
-
-    /// Removes the files that have no name, and their folder. Returns the world.
-    pub(crate) fn end(self) -> &'w mut W
-        ensures named { result.ghost_name ≡ M.name }
-        ensures obeys { Obeys M.terms self.entry.is_naming M.before (W.trace result.now) }
-        ensures quiet { Obeys M.terms false (W.trace self.entry.world.now) (W.trace result.now) }
-    {
-        let Staging {
-            world,
-            task: _task,
-            alloc: _alloc,
-            folder,
-            made,
-            shown: _shown,
-            files: _files,
-            created,
-            outdated: _outdated,
-            is_writing: _is_writing,
-            is_naming: _is_naming,
-            code: _code,
-        } = self;
-        clear(world, &folder, made, created.as_slice());
-        world
-    }
-}
-
-// Removes these temporary files, and then the folder that was made.
-fn clear<W: World>(world: &mut W, folder: &Folder<'_>, made: Option<String>, created: &[String])
-    requires made { option_map_or (λ path. is_temporary_folder folder.now.path.now
-        (string_bytes path)) made true ≡ true }
-    requires created { list_all (λ path. is_temporary_file folder.now.path.now
-        (string_bytes path)) created.now ≡ true }
-    ensures { (is_naming : Bool) → Obeys (terms_of folder.now) is_naming
-        (W.trace world.old) (W.trace world.new) }
-{
-    for path in created {
-        let _ = world.remove_file(path.as_str());
-    }
-    let Some(made) = made else {
-        return;
-    };
-    let _ = world.remove_dir(made.as_str());
 }

@@ -1,14 +1,13 @@
-//! An unpacking and the world that is lent to it.
+//! An unpacking, for contracts alone.
 
-ghost use Rattle.std.specs.Prelude.{◌≡◌};
-
-use crate::world::World;
-use std::marker::{Brand, PhantomData};
+use std::marker::Brand;
 
 /// An unpacking, for contracts alone.
 pub(crate) trait Task {
-    ghost use Rattle.std.specs.Prelude.{ℕ, List, Option};
-    ghost use Rattle.uimg_unpacking.specs.{Deeds.Deed, Places.Terms};
+    ghost use Rattle.std.specs.Prelude.{ℕ, List};
+    ghost use Rattle.uimg_unpacking.specs.declared.limits.Limits.{Limits};
+    ghost use Rattle.uimg_unpacking.specs.Places.{Terms};
+    ghost use Rattle.uimg_world.specs.Deeds.{Deed};
 
     /// The reference to its world.
     ghost name: { ℕ };
@@ -20,7 +19,7 @@ pub(crate) trait Task {
     ghost terms: { Terms };
 
     /// The greatest numbers of files and bytes.
-    ghost limits: { ℕ × Option ℕ };
+    ghost limits: { Limits };
 }
 
 impl Task for Brand {
@@ -32,13 +31,5 @@ impl Task for Brand {
 
     ghost terms = { ([], false, false) };
 
-    ghost limits = { (0, None) };
-}
-
-/// The world that is lent to an unpacking.
-#[derive(Drop)]
-pub(crate) struct Lent<'w, W: World, M: Task> {
-    pub(crate) world: &'w mut W,
-    pub(crate) task: PhantomData<M>,
-    ghost named: { world.ghost_name ≡ M.name },
+    ghost limits = { record { files = 0; bytes = None } };
 }

@@ -1,6 +1,6 @@
 //! Unpacks a FIT image into a folder.
 
-ghost use Rattle.std.specs.Prelude.{◌≡◌, ◌+◌, ◌≤◌, IsTrue, true};
+ghost use Rattle.std.specs.Prelude.{◌≡◌, ◌+◌, ◌≤◌, ◌||◌, IsTrue, true};
 ghost use Rattle.std.specs.Option.{option_map};
 ghost use Rattle.uimg_base.specs.Device.{SameDevice};
 ghost use Rattle.uimg_base.specs.Honest.{IfHonest};
@@ -14,16 +14,15 @@ use crate::limits::Limits;
 use crate::lines::Line;
 use crate::new_file::ErrorCode;
 use crate::objects::told;
-use crate::plan::gives_names;
-use crate::task::{Lent, Task};
+use crate::task::Task;
 use crate::trouble::Trouble;
-use crate::world::World;
 use std::alloc::Global;
 use std::io::Write;
-use std::marker::{Brand, PhantomData};
+use std::marker::Brand;
 use uimg_base::{Algo, Room, Source};
 use uimg_fit_base::{Fault, FitFault};
 use uimg_fit_checking::{NodeName, Unpacked};
+use uimg_world::World;
 
 /// What to unpack from an image.
 #[derive(Clone, Copy, Debug)]
@@ -47,10 +46,10 @@ pub struct Unpacking<'a> {
     pub json: Option<&'a str>,
 }
 
-/// How the unpacking of a FIT image ended.
+/// How the unpacking of an image ended.
 #[derive(Debug, Drop)]
 pub enum Ended {
-    /// All requested payloads are kept.
+    /// All requested payloads or parts are kept.
     Kept,
 
     /// A payload is refused, or payloads overlap. A line says so.
@@ -59,8 +58,14 @@ pub enum Ended {
     /// There is no image, but a strength is needed.
     NoImage,
 
-    /// The image is refused, or a read of it failed.
+    /// A stronger checksum than CRC-32 is needed, which a legacy image does not have.
+    Weak,
+
+    /// The FIT image is refused, or a read of it failed.
     Stopped(Fault),
+
+    /// The legacy image is refused, or a read of it failed.
+    StoppedLegacy(uimg_legacy::Fault),
 
     /// A file or a line could not be written.
     Troubled(Trouble),
@@ -125,7 +130,7 @@ fn unpack_in<'w, W: World, S: Source, O: Write + Drop, M: Task>(
     requires named { world.ghost_name ≡ M.name }
     requires before { W.trace world.now ≡ M.before }
     requires agreed { terms_of asked.now.folder ≡ M.terms }
-    requires limits { (asked.now.limits.files, asked.now.limits.bytes) ≡ M.limits }
+    requires limits { asked.now.limits ≡ M.limits }
     ensures named { result.ghost_name ≡ M.name }
     ensures obeys { Obeys M.terms true M.before (W.trace result.now) }
     ensures same { SameDevice (S.device source.old) (S.device source.new) }
@@ -143,13 +148,9 @@ fn unpack_in<'w, W: World, S: Source, O: Write + Drop, M: Task>(
     };
     let mut room = Room::new(alloc);
     let code = ErrorCode::new(None);
-    let lent = Lent::<'w, W, M> {
-        world,
-        task: PhantomData,
-    };
-    let mut taker = FolderTaker::new(lent, alloc, asked, out, &code);
+    let mut taker = FolderTaker::<'w, '_, '_, W, M, O>::new(world, alloc, asked, out, &code);
     let unpacked = uimg_fit_checking::unpack(only, asked.need, source, &mut room, &mut taker);
-    let names = gives_names(asked.keeps_good, is_whole(&unpacked));
+    let names = gives_names(asked, &unpacked);
     let (world, mut out, count, trouble) = taker.end(names, asked.keeps_good);
     *end = how_ended(alloc, asked, unpacked, (count, trouble), &mut out);
     world
@@ -171,10 +172,13 @@ fn how_ended<W: Write + Drop>(
     }
 }
 
-// Each requested payload was given and is kept.
-fn is_whole(unpacked: &Result<Unpacked, Fault>) -> bool
-    ensures { result ≡ is_whole unpacked.now }
+// Files get their names if all requested payloads were given and are kept, or if good ones are kept.
+fn gives_names(asked: &Unpacking<'_>, unpacked: &Result<Unpacked, Fault>) -> bool
+    ensures { result ≡ (asked.now.keeps_good || is_whole unpacked.now) }
 {
+    if asked.keeps_good {
+        return true;
+    }
     match unpacked {
         Ok(Unpacked::Taken(all)) => *all,
         Ok(Unpacked::Overlapping(_)) => false,

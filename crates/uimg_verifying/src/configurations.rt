@@ -4,9 +4,9 @@ ghost use Rattle.std.specs.Prelude.{◌≡◌, ◌+◌, ◌<◌, ◌≤◌, List
 ghost use Rattle.std.specs.{List.slice_get, Option.option_map};
 ghost use Rattle.uimg_base.specs.{Honest.{HonestSource, IfHonest}, Using.Uses};
 ghost use Rattle.uimg_blob_reading.specs.{Grammar.Siblings, Indexed.TakesNodes, Rows.{Row, table}};
-ghost use Rattle.uimg_fit_checking.specs.SurveyParts.{IsOwn, is_unread, lacks_room};
+ghost use Rattle.uimg_fit_checking.specs.{Indexes.IndexedIn, SurveyParts.{IsOwn, LeavesSurvey, is_unread, lacks_room}};
 ghost use Rattle.uimg_fit_reading.specs.Nodes.{InFile, Opened};
-ghost use Rattle.uimg_verifying.specs.Configurations.{OfNode, TellsUnsigned, blob_refusal, configuration_refusal, decides, is_asked, is_configuration, is_parent, is_signature_of, judged_node, judged_of, keys_refusal, tried_node, tried_of, unsigned_from, unsigned_within};
+ghost use Rattle.uimg_verifying.specs.Configurations.{OfNode, TellsUnsigned, blob_refusal, configuration_refusal, decides, is_asked, is_configuration, is_parent, is_signature_of, judged_node, judged_of, keys_refusal, tried_node, tried_of, unsigned_from};
 ghost use Rattle.uimg_signing.specs.Listing.{name_in};
 ghost use Rattle.uimg_strict.specs.{Telling.read_loose, declared.loose.Looseness.TheVariants.Unsigned};
 ghost use Rattle.uimg_texts.specs.Numbers.{be32};
@@ -377,28 +377,6 @@ fn blob_refusal<S: Source, A: Allocator>(
     }
 }
 
-// Returns the first configuration of a blob that is refused.
-fn unsigned_within<S: Source, A: Allocator>(
-    alloc: Global,
-    source: &mut S,
-    blob: &Blob,
-    room: &mut Room<A>,
-    required: &Required<'_>,
-) -> Result<Option<Loose>, SurveyFault>
-    requires { InFile (length (S.device source.old).bytes) blob.now room.old.entries }
-    ensures uses { Uses (is_unread result) (S.device source.old) (S.device source.new) }
-    ensures room { room.new ≡ room.old }
-    ensures own { IsOwn result }
-    ensures told { (t : Siblings) → Opened (S.device source.old) blob.now room.old t → IfOk result
-        (λ found. option_map read_loose found ≡ unsigned_within required.now
-        (S.device source.old).bytes (table t) (be32 (S.device source.old).bytes 4)) }
-{
-    match blob_refusal(source, blob, room)? {
-        Some(why) => Ok(Some(Loose { why, node: None })),
-        None => first_unsigned(alloc, source, blob, room, required),
-    }
-}
-
 /// Returns the first configuration of a FIT image that is not signed by the keys, by each of them or
 /// by one if one is enough; or whether that of the name that is asked for is. With it comes the word for its last signature node by the first key that
 /// did not sign it, or by the last key if none of them did; or `SignedStrings`, if a node that is
@@ -408,7 +386,7 @@ fn unsigned_within<S: Source, A: Allocator>(
 /// no signature of it, since it has more than 256 MiB, or `is_closed` or `is_reached` is false
 /// (`SignedNodes`).
 ///
-/// Indexes the blob again. The source is read once for each signature node and key that are tried, up
+/// Indexes the blob. The source is read once for each signature node and key that are tried, up
 /// to the end of its blob, without payloads. Takes memory for the offsets of at most 100 nodes.
 ///
 /// - The faults of the blob.
@@ -427,6 +405,27 @@ pub fn find_unsigned<S: Source, A: Allocator>(
     ensures told { IfHonest S.device source (λ file. TellsUnsigned required.now file result) }
 {
     let blob = read_tree(source, room)?;
-    let found = unsigned_within(alloc, source, &blob, room, required)?;
+    let found = find_unsigned_in(alloc, required, source, &blob, room)?;
+    Ok(found)
+}
+
+/// As `find_unsigned`, in a FIT image whose blob was indexed.
+#[tactic(auto, unfolding(crate::specs::Configurations::unsigned_of))]
+pub fn find_unsigned_in<S: Source, A: Allocator>(
+    alloc: Global,
+    required: &Required<'_>,
+    source: &mut S,
+    blob: &Blob,
+    room: &mut Room<A>,
+) -> Result<Option<Loose>, SurveyFault>
+    requires { IndexedIn (S.device source.old) blob.now room.old }
+    ensures leaves { LeavesSurvey result S.device source room }
+    ensures told { IfHonest S.device source (λ file. TellsUnsigned required.now file result) }
+{
+    let refusal = blob_refusal(source, blob, room)?;
+    if let Some(why) = refusal {
+        return Ok(Some(Loose { why, node: None }));
+    }
+    let found = first_unsigned(alloc, source, blob, room, required)?;
     Ok(found)
 }

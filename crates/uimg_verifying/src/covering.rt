@@ -3,8 +3,8 @@
 ghost use Rattle.std.specs.Prelude.{◌≡◌, ◌<◌, length, IfOk, Some, true};
 ghost use Rattle.std.specs.{List.slice_get, Option.option_map};
 ghost use Rattle.uimg_base.specs.{Honest.IfHonest, Using.Uses};
-ghost use Rattle.uimg_blob_reading.specs.{Grammar.Siblings, Indexed.TakesNodes, Rows.{Row, table}};
-ghost use Rattle.uimg_fit_checking.specs.SurveyParts.{is_unread, lacks_room};
+ghost use Rattle.uimg_blob_reading.specs.{Grammar.Siblings, Rows.{Row, table}};
+ghost use Rattle.uimg_fit_checking.specs.{Indexes.IndexedIn, SurveyParts.{LeavesSurvey, is_unread}};
 ghost use Rattle.uimg_fit_reading.specs.Nodes.{InFile, Opened};
 ghost use Rattle.uimg_strict.specs.Telling.{read_loose};
 ghost use Rattle.uimg_verifying.specs.Configurations.{OfNode};
@@ -17,7 +17,6 @@ use uimg_base::{Room, Source};
 use uimg_blob_reading::{Blob, Role};
 use uimg_fit_base::Fault;
 use uimg_fit_checking::SurveyFault;
-use uimg_fit_reading::read_tree;
 use uimg_signing::{SigningFault, names_image};
 use uimg_strict::{Loose, Looseness};
 
@@ -139,13 +138,12 @@ fn first_uncovered<S: Source, A: Allocator>(
     Ok(None)
 }
 
-/// Returns the first image of a FIT image that no configuration names, by a property other than
+/// Returns the first image of a FIT image, whose blob was indexed, that no configuration names, by a property other than
 /// `description`, `compatible` and `default`. No signature covers it.
 ///
-/// Indexes the blob again. The properties of each configuration are read once for each image. Takes
-/// memory for the properties of one configuration.
+/// The properties of each configuration are read once for each image. Takes memory for the properties
+/// of one configuration.
 ///
-/// - The faults of the blob.
 /// - `Stopped` with `Read`: if and only if a read failed.
 /// - `OutOfMemory`: memory was refused.
 /// - `Changed`: only if the source does not have the blob that was indexed.
@@ -153,13 +151,13 @@ fn first_uncovered<S: Source, A: Allocator>(
 pub fn find_uncovered<S: Source, A: Allocator>(
     alloc: Global,
     source: &mut S,
+    blob: &Blob,
     room: &mut Room<A>,
 ) -> Result<Option<Loose>, SurveyFault>
-    ensures uses { Uses (is_unread result) (S.device source.old) (S.device source.new) }
-    ensures room { TakesNodes (S.device source.old) (lacks_room result) room.old room.new }
+    requires { IndexedIn (S.device source.old) blob.now room.old }
+    ensures leaves { LeavesSurvey result S.device source room }
     ensures told { IfHonest S.device source (λ file. TellsUncovered file result) }
 {
-    let blob = read_tree(source, room)?;
-    let found = first_uncovered(alloc, source, &blob, room)?;
+    let found = first_uncovered(alloc, source, blob, room)?;
     Ok(found)
 }

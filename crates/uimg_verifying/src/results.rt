@@ -3,8 +3,8 @@
 ghost use Rattle.std.specs.Prelude.{◌≡◌, ◌<◌, flat_map, length, map, IfOk};
 ghost use Rattle.std.specs.{List.All, Option.option_map};
 ghost use Rattle.uimg_base.specs.{Honest.{HonestSource, IfHonest}, Using.Uses};
-ghost use Rattle.uimg_blob_reading.specs.{Grammar.Siblings, Indexed.TakesNodes, Rows.table};
-ghost use Rattle.uimg_fit_checking.specs.SurveyParts.{IsOwn, is_unread, lacks_room};
+ghost use Rattle.uimg_blob_reading.specs.{Grammar.Siblings, Rows.table};
+ghost use Rattle.uimg_fit_checking.specs.{Indexes.IndexedIn, SurveyParts.{IsOwn, LeavesSurvey, is_unread}};
 ghost use Rattle.uimg_fit_reading.specs.Nodes.{InFile, Opened};
 ghost use Rattle.uimg_signing.specs.SignatureNodes.{IsBelow};
 ghost use Rattle.uimg_verifying.specs.Configurations.{OfNode};
@@ -19,7 +19,6 @@ use std::alloc::{Allocator, Global};
 use uimg_base::{Room, Source};
 use uimg_blob_reading::{Blob, Key};
 use uimg_fit_checking::{SurveyFault, read_bytes};
-use uimg_fit_reading::read_tree;
 use uimg_signing::{SignatureNode, signature_nodes};
 use uimg_strict::Looseness;
 
@@ -165,14 +164,12 @@ fn results_at<S: Source, A: Allocator>(
     Ok(all)
 }
 
-/// Returns the signature nodes of all configurations of a FIT image, in reading order, each with
-/// whether one of the keys signed its configuration by it.
+/// Returns the signature nodes of all configurations of a FIT image whose blob was indexed, in reading
+/// order, each with whether one of the keys signed its configuration by it.
 ///
-/// Indexes the blob again. The source is read once for each signature node and key, up to the end of
-/// its blob, without payloads. Takes memory for the texts of the nodes, and for the offsets of at most
-/// 100 nodes.
+/// The source is read once for each signature node and key, up to the end of its blob, without
+/// payloads. Takes memory for the texts of the nodes, and for the offsets of at most 100 nodes.
 ///
-/// - The faults of the blob.
 /// - `Stopped` with `Read`: if and only if a read failed.
 /// - `OutOfMemory`: memory was refused.
 /// - `Changed`: only if the source does not have the blob that was indexed.
@@ -181,14 +178,14 @@ pub fn signature_results<S: Source, A: Allocator>(
     alloc: Global,
     required: &Required<'_>,
     source: &mut S,
+    blob: &Blob,
     room: &mut Room<A>,
 ) -> Result<Vec<SignatureResult>, SurveyFault>
-    ensures uses { Uses (is_unread result) (S.device source.old) (S.device source.new) }
-    ensures room { TakesNodes (S.device source.old) (lacks_room result) room.old room.new }
+    requires { IndexedIn (S.device source.old) blob.now room.old }
+    ensures leaves { LeavesSurvey result S.device source room }
     ensures told { IfHonest S.device source (λ file. TellsResults required.now file result) }
 {
-    let blob = read_tree(source, room)?;
-    let nodes = signature_nodes(alloc, &blob, room)?;
-    let results = results_at(alloc, source, &blob, room, required, nodes.as_slice())?;
+    let nodes = signature_nodes(alloc, blob, room)?;
+    let results = results_at(alloc, source, blob, room, required, nodes.as_slice())?;
     Ok(results)
 }

@@ -7,7 +7,7 @@ use uimg_base::Source;
 use uimg_base_tests::samples::legacy::ABC_KERNEL;
 use uimg_fit_tests::samples::{four_hash_fit, set_cell};
 use uimg_tool::answer_in_memory;
-use uimg_unpacking::{Kind, MemoryWorld, World};
+use uimg_world::{Kind, MemoryWorld, World};
 
 const FILES: [(&[u8], &[u8]); 3] = [(b"a", b"abc"), (b"a", b"def"), (b"b/c", b"ghi")];
 

@@ -1,6 +1,6 @@
 //! Gives all files their names, or none.
 
-ghost use Rattle.std.specs.Prelude.{◌≡◌, None, length, is_some, not, string_bytes, true};
+ghost use Rattle.std.specs.Prelude.{◌≡◌, None, length, is_some, not, string_bytes, false, true};
 ghost use Rattle.std.specs.Option.{option_map};
 ghost use Rattle.uimg_unpacking.specs.Contents.{Files, IsTrueTo, files_after};
 ghost use Rattle.uimg_unpacking.specs.Leaving.{KeepsNone, NamesAll, is_undone};
@@ -12,7 +12,7 @@ use crate::naming::{forget_old, name_files, put_back_all, remove_all_old};
 use crate::staging::Staging;
 use crate::task::Task;
 use crate::trouble::{ShownPath, Trouble};
-use crate::world::World;
+use uimg_world::World;
 
 impl<'w, 'a, 'c, W: World, M: Task> Staging<'w, 'a, 'c, W, M> {
     fn begin_naming(&mut self)
@@ -28,8 +28,9 @@ impl<'w, 'a, 'c, W: World, M: Task> Staging<'w, 'a, 'c, W, M> {
     }
 
     /// If one cannot get its name, or the names cannot be written to the disk, none gets one, and
-    /// what they were to replace is restored. Fails if files got their names before.
+    /// what they were to replace is restored.
     pub(crate) fn name_all(&mut self) -> Result<(), Trouble>
+        requires { self.old.is_naming ≡ false }
         ensures named { NamesAll self.old.folder.path.now
             (complete_names self.old.files.items self.old.is_writing)
             (staged (W.trace self.old.world.now) self.old.files.items self.old.is_writing)
@@ -40,9 +41,6 @@ impl<'w, 'a, 'c, W: World, M: Task> Staging<'w, 'a, 'c, W, M> {
         ensures outdated { self.new.outdated ≡ self.old.outdated }
         ensures naming { self.new.is_naming ≡ true }
     {
-        if self.is_naming {
-            return Err(Trouble::NoName);
-        }
         self.begin_naming();
         if !self.is_writing {
             return self.name_complete();
@@ -137,7 +135,7 @@ impl<'w, 'a, 'c, W: World, M: Task> Staging<'w, 'a, 'c, W, M> {
 
     // Takes the names of the files before a number away, and puts back what they, and the file of
     // this number, were to replace. Returns the trouble to report: this one, or that old files are
-    // not in their place.
+    // not in their place, still without the path of their folder.
     fn taken_back(&mut self, number: usize, trouble: Trouble) -> Trouble
         requires { self.old.is_naming ≡ true }
         ensures told { is_undone result ≡ true → PutsBackFiles self.old.files.items number true
@@ -152,9 +150,6 @@ impl<'w, 'a, 'c, W: World, M: Task> Staging<'w, 'a, 'c, W, M> {
         if is_back {
             return trouble;
         }
-        match self.shown.take() {
-            Some(made) => Trouble::NotPutBack(ShownPath(made)),
-            None => Trouble::NotPutBack(ShownPath(String::new(self.alloc))),
-        }
+        Trouble::NotPutBack(ShownPath(String::new(self.alloc)))
     }
 }

@@ -6,11 +6,13 @@ use std::alloc::{AllocError, Global};
 use std::test::Fail;
 use uimg_base::{FuseSource, MemSource, Room, Source};
 use uimg_fit_checking::{SurveyFault, survey};
+use uimg_fit_reading::read_tree;
 
 // Returns the number of images, of hash nodes of the first, and of configurations.
 fn counts<S: Source>(alloc: Global, source: &mut S) -> Result<(usize, usize, usize), SurveyFault> {
     let mut room = Room::new(alloc);
-    let facts = survey(alloc, source, &mut room)?;
+    let blob = read_tree(source, &mut room)?;
+    let facts = survey(alloc, &blob, &room)?;
     let hashes = match facts.images.as_slice().first() {
         Some(image) => image.hashes.len(),
         None => 0,

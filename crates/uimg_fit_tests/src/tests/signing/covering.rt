@@ -3,6 +3,7 @@
 use super::signed::SIGNED;
 use std::alloc::Global;
 use uimg_base::{MemSource, Room};
+use uimg_fit_reading::read_tree;
 use uimg_strict::Loose;
 use uimg_verifying::find_uncovered;
 
@@ -18,7 +19,11 @@ const CHANGED: [(usize, Option<&'static [u8]>); 4] = [
 ];
 
 fn is_found(alloc: Global, file: &[u8], wanted: Option<&[u8]>) -> bool {
-    match find_uncovered(alloc, &mut MemSource::new(file), &mut Room::new(alloc)) {
+    let (mut source, mut room) = (MemSource::new(file), Room::new(alloc));
+    let Ok(blob) = read_tree(&mut source, &mut room) else {
+        return false;
+    };
+    match find_uncovered(alloc, &mut source, &blob, &mut room) {
         Ok(Some(Loose { node, .. })) => node.as_ref().map(|name| name.as_slice()) == wanted,
         Ok(None) => wanted.is_none(),
         Err(_) => false,

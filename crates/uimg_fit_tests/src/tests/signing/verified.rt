@@ -5,6 +5,7 @@ use super::signed::SIGNED;
 use std::alloc::{AllocError, Global};
 use uimg_base::{MemSource, Room};
 use uimg_fit_checking::SurveyFault;
+use uimg_fit_reading::read_tree;
 use uimg_keys::{KeyFault, Keys, key_of_pem, read_keys};
 use uimg_strict::{Loose, Looseness};
 use uimg_verifying::{Required, find_unsigned, signature_results};
@@ -147,7 +148,10 @@ fn results_of_signature_nodes(rt: HostRuntime) {
     let file = with_another_hash();
     let mut source = MemSource::new(&file);
     let mut room = Room::new(rt.alloc());
-    let Ok(results) = signature_results(rt.alloc(), &required, &mut source, &mut room) else {
+    let Ok(blob) = read_tree(&mut source, &mut room) else {
+        panic!(rt; "no blob");
+    };
+    let Ok(results) = signature_results(rt.alloc(), &required, &mut source, &blob, &mut room) else {
         panic!(rt; "no results");
     };
     assert!(rt; results.len() == 2);

@@ -1,5 +1,5 @@
 use Rattle.std.proofs.Common.{◌∙◌, ap, inl, refl, arith}
-use Rattle.uimg_unpacking.specs.Deeds.{changes}
+use Rattle.uimg_world.specs.Deeds.{changes}
 use Rattle.uimg_tool.proofs.OldMakingLaws.{within_more}
 use Rattle.uimg_tool.proofs.auto_program.make_auto.Goals as goal
 

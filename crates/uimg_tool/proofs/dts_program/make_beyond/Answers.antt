@@ -1,5 +1,5 @@
 use Rattle.std.proofs.Common.{ap}
-use Rattle.uimg_unpacking.specs.Deeds.{changes}
+use Rattle.uimg_world.specs.Deeds.{changes}
 use Rattle.uimg_tool.proofs.OldMakingLaws.{within_more}
 use Rattle.uimg_tool.proofs.dts_program.make_beyond.Goals as goal
 

@@ -4,7 +4,7 @@ use Rattle.uimg_blob_writing.specs.{Content.in_full, Trees.node_of}
 use Rattle.uimg_fit_base.specs.declared.placement.AlignedPlacement.{AlignedPlacement}
 use Rattle.uimg_requests.specs.declared.make_command.Manner.{Manner}
 use Rattle.uimg_tool.specs.{LeavingOut.in_folder, TreesMade.KeepsEither}
-use Rattle.uimg_unpacking.specs.Deeds.{changes}
+use Rattle.uimg_world.specs.Deeds.{changes}
 use Rattle.uimg_tool.proofs.{OldMakingLaws.within_more, SpelledLaws.over_folder}
 use Rattle.uimg_tool.proofs.fit_program.make_known.Goals as goal
 

@@ -1,5 +1,5 @@
 use Rattle.std.proofs.Common.{◌∙◌, ap, refl}
-use Rattle.uimg_unpacking.specs.Deeds.{changes}
+use Rattle.uimg_world.specs.Deeds.{changes}
 use Rattle.uimg_tool.proofs.OldMakingLaws.{within_more}
 use Rattle.uimg_tool.proofs.fit_program.make_of_input.Goals as goal
 

@@ -1,6 +1,6 @@
 use Rattle.std.proofs.Common.{◌∙◌, ap, List, ℕ, Option, refl, subst}
 use Rattle.uimg_tool.specs.{KnownSources.HasText, LeavingOut.in_folder}
-use Rattle.uimg_unpacking.specs.Deeds.{changes}
+use Rattle.uimg_world.specs.Deeds.{changes}
 use Rattle.uimg_tool.proofs.{OldMakingLaws.within_more, SpelledLaws.builds_path}
 use Rattle.uimg_tool.proofs.fit_program.make_of_path.Goals as goal
 

@@ -1,5 +1,5 @@
 use Rattle.std.proofs.Common.{◌≡◌}
-use Rattle.uimg_unpacking.specs.Deeds.{changes}
+use Rattle.uimg_world.specs.Deeds.{changes}
 use Rattle.uimg_tool.proofs.fit_program.path_in_folders.Given as goal
 
 abbrev pub invariant-loop-folder : goal.invariant-loop-folder

@@ -3,7 +3,7 @@ use Rattle.uimg_blob_reading.specs.Plain.{Nodes}
 use Rattle.uimg_blob_writing.specs.{Content.{AreKept, in_full}, Trees.node_of}
 use Rattle.uimg_its.specs.{Grammar.Spells, Words.words}
 use Rattle.uimg_tool.specs.{LeavingOut.in_folder, TreesMade.KeepsAsked}
-use Rattle.uimg_unpacking.specs.Deeds.{changes}
+use Rattle.uimg_world.specs.Deeds.{changes}
 use Rattle.uimg_tool.proofs.{OldMakingLaws.within_more, SpelledLaws.{known_is, known_same}, StatusLaws.request_fails}
 use Rattle.uimg_tool.proofs.fit_program.warn_and_make.Goals as goal
 

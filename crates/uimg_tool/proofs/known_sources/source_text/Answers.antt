@@ -1,4 +1,4 @@
-use Rattle.std.proofs.Common.{List, ℕ, ap, subst, sym}
+use Rattle.std.proofs.Common.{subst, sym}
 use Rattle.uimg_requests.specs.declared.make_command.MakeCommand.{MakeCommand}
 use Rattle.uimg_tool.specs.{KnownSources.HasText, LeavingOut.in_folder}
 use Rattle.uimg_tool.proofs.KnownLaws.{has}
@@ -8,4 +8,4 @@ pub returns-in-Ok : goal.returns-in-Ok
 returns-in-Ok g c = λ honest none.
     let files = in_folder c.args.request.now.folder.now (g.R.Reader.map c.args.reader).bytes in
     subst (λ (m : MakeCommand). HasText files m c.in-Ok.text.items) (sym c.in-Tree.is)
-    (has files _ _ _ c.files_of-files.ensures honest none c.deref.result.now c.in-Tree.source.items c.in-Ok.text.items c.deref.ensures.value c.in-Ok.ensures.text)
+    (has c.args.request.now.folder.now _ (g.R.Reader.map c.args.reader) _ c.files_of-files.ensures honest none c.deref.result.now c.in-Tree.source.items c.in-Ok.text.items c.deref.ensures.value c.in-Ok.ensures.text)

@@ -4,7 +4,7 @@ use Rattle.uimg_tool.specs.{Statuses.end_status, Writings.WritesFor}
 use Rattle.uimg_tool.proofs.OldAnswerLaws.{end_or_failed, in_new, is_flushed, is_new, there}
 use Rattle.uimg_tool.proofs.OldMakingLaws.{finishes_made, made_beside, made_in_place, made_is_done, not_begun, not_created}
 use Rattle.uimg_tool.proofs.StatusLaws.{failed, told_fails}
-use Rattle.uimg_unpacking.specs.Deeds.{Deed}
+use Rattle.uimg_world.specs.Deeds.{Deed}
 use Rattle.uimg_tool.proofs.old_files.make_old.Goals as goal
 
 pub returns-in-Ok-InPlace-clause-made : goal.returns-in-Ok-InPlace-clause-made

@@ -1,5 +1,5 @@
 use Rattle.std.proofs.Common.{refl, rules}
-use Rattle.uimg_unpacking.specs.Deeds.{answer_of}
+use Rattle.uimg_world.specs.Deeds.{answer_of}
 use Rattle.uimg_tool.proofs.old_files.tell_made.Goals as goal
 
 pub returns-in-Err-Stopped-Put-Err-clause-named : goal.returns-in-Err-Stopped-Put-Err-clause-named

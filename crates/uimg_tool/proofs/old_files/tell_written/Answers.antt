@@ -1,5 +1,5 @@
 use Rattle.std.proofs.Common.{◌∙◌, refl, sym}
-use Rattle.uimg_unpacking.specs.Deeds.{answer_of}
+use Rattle.uimg_world.specs.Deeds.{answer_of}
 use Rattle.uimg_tool.proofs.OldMakingLaws.{ends_named}
 use Rattle.uimg_tool.proofs.old_files.tell_written.Goals as goal
 

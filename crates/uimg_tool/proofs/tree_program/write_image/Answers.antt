@@ -2,6 +2,7 @@ use Rattle.std.proofs.Common.{Ok, ◌∙◌, ◌≤◌, ℕ, ap, is_err, subst, 
 use Rattle.uimg_tool.specs.Statuses.{end_status}
 use Rattle.uimg_tool.proofs.OldMakingLaws.{finishes_made, left_in_place, made_beside, made_in_place, not_begun, not_created, not_to_pipe, tree_is_done}
 use Rattle.uimg_tool.proofs.StatusLaws.{failed, told_fails}
+use Rattle.uimg_tool.proofs.TreeLaws.{at_device}
 use Rattle.uimg_tool.proofs.tree_program.write_image.Goals as goal
 
 pub returns-in-Ok-Beside-clause-made : goal.returns-in-Ok-Beside-clause-made
@@ -16,6 +17,11 @@ returns-else-not-request-clause-made g c =
     made_in_place c.args.request.image.now c.tell_end.result (is_err made.result.end) c.writing_of.result (g.D.World.trace c.args.world.now) (g.D.World.trace c.writing_of.new.world) (g.D.World.trace made.new.world) (g.D.World.trace c.tell_end.new.world)
     (c.in-Ok-InPlace.is ∙ ap (λ w. Ok w) c.in-Ok-InPlace.field-0-is) c.writing_of.ensures.writes
     (λ fails. subst (λ (s : ℕ). 1 ≤ s) (sym (c.tell_end.ensures.status ∙ ap end_status c.told-end.ensures)) (told_fails made.result.end made.result.printed fails)) made.ensures.lent c.tell_end.ensures.kept
+
+pub returns-else-not-request-clause-kept : goal.returns-else-not-request-clause-kept
+returns-else-not-request-clause-kept g c knows zero honest are =
+    let made = c.make_listed-made-in-Ok-InPlace in
+    at_device c.args.request.in_place _ _ c.args.request _ made.result.end made.result.printed c.tell_end.result c.if-not-request.false (c.tell_end.ensures.status ∙ ap end_status c.told-end.ensures) zero (made.ensures.kept knows _ honest are)
 
 pub returns-in-Ok-Nowhere-clause-made : goal.returns-in-Ok-Nowhere-clause-made
 returns-in-Ok-Nowhere-clause-made g c =

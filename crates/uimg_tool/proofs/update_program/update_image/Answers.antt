@@ -1,5 +1,5 @@
 use Rattle.std.proofs.Common.{◌∷◌, ap, inr, true}
-use Rattle.uimg_unpacking.specs.Deeds.{Opens, changes}
+use Rattle.uimg_world.specs.Deeds.{Opens, changes}
 use Rattle.uimg_tool.proofs.{OldMakingLaws.within, TreeLaws.keeps_updated}
 use Rattle.uimg_tool.proofs.update_program.update_image.Goals as goal
 

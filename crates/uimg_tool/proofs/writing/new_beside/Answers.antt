@@ -1,5 +1,5 @@
 use Rattle.std.proofs.Common.{rules, ◌+◌, ◌∙◌, ap, sym}
-use Rattle.uimg_unpacking.specs.Deeds.{answer_of}
+use Rattle.uimg_world.specs.Deeds.{answer_of}
 use Rattle.uimg_tool.specs.BesidePaths.{is_beside}
 use Rattle.uimg_tool.proofs.BesideLaws.{none_tried, numbered}
 use Rattle.uimg_tool.proofs.WritingLaws.{tried_more}

@@ -1,5 +1,5 @@
 use Rattle.std.proofs.Common.{refl}
-use Rattle.uimg_unpacking.specs.Deeds.{answer_of}
+use Rattle.uimg_world.specs.Deeds.{answer_of}
 use Rattle.uimg_unpacking.proofs.PartChanges.{changed_none, changed_removed, changed_removed_all}
 use Rattle.uimg_unpacking.proofs.folder.remove_at.Goals as goal
 

@@ -1,5 +1,5 @@
 use Rattle.std.proofs.Common.{rules, ◌≡◌, ◌∙◌, ap, true, false}
-use Rattle.uimg_unpacking.specs.Deeds.{answer_of}
+use Rattle.uimg_world.specs.Deeds.{answer_of}
 use Rattle.uimg_unpacking.specs.Places.{is_begun_in, is_temporary_file, terms_of}
 use Rattle.uimg_unpacking.proofs.Placing.{each_of, begun_old, removed_within, ◌◁◌}
 use Rattle.uimg_unpacking.proofs.naming.forget_old.Goals as goal

@@ -1,7 +1,7 @@
 use Rattle.std.proofs.Common.{◌≡◌, ◌∙◌, ◌∷◌, ap, subst, sym, Bool, List}
 use Rattle.std.specs.IoError.{error_kind}
 use Rattle.uimg_unpacking.specs.Contents.{IsTrueTo, files_after}
-use Rattle.uimg_unpacking.specs.Deeds.{Deed, Links, answer_of, refusal}
+use Rattle.uimg_world.specs.Deeds.{Deed, Links, answer_of, refusal}
 use Rattle.uimg_unpacking.specs.Naming.{Moves}
 use Rattle.uimg_unpacking.proofs.Answered.{done-ok, refusal-undone}
 use Rattle.uimg_unpacking.proofs.LeavingLaws.{linked_not, linked_to, renamed}

@@ -1,6 +1,6 @@
 use Rattle.std.proofs.Common.{subst, sym, is_ok, Bool, true, false, true≢false, None, string_bytes}
 use Rattle.uimg_unpacking.specs.Allowing.{Allows}
-use Rattle.uimg_unpacking.specs.Deeds.{answer_of}
+use Rattle.uimg_world.specs.Deeds.{answer_of}
 use Rattle.uimg_unpacking.specs.Naming.{GivesName, Moves, NamesIt}
 use Rattle.uimg_unpacking.specs.Places.{terms_of}
 use Rattle.uimg_unpacking.proofs.Answered.{done-ok}

@@ -1,7 +1,7 @@
 use Rattle.std.proofs.Common.{rules, refl}
-use Rattle.uimg_unpacking.specs.Deeds.{answer_of}
+use Rattle.uimg_world.specs.Deeds.{answer_of}
 use Rattle.uimg_unpacking.specs.Naming.{linked, taken}
-use Rattle.uimg_unpacking.specs.declared.kind.Kind.TheVariants.{File, Folder, Link}
+use Rattle.uimg_world.specs.declared.kind.Kind.TheVariants.{File, Folder, Link}
 use Rattle.uimg_unpacking.proofs.naming.name_file.Goals as goal
 
 pub returns-in-Ok : goal.returns-in-Ok

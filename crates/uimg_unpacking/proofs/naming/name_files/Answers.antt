@@ -1,7 +1,7 @@
 use Rattle.std.proofs.Common.{rules, arith, ◌≡◌, ◌+◌, ◌∷◌, ℕ, Bool, List, [], suc, refl, sym, ap, subst, true, false, is_ok, drop}
 use Rattle.std.proofs.lemmas.List.{drop_all}
 use Rattle.uimg_unpacking.specs.Naming.{NamesIt, NamesFiles}
-use Rattle.uimg_unpacking.specs.declared.begun.Begun.{Begun}
+use Rattle.uimg_unpacking.specs.declared.staged_file.StagedFile.{StagedFile}
 use Rattle.uimg_unpacking.proofs.NamingLaws.{first_of, one_named, not_named_next}
 use Rattle.uimg_unpacking.proofs.Placing.{◌◁◌}
 use Rattle.uimg_unpacking.proofs.naming.name_files.Goals as goal
@@ -52,4 +52,4 @@ returns-clause-told g c =
     let left : drop c.loop-its.its-index files ≡ [] = search (rules, drop_all c.loop-its.its-index files) in
     let e : 0 + c.loop-its.named ≡ c.loop-its.named = omega arith in
     subst (λ (n : ℕ). NamesFiles files n true (g.W.World.trace c.args.world.now) t) e
-    (c.loop-its.invariant.left 0 true t (subst (λ (fs : List Begun). NamesFiles fs 0 true t t) (sym left) (refl, (refl, refl))))
+    (c.loop-its.invariant.left 0 true t (subst (λ (fs : List StagedFile). NamesFiles fs 0 true t t) (sym left) (refl, (refl, refl))))

@@ -1,6 +1,6 @@
 use Rattle.std.proofs.Common.{rules, ◌≡◌, ◌∷◌, subst, sym, is_ok, Bool, true, false, string_bytes}
-use Rattle.uimg_unpacking.specs.Deeds.{Looks, answer_of}
-use Rattle.uimg_unpacking.specs.Kinds.{is_something}
+use Rattle.uimg_world.specs.Deeds.{Looks, answer_of}
+use Rattle.uimg_world.specs.Kinds.{is_something}
 use Rattle.uimg_unpacking.specs.Naming.{GivesName, Moves}
 use Rattle.uimg_unpacking.proofs.Answered.{done-ok}
 use Rattle.uimg_unpacking.proofs.LeavingLaws.{Saw, apart, gives_moves, names_fresh, names_over, names_unkept, saw}

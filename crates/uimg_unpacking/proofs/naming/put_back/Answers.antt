@@ -1,5 +1,6 @@
 use Rattle.std.proofs.Common.{rules, ◌≡◌, ◌∷◌, true, string_bytes}
-use Rattle.uimg_unpacking.specs.Deeds.{Done, Looks, Removes, Renames, answer_of}
+use Rattle.uimg_world.specs.Deeds.{Looks, Removes, Renames, answer_of}
+use Rattle.uimg_world.specs.declared.call.Answer.TheVariants.{Done}
 use Rattle.uimg_unpacking.proofs.LeavingLaws.{apart, puts_back, puts_lost}
 use Rattle.uimg_unpacking.proofs.Placing.{begun_kept, begun_old, begun_whole, looks_within, puts_within, removed_within, unnames_within, ◌◁◌}
 use Rattle.uimg_unpacking.proofs.naming.put_back.Goals as goal

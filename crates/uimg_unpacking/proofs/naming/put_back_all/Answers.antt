@@ -2,7 +2,7 @@ use Rattle.std.proofs.Common.{rules, ◌≡◌, ◌∙◌, ◌+◌, ◌∷◌, B
 use Rattle.std.proofs.lemmas.List.{drop_all}
 use Rattle.uimg_unpacking.specs.Naming.{PutsBackFiles}
 use Rattle.uimg_unpacking.specs.Places.{is_begun_in, terms_of}
-use Rattle.uimg_unpacking.specs.declared.begun.Begun.{Begun}
+use Rattle.uimg_unpacking.specs.declared.staged_file.StagedFile.{StagedFile}
 use Rattle.uimg_unpacking.proofs.NamingLaws.{first_of, back_of, and_assoc, and_true, none_left, LeftBack}
 use Rattle.uimg_unpacking.proofs.Placing.{each_of, ◌◁◌}
 use Rattle.uimg_unpacking.proofs.naming.put_back_all.Goals as goal
@@ -33,4 +33,4 @@ returns-clause-told g c =
     let t = g.W.World.trace c.loop-before.world in
     let left : drop i files ≡ [] = search (rules, drop_all i files) in
     subst (λ (b : Bool). PutsBackFiles files c.args.number b (g.W.World.trace c.args.world.now) t) (and_true c.loop-before.is_back)
-    (c.loop-before.invariant.left true t (subst (λ (fs : List Begun). LeftBack fs i c.args.number true t t) (sym left) (none_left i c.args.number t)))
+    (c.loop-before.invariant.left true t (subst (λ (fs : List StagedFile). LeftBack fs i c.args.number true t t) (sym left) (none_left i c.args.number t)))

@@ -1,5 +1,5 @@
 use Rattle.std.proofs.Common.{Bool, true, ◌&&◌, List, drop}
-use Rattle.uimg_unpacking.specs.Deeds.{Deed}
+use Rattle.uimg_world.specs.Deeds.{Deed}
 use Rattle.uimg_unpacking.specs.Naming.{PutsBackFiles}
 use Rattle.uimg_unpacking.specs.Places.{Obeys, terms_of}
 use Rattle.uimg_unpacking.proofs.NamingLaws.{LeftBack}

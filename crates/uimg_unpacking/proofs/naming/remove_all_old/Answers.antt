@@ -1,7 +1,7 @@
 use Rattle.std.proofs.Common.{rules, ◌≡◌, ◌∙◌, ◌++◌, bytes_eq, codes, not, string_bytes, true}
 use Rattle.std.specs.List.{list_all}
 use Rattle.uimg_unpacking.specs.Places.{is_begun_in}
-use Rattle.uimg_unpacking.specs.declared.begun.Begun.{Begun}
+use Rattle.uimg_unpacking.specs.declared.staged_file.StagedFile.{StagedFile}
 use Rattle.uimg_unpacking.proofs.RecoverLaws.{other_name}
 use Rattle.uimg_unpacking.proofs.Placing.{each_of, not_eq, ◌◁◌}
 use Rattle.uimg_unpacking.proofs.StagedLaws.{none_of_names}
@@ -17,7 +17,7 @@ returns-in_err-remove_old-clause-leaves g c = λ start name is other.
     let its = c.its-item.result in
     let inside : is_begun_in folder.path.now its ≡ true = search (rules, each_of (is_begun_in folder.path.now)) in
     let all : list_all (λ it. not (bytes_eq name (string_bytes it.name))) c.args.files.now ≡ true = none_of_names name c.args.files.now other in
-    let apart : not (bytes_eq name (string_bytes its.name)) ≡ true = search (rules, all, each_of {X = Begun} (λ it. not (bytes_eq name (string_bytes it.name)))) in
+    let apart : not (bytes_eq name (string_bytes its.name)) ≡ true = search (rules, all, each_of {X = StagedFile} (λ it. not (bytes_eq name (string_bytes it.name)))) in
     c.remove_old.ensures.leaves start (folder.path.now ++ codes "/" ++ name) (other_name folder.path.now its name inside (not_eq _ apart))
     ∙ c.loop-its.invariant.leaves start name is other
 
@@ -30,7 +30,7 @@ loop-its-preserved g c =
       within = c.remove_old.ensures.within ◁ c.loop-its.invariant.within;
       leaves = λ start name is other.
           let all : list_all (λ it. not (bytes_eq name (string_bytes it.name))) c.args.files.now ≡ true = none_of_names name c.args.files.now other in
-          let apart : not (bytes_eq name (string_bytes its.name)) ≡ true = search (rules, all, each_of {X = Begun} (λ it. not (bytes_eq name (string_bytes it.name)))) in
+          let apart : not (bytes_eq name (string_bytes its.name)) ≡ true = search (rules, all, each_of {X = StagedFile} (λ it. not (bytes_eq name (string_bytes it.name)))) in
           c.remove_old.ensures.leaves start (folder.path.now ++ codes "/" ++ name) (other_name folder.path.now its name inside (not_eq _ apart))
           ∙ c.loop-its.invariant.leaves start name is other;
     }

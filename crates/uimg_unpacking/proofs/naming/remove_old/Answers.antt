@@ -1,5 +1,5 @@
 use Rattle.std.proofs.Common.{string_bytes, true}
-use Rattle.uimg_unpacking.specs.Deeds.{answer_of}
+use Rattle.uimg_world.specs.Deeds.{answer_of}
 use Rattle.uimg_unpacking.specs.Places.{terms_of}
 use Rattle.uimg_unpacking.proofs.Placing.{begun_whole, looks_within, unnames_within, ◌◁◌}
 use Rattle.uimg_unpacking.proofs.naming.remove_old.Goals as goal

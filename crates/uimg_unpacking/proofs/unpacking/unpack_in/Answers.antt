@@ -1,9 +1,9 @@
-use Rattle.std.proofs.Common.{rules, refl, ◌≡◌, ◌∙◌, ℕ, List, [], length, is_none, ap, subst, sym}
+use Rattle.std.proofs.Common.{rules, refl, ◌≡◌, ◌∙◌, ◌||◌, ℕ, List, [], length, is_none, ap, subst, sym}
 use Rattle.std.specs.List.{list_all}
 use Rattle.std.specs.Option.{option_map}
 use Rattle.uimg_fit_checking.specs.Unpacking.{as_bytes}
 use Rattle.uimg_unpacking.specs.declared.folder.Folder.{Folder}
-use Rattle.uimg_unpacking.specs.{Ends.is_whole, Plan.gives_names, Staged.{complete_names, names_of, staged}}
+use Rattle.uimg_unpacking.specs.{Ends.is_whole, Staged.{complete_names, names_of, staged}}
 use Rattle.uimg_fit_checking.specs.Claiming.{claims_of}
 use Rattle.uimg_unpacking.specs.Contents.{differ, held_in}
 use Rattle.uimg_unpacking.specs.FileNames.{is_among, is_file_name}
@@ -44,7 +44,7 @@ returns-clause-fits g c = λ honest good.
     let whole = whole_at asked c.unpack-unpacked.result _ _ c.how_ended.result _ _ c.how_ended.ensures good in
     let all : claims ≡ claims_of only file = all_claimed c.unpack-unpacked.result (claims_of only file) (claims_by c.new-taker.result.claims.noted.names) claims whole.0 c.new-taker.ensures.claims (c.unpack-unpacked.ensures.claimed honest refl) in
     fits_for asked only file claims (sym (ap (option_map (option_map as_bytes)) c.in-Some.is) ∙ c.only_of.ensures) all
-    (fits_by asked.limits taker.claims.claimed g.M.Task.limits claims c.requires.limits taker.limits taker.claims.files taker.claims.bytes (taker.fits (c.end-world.ensures.none (ap is_none whole.1))))
+    (fits_by asked.limits taker.claims.limits g.M.Task.limits claims c.requires.limits taker.limits (taker.fits (c.end-world.ensures.none (ap is_none whole.1))))
 
 pub returns-clause-filled : goal.returns-clause-filled
 returns-clause-filled g c = λ honest knows.
@@ -78,8 +78,8 @@ returns-clause-back g c = λ good left.
     let asked = c.args.asked.now in
     let staging = c.unpack-unpacked.new.taker.staging in
     let place : staging.folder.path.now ≡ asked.folder.path.now = c.unpack-unpacked.ensures.place ∙ ap (λ (f : Folder). f.path.now) c.new-taker.ensures.folder in
-    let names : c.gives_names-names.result ≡ gives_names asked.keeps_good (is_whole c.unpack-unpacked.result) = search rules in
+    let names : c.gives_names-names.result ≡ (asked.keeps_good || is_whole c.unpack-unpacked.result) = search rules in
     subst (λ (folder : List ℕ). Leaves folder g.M.Task.before (g.W.World.trace c.end-world.result.0.now)) place
-    (left_as staging.folder.path.now g.M.Task.before (g.W.World.trace c.end-world.result.0.now) (gives_names asked.keeps_good (is_whole c.unpack-unpacked.result)) c.gives_names-names.result _ _ names
+    (left_as staging.folder.path.now g.M.Task.before (g.W.World.trace c.end-world.result.0.now) (asked.keeps_good || is_whole c.unpack-unpacked.result) c.gives_names-names.result _ _ names
     (left_by asked c.unpack-unpacked.result _ _ c.how_ended.result _ _ c.how_ended.ensures good left)
     c.end-world.ensures.unnamed (λ undone. c.end-world.ensures.back good undone) (λ zero none. c.end-world.ensures.empty good zero none))

@@ -1,5 +1,5 @@
 use Rattle.std.proofs.Common.{rules}
-use Rattle.uimg_unpacking.specs.Deeds.{answer_of}
+use Rattle.uimg_world.specs.Deeds.{answer_of}
 use Rattle.uimg_unpacking.proofs.Answered.{refusal-undone}
 use Rattle.uimg_tool.specs.BesidePaths.{not_named}
 use Rattle.uimg_tool.proofs.safe_path.SafePath.finish.Goals as goal

@@ -1,5 +1,5 @@
 use Rattle.std.proofs.Common.{◌∙◌, ap, string_bytes}
-use Rattle.uimg_unpacking.specs.Deeds.{answer_of}
+use Rattle.uimg_world.specs.Deeds.{answer_of}
 use Rattle.uimg_unpacking.specs.Places.{is_temporary_folder, terms_of}
 use Rattle.uimg_unpacking.proofs.LeavingLaws.{fresh}
 use Rattle.uimg_unpacking.proofs.Placing.{made_in, made_within, ◌◁◌}

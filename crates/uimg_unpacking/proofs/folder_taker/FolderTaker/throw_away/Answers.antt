@@ -1,7 +1,7 @@
 use Rattle.std.proofs.Common.{rules, ◌≡◌, ◌∙◌, [], List, true, is_ok, ap₂, subst, sym}
 use Rattle.uimg_fit_checking.specs.Unpacking.{Take, as_bytes, refused}
 use Rattle.uimg_fit_checking.specs.declared.checking.Finding.TheVariants as finding
-use Rattle.uimg_unpacking.specs.{FileNames.is_among, Given.{AreNamed, AreWhole, MayGive, newest, noted_takes, takes_given}, Staged.{names_of, staged, uses_names}}
+use Rattle.uimg_unpacking.specs.{FileNames.is_among, Given.{AreNamed, AreWhole, MayGive, newest, noted_takes, takes_given}, Staged.{names_of, staged}}
 use Rattle.uimg_unpacking.proofs.GivenLaws.{given_refused, noted_refused, refused_named, refused_whole}
 use Rattle.uimg_unpacking.proofs.NameUses.{uses_fewer}
 use Rattle.uimg_unpacking.proofs.folder_taker.FolderTaker.throw_away.Goals as goal

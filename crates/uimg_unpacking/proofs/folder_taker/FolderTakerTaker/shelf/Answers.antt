@@ -1,8 +1,8 @@
 use Rattle.std.proofs.Common.{◌≡◌, ◌∙◌, ℕ, List, length, sym, subst, ap, string_bytes, true, is_ok, Vec}
 use Rattle.std.specs.declared.alloc.Global.{Global}
 use Rattle.uimg_fit_checking.specs.Unpacking.{as_bytes}
-use Rattle.uimg_unpacking.specs.{FileNames.is_among, Given.{AreNamed, newest, noted_takes}, Staged.{names_of, uses_names}}
-use Rattle.uimg_unpacking.specs.declared.begun.Begun.{Begun}
+use Rattle.uimg_unpacking.specs.{Limiting.claims_by, FileNames.is_among, Given.{AreNamed, newest, noted_takes}, Staged.{names_of, uses_names}}
+use Rattle.uimg_unpacking.specs.declared.staged_file.StagedFile.{StagedFile}
 use Rattle.uimg_unpacking.proofs.GivenLaws.{among_it, among_more, begun_named, none_kept, on_ok}
 use Rattle.uimg_unpacking.proofs.LimitLaws.{fits_kept}
 use Rattle.uimg_unpacking.proofs.NameUses.{uses_next}
@@ -29,8 +29,8 @@ invariant_of-self g c =
           (begun_named old.files.items now.files.items old.is_writing now.is_writing (noted_takes it.given.names) names new (newest it.begun.names) (as_bytes c.args.name.now) name writing.0 writing.1 told.complete writing.2 gives.wanted_is gives.given (it.named ok.1));
       apart = λ none.
           let ok = none_kept c.begin-begun.result it.trouble c.kept.new.trouble c.kept.ensures.noted none in
-          subst (λ (o : Vec Begun Global). uses_names (is_among new) (names_of now.files.items) (names_of o.items) ≡ true) (sym told.outdated)
+          subst (λ (o : Vec StagedFile Global). uses_names (is_among new) (names_of now.files.items) (names_of o.items) ≡ true) (sym told.outdated)
           (uses_next (is_among names) (is_among new) (names_of old.files.items) (names_of old.outdated.items) name (is_ok c.begin-begun.result) (names_of now.files.items) (among_more names new name gives.given) gives.is_free (among_it names new name gives.given) told.names (it.apart ok.1));
       limits = it.limits;
-      fits = fits_kept c.begin-begun.result it.trouble c.kept.new.trouble it.claims.claimed c.kept.ensures.noted it.fits;
+      fits = fits_kept c.begin-begun.result it.trouble c.kept.new.trouble it.claims.limits (claims_by it.claims.noted.names) c.kept.ensures.noted it.fits;
     }

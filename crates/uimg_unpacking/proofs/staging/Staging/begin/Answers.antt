@@ -1,14 +1,14 @@
 use Rattle.std.proofs.Common.{refl, ◌∙◌, ap, ap₂, Vec}
 use Rattle.std.specs.declared.alloc.Global.{Global}
 use Rattle.uimg_unpacking.specs.{Contents.held, Staged.staged}
-use Rattle.uimg_unpacking.specs.declared.begun.Begun.{Begun}
+use Rattle.uimg_unpacking.specs.declared.staged_file.StagedFile.{StagedFile}
 use Rattle.uimg_unpacking.proofs.StagedLaws.{same_staged}
 use Rattle.uimg_unpacking.proofs.staging.Staging.begin.Goals as goal
 
 pub returns-clause-staged : goal.returns-clause-staged
 returns-clause-staged g c =
     let t = g.W.World.trace in
-    let items = λ (v : Vec Begun Global). v.items in
+    let items = λ (v : Vec StagedFile Global). v.items in
     let made = c.make_folder.new.self in
     let noted = c.note.new.self in
     let it = c.args.self.now in
@@ -22,7 +22,7 @@ returns-clause-staged g c =
 pub returns-in_err-add-clause-staged : goal.returns-in_err-add-clause-staged
 returns-in_err-add-clause-staged g c =
     let t = g.W.World.trace in
-    let items = λ (v : Vec Begun Global). v.items in
+    let items = λ (v : Vec StagedFile Global). v.items in
     let made = c.make_folder.new.self in
     let noted = c.note.new.self in
     let it = c.args.self.now in

@@ -1,9 +1,11 @@
 use Rattle.std.proofs.Common.{rules, ◌≡◌, ◌∙◌, ◌-◌, ◌∷◌, [], ◌++◌, ℕ, List, Option, Some, Bool, true, ap, ap₂, sym, subst, length, slice_get, string_bytes}
 use Rattle.std.specs.Option.{option_map, option_map_or}
-use Rattle.uimg_unpacking.specs.Deeds.{Answer, Closes, Done, answer_of}
+use Rattle.uimg_world.specs.Deeds.{Closes, answer_of}
+use Rattle.uimg_world.specs.declared.call.Answer.{Answer}
+use Rattle.uimg_world.specs.declared.call.Answer.TheVariants.{Done}
 use Rattle.uimg_unpacking.specs.Places.{is_begun_in, is_temporary_file, terms_of}
 use Rattle.uimg_unpacking.specs.Staged.{complete_names, staged}
-use Rattle.uimg_unpacking.specs.declared.begun.Begun.{Begun}
+use Rattle.uimg_unpacking.specs.declared.staged_file.StagedFile.{StagedFile}
 use Rattle.uimg_unpacking.proofs.Placing.{begun_new, closed_within, the_last, ◌◁◌}
 use Rattle.uimg_unpacking.proofs.StagedLaws.{closed_names, closed_staged, last_is, none_shut, unclosed_staged}
 use Rattle.uimg_unpacking.proofs.staging.Staging.close_last.Goals as goal
@@ -91,4 +93,4 @@ returns-in-Ok-clause-complete g c =
     let got : slice_get files (length files - 1) ≡ Some its = search rules in
     let last = last_is files its got in
     closed_names files last.0 its last.1
-    ∙ ap₂ (λ (xs : List (List ℕ)) (x : List ℕ). xs ++ x ∷ []) (ap (complete_names files) (sym c.requires)) (sym (ap (λ (o : Option Begun). option_map_or (λ it. string_bytes it.name) o []) got))
+    ∙ ap₂ (λ (xs : List (List ℕ)) (x : List ℕ). xs ++ x ∷ []) (ap (complete_names files) (sym c.requires)) (sym (ap (λ (o : Option StagedFile). option_map_or (λ it. string_bytes it.name) o []) got))

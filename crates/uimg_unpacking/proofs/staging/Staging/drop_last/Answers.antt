@@ -1,6 +1,6 @@
 use Rattle.std.proofs.Common.{rules, ap, sym, subst, true, false, List, ◌≡◌, ◌∙◌, ◌∷◌, [], ◌++◌, string_bytes}
 use Rattle.std.specs.Option.{option_map}
-use Rattle.uimg_unpacking.specs.Deeds.{Deed, Removes, answer_of}
+use Rattle.uimg_world.specs.Deeds.{Deed, Removes, answer_of}
 use Rattle.uimg_unpacking.specs.Leaving.{KeepsNone}
 use Rattle.uimg_unpacking.specs.Places.{is_begun_in, terms_of}
 use Rattle.uimg_unpacking.specs.Staged.{last_gone, names_of}

@@ -1,17 +1,10 @@
-use Rattle.std.proofs.Common.{rules, ◌≡◌, ◌∙◌, refl, sym, ap, subst, Bool, true, false}
+use Rattle.std.proofs.Common.{rules, ◌≡◌, ◌∙◌, sym, ap, subst, Bool, true, false}
 use Rattle.uimg_unpacking.specs.Leaving.{NamesAll}
 use Rattle.uimg_unpacking.specs.Places.{Obeys, terms_of}
 use Rattle.uimg_unpacking.specs.Staged.{complete_names, held_new, names_of, staged}
 use Rattle.uimg_unpacking.specs.Troubles.{trouble_in}
-use Rattle.uimg_unpacking.specs.declared.trouble.Trouble.TheVariants.{NoName}
-use Rattle.uimg_unpacking.proofs.LeavingLaws.{leaves_quiet, leaves_same, named_later, none_named}
+use Rattle.uimg_unpacking.proofs.LeavingLaws.{leaves_quiet, named_later, none_named}
 use Rattle.uimg_unpacking.proofs.staging.Staging.name_all.Goals as goal
-
-pub returns-then-self-clause-named : goal.returns-then-self-clause-named
-returns-then-self-clause-named g c =
-    let it = c.args.self.now in
-    let before = g.W.World.trace it.world.now in
-    none_named it.folder.path.now (complete_names it.files.items it.is_writing) (staged before it.files.items it.is_writing) NoName before before (λ undone unlike. leaves_same it.folder.path.now before before refl)
 
 pub returns-then-not-self-clause-named : goal.returns-then-not-self-clause-named
 returns-then-not-self-clause-named g c =

@@ -1,7 +1,7 @@
 use Rattle.std.proofs.Common.{rules, refl, ◌∙◌, ap, None, false, List}
 use Rattle.uimg_unpacking.specs.Places.{terms_of}
 use Rattle.uimg_unpacking.specs.Staged.{are_numbered_in}
-use Rattle.uimg_unpacking.specs.declared.begun.Begun.{Begun}
+use Rattle.uimg_unpacking.specs.declared.staged_file.StagedFile.{StagedFile}
 use Rattle.uimg_unpacking.proofs.Placing.{no_more}
 use Rattle.uimg_unpacking.proofs.StagedLaws.{none_unmade, numbered_none}
 use Rattle.uimg_unpacking.proofs.staging.Staging.new.Goals as goal
@@ -12,9 +12,9 @@ invariant_of-result g c = record {
   files_inside = search rules;
   created_inside = search rules;
   outdated_inside = search rules;
-  named = c.args.lent.named;
+  named = c.requires.named;
   agreed = c.requires.agreed;
   obeys = no_more (terms_of c.args.folder) false _ _ c.requires.before;
-  numbered = ap (λ (fs : List Begun). are_numbered_in None fs) c.new.ensures.items ∙ numbered_none;
-  none = λ is. none_unmade None (g.W.World.trace c.args.lent.world.now) refl;
+  numbered = ap (λ (fs : List StagedFile). are_numbered_in None fs) c.new.ensures.items ∙ numbered_none;
+  none = λ is. none_unmade None (g.W.World.trace c.args.world.now) refl;
 }

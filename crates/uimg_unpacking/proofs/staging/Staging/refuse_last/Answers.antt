@@ -2,7 +2,7 @@ use Rattle.std.proofs.Common.{rules, ◌≡◌, ◌∙◌, ◌++◌, ◌∷◌, 
 use Rattle.std.specs.declared.alloc.Global.{Global}
 use Rattle.uimg_unpacking.specs.Places.{is_begun_in}
 use Rattle.uimg_unpacking.specs.Staged.{last_gone, last_noted, names_of}
-use Rattle.uimg_unpacking.specs.declared.begun.Begun.{Begun}
+use Rattle.uimg_unpacking.specs.declared.staged_file.StagedFile.{StagedFile}
 use Rattle.uimg_unpacking.proofs.StagedLaws.{names_last}
 use Rattle.uimg_unpacking.proofs.Placing.{pushed}
 use Rattle.uimg_unpacking.proofs.staging.Staging.refuse_last.Goals as goal
@@ -31,7 +31,7 @@ returns-clause-names g c =
     let it = c.args.self.now in
     let its = c.in_ok-refused.refused in
     last_noted (string_bytes its.name) (names_last it.files.items c.drop_last.new.self.files.items its c.in_ok-refused.ensures.last.0)
-    (names_last c.push.new.self.items it.outdated.items its (c.in_ok-push.ensures.items ∙ ap (λ (o : Vec Begun Global). o.items ++ its ∷ []) c.drop_last.ensures.outdated))
+    (names_last c.push.new.self.items it.outdated.items its (c.in_ok-push.ensures.items ∙ ap (λ (o : Vec StagedFile Global). o.items ++ its ∷ []) c.drop_last.ensures.outdated))
 
 pub returns-in_err-push-clause-names : goal.returns-in_err-push-clause-names
 returns-in_err-push-clause-names g c =

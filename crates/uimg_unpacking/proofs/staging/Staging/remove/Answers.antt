@@ -1,6 +1,6 @@
 use Rattle.std.proofs.Common.{◌≡◌, ◌∙◌, ap, true, string_bytes}
 use Rattle.std.specs.Option.{option_map}
-use Rattle.uimg_unpacking.specs.Deeds.{answer_of}
+use Rattle.uimg_world.specs.Deeds.{answer_of}
 use Rattle.uimg_unpacking.specs.Places.{is_temporary_file, terms_of}
 use Rattle.uimg_unpacking.proofs.LeavingLaws.{none_removed}
 use Rattle.uimg_unpacking.proofs.Placing.{begun_new, removed_within, ◌◁◌}

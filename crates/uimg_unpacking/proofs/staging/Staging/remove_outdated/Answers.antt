@@ -1,7 +1,7 @@
 use Rattle.std.proofs.Common.{◌++◌, ◌∙◌, List, ap, codes, sym, true≢false}
 use Rattle.uimg_unpacking.specs.Contents.{Files, is_in}
 use Rattle.uimg_unpacking.specs.Staged.{names_of}
-use Rattle.uimg_unpacking.specs.declared.begun.Begun.{Begun}
+use Rattle.uimg_unpacking.specs.declared.staged_file.StagedFile.{StagedFile}
 use Rattle.uimg_unpacking.specs.Places.{terms_of}
 use Rattle.uimg_unpacking.proofs.Placing.{naming_more}
 use Rattle.uimg_unpacking.proofs.staging.Staging.remove_outdated.Goals as goal
@@ -10,7 +10,7 @@ pub returns-clause-leaves : goal.returns-clause-leaves
 returns-clause-leaves g c = λ start name is other.
     let it = c.args.self.now in
     ap (λ (x : Files). x (it.folder.path.now ++ codes "/" ++ name)) (c.sync.ensures.same start)
-    ∙ c.remove_all_old.ensures.leaves start name is (ap (λ (fs : List Begun). is_in name (names_of fs)) c.as_slice-outdated.ensures.value ∙ other)
+    ∙ c.remove_all_old.ensures.leaves start name is (ap (λ (fs : List StagedFile). is_in name (names_of fs)) c.as_slice-outdated.ensures.value ∙ other)
 
 pub invariant_of-self : goal.invariant_of-self
 invariant_of-self g c =

@@ -1,7 +1,7 @@
 use Rattle.std.proofs.Common.{refl, ap, subst, List, string_bytes}
 use Rattle.std.specs.Option.{option_map}
 use Rattle.uimg_unpacking.specs.Contents.{IsTrueTo, files_after}
-use Rattle.uimg_unpacking.specs.Deeds.{Deed, Syncs, answer_of}
+use Rattle.uimg_world.specs.Deeds.{Deed, Syncs, answer_of}
 use Rattle.uimg_unpacking.specs.Places.{terms_of}
 use Rattle.uimg_unpacking.proofs.LeavingLaws.{none_same}
 use Rattle.uimg_unpacking.proofs.Placing.{one_more, ◌◁◌}

@@ -17,18 +17,3 @@ invariant_of-self g c =
       numbered = it.numbered;
       none = λ is. absurd (true≢false (sym c.requires ∙ is));
     }
-
-pub invariant_of-self-2 : goal.invariant_of-self-2
-invariant_of-self-2 g c =
-    let it = c.args.self.now in
-    record {
-      made_inside = it.made_inside;
-      files_inside = it.files_inside;
-      created_inside = it.created_inside;
-      outdated_inside = it.outdated_inside;
-      named = it.named;
-      agreed = it.agreed;
-      obeys = naming_more (terms_of it.folder) it.is_naming g.M.Task.before (g.W.World.trace it.world.now) (g.W.World.trace c.put_back_all-is_back.new.world) c.requires c.put_back_all-is_back.ensures.within it.obeys;
-      numbered = it.numbered;
-      none = λ is. absurd (true≢false (sym c.requires ∙ is));
-    }

@@ -1,8 +1,0 @@
-use Rattle.uimg_base.specs.Named.{SameFiles}
-use Rattle.uimg_tool.proofs.searched_files.is_in_several.Given as goal
-
-abbrev pub invariant-loop-other : goal.invariant-loop-other
-invariant-loop-other g l = SameFiles (g.R.Reader.map l.fn.reader) (g.R.Reader.map l.reader)
-
-abbrev pub invariant-loop-name : goal.invariant-loop-name
-invariant-loop-name g l = SameFiles (g.R.Reader.map l.fn.reader) (g.R.Reader.map l.reader)

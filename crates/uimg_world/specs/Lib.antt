@@ -1,0 +1,4 @@
+pub mod Deeds
+pub mod FileIds
+pub mod Kinds
+pub mod Made

@@ -1,0 +1,190 @@
+//! The files of the operating system. Each method makes one call, of the standard library or of
+//! `disk_looks`, notes it, and returns the answer.
+
+ghost use Rattle.std.specs.Prelude.{◌≡◌, [], None, false};
+
+use crate::call::{Call, answer_of};
+use crate::disk_looks::{kind_of, open_source, reason_at, sync_folder, target_at};
+use crate::file_id::FileId;
+use crate::kind::{Kind, Target};
+use crate::record::Record;
+use crate::world::World;
+use std::alloc::Global;
+use std::fs::OpenFile;
+use std::path::PathBuf;
+use std::rt::Files;
+use std::{fs, io};
+use uimg_base::{FileSource, SourceFault};
+
+/// The files of the operating system. No contract says what they have, so it is not claimed to be
+/// honest.
+#[derive(Drop)]
+pub struct DiskWorld<'a, R: Files + AllocGlobal> {
+    pub(crate) rt: &'a R,
+    pub(crate) record: Record,
+    refusals: u64,
+}
+
+impl<'a, R: Files + AllocGlobal> DiskWorld<'a, R> {
+    /// Returns the files of a system, none of them requested yet.
+    pub fn new(rt: &'a R) -> DiskWorld<'a, R>
+        ensures { ⟦<DiskWorld<'a, R> as World>⟧.trace result ≡ [] }
+    {
+        DiskWorld {
+            rt,
+            record: Record::new(),
+            refusals: 0,
+        }
+    }
+}
+
+impl<'a, R: Files + AllocGlobal> World for DiskWorld<'a, R> {
+    type File = R::File;
+
+    type Opened = FileSource<R::File>;
+
+    ghost trace = { λ world. world.record.deeds };
+
+    ghost map = { λ world. record {
+      bytes = λ _. None;
+      honest = false;
+      complete = false;
+      refusals = world.refusals;
+      opened = [];
+    } };
+
+    ghost known = { λ world honest. honest };
+
+    fn alloc(&self) -> Global {
+        self.rt.alloc()
+    }
+
+    fn open(&mut self, path: &str) -> Result<FileSource<R::File>, SourceFault> {
+        let opened = open_source(self.rt, path);
+        let call = Call::Opens(opened.is_ok());
+        self.record.note(&call, path.as_bytes(), b"");
+        if opened.is_err() {
+            self.refusals = self.refusals.saturating_add(1);
+        }
+        opened
+    }
+
+    fn reason_unread(&mut self, path: &str) -> Option<io::Error> {
+        self.record.note(&Call::Explains, path.as_bytes(), b"");
+        reason_at(self.rt, path)
+    }
+
+    fn read(&mut self, path: &str) -> io::Result<R::File> {
+        let opened = fs::open(self.rt, path);
+        let call = Call::Reads(answer_of(&opened));
+        self.record.note(&call, path.as_bytes(), b"");
+        opened
+    }
+
+    fn target_of(&mut self, path: &str) -> Target {
+        let target = target_at(self.rt, path);
+        let call = Call::Finds(target);
+        self.record.note(&call, path.as_bytes(), b"");
+        target
+    }
+
+    fn create(&mut self, path: &str) -> io::Result<R::File> {
+        let created = fs::create(self.rt, path);
+        let call = Call::Overwrites(answer_of(&created));
+        self.record.note(&call, path.as_bytes(), b"");
+        created
+    }
+
+    fn create_new(&mut self, path: &str) -> io::Result<R::File> {
+        let created = fs::File::create_new(self.rt, path);
+        let call = Call::Creates(answer_of(&created));
+        self.record.note(&call, path.as_bytes(), b"");
+        created
+    }
+
+    fn close(&mut self, path: &str, file: R::File, is_synced: bool) -> io::Result<()> {
+        let closed = if is_synced { file.sync_all() } else { Ok(()) };
+        drop(file);
+        let call = Call::Closes(is_synced, false, answer_of(&closed));
+        self.record.note(&call, path.as_bytes(), b"");
+        closed
+    }
+
+    fn hard_link(&mut self, from: &str, to: &str) -> io::Result<()> {
+        let linked = fs::hard_link(self.rt, from, to);
+        let call = Call::Links(answer_of(&linked));
+        self.record.note(&call, from.as_bytes(), to.as_bytes());
+        linked
+    }
+
+    fn rename(&mut self, from: &str, to: &str) -> io::Result<()> {
+        let renamed = fs::rename(self.rt, from, to);
+        let call = Call::Renames(answer_of(&renamed));
+        self.record.note(&call, from.as_bytes(), to.as_bytes());
+        renamed
+    }
+
+    fn remove_file(&mut self, path: &str) -> io::Result<()> {
+        let removed = fs::remove_file(self.rt, path);
+        let call = Call::Removes(answer_of(&removed));
+        self.record.note(&call, path.as_bytes(), b"");
+        removed
+    }
+
+    fn create_dir(&mut self, path: &str) -> io::Result<()> {
+        let made = fs::create_dir(self.rt, path);
+        let call = Call::MakesFolder(answer_of(&made));
+        self.record.note(&call, path.as_bytes(), b"");
+        made
+    }
+
+    fn remove_dir(&mut self, path: &str) -> io::Result<()> {
+        let removed = fs::remove_dir(self.rt, path);
+        let call = Call::RemovesFolder(answer_of(&removed));
+        self.record.note(&call, path.as_bytes(), b"");
+        removed
+    }
+
+    fn remove_dir_all(&mut self, path: &str) -> io::Result<()> {
+        let removed = fs::remove_dir_all(self.rt, path);
+        let call = Call::RemovesAll(answer_of(&removed));
+        self.record.note(&call, path.as_bytes(), b"");
+        removed
+    }
+
+    fn sync_dir(&mut self, path: &str) -> io::Result<()> {
+        let synced = sync_folder(self.rt, path);
+        let call = Call::Syncs(answer_of(&synced));
+        self.record.note(&call, path.as_bytes(), b"");
+        synced
+    }
+
+    fn canonicalize(&mut self, path: &str) -> io::Result<PathBuf> {
+        let resolved = fs::canonicalize(self.rt, path);
+        match &resolved {
+            Ok(found) => {
+                let found = found.as_str().as_bytes();
+                self.record
+                    .note(&Call::Resolves(true), path.as_bytes(), found);
+            }
+            Err(_) => self
+                .record
+                .note(&Call::Resolves(false), path.as_bytes(), b""),
+        }
+        resolved
+    }
+
+    fn kind_at(&mut self, path: &str) -> Kind {
+        let kind = kind_of(&fs::symlink_metadata(self.rt, path));
+        let call = Call::Looks(kind);
+        self.record.note(&call, path.as_bytes(), b"");
+        kind
+    }
+
+    fn file_at(&mut self, path: &str) -> Option<FileId> {
+        let found = FileId::of(self.rt, path);
+        self.record
+            .note(&Call::Identifies(found), path.as_bytes(), b"");
+        found
+    }
+}
