@@ -19,7 +19,7 @@ unfolding status_in Both
 both_in true code later zero is = ((unsigned_Decides code.status 0).0 zero, is)
 both_in false code later other is = absurd (true≢false (sym ((unsigned_Decides code.status 0).1 is) ∙ other))
 
-both : (required : Required) (image : List ℕ) (strict : Option Code) → status_in (signed_after required image strict) ≡ 0 → Both strict (unsigned_code (is_fit form.Guess image) required image)
+both : (required : Required) (image : List ℕ) (strict : Option Code) → status_in (signed_after (is_fit form.Guess image) (Some required) image strict) ≡ 0 → Both strict (unsigned_code (is_fit form.Guess image) required image)
 unfolding status_in Both
 both required image None is = absurd (omega (arith, is))
 both required image (Some code) is = both_in (code.status == 0) code (unsigned_code (is_fit form.Guess image) required image) refl is

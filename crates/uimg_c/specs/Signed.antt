@@ -19,15 +19,17 @@ abbrev pub unsigned_code : Bool → Required → List ℕ → Option Code
 unsigned_code true required image = code_of_loose (why_in_fit (unsigned_of required image))
 unsigned_code false required image = Some (refusal 83 (loose_number Unsigned) 0)
 
--- the numbers of a strict check, or, if it finds all right, of the signatures
-abbrev pub signed_after : Required → List ℕ → Option Code → Option Code
-signed_after required image None = None
-signed_after required image (Some code) =
-    if code.status == 0 then unsigned_code (is_fit form.Guess image) required image else Some code
+-- the numbers of a strict check, or, if it finds all right and keys are required, of the signatures
+abbrev pub signed_after : Bool → Option Required → List ℕ → Option Code → Option Code
+signed_after fit None image strict = strict
+signed_after fit (Some required) image None = None
+signed_after fit (Some required) image (Some code) =
+    if code.status == 0 then unsigned_code fit required image else Some code
 
--- the numbers of a check of signatures by these keys
-abbrev pub signed_code : Option Algo → Required → List ℕ → Option Code
-signed_code need required image = signed_after required image (strict_code need image)
+-- the numbers of a check by these keys, if keys are required
+abbrev pub signed_code : Option Algo → Option Required → List ℕ → Option Code
+signed_code need required image =
+    signed_after (is_fit form.Guess image) required image (strict_code need image)
 
 -- the name of the only configuration that must be signed; without a byte each must be
 abbrev pub config_named : List ℕ → Option (List ℕ)
@@ -44,7 +46,7 @@ pub record Requires (file config : List ℕ) (required : Required) : Type 0 wher
 pub record ReportsSigned (need : ℕ) (file config image : List ℕ) (report : UimgReport) : Type 0 where
   pub required : Required
   pub asked : Requires file config required
-  pub code : signed_code (strength need) required image ≡ Some
+  pub code : signed_code (strength need) (Some required) image ≡ Some
       (record { status = report.status; fault = report.fault; place = report.place })
   pub no_text : (report.needed ≡ 0) × (report.written ≡ 0)
 

@@ -25,10 +25,8 @@ use uimg_engine::{Fault, is_fit};
 use uimg_fit_checking::{ConfigurationFacts, Finding, SurveyFault, check_in, survey};
 use uimg_fit_reading::read_tree;
 use uimg_requests::Form;
-use uimg_strict::{Loose, Looseness, find_loose_header, find_loose_in};
-use uimg_verifying::{
-    Required, SignatureResult, find_uncovered, find_unsigned_in, signature_results,
-};
+use uimg_strict::{Loose, Looseness, find_loose, find_loose_header};
+use uimg_verifying::{Required, SignatureResult, find_uncovered, find_unsigned, signature_results};
 
 /// What is asked of an image.
 #[derive(Drop)]
@@ -177,7 +175,7 @@ fn look_further<'a, S: Source>(
     ensures told { IfHonest S.device source (λ file. (found : Checked (List ℕ)) →
         TellsFurther (fit_verdict terms.now file found) file found result) }
 {
-    if let Some(loose) = find_loose_in(alloc, source, blob, room)? {
+    if let Some(loose) = find_loose(alloc, source, blob, room)? {
         return Ok(Further::Loose(loose, Vec::new(alloc)));
     }
     let facts = survey(alloc, blob, room)?;
@@ -206,7 +204,7 @@ fn look_signed<'a, S: Source>(
         return Ok(Further::Unchecked(nodes));
     };
     let signatures = list_signatures(alloc, terms.lists, required, source, blob, room)?;
-    match find_unsigned_in(alloc, required, source, blob, room)? {
+    match find_unsigned(alloc, required, source, blob, room)? {
         Some(loose) => Ok(Further::Loose(loose, signatures)),
         None => {
             let signed = Further::Signed(required, signatures);

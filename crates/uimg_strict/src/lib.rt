@@ -16,4 +16,4 @@ mod strictness;
 
 pub use headers::find_loose_header;
 pub use loose::{Loose, Looseness};
-pub use strictness::{find_loose, find_loose_in};
+pub use strictness::find_loose;

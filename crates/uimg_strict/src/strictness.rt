@@ -3,15 +3,13 @@
 ghost use Rattle.std.specs.Prelude.{◌≡◌, ℕ, List, length, false, IfOk};
 ghost use Rattle.std.specs.Option.{option_map};
 ghost use Rattle.uimg_base.specs.Honest.{IfHonest};
-ghost use Rattle.uimg_base.specs.Using.{Uses};
 ghost use Rattle.uimg_blob_reading.specs.Grammar.{Siblings};
-ghost use Rattle.uimg_blob_reading.specs.Indexed.{TakesNodes};
 ghost use Rattle.uimg_blob_reading.specs.LookUps.{NodeOf};
 ghost use Rattle.uimg_blob_reading.specs.Roles.{in_images};
 ghost use Rattle.uimg_blob_reading.specs.Spots.{Spot, spots};
 ghost use Rattle.uimg_fit_base.specs.Files.{root_own, value_bytes};
 ghost use Rattle.uimg_fit_checking.specs.Indexes.{IndexedIn};
-ghost use Rattle.uimg_fit_checking.specs.SurveyParts.{LeavesSurvey, is_unread, lacks_room};
+ghost use Rattle.uimg_fit_checking.specs.SurveyParts.{LeavesSurvey};
 ghost use Rattle.uimg_fit_reading.specs.Nodes.{InFile, HasNodes, IsRead, Opened, AreFrom};
 ghost use Rattle.uimg_strict.specs.Looseness.{in_root, is_nameless, loose_root, loose_in, loose_file};
 ghost use Rattle.std.specs.Prelude.{codes};
@@ -28,7 +26,6 @@ use uimg_blob_reading::{Blob, Key};
 use uimg_fit_checking::SurveyFault;
 use uimg_fit_reading::images::first_image;
 use uimg_fit_reading::nodes::root_value;
-use uimg_fit_reading::read_tree;
 
 fn in_root(why: Looseness) -> Loose
     ensures { read_loose result ≡ in_root why }
@@ -114,33 +111,18 @@ fn loose_file<S: Source, A: Allocator>(
     Ok(found)
 }
 
-/// Returns the first thing that strictness refuses in a FIT image, with the name of its node. The
-/// order is: the blob, the root, a node by the names in it, in reading order, an image by where its
-/// payload is.
+/// Returns the first thing that strictness refuses in a FIT image whose blob was indexed, with the
+/// name of its node. The order is: the blob, the root, a node by the names in it, in reading order, an
+/// image by where its payload is.
 ///
-/// Indexes the blob. Reads the header, the reservation block, names, and the cells of
-/// payloads after the tree. Takes memory for the names in one node.
+/// Reads the header, the reservation block, names, and the cells of payloads after the tree. Takes
+/// memory for the names in one node.
 ///
-/// - The faults of the blob, then `NoImages`.
+/// - `NoImages`: there is no node `/images`.
 /// - `Stopped` with `Read`: if and only if a read failed.
 /// - `OutOfMemory`: memory for names was refused.
 /// - `Changed`: only if the source does not have the blob that was indexed.
 pub fn find_loose<S: Source, A: Allocator>(
-    alloc: Global,
-    source: &mut S,
-    room: &mut Room<A>,
-) -> Result<Option<Loose>, SurveyFault>
-    ensures uses { Uses (is_unread result) (S.device source.old) (S.device source.new) }
-    ensures room { TakesNodes (S.device source.old) (lacks_room result) room.old room.new }
-    ensures told { IfHonest S.device source (λ file. TellsLooseness file result) }
-{
-    let blob = read_tree(source, room)?;
-    let found = find_loose_in(alloc, source, &blob, room)?;
-    Ok(found)
-}
-
-/// As `find_loose`, in a FIT image whose blob was indexed.
-pub fn find_loose_in<S: Source, A: Allocator>(
     alloc: Global,
     source: &mut S,
     blob: &Blob,

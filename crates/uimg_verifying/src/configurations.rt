@@ -3,8 +3,8 @@
 ghost use Rattle.std.specs.Prelude.{◌≡◌, ◌+◌, ◌<◌, ◌≤◌, List, ℕ, length, IfOk, Some, false};
 ghost use Rattle.std.specs.{List.slice_get, Option.option_map};
 ghost use Rattle.uimg_base.specs.{Honest.{HonestSource, IfHonest}, Using.Uses};
-ghost use Rattle.uimg_blob_reading.specs.{Grammar.Siblings, Indexed.TakesNodes, Rows.{Row, table}};
-ghost use Rattle.uimg_fit_checking.specs.{Indexes.IndexedIn, SurveyParts.{IsOwn, LeavesSurvey, is_unread, lacks_room}};
+ghost use Rattle.uimg_blob_reading.specs.{Grammar.Siblings, Rows.{Row, table}};
+ghost use Rattle.uimg_fit_checking.specs.{Indexes.IndexedIn, SurveyParts.{IsOwn, LeavesSurvey, is_unread}};
 ghost use Rattle.uimg_fit_reading.specs.Nodes.{InFile, Opened};
 ghost use Rattle.uimg_verifying.specs.Configurations.{OfNode, TellsUnsigned, blob_refusal, configuration_refusal, decides, is_asked, is_configuration, is_parent, is_signature_of, judged_node, judged_of, keys_refusal, tried_node, tried_of, unsigned_from};
 ghost use Rattle.uimg_signing.specs.Listing.{name_in};
@@ -20,7 +20,6 @@ use std::alloc::{Allocator, Global};
 use uimg_base::{Room, Source};
 use uimg_blob_reading::{Blob, Role};
 use uimg_fit_checking::SurveyFault;
-use uimg_fit_reading::read_tree;
 use uimg_signing::{SignatureNode, is_closed, is_reached};
 use uimg_strict::{Loose, Looseness};
 
@@ -377,41 +376,24 @@ fn blob_refusal<S: Source, A: Allocator>(
     }
 }
 
-/// Returns the first configuration of a FIT image that is not signed by the keys, by each of them or
-/// by one if one is enough; or whether that of the name that is asked for is. With it comes the word for its last signature node by the first key that
-/// did not sign it, or by the last key if none of them did; or `SignedStrings`, if a node that is
-/// tried says strings that are not the first ones of their block, since U-Boot reads what it says. At
-/// most sixteen signature nodes of a configuration are tried for each key; if there are more, the word
-/// is `SignedNodes`. Without a name: the image has no configuration (`Unsigned`; with the name that is asked for, if there is none of it), or U-Boot verifies
-/// no signature of it, since it has more than 256 MiB, or `is_closed` or `is_reached` is false
-/// (`SignedNodes`).
+/// Returns the first configuration of a FIT image, whose blob was indexed, that is not signed by the
+/// keys, by each of them or by one if one is enough; or whether that of the name that is asked for
+/// is. With it comes the word for its last signature node by the first key that did not sign it, or by
+/// the last key if none of them did; or `SignedStrings`, if a node that is tried says strings that are
+/// not the first ones of their block, since U-Boot reads what it says. At most sixteen signature nodes
+/// of a configuration are tried for each key; if there are more, the word is `SignedNodes`. Without a
+/// name: the image has no configuration (`Unsigned`; with the name that is asked for, if there is none
+/// of it), or U-Boot verifies no signature of it, since it has more than 256 MiB, or `is_closed` or
+/// `is_reached` is false (`SignedNodes`).
 ///
-/// Indexes the blob. The source is read once for each signature node and key that are tried, up
-/// to the end of its blob, without payloads. Takes memory for the offsets of at most 100 nodes.
+/// The source is read once for each signature node and key that are tried, up to the end of its blob,
+/// without payloads. Takes memory for the offsets of at most 100 nodes.
 ///
-/// - The faults of the blob.
 /// - `Stopped` with `Read`: if and only if a read failed.
 /// - `OutOfMemory`: memory was refused.
 /// - `Changed`: only if the source does not have the blob that was indexed.
 #[tactic(auto, unfolding(crate::specs::Configurations::unsigned_of))]
 pub fn find_unsigned<S: Source, A: Allocator>(
-    alloc: Global,
-    required: &Required<'_>,
-    source: &mut S,
-    room: &mut Room<A>,
-) -> Result<Option<Loose>, SurveyFault>
-    ensures uses { Uses (is_unread result) (S.device source.old) (S.device source.new) }
-    ensures room { TakesNodes (S.device source.old) (lacks_room result) room.old room.new }
-    ensures told { IfHonest S.device source (λ file. TellsUnsigned required.now file result) }
-{
-    let blob = read_tree(source, room)?;
-    let found = find_unsigned_in(alloc, required, source, &blob, room)?;
-    Ok(found)
-}
-
-/// As `find_unsigned`, in a FIT image whose blob was indexed.
-#[tactic(auto, unfolding(crate::specs::Configurations::unsigned_of))]
-pub fn find_unsigned_in<S: Source, A: Allocator>(
     alloc: Global,
     required: &Required<'_>,
     source: &mut S,

@@ -11,7 +11,7 @@ mod required;
 mod results;
 mod signatures;
 
-pub use configurations::{find_unsigned, find_unsigned_in};
+pub use configurations::find_unsigned;
 pub use covering::find_uncovered;
 pub use required::Required;
 pub use results::{SignatureResult, signature_results};

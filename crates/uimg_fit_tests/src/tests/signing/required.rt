@@ -5,6 +5,7 @@ use super::keys::{DEV, OTHER};
 use super::signed::SIGNED;
 use std::alloc::Global;
 use uimg_base::{MemSource, Room};
+use uimg_fit_reading::read_tree;
 use uimg_keys::{KeyFault, Keys, PublicKey, key_of_pem, read_keys};
 use uimg_strict::Looseness;
 use uimg_verifying::{Required, find_unsigned};
@@ -39,7 +40,11 @@ fn refused(alloc: Global, keys: Keys) -> Option<Looseness> {
         only: None,
     };
     let mut source = MemSource::new(&SIGNED);
-    match find_unsigned(alloc, &required, &mut source, &mut Room::new(alloc)) {
+    let mut room = Room::new(alloc);
+    let Ok(blob) = read_tree(&mut source, &mut room) else {
+        return Some(Looseness::Unsigned);
+    };
+    match find_unsigned(alloc, &required, &mut source, &blob, &mut room) {
         Ok(found) => found.map(|loose| loose.why),
         Err(_) => Some(Looseness::Unsigned),
     }

@@ -17,12 +17,10 @@ fn found_by(
     required: &Required<'_>,
     file: &[u8],
 ) -> Result<Option<Loose>, SurveyFault> {
-    find_unsigned(
-        alloc,
-        required,
-        &mut MemSource::new(file),
-        &mut Room::new(alloc),
-    )
+    let mut source = MemSource::new(file);
+    let mut room = Room::new(alloc);
+    let blob = read_tree(&mut source, &mut room)?;
+    find_unsigned(alloc, required, &mut source, &blob, &mut room)
 }
 
 // Requires signatures by these keys.

@@ -1,5 +1,5 @@
 use Rattle.uimg_strict.proofs.PassLaws.{own_tells}
-use Rattle.uimg_strict.proofs.strictness.find_loose_in.Goals as goal
+use Rattle.uimg_strict.proofs.strictness.find_loose.Goals as goal
 
 pub returns-in_err-found-clause-told : goal.returns-in_err-found-clause-told
 returns-in_err-found-clause-told g c = λ honest.
