@@ -51,7 +51,6 @@ pub use uimg_sums::{
     crc_entry, crc_of,
 };
 pub use uimg_texts::{
-    ARCHITECTURES, COMPRESSIONS, CodeRow, FLAT_DT, IMAGE_TYPES, MULTI, OPERATING_SYSTEMS, SCRIPT,
-    arch_code, arch_text, be32_at, before_nul, comp_code, comp_text, first_nul, kind_code,
-    kind_text, os_code, os_text, time_text, up4,
+    FLAT_DT, MULTI, SCRIPT, arch_code, arch_text, be32_at, before_nul, comp_code, comp_text,
+    first_nul, kind_code, kind_text, os_code, os_text, time_text, up4,
 };

@@ -4,7 +4,7 @@ use Rattle.std.specs.Cmp.{unsigned_Decides}
 use Rattle.uimg_engine.specs.Headline.{is_fit}
 use Rattle.uimg_requests.specs.declared.command.Form.TheVariants as form
 use Rattle.uimg_sums.specs.declared.algo.Algo.{Algo}
-use Rattle.uimg_uboot.specs.Readings.{ReadAsChecked}
+use Rattle.uimg_strict.specs.Readings.{ReadAsChecked}
 use Rattle.uimg_verifying.specs.{Configurations.unsigned_of, declared.required.Required.Required}
 use Rattle.uimg_c.specs.{Codes.strength, Strict.strict_code, declared.codes.Code.Code, declared.reports.UimgReport.UimgReport}
 use Rattle.uimg_c.specs.Signed.{IsSigned, ReportsSigned, signed_after, signed_code, unsigned_code}

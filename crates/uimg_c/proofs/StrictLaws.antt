@@ -12,8 +12,8 @@ use Rattle.uimg_fit_checking.specs.Checks.{NamedFinding, check_of}
 use Rattle.uimg_fit_checking.specs.declared.checking.Finding.TheVariants.{Right, Unhashed, Wrong, Weak, Overlapping, NoImage}
 use Rattle.uimg_requests.specs.declared.command.Form.TheVariants as form
 use Rattle.uimg_strict.specs.Looseness.{LooseSaid, looseness_of}
-use Rattle.uimg_uboot.specs.Readings.{ReadAsChecked}
-use Rattle.uimg_uboot.proofs.RightLaws.{read_as_checked}
+use Rattle.uimg_strict.specs.Readings.{ReadAsChecked}
+use Rattle.uimg_strict.proofs.RightLaws.{read_as_checked}
 use Rattle.uimg_c.specs.{Codes.code_of_fault, Strict.{strict_code, strictly, code_of_loose, why_in_fit}, declared.codes.Code.Code}
 use Rattle.uimg_checks.specs.Finding as checks
 

@@ -11,7 +11,7 @@ use Rattle.uimg_c.specs.declared.reports.{UimgPayload.UimgPayload, UimgCount.Uim
 use Rattle.uimg_c.specs.Codes.{code_of_end, code_of_answer, code_of_fault, code_of_found, strength}
 use Rattle.uimg_engine.specs.{declared.fault.Fault.Fault, Headline.{is_fit, nodes_in, outcome_of}}
 use Rattle.uimg_fit_base.specs.declared.fault.Fault.{Fault as FitEngineFault}
-use Rattle.uimg_names.specs.declared.naming.Naming.TheVariants.{Profile}
+use Rattle.uimg_texts.specs.declared.naming.Naming.TheVariants.{Profile}
 use Rattle.uimg_requests.specs.declared.command.{Action.Action, Form.Form}
 use Rattle.uimg_checks.specs.{declared.finding.Checked.Checked, Finding.{check_of, status_of}}
 use Rattle.uimg_requests.specs.declared.command.Form.TheVariants as form

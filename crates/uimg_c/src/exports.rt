@@ -17,7 +17,7 @@ ghost use Rattle.uimg_c.specs.Answers.{ReportsCheck, ReportsCount, HasBytes, Fin
 ghost use Rattle.uimg_c.specs.{Lines.{PutsLine, line_of}, Numbers.IsNoFault};
 ghost use Rattle.uimg_c.specs.Strict.{ReportsStrict};
 ghost use Rattle.uimg_c.specs.Signed.{IsSigned, ReportsSigned, no_keys};
-ghost use Rattle.uimg_uboot.specs.Readings.{ReadAsChecked};
+ghost use Rattle.uimg_strict.specs.Readings.{ReadAsChecked};
 
 use crate::checks::check;
 use crate::counts::payload_count;

@@ -11,8 +11,8 @@ use crate::reports::UimgReport;
 use std::alloc::Global;
 use uimg_base::{Room, Status};
 use uimg_engine::{Fault, run_in_memory};
-use uimg_names::Naming;
 use uimg_requests::Command;
+use uimg_texts::Naming;
 
 // Copies the text, truncated to `text`.
 fn report_of_text(

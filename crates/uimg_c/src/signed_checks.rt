@@ -5,7 +5,7 @@ ghost use Rattle.std.specs.Prelude.{◌≡◌, ◌≢◌, ◌≤◌, max, IfOk, 
 ghost use Rattle.uimg_base.specs.{Device.SameDevice, Held.held_bytes, Honest.IfHonest};
 ghost use Rattle.uimg_requests.specs.declared.command.Form.TheVariants as form;
 ghost use Rattle.uimg_engine.specs.Headline.{is_fit, nodes_in};
-ghost use Rattle.uimg_uboot.specs.Readings.{ReadAsChecked};
+ghost use Rattle.uimg_strict.specs.Readings.{ReadAsChecked};
 ghost use Rattle.uimg_c.specs.Answers.{no_report, table_most};
 ghost use Rattle.uimg_c.specs.Codes.{strength};
 ghost use Rattle.uimg_c.specs.Strict.{code_of_loose, strictly, why_in_fit};

@@ -10,7 +10,9 @@ use Rattle.uimg_cli.specs.Wrong.{Wrong, and_then, bad_number, no_list_or_outfile
 use Rattle.uimg_requests.specs.declared.command.Action.TheVariants as action
 use Rattle.uimg_requests.specs.declared.command.Form.{Form}
 use Rattle.uimg_requests.specs.declared.command.Form.TheVariants as form
-use Rattle.uimg_texts.specs.Names.{code_of, kind_table}
+use Rattle.uimg_texts.specs.Naming.{code_named}
+use Rattle.uimg_texts.specs.declared.field.Field.TheVariants.{Kind}
+use Rattle.uimg_texts.specs.declared.naming.Naming.TheVariants.{Profile}
 
 -- dumpimage [-l] [-T TYPE] [-p POSITION] [-o OUTFILE] IMAGE
 unfoldable pub dumpimage : App
@@ -30,7 +32,7 @@ form_by_code code = if code == 8 then form.Fit else form.Legacy
 abbrev pub form_asked : Option Text → Result Form Wrong
 form_asked None = Ok form.Guess
 form_asked (Some name) =
-    and_then (or_wrong unknown_name (code_of kind_table name)) (λ code. Ok (form_by_code code))
+    and_then (or_wrong unknown_name (code_named Profile Kind name)) (λ code. Ok (form_by_code code))
 
 -- a position is decimal, and 0 without an option
 abbrev pub position_asked : Option Text → Result ℕ Wrong

@@ -3,8 +3,8 @@ use Rattle.std.specs.Prelude.{ℕ, List, [], Bool, false, map, ◌++◌}
 use Rattle.clap.specs.Walk.{Text}
 use Rattle.uimg_fit_base.specs.declared.placement.Placement.{Placement}
 use Rattle.uimg_legacy.specs.declared.options.Options.{Options}
-use Rattle.uimg_names.specs.declared.naming.Naming.{Naming}
-use Rattle.uimg_names.specs.declared.naming.Naming.TheVariants.{Profile}
+use Rattle.uimg_texts.specs.declared.naming.Naming.{Naming}
+use Rattle.uimg_texts.specs.declared.naming.Naming.TheVariants.{Profile}
 use Rattle.uimg_requests.specs.Requests.{folder_of}
 use Rattle.uimg_requests.specs.declared.make_command.MakeCommand.{MakeCommand}
 use Rattle.uimg_requests.specs.declared.make_command.MakeCommand.TheVariants.{Parts, Tree}

@@ -17,7 +17,10 @@ use Rattle.uimg_legacy.specs.declared.options.Options.{Options}
 use Rattle.uimg_requests.specs.Names.{part_names}
 use Rattle.uimg_requests.specs.declared.command.Action.TheVariants as action
 use Rattle.uimg_requests.specs.declared.command.Form.TheVariants.{Guess}
-use Rattle.uimg_texts.specs.Names.{NameRow, arch_table, code_of, comp_table, kind_table, os_table}
+use Rattle.uimg_texts.specs.Naming.{code_named}
+use Rattle.uimg_texts.specs.declared.field.Field.{Field, TheVariants.{Architecture, System, Kind}}
+use Rattle.uimg_texts.specs.declared.field.Field.TheVariants.{Compression}
+use Rattle.uimg_texts.specs.declared.naming.Naming.TheVariants.{Profile}
 
 -- the options of an image that is made from data
 unfoldable pub header_rules : List Rule
@@ -47,15 +50,16 @@ mkimage = with_rules (flag_rule (codes "list") 108 ∷ image_rule ∷ [])
     (with_rules source_rules (with_rules header_rules (new_app (codes "mkimage"))))
 
 -- the code of an option's short name, or of its default
-abbrev pub code_asked : List NameRow → Text → List Row → Text → Result ℕ Wrong
-code_asked table id rows default = or_wrong unknown_name (code_of table (text_or id rows default))
+abbrev pub code_asked : Field → Text → List Row → Text → Result ℕ Wrong
+code_asked field id rows default =
+    or_wrong unknown_name (code_named Profile field (text_or id rows default))
 
 abbrev pub codes_asked : List Row → Result Codes Wrong
 codes_asked rows =
-    and_then (code_asked arch_table (codes "arch") rows (codes "ppc")) (λ arch.
-    and_then (code_asked os_table (codes "os") rows (codes "linux")) (λ os.
-    and_then (code_asked kind_table (codes "type") rows (codes "kernel")) (λ kind.
-    and_then (code_asked comp_table (codes "comp") rows (codes "gzip")) (λ comp.
+    and_then (code_asked Architecture (codes "arch") rows (codes "ppc")) (λ arch.
+    and_then (code_asked System (codes "os") rows (codes "linux")) (λ os.
+    and_then (code_asked Kind (codes "type") rows (codes "kernel")) (λ kind.
+    and_then (code_asked Compression (codes "comp") rows (codes "gzip")) (λ comp.
     Ok (record { arch = arch; os = os; kind = kind; comp = comp })))))
 
 -- an address is hexadecimal

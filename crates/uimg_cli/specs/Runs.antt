@@ -1,8 +1,8 @@
 -- Commands on an image, as plain values.
 use Rattle.std.specs.Prelude.{Option, option_map}
 use Rattle.clap.specs.Walk.{Text}
-use Rattle.uimg_names.specs.declared.naming.Naming.{Naming}
-use Rattle.uimg_names.specs.declared.naming.Naming.TheVariants.{Profile}
+use Rattle.uimg_texts.specs.declared.naming.Naming.{Naming}
+use Rattle.uimg_texts.specs.declared.naming.Naming.TheVariants.{Profile}
 use Rattle.uimg_requests.specs.declared.command.Action.{Action}
 use Rattle.uimg_requests.specs.declared.command.Form.{Form}
 use Rattle.uimg_requests.specs.declared.requests.RunRequest.{RunRequest}

@@ -1,7 +1,7 @@
 -- What some words of -D request, and the source that some words of -f auto make.
 use Rattle.std.proofs.Common.{◌≡◌, ◌++◌, [], ◌∷◌, Some, None, Ok, Err, codes, true, refl, replicate}
 use Rattle.std.specs.{Fmt.digits, Prelude.⊤}
-use Rattle.uimg_names.specs.Naming.{code_text}
+use Rattle.uimg_texts.specs.Naming.{code_text}
 use Rattle.uimg_compat.specs.Asked.{Auto}
 use Rattle.uimg_compat.specs.AutoSource.{auto_text, base_name, trees_of}
 use Rattle.uimg_compat.specs.Dtc.{dtc_asked, dtc_rows, no_options}

@@ -2,8 +2,8 @@
 use Rattle.std.specs.Prelude.{Bool, List, map, ◌++◌, Option, option_map}
 use Rattle.uimg_fit_base.specs.declared.placement.Placement.{Placement}
 use Rattle.uimg_legacy.specs.declared.options.Options.{Options}
-use Rattle.uimg_names.specs.declared.{field.Field.Field, naming.Naming.Naming}
-use Rattle.uimg_names.specs.declared.naming.Naming.TheVariants.{All}
+use Rattle.uimg_texts.specs.declared.{field.Field.Field, naming.Naming.Naming}
+use Rattle.uimg_texts.specs.declared.naming.Naming.TheVariants.{All}
 use Rattle.uimg_requests.specs.declared.command.{Action.Action, Form.Form}
 use Rattle.uimg_requests.specs.declared.make_command.{Manner.Manner, MakeCommand.MakeCommand}
 use Rattle.uimg_requests.specs.declared.make_command.MakeCommand.TheVariants.{Parts, Tree}

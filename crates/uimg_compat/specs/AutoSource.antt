@@ -3,9 +3,9 @@ use Rattle.std.specs.Prelude.{ℕ, not, ◌==◌, ◌+◌, ◌-◌, ◌^◌, ◌
 use Rattle.std.specs.List.{after_last, before_last, suffix_len}
 use Rattle.std.specs.Option.{option_map_or}
 use Rattle.uimg_texts.specs.Names.{NameRow}
-use Rattle.uimg_names.specs.Naming.{all_rows, code_text}
-use Rattle.uimg_names.specs.declared.field.Field.{Field, TheVariants.{Architecture, System, Kind, Compression}}
-use Rattle.uimg_names.specs.declared.naming.Naming.TheVariants.{All}
+use Rattle.uimg_texts.specs.Naming.{rows, code_text}
+use Rattle.uimg_texts.specs.declared.field.Field.{Field, TheVariants.{Architecture, System, Kind, Compression}}
+use Rattle.uimg_texts.specs.declared.naming.Naming.TheVariants.{All}
 use Rattle.uimg_compat.specs.Asked.{Auto}
 use Rattle.uimg_compat.specs.Getopt.{Reading, Text, Told, all_read, flag, mistaken, operand, reading, told, unread, value}
 use Rattle.uimg_compat.specs.ImageTree.{Item, begins, cell, ends, file, has, label, numbered, source_text, string, title}
@@ -40,7 +40,7 @@ short_in rows code =
     option_map_or (λ row. row.short) (find (λ row. row.code == code) rows) (codes "unknown")
 
 abbrev pub short_name : Field → ℕ → Text
-short_name field code = short_in (all_rows field) code
+short_name field code = short_in (rows field) code
 
 abbrev pub kind_name : Auto → Text
 kind_name auto = short_name Kind auto.options.kind

@@ -1,7 +1,7 @@
 -- The arguments of dumpimage [-l] [-T TYPE] [-p POSITION] [-o OUTFILE] IMAGE.
 use Rattle.std.specs.Prelude.{◌==◌, ℕ, Bool, true, false, List, [], ◌∷◌, Option, Some, None, option_map, Result, Ok, Err, codes, if◌then◌else◌}
 use Rattle.std.specs.Str.{bytes_eq}
-use Rattle.uimg_names.specs.declared.field.Field.TheVariants.{Kind}
+use Rattle.uimg_texts.specs.declared.field.Field.TheVariants.{Kind}
 use Rattle.uimg_requests.specs.declared.command.Action.{Action}
 use Rattle.uimg_requests.specs.declared.command.Action.TheVariants as action
 use Rattle.uimg_compat.specs.Asked.{Asked, help, names, plain_run, runs, version}

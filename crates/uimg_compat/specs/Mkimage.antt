@@ -1,7 +1,7 @@
 -- The options of mkimage, and what each sets.
 use Rattle.std.specs.Prelude.{◌==◌, ℕ, Bool, true, false, List, [], ◌∷◌, Option, Some, None, option_map, Result, Ok, Err, codes, if◌then◌else◌}
-use Rattle.uimg_names.specs.declared.field.Field.{Field}
-use Rattle.uimg_names.specs.declared.field.Field.TheVariants.{Architecture, System, Kind, Compression}
+use Rattle.uimg_texts.specs.declared.field.Field.{Field}
+use Rattle.uimg_texts.specs.declared.field.Field.TheVariants.{Architecture, System, Kind, Compression}
 use Rattle.uimg_compat.specs.Asked.{help, names, version}
 use Rattle.uimg_compat.specs.CNumbers.{low_32}
 use Rattle.uimg_compat.specs.Getopt.{Row, Text, Told, flag, operand, value}

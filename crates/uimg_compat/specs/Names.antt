@@ -2,10 +2,10 @@
 use Rattle.std.specs.Prelude.{◌==◌, ℕ, Bool, true, [], ◌∷◌, nat_lt, Option, Some, None, Result, Ok, Err, codes, if◌then◌else◌}
 use Rattle.std.specs.List.{list_any}
 use Rattle.std.specs.Str.{bytes_eq}
-use Rattle.uimg_names.specs.Naming.{code_named}
-use Rattle.uimg_names.specs.declared.field.Field.{Field}
-use Rattle.uimg_names.specs.declared.field.Field.TheVariants.{Architecture, System, Kind, Compression}
-use Rattle.uimg_names.specs.declared.naming.Naming.TheVariants.{All}
+use Rattle.uimg_texts.specs.Naming.{code_named}
+use Rattle.uimg_texts.specs.declared.field.Field.{Field}
+use Rattle.uimg_texts.specs.declared.field.Field.TheVariants.{Architecture, System, Kind, Compression}
+use Rattle.uimg_texts.specs.declared.naming.Naming.TheVariants.{All}
 use Rattle.uimg_requests.specs.declared.command.Form.{Form}
 use Rattle.uimg_requests.specs.declared.command.Form.TheVariants.{Guess, Legacy, Fit}
 use Rattle.uimg_compat.specs.Getopt.{Text}

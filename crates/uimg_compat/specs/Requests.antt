@@ -5,7 +5,7 @@ use Rattle.uimg_fit_base.specs.declared.placement.Placement.{Placement}
 use Rattle.uimg_fit_base.specs.declared.placement.Placement.TheVariants.{After, At, Inside}
 use Rattle.uimg_legacy.specs.{Header.padded_name, Parts.has_parts}
 use Rattle.uimg_legacy.specs.declared.options.Options.{Options}
-use Rattle.uimg_names.specs.declared.naming.Naming.TheVariants.{All}
+use Rattle.uimg_texts.specs.declared.naming.Naming.TheVariants.{All}
 use Rattle.uimg_requests.specs.Names.{part_names}
 use Rattle.uimg_requests.specs.declared.command.Action.TheVariants as action
 use Rattle.uimg_requests.specs.declared.make_command.Manner.{Manner}

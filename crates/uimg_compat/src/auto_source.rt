@@ -3,8 +3,8 @@
 ghost use Rattle.std.specs.Prelude.{◌≡◌, ◌<◌, ◌∷◌, [], map, IfSome, MatchOption};
 ghost use Rattle.std.specs.Prelude.{Some, option_map};
 ghost use Rattle.std.specs.Fmt.{WritesOnOk};
-ghost use Rattle.uimg_texts.specs.CodeRows.{row_of};
-ghost use Rattle.uimg_names.specs.declared.field.Field.TheVariants.{Architecture, System, Compression};
+ghost use Rattle.uimg_texts.specs.Names.{row_of};
+ghost use Rattle.uimg_texts.specs.declared.field.Field.TheVariants.{Architecture, System, Compression};
 ghost use Rattle.uimg_compat.specs.Asked.{auto_of};
 ghost use Rattle.uimg_compat.specs.AutoSource.{auto_text, bare_configuration_text, bare_head};
 ghost use Rattle.uimg_compat.specs.AutoSource.{configuration_end, configuration_head, configuration_text};
@@ -24,7 +24,7 @@ use crate::mkimage_options::take_option;
 use std::fmt;
 use std::fmt::{Display, Formatter, Write};
 use uimg_legacy::Options;
-use uimg_names::{Field, Naming};
+use uimg_texts::{CodeRow, Field, Naming};
 
 /// The image source that mkimage 2023.01 makes for a file, device trees and a RAM disk. Displayed,
 /// it is the text of the source.
@@ -380,10 +380,10 @@ fn short_name(field: Field, code: u8) -> &'static str
     first_short(field.rows(), code)
 }
 
-fn first_short(rows: &'static [(&'static str, u8, &'static str)], code: u8) -> &'static str
+fn first_short(rows: &'static [CodeRow], code: u8) -> &'static str
     ensures { result.now ≡ short_in (map row_of rows.now) code }
 {
-    for (short, known, _) in rows {
+    for (short, known, _, _) in rows {
         if code == *known {
             return short;
         }

@@ -15,9 +15,9 @@ use crate::helps::DUMPIMAGE_HELP;
 use crate::names::{Named, format_of, name_of};
 use crate::request::{OldRequest, Show};
 use std::alloc::Global;
-use uimg_names::{Field, Naming};
 use uimg_printing::Printed;
 use uimg_requests::{Action, Command, RunRequest};
+use uimg_texts::{Field, Naming};
 
 /// The options by their letters; they have no long names.
 const DUMPIMAGE_OPTIONS: [OptionRow; 6] = [

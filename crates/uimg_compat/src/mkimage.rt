@@ -19,8 +19,8 @@ use crate::mkimage_options::take_option;
 use crate::names::{Named, name_of};
 use crate::request::{OldRequest, Show};
 use std::alloc::Global;
-use uimg_names::Field;
 use uimg_printing::Printed;
+use uimg_texts::Field;
 
 /// The options of a command line so far. Of a repeated one the last counts.
 #[derive(Clone, Copy)]

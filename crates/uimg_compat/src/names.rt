@@ -10,9 +10,9 @@ use crate::fault::OldFault;
 use crate::nearest::meant;
 use std::alloc::Global;
 use uimg_base::FLAT_DT;
-use uimg_names::{Field, Naming};
 use uimg_printing::Printed;
 use uimg_requests::Form;
+use uimg_texts::{Field, Naming};
 
 /// The type of a kernel that runs in place (`IH_TYPE_KERNEL_NOLOAD`).
 const KERNEL_NOLOAD: u8 = 14;

@@ -2,7 +2,7 @@
 
 use std::alloc::{AllocError, Global};
 use strsim::levenshtein;
-use uimg_names::Field;
+use uimg_texts::Field;
 
 // What Debian, Linux and others call the architectures.
 const ARCHITECTURES: [(&str, &str); 8] = [
@@ -54,7 +54,7 @@ fn meant_by(field: Field, word: &str) -> Option<&'static str> {
 fn nearest(alloc: Global, field: Field, word: &str) -> Result<Option<&'static str>, AllocError> {
     let mut fewest = 3;
     let mut found = None;
-    for (name, _, _) in field.rows() {
+    for (name, _, _, _) in field.rows() {
         let edits = levenshtein(alloc, word, name)?;
         if edits < fewest {
             fewest = edits;

@@ -3,8 +3,8 @@
 use crate::auto_source::AutoSource;
 use crate::dtc_words::DtcWords;
 use uimg_fit_base::Placement;
-use uimg_names::Field;
 use uimg_requests::{MakeRequest, Manner, RunRequest};
+use uimg_texts::Field;
 
 /// The request of a command line.
 #[derive(Drop)]

@@ -10,7 +10,7 @@ use Rattle.uimg_legacy.specs.declared.{fault.LegacyFault.LegacyFault, options.Op
 use Rattle.uimg_legacy.specs.{Building.legacy_built, Devices.{failures_of, OneRisesIf}}
 use Rattle.uimg_legacy.specs.{Listing.list_of, declared.fault.Fault.Fault as LegacyEngineFault}
 use Rattle.uimg_legacy.specs.Faults.{is_read as legacy_is_read}
-use Rattle.uimg_names.specs.declared.naming.Naming.{Naming}
+use Rattle.uimg_texts.specs.declared.naming.Naming.{Naming}
 use Rattle.uimg_engine.specs.{declared.fault.Fault.Fault, Headline.{end_as, outcome_as}}
 use Rattle.uimg_engine.specs.declared.fault.Fault.TheVariants.{Legacy, Blob, Fit, Its, Read, Put, NoFile, Keep, OutOfMemory}
 use Rattle.uimg_legacy.specs.declared.fault.Fault.TheVariants as legacy

@@ -21,7 +21,7 @@ use Rattle.uimg_fit_building.specs.{BuildAnswers.BuildsAnswer, Building.built}
 use Rattle.uimg_fit_reading.specs.Listing.{head_lines, lists, list_of}
 use Rattle.uimg_requests.specs.declared.command.Action.TheVariants as action
 use Rattle.uimg_requests.specs.declared.command.Form.TheVariants as form
-use Rattle.uimg_names.specs.declared.naming.Naming.{Naming}
+use Rattle.uimg_texts.specs.declared.naming.Naming.{Naming}
 use Rattle.uimg_engine.specs.declared.fault.Fault.{Fault}
 use Rattle.uimg_engine.specs.Faults.{end_of, unless_memory, of_fit, is_of_making, is_no_memory}
 use Rattle.uimg_engine.specs.Headline.{end_as, outcome_as, outcome_in, outcome_of}

@@ -6,7 +6,7 @@ use Rattle.uimg_base.specs.{Named.{FileMap, SameFiles, bytes_named}, Outcome.{Ou
 use Rattle.uimg_base.specs.{Using.Uses, declared.status.Status.Status}
 use Rattle.uimg_fit_base.specs.Placements.{aligned_by}
 use Rattle.uimg_blob_reading.specs.Indexed.{TakesNodes}
-use Rattle.uimg_names.specs.declared.naming.Naming.{Naming}
+use Rattle.uimg_texts.specs.declared.naming.Naming.{Naming}
 use Rattle.uimg_engine.specs.declared.fault.Fault.{Fault, TheVariants.{NoFile, Fit}}
 use Rattle.uimg_engine.specs.Faults.{end_of, is_read, is_put, is_no_memory, is_of_making}
 use Rattle.uimg_engine.specs.Faults.{is_no_text, is_no_payload, refuses_payload, is_unread}

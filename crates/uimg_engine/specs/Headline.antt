@@ -19,7 +19,7 @@ use Rattle.uimg_legacy.specs.Extraction as legacy_extraction
 use Rattle.uimg_legacy.specs.Work as legacy
 use Rattle.uimg_engine.specs.{declared.fault.Fault.{Fault, TheVariants.Legacy}, Faults.is_of_making}
 use Rattle.uimg_engine.specs.Faults.{end_of, of_fit, is_read, is_put, is_no_memory, is_refused}
-use Rattle.uimg_names.specs.declared.naming.Naming.{Naming, TheVariants.Profile}
+use Rattle.uimg_texts.specs.declared.naming.Naming.{Naming, TheVariants.Profile}
 use Rattle.uimg_requests.specs.declared.command.{Action.Action, Command.Command, Form.Form}
 use Rattle.uimg_requests.specs.declared.command.Action.TheVariants as action
 use Rattle.uimg_requests.specs.declared.command.Form.TheVariants as form

@@ -4,7 +4,7 @@ use Rattle.std.specs.Prelude.{true, false, IsTrue, IfOk, IfSome}
 use Rattle.uimg_texts.specs.Slices.{slice}
 use Rattle.uimg_base.specs.{Device.Device, Held.Held, Lent.Lent, Outcome.{End, done}}
 use Rattle.uimg_base.specs.{Using.UsesAtMost, declared.spans.Span.Span}
-use Rattle.uimg_names.specs.declared.naming.Naming.TheVariants.{Profile}
+use Rattle.uimg_texts.specs.declared.naming.Naming.TheVariants.{Profile}
 use Rattle.uimg_requests.specs.declared.command.Action.TheVariants as action
 use Rattle.uimg_requests.specs.declared.command.Form.{Form}
 use Rattle.uimg_engine.specs.declared.fault.Fault.{Fault}

@@ -7,7 +7,7 @@ use Rattle.uimg_legacy.specs.declared.{fault.LegacyFault.LegacyFault, options.Op
 use Rattle.uimg_legacy.specs.{Parts.has_parts, Listing.list_of, Devices.{bytes_of, AreHonest}}
 use Rattle.uimg_legacy.specs.Building.{data_of, data_to_build, legacy_built, build_of}
 use Rattle.uimg_legacy.specs.ReadsBack.{ReadsBack}
-use Rattle.uimg_names.specs.declared.naming.Naming.{Naming}
+use Rattle.uimg_texts.specs.declared.naming.Naming.{Naming}
 use Rattle.uimg_engine.specs.declared.fault.Fault.{Fault, TheVariants.{NoFile, Keep, OutOfMemory}}
 use Rattle.uimg_engine.specs.declared.fault.Fault.TheVariants.{Legacy, Blob, Fit, Its, Read, Put}
 use Rattle.uimg_engine.specs.Faults.{is_no_file, is_put, is_keep, is_before_building}

@@ -8,7 +8,7 @@ use Rattle.uimg_fit_base.specs.declared.placement.AlignedPlacement.{AlignedPlace
 use Rattle.uimg_fit_building.specs.{BuildAnswers.CanBuildWith, Filling.IsFilled}
 use Rattle.uimg_fit_building.specs.Building.{built_with}
 use Rattle.uimg_fit_building.specs.ReadsBack.{ReadsBack}
-use Rattle.uimg_names.specs.declared.naming.Naming.{Naming}
+use Rattle.uimg_texts.specs.declared.naming.Naming.{Naming}
 use Rattle.uimg_engine.specs.{Faults.end_of, Headline.outcome_of}
 use Rattle.uimg_requests.specs.declared.command.Action.TheVariants as Action
 use Rattle.uimg_requests.specs.declared.command.Form.TheVariants as Form

@@ -16,7 +16,7 @@ use Rattle.uimg_fit_base.specs.declared.fault.{Fault.Fault as FitEngineFault, Fi
 use Rattle.uimg_fit_base.specs.declared.placement.AlignedPlacement.{AlignedPlacement}
 use Rattle.uimg_fit_base.specs.Files.{begins_as_blob}
 use Rattle.uimg_fit_base.specs.declared.fault.Fault.TheVariants as fit
-use Rattle.uimg_names.specs.declared.naming.Naming.{Naming}
+use Rattle.uimg_texts.specs.declared.naming.Naming.{Naming}
 use Rattle.uimg_engine.specs.declared.fault.Fault.{Fault, TheVariants.{NoFile, Keep, OutOfMemory}}
 use Rattle.uimg_engine.specs.declared.fault.Fault.TheVariants.{Legacy, Blob, Fit, Its, Read, Put}
 

@@ -10,7 +10,7 @@ use Rattle.uimg_fit_base.specs.Placements.{aligned_by}
 use Rattle.uimg_fit_base.specs.declared.placement.AlignedPlacement.{AlignedPlacement}
 use Rattle.uimg_fit_building.specs.{DigestBytes.zeroed_tree, OpenedFiles.{summed_files, built_files}}
 use Rattle.uimg_fit_building.specs.{PayloadSums.no_files, UnreadTrees.filled_unread}
-use Rattle.uimg_names.specs.declared.naming.Naming.TheVariants.{Profile}
+use Rattle.uimg_texts.specs.declared.naming.Naming.TheVariants.{Profile}
 use Rattle.uimg_requests.specs.declared.make_command.MakeCommand.{MakeCommand}
 use Rattle.uimg_requests.specs.declared.make_command.MakeCommand.TheVariants.{Parts, Tree}
 

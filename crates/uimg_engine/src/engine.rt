@@ -10,8 +10,8 @@ use crate::formats::is_fit;
 use std::alloc::Allocator;
 use std::io::Write;
 use uimg_base::{Out, Room, Source, Status};
-use uimg_names::Naming;
 use uimg_requests::{Action, Command};
+use uimg_texts::Naming;
 
 pub(crate) fn run_legacy<S: Source, A: Allocator, W: Write>(
     naming: Naming,

@@ -13,8 +13,8 @@ use crate::making::make_by;
 use std::alloc::Allocator;
 use std::io::Write;
 use uimg_base::{MemFiles, MemKept, MemShelf, MemSource, Out, Room, Source, Span, Status};
-use uimg_names::Naming;
 use uimg_requests::{Command, Form, MakeCommand, Manner};
+use uimg_texts::Naming;
 
 /// Carries out a command on the bytes of an image, a listing with the names of a set. Returns the
 /// result of `run_by`, and all that was written.

@@ -23,6 +23,6 @@ pub use in_memory::{locate_in_memory, make_in_memory, run_in_memory};
 pub use locating::locate;
 pub use making::{build_image, make, make_by};
 pub use making_of_trees::{TreeManner, make_tree};
-pub use making_trees::read_text;
+pub use making_trees::whole_text;
 pub use same_files::is_same_file;
 pub use uimg_requests::{Action, Command, Form, MakeCommand, Manner};

@@ -18,8 +18,8 @@ use std::io::Write;
 use uimg_base::{Files, Out, Room, Shelf, Source};
 use uimg_fit_base::WORD_ALIGNMENT;
 use uimg_legacy::Options;
-use uimg_names::Naming;
 use uimg_requests::{MakeCommand, Manner};
+use uimg_texts::Naming;
 
 /// Builds the image of a command at a time, in seconds since 1970, and appends it to `image`. If
 /// the payloads of a FIT image are after the blob, its end and each payload's are rounded up to

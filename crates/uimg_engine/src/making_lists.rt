@@ -6,8 +6,8 @@ use crate::fault::Fault;
 use std::alloc::Allocator;
 use std::io::Write;
 use uimg_base::{Out, Room, Source, Status};
-use uimg_names::Naming;
 use uimg_requests::{Action, Command, Form, MakeCommand};
+use uimg_texts::Naming;
 
 /// Writes the listing of what was kept, with the names of a set: of a legacy image, or of the
 /// format of its first bytes.

@@ -14,8 +14,8 @@ use uimg_base::{Files, Out, Room, Shelf};
 use uimg_blob_writing::{Reservation, Tree};
 use uimg_fit_base::AlignedPlacement;
 use uimg_fit_building::{Frame, build_with};
-use uimg_names::Naming;
 use uimg_requests::{Action, Command, Form};
+use uimg_texts::Naming;
 
 /// How a FIT image is made from a tree.
 #[derive(Clone, Copy)]

@@ -16,9 +16,13 @@ use uimg_fit_base::AlignedPlacement;
 use uimg_fit_building::{build_by, fill};
 use uimg_its::compile;
 
+/// Reads the text of a source: all its bytes.
+///
+/// - `Read`: a read failed.
+/// - `OutOfMemory`: memory for the text was refused.
 // Not inlined, so that its window is in no stack frame below which the source is compiled.
 #[inline(never)]
-fn whole_text<S: Source, A: Allocator>(alloc: A, source: &mut S) -> Result<Vec<u8, A>, Fault>
+pub fn whole_text<S: Source, A: Allocator>(alloc: A, source: &mut S) -> Result<Vec<u8, A>, Fault>
     ensures text { HonestSource S.device source →
         ReadsSourceText (λ text. text.items) (Some (S.device source.old).bytes) result }
     ensures steady { IsTrue S.steady → is_unread result ≡ false }
@@ -36,12 +40,7 @@ fn whole_text<S: Source, A: Allocator>(alloc: A, source: &mut S) -> Result<Vec<u
     }
 }
 
-/// Reads the text of a source: all bytes of the file with this name.
-///
-/// - `NoFile(0)`: the open was refused.
-/// - `Read`: a read failed.
-/// - `OutOfMemory`: memory for the text was refused.
-pub fn read_text<F: Files, A: Allocator>(
+fn read_text<F: Files, A: Allocator>(
     alloc: A,
     name: &[u8],
     files: &mut F,

@@ -4,7 +4,7 @@ use Rattle.std.specs.Prelude.{None, Result, Ok, Err, Bool, true, false, codes}
 use Rattle.std.specs.{List.{flat_map, list_all}, Option.{option_map, option_map_or}, Str.bytes_eq}
 use Rattle.uimg_sums.specs.declared.algo.Algo.{Algo}
 use Rattle.uimg_sums.specs.Algorithms.{digest_size, digest_by}
-use Rattle.uimg_names.specs.declared.naming.Naming.{Naming, TheVariants.Profile}
+use Rattle.uimg_texts.specs.declared.naming.Naming.{Naming, TheVariants.Profile}
 use Rattle.uimg_texts.specs.Nul.{text}
 use Rattle.uimg_base.specs.Outcome.{Outcome, End, done, not_right, refused, told, line}
 use Rattle.uimg_base.specs.Outcome.{unless_refused}

@@ -4,7 +4,7 @@ ghost use Rattle.std.specs.Prelude.{◌≡◌};
 ghost use Rattle.uimg_fit_base.specs.AlgoNames.{algo_by};
 
 use uimg_base::Algo;
-use uimg_names::Naming;
+use uimg_texts::Naming;
 
 /// Returns the algorithm of a name, as in the `algo` property of a hash node, or `None` if the set
 /// of names has none. Only `Naming::All` has crc16-ccitt. Case matters.

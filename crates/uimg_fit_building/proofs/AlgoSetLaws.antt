@@ -1,7 +1,7 @@
 -- The algorithms of hash nodes that are all known are in use.
 use Rattle.std.proofs.Common.{◌≡◌, List, [], ◌∷◌, Option, Some, None, true, false, is_some, refl, ap, sym, subst}
 use Rattle.std.specs.{List.{list_all, AllByRecursion}, Option.{option_and_then, IfSome}}
-use Rattle.uimg_names.specs.declared.naming.Naming.{Naming}
+use Rattle.uimg_texts.specs.declared.naming.Naming.{Naming}
 use Rattle.uimg_sums.specs.declared.algo.Algo.{Algo}
 use Rattle.uimg_blob_reading.specs.LookUps.{NodeOf}
 use Rattle.uimg_blob_writing.specs.Content.{Content}

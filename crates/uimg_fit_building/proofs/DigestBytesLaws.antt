@@ -1,7 +1,7 @@
 -- Filling, but for the bytes of the digests.
 use Rattle.std.proofs.Common.{◌≡◌, ℕ, suc, ◌+◌, ◌<◌, List, [], ◌∷◌, length, map, set, get_or, Option, Some, None, Bool, true, false, not, cond, if◌then◌else◌, refl, ap, sym, ◌∙◌, codes, arith}
 use Rattle.std.specs.{Option.{option_map_or, option_and_then}, Str.bytes_eq}
-use Rattle.uimg_names.specs.declared.naming.Naming.{Naming}
+use Rattle.uimg_texts.specs.declared.naming.Naming.{Naming}
 use Rattle.uimg_sums.specs.{declared.algo.Algo.Algo, Algorithms.digest_by}
 use Rattle.uimg_texts.specs.Nul.{text}
 use Rattle.uimg_blob_reading.specs.{Roles.is_hash, Plain.{NamedOf, a_node}, LookUps.{NodeOf, first}}

@@ -1,7 +1,7 @@
 -- Filling leaves each file as it stands: what is so of each value, and of any bytes, is so of each value of the filled tree.
 use Rattle.std.proofs.Common.{ℕ, List, [], ◌∷◌, Option, Some, None, Bool, true, false, not, cond, if◌then◌else◌, codes}
 use Rattle.std.specs.{List.{list_any, AllByRecursion}, Option.option_map_or, Str.bytes_eq}
-use Rattle.uimg_names.specs.declared.naming.Naming.{Naming}
+use Rattle.uimg_texts.specs.declared.naming.Naming.{Naming}
 use Rattle.uimg_sums.specs.{declared.algo.Algo.Algo, Algorithms.digest_by}
 use Rattle.uimg_blob_reading.specs.{Roles.is_hash, Plain.{NamedOf, no_node, a_node, AllValues}}
 use Rattle.uimg_blob_reading.specs.LookUps.{NodeOf, first}

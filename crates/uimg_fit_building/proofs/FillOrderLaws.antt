@@ -2,7 +2,7 @@
 use Rattle.std.proofs.Common.{◌≡◌, ◌≢◌, ℕ, zero, suc, ◌+◌, ◌<◌, ◌≤◌, List, [], ◌∷◌, ◌++◌, length, map, take, drop, get_or, Option, Some, None, Bool, true, false, IsTrue, Result, Ok, Err, OnOk, refl, ap, sym, subst, ◌∙◌, codes, arith}
 use Rattle.std.specs.{List.{filter, AllByRecursion}, Option.IfSome, Result.IsErrAnd, Bool.⊤}
 use Rattle.std.proofs.lemmas.List.{take_all}
-use Rattle.uimg_names.specs.declared.naming.Naming.{Naming}
+use Rattle.uimg_texts.specs.declared.naming.Naming.{Naming}
 use Rattle.uimg_base.specs.Named.{FileMap, SameFiles}
 use Rattle.uimg_blob_reading.specs.{Roles.is_hash, LookUps.{NodeOf, listed, first}}
 use Rattle.uimg_blob_writing.specs.{declared.tree.Node.Node, Content.{Content, Unread, IsKept}}

@@ -2,7 +2,7 @@
 use Rattle.std.proofs.Common.{◌≡◌, ℕ, suc, ◌+◌, ◌<◌, ◌≤◌, List, [], ◌∷◌, ◌++◌, length, map, set, get_or, find, Option, Some, None, Bool, true, false, not, cond, ◌&&◌, is_some, is_none, if◌then◌else◌, Result, Ok, Err, refl, ap, sym, subst, ◌∙◌, codes, arith}
 use Rattle.std.specs.{List.{filter, list_all, prefix_len, AllByRecursion}, Str.bytes_eq}
 use Rattle.std.specs.Option.{option_map, option_or, IfSome}
-use Rattle.uimg_names.specs.declared.naming.Naming.{Naming}
+use Rattle.uimg_texts.specs.declared.naming.Naming.{Naming}
 use Rattle.uimg_blob_reading.specs.{Roles.is_hash, Plain.{NamedOf, Nodes, no_node, a_node}}
 use Rattle.uimg_blob_reading.specs.LookUps.{NodeOf, listed, first, images}
 use Rattle.uimg_blob_writing.specs.{declared.tree.Node.Node, Trees.siblings, Encoding.word}

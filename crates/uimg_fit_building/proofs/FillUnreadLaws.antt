@@ -2,7 +2,7 @@
 use Rattle.std.proofs.Common.{◌≡◌, ℕ, List, [], ◌∷◌, map, Option, Some, None, Bool, true, false, not, cond, if◌then◌else◌, refl, ap, ◌∙◌, codes}
 use Rattle.std.specs.{List.list_any, Option.{option_map, option_map_or, option_and_then}}
 use Rattle.std.specs.Str.{bytes_eq}
-use Rattle.uimg_names.specs.declared.naming.Naming.{Naming}
+use Rattle.uimg_texts.specs.declared.naming.Naming.{Naming}
 use Rattle.uimg_sums.specs.{declared.algo.Algo.Algo, Algorithms.digest_by}
 use Rattle.uimg_texts.specs.Nul.{text}
 use Rattle.uimg_blob_reading.specs.{Roles.is_hash, LookUps.{NodeOf, first}}

@@ -2,7 +2,7 @@
 use Rattle.std.proofs.Common.{◌≡◌, ◌<◌, ◌≤◌, ℕ, zero, suc, List, [], ◌∷◌, length, map, take, get_or, replicate, Option, Some, None, Bool, true, false, cond, refl, ap, sym, subst, ◌∙◌, codes, arith, Result, Ok, Err, OnOk}
 use Rattle.std.specs.{List.{filter, AllByRecursion}, Option.{option_map_or, IfSome}}
 use Rattle.std.proofs.lemmas.List.{take_at}
-use Rattle.uimg_names.specs.declared.naming.Naming.{Naming, TheVariants.{Profile, All}}
+use Rattle.uimg_texts.specs.declared.naming.Naming.{Naming, TheVariants.{Profile, All}}
 use Rattle.uimg_sums.{specs.declared.algo.Algo.Algo, proofs.DigestSizes.length-digest_by}
 use Rattle.uimg_sums.specs.{Algorithms.{digest_by, digest_size}, AnySum.padded_digest}
 use Rattle.uimg_texts.specs.Nul.{before_nul, text}

@@ -2,7 +2,7 @@
 use Rattle.std.proofs.Common.{◌≡◌, ◌≢◌, ℕ, List, [], ◌∷◌, map, Option, Some, None, Bool, true, false, cond, ◌&&◌, IfErr, OnOk, is_some, is_none, if◌then◌else◌, Result, Ok, Err, refl, ap, sym, ◌∙◌, codes}
 use Rattle.std.specs.List.{filter, list_all, AllByRecursion}
 use Rattle.std.specs.Option.{option_map, option_map_or, option_and_then, IfSome}
-use Rattle.uimg_names.specs.declared.naming.Naming.{Naming}
+use Rattle.uimg_texts.specs.declared.naming.Naming.{Naming}
 use Rattle.uimg_sums.specs.declared.algo.Algo.{Algo}
 use Rattle.uimg_texts.specs.Nul.{text}
 use Rattle.uimg_blob_reading.specs.{Roles.is_hash, Plain.{NamedOf, no_node, a_node, with_value}}

@@ -2,7 +2,7 @@
 use Rattle.std.proofs.Common.{◌≡◌, ℕ, List, [], ◌∷◌, find, Option, Some, None, Bool, true, false, cond, if◌then◌else◌, refl, ap, sym, ◌∙◌, codes}
 use Rattle.std.specs.{List.AllByRecursion, Option.{option_map, option_map_or, option_and_then}}
 use Rattle.std.specs.Str.{bytes_eq}
-use Rattle.uimg_names.specs.declared.naming.Naming.{Naming}
+use Rattle.uimg_texts.specs.declared.naming.Naming.{Naming}
 use Rattle.uimg_sums.specs.{declared.algo.Algo.Algo, Algorithms.digest_by}
 use Rattle.uimg_texts.specs.Nul.{text}
 use Rattle.uimg_blob_reading.specs.{Roles.is_hash, Plain.{NamedOf, no_node, a_node}}

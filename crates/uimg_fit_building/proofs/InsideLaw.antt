@@ -2,7 +2,7 @@
 use Rattle.std.proofs.Common.{◌≡◌, ◌<◌, ◌^◌, ℕ, ◌+◌, List, [], ◌∷◌, ◌++◌, length, map, Option, Some, None, Result, Ok, false, nat_lt, unwrap_or, refl, ap, sym, subst, ◌∙◌, codes}
 use Rattle.std.specs.{List.AllByRecursion, Option.{option_map, option_and_then, IfSome}}
 use Rattle.std.{specs.Result.IfOk, proofs.lemmas.Bool.le-ltb}
-use Rattle.uimg_names.specs.declared.naming.Naming.TheVariants.{Profile}
+use Rattle.uimg_texts.specs.declared.naming.Naming.TheVariants.{Profile}
 use Rattle.uimg_blob_reading.specs.{Reading.Fault, Grammar.Siblings, Blob.tree, Spots.{Spot, spots}}
 use Rattle.uimg_blob_reading.specs.Plain.{Named, Nodes, no_node, a_node, AllValues, AreNamed}
 use Rattle.uimg_blob_reading.specs.{LookUps.{NodeOf, first, images}, Indexed.value_span}

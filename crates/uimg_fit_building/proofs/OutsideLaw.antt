@@ -3,7 +3,7 @@ use Rattle.std.proofs.Common.{◌≡◌, ◌≤◌, ◌<◌, ◌^◌, ℕ, ◌+�
 use Rattle.std.specs.{List.{flat_map, AllByRecursion}, Option.{option_map, option_and_then}}
 use Rattle.std.{specs.Str.bytes_eq, proofs.lemmas.{Bool.le-ltb, List.length-replicate}}
 use Rattle.std.proofs.Math.Seq.{drop-append_seam}
-use Rattle.uimg_names.specs.declared.naming.Naming.TheVariants.{Profile}
+use Rattle.uimg_texts.specs.declared.naming.Naming.TheVariants.{Profile}
 use Rattle.uimg_texts.specs.Numbers.{be32, up4}
 use Rattle.uimg_blob_reading.specs.{Plain.{Named, Nodes, no_node, a_node, AreNamed}, Spots.Spot}
 use Rattle.uimg_blob_reading.specs.LookUps.{NodeOf, first, images, hashes}

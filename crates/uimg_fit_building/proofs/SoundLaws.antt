@@ -3,7 +3,7 @@ use Rattle.std.proofs.Common.{◌≡◌, ℕ, zero, suc, List, [], ◌∷◌, le
 use Rattle.std.specs.{Bool.⊤, List.{slice_get, AllByRecursion}, Str.bytes_eq}
 use Rattle.std.{specs.Option.{option_map, option_and_then}, proofs.lemmas.Bool.eq-eqb}
 use Rattle.std.proofs.lemmas.{Option.slice_get-map, Slice.Eq.bytes_eq-Decides}
-use Rattle.uimg_names.specs.declared.naming.Naming.TheVariants.{Profile}
+use Rattle.uimg_texts.specs.declared.naming.Naming.TheVariants.{Profile}
 use Rattle.uimg_sums.{specs.declared.algo.Algo.Algo, proofs.DigestSizes.length-digest_by}
 use Rattle.uimg_sums.specs.Algorithms.{algo_named, digest_size, digest_by}
 use Rattle.uimg_base.specs.{Outcome.{done, told, unless_refused}, Results.◌>>=◌}

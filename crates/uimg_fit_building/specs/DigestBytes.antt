@@ -1,6 +1,6 @@
 -- A tree without the bytes of its images' digests.
 use Rattle.std.specs.{Prelude.{List, length, replicate, if◌then◌else◌, codes}, Option.option_map_or}
-use Rattle.uimg_names.specs.declared.naming.Naming.{Naming}
+use Rattle.uimg_texts.specs.declared.naming.Naming.{Naming}
 use Rattle.uimg_blob_reading.specs.{Roles.is_hash, Plain.NamedOf, LookUps.{NodeOf, first}}
 use Rattle.uimg_blob_writing.specs.{declared.tree.Node.Node, Content.{Content, Unread, bytes, file}}
 use Rattle.uimg_fit_building.specs.Filling.{with, each, in_first, with_images, hash_algo}

@@ -1,7 +1,7 @@
 -- The results of filling, over files of the kept sizes.
 use Rattle.std.specs.Prelude.{◌≡◌, ◌≢◌, ℕ, List, [], ◌∷◌, ◌++◌, map, Bool, true, false, IsTrue}
 use Rattle.std.specs.Prelude.{Option, Some, None, Result, Ok, Err, codes, ⊤}
-use Rattle.uimg_names.specs.declared.naming.Naming.{Naming, TheVariants.Profile}
+use Rattle.uimg_texts.specs.declared.naming.Naming.{Naming, TheVariants.Profile}
 use Rattle.uimg_base.specs.{Lent.Lent, Named.FileMap}
 use Rattle.uimg_blob_writing.specs.UsingFiles.{UsesFiles}
 use Rattle.uimg_blob_writing.specs.Content.{Content, Unread, file, content_bytes, in_full, AreKept}

@@ -1,7 +1,7 @@
 -- The order in which filling reads and refuses, over files of any sizes.
 use Rattle.std.specs.Prelude.{◌≡◌, ◌≢◌, ℕ, List, [], ◌∷◌, ◌++◌, Bool, IsTrue, Option, Some, None}
 use Rattle.std.specs.{Prelude.{Result, Ok, Err, ⊤}, List.AllByRecursion, Option.IsSomeAnd}
-use Rattle.uimg_names.specs.declared.naming.Naming.{Naming}
+use Rattle.uimg_texts.specs.declared.naming.Naming.{Naming}
 use Rattle.uimg_base.specs.Named.{FileMap}
 use Rattle.uimg_blob_reading.specs.LookUps.{NodeOf, hashes}
 use Rattle.uimg_blob_writing.specs.Content.{Content}

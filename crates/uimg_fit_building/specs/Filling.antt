@@ -2,7 +2,7 @@
 use Rattle.std.specs.Prelude.{◌≡◌, ℕ, List, [], ◌∷◌, if◌then◌else◌, not, Option, Some, None, codes}
 use Rattle.std.specs.{List.{filter, list_any, AllByRecursion}, Str.bytes_eq}
 use Rattle.std.specs.Option.{option_and_then, option_map_or}
-use Rattle.uimg_names.specs.declared.naming.Naming.{Naming, TheVariants.Profile}
+use Rattle.uimg_texts.specs.declared.naming.Naming.{Naming, TheVariants.Profile}
 use Rattle.uimg_sums.specs.{declared.algo.Algo.Algo, Algorithms.digest_by}
 use Rattle.uimg_blob_reading.specs.{Roles.is_hash, LookUps.{NodeOf, first, images, hashes}}
 use Rattle.uimg_blob_reading.specs.Plain.{NamedOf, NodesOf, Named, Nodes, no_node, a_node}

@@ -1,7 +1,7 @@
 -- Steps that set the digests of hash nodes.
 use Rattle.std.specs.Prelude.{◌≡◌, ℕ, List, map, true, Result, OnOk, IsOkUnless}
 use Rattle.std.specs.List.{filter, AllByRecursion}
-use Rattle.uimg_names.specs.declared.naming.Naming.{Naming}
+use Rattle.uimg_texts.specs.declared.naming.Naming.{Naming}
 use Rattle.uimg_base.specs.Lent.{Lent}
 use Rattle.uimg_blob_reading.specs.Roles.{is_hash}
 use Rattle.uimg_blob_writing.specs.{declared.tree.Node.Node, Content.bytes, Trees.siblings}

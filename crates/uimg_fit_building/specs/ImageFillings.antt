@@ -2,7 +2,7 @@
 use Rattle.std.specs.Prelude.{◌≡◌, ◌≢◌, ℕ, List, [], ◌∷◌, ◌++◌, map, Bool, true, false, is_some}
 use Rattle.std.specs.{Prelude.{find, Option, Some, None, Result, Ok, Err, codes, ⊤}, Str.bytes_eq}
 use Rattle.std.specs.{List.{filter, list_all}, Option.{option_map, option_map_or, IfSome}}
-use Rattle.uimg_names.specs.declared.naming.Naming.{Naming}
+use Rattle.uimg_texts.specs.declared.naming.Naming.{Naming}
 use Rattle.uimg_blob_reading.specs.{LookUps.{NodeOf, listed, first, hashes}, Roles.is_hash}
 use Rattle.uimg_blob_writing.specs.declared.tree.Node.{Node}
 use Rattle.uimg_blob_writing.specs.Content.{Content, Unread, bytes, file, content_bytes, IsKept}

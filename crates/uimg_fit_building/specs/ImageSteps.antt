@@ -1,7 +1,7 @@
 -- Steps that fill images.
 use Rattle.std.specs.{Prelude.{Bool, IsTrue, List, Option, Result}, List.AllByRecursion}
 use Rattle.std.specs.Option.{IfSome}
-use Rattle.uimg_names.specs.declared.naming.Naming.{Naming}
+use Rattle.uimg_texts.specs.declared.naming.Naming.{Naming}
 use Rattle.uimg_base.specs.{Lent.Lent, Named.FileMap}
 use Rattle.uimg_blob_reading.specs.LookUps.{NodeOf}
 use Rattle.uimg_blob_writing.specs.Content.{Content}

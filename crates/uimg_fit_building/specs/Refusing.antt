@@ -2,7 +2,7 @@
 use Rattle.std.specs.Prelude.{ℕ, List, [], ◌∷◌, Bool, length, is_some, is_none, nat_lt}
 use Rattle.std.specs.Prelude.{if◌then◌else◌, Option, Some, None, Result, Ok, Err, codes}
 use Rattle.std.specs.{List.list_all, Option.option_or}
-use Rattle.uimg_names.specs.declared.naming.Naming.{Naming, TheVariants.Profile}
+use Rattle.uimg_texts.specs.declared.naming.Naming.{Naming, TheVariants.Profile}
 use Rattle.uimg_blob_reading.specs.{Plain.Nodes, LookUps.{NodeOf, first, images, hashes}}
 use Rattle.uimg_fit_base.specs.declared.fault.FitFault.{FitFault}
 use Rattle.uimg_fit_base.specs.declared.fault.FitFault.TheVariants.{NoImages, NoData, UnknownAlgo}

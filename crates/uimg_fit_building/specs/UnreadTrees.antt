@@ -1,6 +1,6 @@
 -- Filling and placing if payloads stay in their files.
 use Rattle.std.specs.Prelude.{ℕ, List, Option}
-use Rattle.uimg_names.specs.declared.naming.Naming.{Naming}
+use Rattle.uimg_texts.specs.declared.naming.Naming.{Naming}
 use Rattle.uimg_blob_reading.specs.Plain.{NamedOf}
 use Rattle.uimg_blob_writing.specs.Content.{Content, Unread, bytes, content_bytes, size_of}
 use Rattle.uimg_fit_base.specs.declared.placement.AlignedPlacement.{AlignedPlacement}

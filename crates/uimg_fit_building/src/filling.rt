@@ -9,7 +9,7 @@ ghost use Rattle.uimg_blob_writing.specs.LentFiles.{OfHonest, IfKept, IfComplete
 ghost use Rattle.uimg_fit_building.specs.{Filling.{with, each, in_first}, PayloadSums.no_files};
 ghost use Rattle.uimg_fit_building.specs.FillAnswers.{opens_no_file, fails_to_read};
 ghost use Rattle.uimg_fit_building.specs.FillAnswers.{FillsAnswer, FillsAnswerBy};
-ghost use Rattle.uimg_names.specs.declared.naming.Naming.TheVariants.{Profile};
+ghost use Rattle.uimg_texts.specs.declared.naming.Naming.TheVariants.{Profile};
 ghost use Rattle.uimg_fit_building.specs.ImageSteps.{OpensImages, AnswersInOrder};
 ghost use Rattle.uimg_fit_building.specs.SettingSteps.{MakesUnlessMemory};
 ghost use Rattle.uimg_fit_building.specs.OpenedFiles.{OpensNamed, summed_files};
@@ -29,7 +29,7 @@ use std::mem;
 use uimg_base::{Files, Source};
 use uimg_blob_writing::{Node, Nodes, Props, Tree, Value};
 use uimg_fit_base::FitFault;
-use uimg_names::Naming;
+use uimg_texts::Naming;
 
 fn with_time<A: Allocator + Copy>(
     alloc: A,

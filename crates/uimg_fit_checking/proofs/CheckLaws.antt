@@ -7,7 +7,7 @@ use Rattle.std.proofs.lemmas.Bool.{lt-ltb, le-ltb}
 use Rattle.std.proofs.lemmas.List.Sums.{sum_by-cons}
 use Rattle.uimg_sums.specs.declared.algo.Algo.{Algo}
 use Rattle.uimg_texts.specs.Slices.{slice}
-use Rattle.uimg_names.specs.declared.naming.Naming.TheVariants as naming
+use Rattle.uimg_texts.specs.declared.naming.Naming.TheVariants as naming
 use Rattle.uimg_base.specs.Results.{◌>>=◌}
 use Rattle.uimg_base.specs.declared.source.SourceFault.{SourceFault}
 use Rattle.uimg_base.specs.declared.spans.Span.{Span}
@@ -48,7 +48,7 @@ use Rattle.uimg_fit_reading.proofs.HashReportLaws.{covered_first}
 use Rattle.uimg_fit_reading.proofs.ImageLaws.{front, none_left}
 use Rattle.uimg_fit_reading.proofs.PlanLaws.{if_err}
 use Rattle.uimg_fit_reading.proofs.SharesLaws.{hashes_allowed, images_allowed}
-use Rattle.uimg_names.specs.declared.naming.Naming.{TheVariants.{Profile}}
+use Rattle.uimg_texts.specs.declared.naming.Naming.{TheVariants.{Profile}}
 use Rattle.uimg_blob_reading.specs.Keys.{is_text}
 
 -- The first hash node that is not right among those that are left is the first of all.

@@ -11,7 +11,7 @@ use Rattle.std.proofs.lemmas.List.Sums.{sum_by-cons}
 use Rattle.std.specs.Io.KnownBytes.{Appends}
 use Rattle.uimg_sums.specs.declared.algo.Algo.{Algo}
 use Rattle.uimg_texts.specs.Slices.{slice}
-use Rattle.uimg_names.specs.declared.naming.Naming.TheVariants as naming
+use Rattle.uimg_texts.specs.declared.naming.Naming.TheVariants as naming
 use Rattle.uimg_base.specs.declared.ranges.MoveFault.{MoveFault}
 use Rattle.uimg_base.specs.declared.ranges.MoveFault.TheVariants as move
 use Rattle.uimg_base.specs.declared.spans.Span.{Span}
@@ -40,7 +40,7 @@ use Rattle.uimg_fit_checking.proofs.CheckLaws.{some_nodes}
 use Rattle.uimg_fit_checking.proofs.ClaimLaws.{fits_first}
 use Rattle.uimg_fit_reading.proofs.ImageLaws.{none_left}
 use Rattle.uimg_fit_reading.proofs.SharesLaws.{hashes_allowed}
-use Rattle.uimg_names.specs.declared.naming.Naming.{TheVariants.{Profile}}
+use Rattle.uimg_texts.specs.declared.naming.Naming.{TheVariants.{Profile}}
 
 -- what nothing was written before holds what was
 filled : (c : Option (List ℕ)) (bytes : List ℕ) → Appends (Some []) c bytes → c ≡ Some bytes

@@ -4,7 +4,7 @@ use Rattle.std.specs.Prelude.{Ok, Err, IfOk, IfSome}
 use Rattle.std.specs.List.{sum_by}
 use Rattle.std.specs.Option.{option_map}
 use Rattle.uimg_sums.specs.declared.algo.Algo.{Algo}
-use Rattle.uimg_names.specs.declared.naming.Naming.TheVariants as naming
+use Rattle.uimg_texts.specs.declared.naming.Naming.TheVariants as naming
 use Rattle.uimg_base.specs.Device.{Device}
 use Rattle.uimg_base.specs.Lent.{Lent}
 use Rattle.uimg_base.specs.declared.spans.Span.{Span}
@@ -28,7 +28,7 @@ use Rattle.uimg_fit_reading.specs.Work.{hashed_size}
 use Rattle.uimg_fit_checking.specs.Checks.{NamedFinding, named_finding, EndsInside, wrong_in}
 use Rattle.uimg_fit_checking.specs.Checks.{found_of}
 use Rattle.uimg_fit_checking.specs.Checks.{image_finding, first_told}
-use Rattle.uimg_names.specs.declared.naming.Naming.{TheVariants.{Profile}}
+use Rattle.uimg_texts.specs.declared.naming.Naming.{TheVariants.{Profile}}
 
 -- the finding about an image with a hash node that is not right
 abbrev pub wrong_told : List ℕ → List ℕ → WrongHash → NamedFinding

@@ -4,7 +4,7 @@ use Rattle.std.specs.Prelude.{if◌then◌else◌, Option, Some, None, Result, O
 use Rattle.std.specs.List.{sum_by}
 use Rattle.uimg_sums.specs.declared.algo.Algo.{Algo}
 use Rattle.uimg_texts.specs.Slices.{slice}
-use Rattle.uimg_names.specs.declared.naming.Naming.TheVariants as naming
+use Rattle.uimg_texts.specs.declared.naming.Naming.TheVariants as naming
 use Rattle.uimg_base.specs.Results.{◌>>=◌}
 use Rattle.uimg_base.specs.declared.spans.Span.{Span}
 use Rattle.uimg_blob_reading.specs.LookUps.{NodeOf, hashes}
@@ -21,7 +21,7 @@ use Rattle.uimg_fit_checking.specs.declared.checking.Finding.TheVariants.{Weak, 
 use Rattle.uimg_fit_checking.specs.declared.checking.Finding.TheVariants.{NoImage}
 use Rattle.uimg_fit_checking.specs.Vouching.{is_vouched}
 use Rattle.uimg_fit_reading.specs.Work.{own_meta, hashed_size}
-use Rattle.uimg_names.specs.declared.naming.Naming.{TheVariants.{Profile}}
+use Rattle.uimg_texts.specs.declared.naming.Naming.{TheVariants.{Profile}}
 
 -- the most bytes that a check requests: of all payloads together at most the file's length
 abbrev pub check_work : List ℕ → ℕ

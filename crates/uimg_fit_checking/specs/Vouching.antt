@@ -3,7 +3,7 @@ use Rattle.std.specs.Prelude.{List, Bool, drop}
 use Rattle.std.specs.List.{list_any}
 use Rattle.uimg_sums.specs.Algorithms.{all_algos, number}
 use Rattle.uimg_sums.specs.declared.algo.Algo.{Algo}
-use Rattle.uimg_names.specs.declared.naming.Naming.TheVariants as naming
+use Rattle.uimg_texts.specs.declared.naming.Naming.TheVariants as naming
 use Rattle.uimg_blob_reading.specs.LookUps.{NodeOf, hashes}
 use Rattle.uimg_blob_reading.specs.Spots.{Spot}
 use Rattle.uimg_fit_base.specs.declared.algo_sets.AlgoSet.{AlgoSet}

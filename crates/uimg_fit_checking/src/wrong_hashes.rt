@@ -1,7 +1,7 @@
 //! The first hash node of an image that is not right.
 
 ghost use Rattle.std.specs.Prelude.{◌≡◌, ℕ, ◌+◌, ◌≤◌, List, length, is_err, IfOk, IfSome};
-ghost use Rattle.uimg_names.specs.declared.naming.Naming.TheVariants as naming;
+ghost use Rattle.uimg_texts.specs.declared.naming.Naming.TheVariants as naming;
 ghost use Rattle.uimg_base.specs.Using.{Uses};
 ghost use Rattle.uimg_fit_base.specs.AlgoSets.{set_of, AreDigests};
 ghost use Rattle.uimg_fit_checking.specs.CheckParts.{FindsWrong};
@@ -15,7 +15,7 @@ use uimg_blob_reading::Blob;
 use uimg_fit_base::{Digests, Verdict, is_right};
 use uimg_fit_reading::judge;
 use uimg_fit_reading::nodes::{name_of, next_hash};
-use uimg_names::Naming;
+use uimg_texts::Naming;
 
 /// A hash node that is not right.
 #[derive(Clone, Copy, Debug, PartialEq, Eq)]

@@ -9,7 +9,7 @@ use Rattle.uimg_blob_reading.specs.Grammar.{Siblings, none, node, properties, en
 use Rattle.uimg_blob_reading.specs.Counts.{is_begin, text_length, begun_by, sound_in, nodes_met, texts_met}
 use Rattle.uimg_fit_base.proofs.ReadLaws.{on-bind}
 use Rattle.uimg_fit_reading.specs.Allowances.{text_size, text_sizes, allowance}
-use Rattle.uimg_names.specs.declared.naming.Naming.{Naming}
+use Rattle.uimg_texts.specs.declared.naming.Naming.{Naming}
 use Rattle.uimg_fit_reading.specs.Allowances.{is_text_in}
 
 -- what a token leaves

@@ -3,7 +3,7 @@ use Rattle.std.proofs.Common.{◌≡◌, ◌≤◌, ◌==◌, ◌||◌, ℕ, Lis
 use Rattle.std.specs.{List.list_any, Option.option_map, Str.bytes_eq}
 use Rattle.uimg_sums.specs.declared.algo.Algo.{Algo}
 use Rattle.uimg_sums.specs.{Algorithms.{digest_size, digest_by}, Bundle.padded_digests}
-use Rattle.uimg_names.specs.declared.naming.Naming.{Naming}
+use Rattle.uimg_texts.specs.declared.naming.Naming.{Naming}
 use Rattle.uimg_fit_base.specs.AlgoNames.{algo_by}
 use Rattle.uimg_blob_reading.specs.declared.keys.Key.TheVariants as key
 use Rattle.uimg_blob_reading.specs.{Indexed.{keeps, value_span}, LookUps.{NodeOf, first}}

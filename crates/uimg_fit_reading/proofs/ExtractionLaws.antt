@@ -21,7 +21,7 @@ use Rattle.uimg_fit_base.proofs.FileLaws.{images_are}
 use Rattle.uimg_fit_reading.specs.{Nodes.{IsNode, HasImage}, Work.{list_work, extract_work}}
 use Rattle.uimg_fit_reading.specs.PayloadPlaces.{place_of, place_at}
 use Rattle.uimg_fit_reading.specs.Rooms.{InspectsBetween, DeliversBetween}
-use Rattle.uimg_names.specs.declared.naming.Naming.{TheVariants.{Profile}}
+use Rattle.uimg_texts.specs.declared.naming.Naming.{TheVariants.{Profile}}
 
 -- the payload at the position of an image
 payload_is : (file : List ℕ) (t : Siblings) (position number : ℕ) → tree file ≡ Ok t → (h : HasImage t position number) → payload_at file position ≡ of_images (payload file h.image)

@@ -4,8 +4,8 @@ use Rattle.std.specs.{Prelude.{Result, Ok, is_err}, List.{flat_map, sum_by}}
 use Rattle.std.proofs.lemmas.List.Sums.{sum_by-cons}
 use Rattle.uimg_base.specs.{Sink.Sink, Writing.Written, declared.ranges.MoveFault.MoveFault}
 use Rattle.uimg_base.specs.declared.source.SourceFault.{SourceFault}
-use Rattle.uimg_names.specs.declared.naming.Naming.{Naming}
-use Rattle.uimg_names.specs.declared.naming.Naming.TheVariants.{Profile}
+use Rattle.uimg_texts.specs.declared.naming.Naming.{Naming}
+use Rattle.uimg_texts.specs.declared.naming.Naming.TheVariants.{Profile}
 use Rattle.uimg_blob_reading.specs.{Grammar.Siblings, LookUps.NodeOf, Spots.Spot}
 use Rattle.uimg_fit_base.specs.declared.{algo_sets.AlgoSet.AlgoSet, verdicts.Verdict.Verdict}
 use Rattle.uimg_fit_base.specs.{AlgoSets.no_algos, Report.{word_of, is_right, hash_line, are_right}}

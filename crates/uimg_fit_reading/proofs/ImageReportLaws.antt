@@ -10,7 +10,7 @@ use Rattle.uimg_base.proofs.SinkLaws.{Appends-none, prefix_first, prefix_none}
 use Rattle.uimg_blob_reading.specs.{Grammar.Siblings, LookUps.{NodeOf, hashes}, Roles.in_images}
 use Rattle.uimg_blob_reading.{specs.Spots.Spot, proofs.PhaseLaws.true_false}
 use Rattle.uimg_blob_reading.specs.Faults.{refuses_memory}
-use Rattle.uimg_names.specs.declared.naming.Naming.TheVariants.{Profile}
+use Rattle.uimg_texts.specs.declared.naming.Naming.TheVariants.{Profile}
 use Rattle.uimg_fit_base.specs.{declared.fault.Fault.Fault, Faults.{end_of, of_move, unless_memory}}
 use Rattle.uimg_fit_base.specs.declared.fault.Fault.TheVariants.{Blob as OfBlob, Fit, Read, Put}
 use Rattle.uimg_fit_base.specs.{declared.fault.FitFault.FitFault, Places.{payload, TellsPlace}}

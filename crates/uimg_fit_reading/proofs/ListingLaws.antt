@@ -1,7 +1,7 @@
 -- What is written is the listing.
 use Rattle.std.proofs.Common.{◌≡◌, ℕ, List, ◌++◌, Option, Ok, Result, codes, refl, ap, sym}
 use Rattle.uimg_base.specs.Outcome.{after, unless_refused}
-use Rattle.uimg_names.specs.declared.naming.Naming.{Naming}
+use Rattle.uimg_texts.specs.declared.naming.Naming.{Naming}
 use Rattle.uimg_blob_reading.specs.{Blob.tree, Grammar.Siblings, Reading.Fault as BlobFaultAt}
 use Rattle.uimg_blob_reading.specs.Plain.{NamedOf, NodesOf}
 use Rattle.uimg_blob_reading.specs.{LookUps.{NodeOf, images, configurations}, Spots.{Spot, spots}}

@@ -9,7 +9,7 @@ use Rattle.uimg_texts.specs.Slices.{slice}
 use Rattle.uimg_base.{proofs.Slices.length-slice, specs.declared.spans.Span.Span}
 use Rattle.uimg_fit_reading.specs.declared.report.plans.Plan.{Plan, TheVariants.Compared}
 use Rattle.uimg_fit_reading.specs.declared.report.plans.Plan.TheVariants as plan
-use Rattle.uimg_names.specs.declared.naming.Naming.{Naming}
+use Rattle.uimg_texts.specs.declared.naming.Naming.{Naming}
 use Rattle.uimg_fit_base.specs.AlgoNames.{algo_by}
 use Rattle.uimg_fit_base.specs.{declared.algo_sets.AlgoSet.AlgoSet, AlgoSets.has, Files.bytes_in}
 use Rattle.uimg_fit_base.specs.declared.verdicts.Verdict.{Verdict, TheVariants.{Right, Wrong}}

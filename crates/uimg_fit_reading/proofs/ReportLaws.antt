@@ -7,7 +7,7 @@ use Rattle.uimg_base.specs.declared.status.Status.{Status}
 use Rattle.uimg_blob_reading.specs.{Blob.tree, Counts.{index_cost, nodes_met, texts_met}}
 use Rattle.uimg_blob_reading.specs.{Grammar.Siblings, LookUps.{NodeOf, images}, Spots.{Spot, spots}}
 use Rattle.uimg_blob_reading.specs.Reading.{Fault as BlobFaultAt}
-use Rattle.uimg_names.specs.declared.naming.Naming.TheVariants.{Profile}
+use Rattle.uimg_texts.specs.declared.naming.Naming.TheVariants.{Profile}
 use Rattle.uimg_fit_base.specs.{declared.fault.Fault.Fault, Faults.end_of, Files.images_of}
 use Rattle.uimg_fit_base.specs.{Places.payload, Report.{report, verify_of}}
 use Rattle.uimg_fit_base.proofs.FileLaws.{images_are}

@@ -15,7 +15,7 @@ use Rattle.uimg_fit_reading.specs.{Rows.{arch_row, system_row, load_row, tree_lo
 use Rattle.uimg_fit_reading.specs.declared.listing.rows.{Signing.Signing, Row.TheVariants.{Signing as Part}}
 use Rattle.uimg_fit_reading.specs.declared.{listing.rows.Row.Row, nodes.Sum.{Sum, TheVariants.{Hash, Signature}}}
 use Rattle.uimg_fit_reading.specs.{Shows.{value_cost, show_weight}, Telling.ListsBetween}
-use Rattle.uimg_names.specs.declared.{field.Field.{Field, TheVariants.{Architecture, System, Kind, Compression}}, naming.Naming.{Naming, TheVariants.{Profile, All}}}
+use Rattle.uimg_texts.specs.declared.{field.Field.{Field, TheVariants.{Architecture, System, Kind, Compression}}, naming.Naming.{Naming, TheVariants.{Profile, All}}}
 use Rattle.uimg_fit_reading.proofs.{TellingLaws.then_lists, SharesLaws.{one_text, two_texts}}
 
 cost_by : (how : Show) (o : Option Spot) → option_map_or (λ s. value_cost how s.length) (option_map value_span o) 0 ≡ show_weight how (option_map (λ s. s.bytes) o)

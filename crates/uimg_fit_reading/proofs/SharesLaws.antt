@@ -9,7 +9,7 @@ use Rattle.uimg_blob_reading.proofs.PhaseLaws.{some_none, some_some, by_bool, tr
 use Rattle.uimg_fit_base.specs.Files.{root_own}
 use Rattle.uimg_fit_reading.specs.Allowances.{text_size, text_sizes, allowance, node_allowance}
 use Rattle.uimg_fit_reading.specs.Rows.{length_of_value}
-use Rattle.uimg_names.specs.declared.naming.Naming.{Naming, TheVariants.{Profile, All}}
+use Rattle.uimg_texts.specs.declared.naming.Naming.{Naming, TheVariants.{Profile, All}}
 use Rattle.uimg_fit_reading.specs.Allowances.{is_text_in}
 
 -- one that is found

@@ -9,7 +9,7 @@ use Rattle.uimg_fit_reading.specs.{declared.listing.listed_nodes.Listed.Listed, 
 use Rattle.uimg_fit_reading.specs.Telling.{ListsBetween}
 use Rattle.uimg_fit_reading.specs.declared.listing.listed_nodes.Listed.TheVariants.{Image, Configuration}
 use Rattle.uimg_fit_reading.proofs.PutLaws.{◌▶◌, cut, nothing}
-use Rattle.uimg_names.specs.declared.naming.Naming.{Naming}
+use Rattle.uimg_texts.specs.declared.naming.Naming.{Naming}
 
 pub then_lists : (e : Bool) (few more : ℕ) (d m f : Device) (s n t : Sink) (xs ys : List ℕ) → ListsBetween false few d m s n xs → ListsBetween e more m f n t ys → ListsBetween e (few + more) d f s t (xs ++ ys)
 then_lists e few more d m f s n t xs ys p q = record { asked = omega (arith, p.asked, q.asked); written = p.written.all ▶ q.written }

@@ -15,7 +15,7 @@ use Rattle.uimg_fit_reading.specs.ListingParts.{configurations_allowance, body_a
 use Rattle.uimg_fit_reading.specs.Rows.{length_of_value}
 use Rattle.uimg_fit_reading.proofs.AllowanceLaws.{tree-paid}
 use Rattle.uimg_fit_reading.proofs.SharesLaws.{images_allowed, both_allowed}
-use Rattle.uimg_names.specs.declared.naming.Naming.{Naming}
+use Rattle.uimg_texts.specs.declared.naming.Naming.{Naming}
 use Rattle.uimg_fit_reading.specs.Allowances.{is_text_in}
 
 size_by : (o : Option Spot) → span_size (option_map value_span o) ≡ option_map_or length (option_map (λ s. s.bytes) o) 0

@@ -2,7 +2,7 @@
 use Rattle.std.specs.{Prelude.{ℕ, ◌+◌, ◌*◌, List, Bool, length, if◌then◌else◌}, List.sum_by}
 use Rattle.uimg_blob_reading.specs.{Keys.{is_text, is_any_text}, Plain.{NamedOf, NodesOf, no_node, a_node}}
 use Rattle.uimg_blob_reading.specs.{LookUps.NodeOf, Spots.Spot}
-use Rattle.uimg_names.specs.declared.naming.Naming.{Naming, TheVariants.{Profile, All}}
+use Rattle.uimg_texts.specs.declared.naming.Naming.{Naming, TheVariants.{Profile, All}}
 
 -- whether a property's value is a text in a listing with a set of names
 abbrev pub is_text_in : Naming → List ℕ → Bool

@@ -2,7 +2,7 @@
 use Rattle.std.specs.Prelude.{◌≡◌, ◌≤◌, ◌+◌, ◌*◌, ℕ, List, ◌++◌, length, codes, if◌then◌else◌, Bool}
 use Rattle.std.specs.Prelude.{Option, Result, IfOk, is_err}
 use Rattle.std.specs.{List.{AllByRecursion, flat_map, sum_by}, Option.option_map_or}
-use Rattle.uimg_names.specs.declared.naming.Naming.{Naming, TheVariants.Profile}
+use Rattle.uimg_texts.specs.declared.naming.Naming.{Naming, TheVariants.Profile}
 use Rattle.uimg_base.specs.{Device.Device, Lent.Lent, Outcome.line, Sink.Sink, Writing.Written}
 use Rattle.uimg_base.specs.declared.{spans.Span.Span, ranges.MoveFault.MoveFault}
 use Rattle.uimg_base.specs.declared.source.SourceFault.{SourceFault}

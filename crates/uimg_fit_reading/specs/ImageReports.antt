@@ -1,7 +1,7 @@
 -- Reports on images, one after the other.
 use Rattle.std.specs.Prelude.{◌≡◌, ◌≤◌, ◌+◌, ℕ, List, if◌then◌else◌, Bool, true, false, Result, Ok}
 use Rattle.std.specs.{Prelude.{Err, IfOk, is_err, Option}, List.sum_by}
-use Rattle.uimg_names.specs.declared.naming.Naming.TheVariants.{Profile}
+use Rattle.uimg_texts.specs.declared.naming.Naming.TheVariants.{Profile}
 use Rattle.uimg_base.specs.{Device.Device, Lent.Lent, Outcome.{Outcome, Tells}, Writing.Written}
 use Rattle.uimg_base.specs.{Sink.{Sink, AppendsAll}, declared.spans.Span.Span}
 use Rattle.uimg_base.specs.declared.{ranges.MoveFault.MoveFault, status.Status.Status}

@@ -5,7 +5,7 @@ use Rattle.uimg_base.specs.Outcome.{Outcome, done, refused, told, after, unless_
 use Rattle.uimg_base.specs.declared.spans.Span.{Span}
 use Rattle.uimg_blob_reading.specs.{Plain.{NamedOf, NodesOf}, Spots.Spot}
 use Rattle.uimg_blob_reading.specs.LookUps.{NodeOf, listed, images, configurations}
-use Rattle.uimg_names.specs.declared.naming.Naming.{Naming, TheVariants.{Profile, All}}
+use Rattle.uimg_texts.specs.declared.naming.Naming.{Naming, TheVariants.{Profile, All}}
 use Rattle.uimg_fit_base.specs.declared.fault.{Fault.{Fault, TheVariants.Fit}, FitFault.FitFault}
 use Rattle.uimg_fit_base.specs.{declared.fault.FitFault.TheVariants.NoImages, Places.place}
 use Rattle.uimg_fit_base.specs.Files.{tree_of, root_own, value_bytes, cell}

@@ -5,7 +5,7 @@ use Rattle.uimg_base.specs.Outcome.{End, Outcome, Tells}
 use Rattle.uimg_blob_reading.specs.{Plain.NodesOf, LookUps.{NodeOf, configurations}, Spots.Spot}
 use Rattle.uimg_fit_base.specs.{Faults.end_of, declared.fault.Fault.Fault}
 use Rattle.uimg_fit_reading.specs.{declared.open_fit.OpenFit.OpenFit, Allowances.node_allowance}
-use Rattle.uimg_names.specs.declared.naming.Naming.{Naming}
+use Rattle.uimg_texts.specs.declared.naming.Naming.{Naming}
 
 -- the most bytes requested for the configurations
 abbrev pub configurations_allowance : Naming → Option (NodeOf Spot) → ℕ

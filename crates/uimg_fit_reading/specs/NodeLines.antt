@@ -10,7 +10,7 @@ use Rattle.uimg_fit_reading.specs.{declared.listing.titles.Numbered.Numbered, Te
 use Rattle.uimg_fit_reading.specs.{declared.open_fit.OpenFit.OpenFit, Allowances.node_allowance}
 use Rattle.uimg_fit_reading.specs.Listing.{image_lines, configuration_lines, numbered_lines}
 use Rattle.uimg_fit_reading.specs.{Nodes.{OfNode, OfNodes}, OpenFits.{file_of, InFit}}
-use Rattle.uimg_names.specs.declared.naming.Naming.{Naming}
+use Rattle.uimg_texts.specs.declared.naming.Naming.{Naming}
 
 -- the level of the nodes of a kind
 abbrev pub level_of : Listed → Level

@@ -4,7 +4,7 @@ use Rattle.std.specs.Prelude.{false, if◌then◌else◌, Option, Some, None, If
 use Rattle.std.specs.{List.list_any, Option.{option_map, option_map_or}, Str.bytes_eq}
 use Rattle.uimg_sums.specs.declared.algo.Algo.{Algo}
 use Rattle.uimg_sums.specs.Algorithms.{digest_size, digest_by}
-use Rattle.uimg_names.specs.declared.naming.Naming.{Naming}
+use Rattle.uimg_texts.specs.declared.naming.Naming.{Naming}
 use Rattle.uimg_texts.specs.{Nul.text, Slices.slice}
 use Rattle.uimg_base.specs.{Outcome.line, declared.spans.Span.Span}
 use Rattle.uimg_blob_reading.specs.{LookUps.{NodeOf, first}, Indexed.value_span, Spots.Spot}

@@ -12,9 +12,9 @@ use Rattle.uimg_blob_reading.specs.declared.keys.Key.TheVariants.{Loadables, Fir
 use Rattle.uimg_blob_reading.specs.declared.keys.Key.TheVariants.{Padding, KeyName, Required}
 use Rattle.uimg_blob_reading.specs.declared.keys.Key.TheVariants.{Timestamp}
 use Rattle.uimg_blob_reading.specs.Roles.{Level, role_at, is_hash, is_signature}
-use Rattle.uimg_names.specs.declared.field.Field.TheVariants as field
-use Rattle.uimg_names.specs.Naming.{code_named}
-use Rattle.uimg_names.specs.declared.naming.Naming.{Naming, TheVariants.{Profile, All}}
+use Rattle.uimg_texts.specs.declared.field.Field.TheVariants as field
+use Rattle.uimg_texts.specs.Naming.{code_named}
+use Rattle.uimg_texts.specs.declared.naming.Naming.{Naming, TheVariants.{Profile, All}}
 use Rattle.uimg_fit_base.specs.Files.{value_bytes, cell}
 use Rattle.uimg_fit_reading.specs.declared.listing.rows.{Facts.Facts, Row.Row, Signing.Signing}
 use Rattle.uimg_fit_reading.specs.declared.nodes.Sum.{Sum, TheVariants.{Hash, Signature}}

@@ -4,8 +4,8 @@ use Rattle.std.specs.{List.flat_map, Option.option_map_or}
 use Rattle.hex.specs.Hex.{encode_lower}
 use Rattle.uimg_texts.specs.{Nul.text, Sizes.size_text, Times.time_text}
 use Rattle.uimg_base.specs.Outcome.{line}
-use Rattle.uimg_names.specs.declared.field.Field.{Field, TheVariants.Compression}
-use Rattle.uimg_names.specs.{declared.naming.Naming.Naming, Naming.{name_text, unknown}}
+use Rattle.uimg_texts.specs.declared.field.Field.{Field, TheVariants.Compression}
+use Rattle.uimg_texts.specs.{declared.naming.Naming.Naming, Naming.{name_text, unknown}}
 use Rattle.uimg_fit_reading.specs.{declared.listing.shows.Show.Show, Values.{address_text, pieces}}
 use Rattle.uimg_fit_reading.specs.declared.listing.shows.Show.TheVariants as show
 

@@ -5,7 +5,7 @@ ghost use Rattle.uimg_base.specs.Honest.{IfHonest};
 ghost use Rattle.uimg_fit_base.specs.Extraction.{payload_at, extract_of};
 ghost use Rattle.uimg_fit_base.specs.Faults.{is_refused, Gives};
 ghost use Rattle.uimg_fit_reading.specs.{Work.{list_work, extract_work}, Values.in_span};
-ghost use Rattle.uimg_names.specs.declared.naming.Naming.TheVariants.{Profile};
+ghost use Rattle.uimg_texts.specs.declared.naming.Naming.TheVariants.{Profile};
 ghost use Rattle.uimg_fit_reading.specs.PayloadPlaces.{place_at};
 ghost use Rattle.uimg_fit_reading.specs.Rooms.{Inspects, Delivers, TellsOf, KeepsAhead};
 

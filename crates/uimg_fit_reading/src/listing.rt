@@ -36,7 +36,7 @@ use std::io::Write;
 use uimg_base::{MoveFault, Out, Room, Source, Status};
 use uimg_blob_reading::Key;
 use uimg_fit_base::Fault;
-use uimg_names::Naming;
+use uimg_texts::Naming;
 
 fn put_configurations<S: Source, A: Allocator, W: Write>(
     fit: &mut OpenFit<'_, S, A>,

@@ -1,7 +1,7 @@
 -- A tree in memory has no files, and what filling leaves of its root.
 use Rattle.std.proofs.Common.{◌≡◌, ℕ, List, [], ◌∷◌, Option, Result, Ok, Err, IfOk, ap}
 use Rattle.std.specs.List.{AllByRecursion}
-use Rattle.uimg_names.specs.declared.naming.Naming.{Naming}
+use Rattle.uimg_texts.specs.declared.naming.Naming.{Naming}
 use Rattle.uimg_blob_reading.specs.Plain.{NamedOf, no_node, a_node, AllValues}
 use Rattle.uimg_blob_writing.specs.Content.{Content, Unread, bytes, file, IsBytes, IsKept, AreKept, StandsAtData, FilesAtData}
 use Rattle.uimg_fit_base.specs.declared.fault.FitFault.{FitFault}

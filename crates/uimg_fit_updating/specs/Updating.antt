@@ -1,7 +1,7 @@
 -- What an update makes of a FIT image.
 use Rattle.std.specs.Prelude.{◌≡◌, ℕ, ◌+◌, ◌-◌, ◌*◌, ◌/◌, List, Option, Some, None, Ok}
 use Rattle.std.specs.Prelude.{nat_le, if◌then◌else◌}
-use Rattle.uimg_names.specs.declared.naming.Naming.TheVariants.{All}
+use Rattle.uimg_texts.specs.declared.naming.Naming.TheVariants.{All}
 use Rattle.uimg_texts.specs.Numbers.{be32}
 use Rattle.uimg_blob_reading.specs.{Blob.tree, Grammar.Siblings, Spots.spots}
 use Rattle.uimg_blob_writing.specs.{Alignment.ends_at, Content.{Unread, bytes}, Layouts.{plan_with, totalsize}}

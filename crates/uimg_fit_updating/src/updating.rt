@@ -4,7 +4,7 @@ ghost use Rattle.std.specs.Prelude.{◌≡◌, None, IfOk};
 ghost use Rattle.uimg_base.specs.{Device.SameDevice, Honest.HonestSource};
 ghost use Rattle.uimg_blob_reading.specs.Plain.{AllValues};
 ghost use Rattle.uimg_blob_writing.specs.{Content.IsBytes, Trees.node_of};
-ghost use Rattle.uimg_names.specs.declared.naming.Naming.TheVariants.{All};
+ghost use Rattle.uimg_texts.specs.declared.naming.Naming.TheVariants.{All};
 ghost use Rattle.uimg_fit_building.specs.{PayloadSums.no_files, UnreadTrees.filled_unread};
 ghost use Rattle.uimg_fit_updating.specs.Updating.{refilled, packed_size, with_room, IsUpdated};
 
@@ -19,7 +19,7 @@ use uimg_blob_writing::{
 };
 use uimg_fit_base::{Fault, FitFault};
 use uimg_fit_building::fill_by;
-use uimg_names::Naming;
+use uimg_texts::Naming;
 
 // The bytes by which mkimage makes a blob longer until all fits.
 const ROOM: u64 = 1024;

@@ -3,9 +3,9 @@ use Rattle.std.specs.Prelude.{ℕ, List, [], ◌∷◌, ◌++◌, map, codes}
 use Rattle.json.specs.Json.{Json}
 use Rattle.uimg_texts.specs.{Nul.text, Numbers.be32}
 use Rattle.uimg_base.specs.declared.spans.Span.{Span}
-use Rattle.uimg_names.specs.declared.field.Field.{Field, TheVariants.{Architecture, System, Kind}}
-use Rattle.uimg_names.specs.{declared.field.Field.TheVariants.Compression, Naming.code_text}
-use Rattle.uimg_names.specs.declared.naming.Naming.TheVariants.{Profile}
+use Rattle.uimg_texts.specs.declared.field.Field.{Field, TheVariants.{Architecture, System, Kind}}
+use Rattle.uimg_texts.specs.{declared.field.Field.TheVariants.Compression, Naming.code_text}
+use Rattle.uimg_texts.specs.declared.naming.Naming.TheVariants.{Profile}
 use Rattle.uimg_legacy.specs.{declared.header.Header.Header, Header.spelled}
 use Rattle.uimg_printing.specs.Members.{Member, object_of, array_of, string_member, number_member}
 use Rattle.uimg_printing.specs.Members.{text_members}

@@ -13,8 +13,8 @@ use json::Writer;
 use std::alloc::{AllocError, Global};
 use uimg_base::{Span, be32_at, before_nul};
 use uimg_legacy::{Header, header_bytes};
-use uimg_names::{Field, Naming};
 use uimg_printing::{put_number, put_string, put_text};
+use uimg_texts::{Field, Naming};
 
 fn put_code(
     writer: &mut Writer,

@@ -11,7 +11,7 @@ use Rattle.uimg_legacy.specs.Header.{head, has_right_crc, fields, header, spelle
 use Rattle.uimg_legacy.specs.Parts.{has_parts, sizes, part_sizes, start, is_outside}
 use Rattle.uimg_legacy.specs.Extraction.{listed_part, single, extract_of}
 use Rattle.uimg_legacy.specs.Building.{joined, size_table, has_empty, data_to_build, legacy_built}
-use Rattle.uimg_names.specs.{declared.naming.Naming.TheVariants.Profile, Naming.code_text}
+use Rattle.uimg_texts.specs.{declared.naming.Naming.TheVariants.Profile, Naming.code_text}
 use Rattle.uimg_legacy.specs.Listing.{name_line, time_line, type_line, load_line, entry_line, head_text, part_line, part_lines, list_of}
 
 -- parts of 3, 4 and 5 bytes, each but the last padded to a multiple of 4

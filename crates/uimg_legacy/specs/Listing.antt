@@ -4,9 +4,9 @@ use Rattle.std.specs.{Prelude.{codes, decimal, Bool, true, false}, Int.{to_be_by
 use Rattle.hex.specs.Hex.{encode_lower}
 use Rattle.uimg_base.specs.Outcome.{Outcome, done, refused, told, after, unless_refused, line}
 use Rattle.uimg_texts.specs.{Nul.text, Sizes.size_text, Times.time_text}
-use Rattle.uimg_names.specs.declared.field.Field.TheVariants.{Architecture, System, Kind}
-use Rattle.uimg_names.specs.declared.{field.Field.TheVariants.Compression, naming.Naming.Naming}
-use Rattle.uimg_names.specs.Naming.{code_text}
+use Rattle.uimg_texts.specs.declared.field.Field.TheVariants.{Architecture, System, Kind}
+use Rattle.uimg_texts.specs.declared.{field.Field.TheVariants.Compression, naming.Naming.Naming}
+use Rattle.uimg_texts.specs.Naming.{code_text}
 use Rattle.uimg_legacy.specs.declared.{header.Header.Header, fault.LegacyFault.LegacyFault}
 use Rattle.uimg_legacy.specs.{declared.fault.LegacyFault.TheVariants.PartOutside, Image.legacy}
 use Rattle.uimg_legacy.specs.Parts.{has_parts, sizes, part_sizes, is_outside}

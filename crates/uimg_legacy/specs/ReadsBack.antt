@@ -3,7 +3,7 @@ use Rattle.std.specs.Prelude.{◌≡◌, ℕ, ◌<◌, List, ◌++◌, length, s
 use Rattle.uimg_base.specs.Outcome.{Outcome, done, told, line}
 use Rattle.uimg_legacy.specs.{declared.fault.LegacyFault.LegacyFault, Report.verify_of}
 use Rattle.uimg_legacy.specs.{Listing.list_of, Extraction.extract_of}
-use Rattle.uimg_names.specs.declared.naming.Naming.{Naming}
+use Rattle.uimg_texts.specs.declared.naming.Naming.{Naming}
 
 -- the report on an image whose checksums are right
 abbrev pub right_report : Outcome LegacyFault

@@ -9,7 +9,7 @@ use crate::header::Header;
 use itoa::Buffer;
 use std::io::Write;
 use uimg_base::{Out, PutFault, before_nul, size_text, time_text};
-use uimg_names::{Field, Naming};
+use uimg_texts::{Field, Naming};
 
 // Eight lower-case hexadecimal digits.
 fn address_text(address: u32) -> [u8; 8]

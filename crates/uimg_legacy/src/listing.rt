@@ -14,7 +14,7 @@ use crate::parts::{count_sizes, has_parts, size_at};
 use std::alloc::Allocator;
 use std::io::Write;
 use uimg_base::{Out, Room, Source, Status, up4};
-use uimg_names::Naming;
+use uimg_texts::Naming;
 
 // Writes the lines of the parts, up to the first that ends after the data.
 fn list_parts<S: Source, W: Write>(

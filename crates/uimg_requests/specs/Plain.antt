@@ -1,6 +1,6 @@
 -- A request for an image as `uimg mkimage` makes it.
 use Rattle.std.specs.Prelude.{◌≡◌, ℕ, List, false}
-use Rattle.uimg_names.specs.declared.naming.Naming.TheVariants.{Profile}
+use Rattle.uimg_texts.specs.declared.naming.Naming.TheVariants.{Profile}
 use Rattle.uimg_requests.specs.declared.requests.MakeRequest.{MakeRequest}
 
 -- The image is made at a time, listed with the names of the profile, with payloads padded to

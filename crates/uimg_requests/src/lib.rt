@@ -12,5 +12,5 @@ pub use command::{Action, Command, Form};
 pub use make_command::{MakeCommand, Manner};
 pub use names::file_names;
 pub use number_words::{decimal, hexadecimal};
-pub use requests::{MakeRequest, RunRequest};
+pub use requests::{MakeRequest, RunRequest, cut_behind_folder};
 pub use version::VERSION;

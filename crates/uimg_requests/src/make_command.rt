@@ -2,7 +2,7 @@
 
 use uimg_fit_base::Placement;
 use uimg_legacy::Options;
-use uimg_names::Naming;
+use uimg_texts::Naming;
 
 /// What an image is made from.
 #[derive(Drop)]

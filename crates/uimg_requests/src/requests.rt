@@ -10,7 +10,7 @@ use crate::names::file_names;
 use std::alloc::{AllocError, Global};
 use uimg_fit_base::{Placement, WORD_ALIGNMENT};
 use uimg_legacy::Options;
-use uimg_names::Naming;
+use uimg_texts::Naming;
 
 /// A command on an image.
 #[derive(Clone, Copy, Debug, PartialEq, Eq)]
@@ -138,8 +138,8 @@ impl<'a> MakeRequest<'a> {
     }
 }
 
-// Cuts a path after its last slash.
-fn cut_behind_folder(path: &str) -> (&str, &str)
+/// Cuts a path after its last slash.
+pub fn cut_behind_folder(path: &str) -> (&str, &str)
     ensures whole { result.0.now ++ result.1.now ≡ path.now }
     ensures folder { result.0.now ≡ folder_of path.now }
 {

@@ -8,3 +8,8 @@ pub mod ImageLaws
 pub mod SoundLaws
 pub mod PlacementLaws
 pub mod BlobLaws
+pub mod CleanLaws
+pub mod PayloadLaws
+pub mod UBootLaws
+pub mod RightLaws
+mod Examples

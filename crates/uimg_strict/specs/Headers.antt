@@ -8,10 +8,10 @@ use Rattle.uimg_legacy.specs.declared.fault.LegacyFault.{LegacyFault}
 use Rattle.uimg_legacy.specs.declared.header.Header.{Header}
 use Rattle.uimg_legacy.specs.Faults.{Gives}
 use Rattle.uimg_legacy.specs.Header.{header}
-use Rattle.uimg_names.specs.declared.field.Field.{Field}
-use Rattle.uimg_names.specs.declared.field.Field.TheVariants.{Kind, Architecture, System}
-use Rattle.uimg_names.specs.declared.field.Field.TheVariants.{Compression}
-use Rattle.uimg_names.specs.Naming.{all_rows}
+use Rattle.uimg_texts.specs.declared.field.Field.{Field}
+use Rattle.uimg_texts.specs.declared.field.Field.TheVariants.{Kind, Architecture, System}
+use Rattle.uimg_texts.specs.declared.field.Field.TheVariants.{Compression}
+use Rattle.uimg_texts.specs.Naming.{rows}
 use Rattle.uimg_strict.specs.declared.loose.Looseness.{Looseness}
 use Rattle.uimg_strict.specs.declared.loose.Looseness.TheVariants.{EmptyData, UnknownType}
 use Rattle.uimg_strict.specs.declared.loose.Looseness.TheVariants.{UnknownArchitecture}
@@ -20,7 +20,7 @@ use Rattle.uimg_strict.specs.declared.loose.Looseness.TheVariants.{UnknownCompre
 
 -- whether a name of a field has this code
 abbrev pub has_code : Field → ℕ → Bool
-has_code field code = list_any (λ row. code == row.code) (all_rows field)
+has_code field code = list_any (λ row. code == row.code) (rows field)
 
 -- what is refused of a header: no data, or a code without a name
 abbrev pub loose_header : Header → Option Looseness

@@ -4,3 +4,5 @@ pub mod Looseness
 pub mod Telling
 pub mod Headers
 pub mod Soundness
+pub mod UBoot
+pub mod Readings

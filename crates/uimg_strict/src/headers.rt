@@ -8,13 +8,13 @@ ghost use Rattle.uimg_strict.specs.Headers.{has_code, loose_header, TellsHeader}
 use crate::loose::Looseness;
 use uimg_base::Source;
 use uimg_legacy::{Fault, Header, read_header};
-use uimg_names::Field;
+use uimg_texts::Field;
 
 fn has_code(field: Field, code: u8) -> bool
     ensures { result ≡ has_code field code }
 {
     let rows = field.rows();
-    for (_, known, _) in rows {
+    for (_, known, _, _) in rows {
         if code == *known {
             return true;
         }

@@ -1,7 +1,7 @@
 //! The calls of `uimg_fit`: FIT images (Flattened Image Tree format).
 
 ghost use Rattle.std.specs.Prelude.{◌≡◌, IsTrue, OnOk};
-ghost use Rattle.uimg_names.specs.declared.naming.Naming.TheVariants.{Profile};
+ghost use Rattle.uimg_texts.specs.declared.naming.Naming.TheVariants.{Profile};
 ghost use Rattle.uimg_blob_reading.specs.LookUps.{images};
 ghost use Rattle.uimg_blob_writing.specs.{Content.FilesAtData, Trees.node_of, UsingFiles.UsesFiles};
 ghost use Rattle.uimg_blob_writing.specs.LentFiles.{IfKept, IfInFull};

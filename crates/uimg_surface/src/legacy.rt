@@ -2,7 +2,7 @@
 
 ghost use Rattle.std.specs.Prelude.{◌≡◌, ◌≢◌, length, map, Ok, false, IsTrue};
 ghost use Rattle.uimg_base.specs.Honest.{IfHonest};
-ghost use Rattle.uimg_names.specs.declared.naming.Naming.TheVariants.{Profile};
+ghost use Rattle.uimg_texts.specs.declared.naming.Naming.TheVariants.{Profile};
 ghost use Rattle.uimg_legacy.specs.Header.{header, spelled, padded_name};
 ghost use Rattle.uimg_legacy.specs.{Faults.{GivesBy, is_refused}, Reading.{ReadsHead, IsSpelledIn}};
 ghost use Rattle.uimg_legacy.specs.Commands.{Delivers, TellsOf, KeepsAhead};

@@ -4,11 +4,11 @@ ghost use Rattle.std.specs.Prelude.{◌≡◌, ◌+◌, ◌≤◌, None, IsTrue,
 ghost use Rattle.uimg_base.specs.{Honest.IfHonest, Device.SameDevice};
 ghost use Rattle.uimg_fit_checking.specs.Unpacking.{unpack_work};
 ghost use Rattle.uimg_unpacking.specs.{Ends.{EndsByFile, FitsIf}, Filling.Fills, Places.{ChangesWithin, Obeys, terms_of}};
-ghost use Rattle.uimg_tool.specs.WordAnswers.{AnswersLine, printed};
+ghost use Rattle.uimg_tool.specs.{OldCommands.AnswersTool, WordAnswers.{AnswersLine, printed}};
 
 use std::io::Write;
 use uimg_base::Source;
-use uimg_tool::{CommandLine, Complaints};
+use uimg_tool::{CommandLine, Complaints, Tool};
 use uimg_unpacking::{Ended, Unpacking};
 use uimg_world::{MakingWorld, World};
 
@@ -39,6 +39,32 @@ pub fn run_as_uimg<'a, D: MakingWorld<'a>, W: Write + Drop, V: Write>(
     ensures lost { result.1 ≡ None → result.0 ≡ 3 }
 {
     uimg_tool::run_as_uimg(world, line, out, complaints)
+}
+
+/// Carries out the arguments of a tool of U-Boot 2023.01 over a world of files. Returns the exit
+/// status, and `out` unless memory for its buffer was refused.
+///
+/// - `answers`: over an honest world, unless the status is 3, output, new files and status are those
+///   that the definition of the tool's arguments gives for the bytes at the paths, as far as
+///   `AnswersTool` says. Whatever the status, an image is made for its path alone. If the definition
+///   refuses the arguments, nothing is done or printed.
+/// - `lost`: if `out` is not returned, the status is 3.
+pub fn run_as_tool<'a, D: MakingWorld<'a>, W: Write + Drop, V: Write>(
+    world: &mut D,
+    tool: Tool,
+    line: CommandLine<'a>,
+    out: W,
+    complaints: &mut Complaints<'_, V>,
+) -> (u8, Option<W>)
+    ensures answers { AnswersTool (record {
+      there = D.Shelf.Kept.device;
+      new = D.NewShelf.Kept.device;
+      identities = D.identities world.old;
+    }) tool line.entry (D.map world.old) result.0 (W.contents out) (printed W.contents result.1)
+        (D.trace world.old) (D.trace world.new) }
+    ensures lost { result.1 ≡ None → result.0 ≡ 3 }
+{
+    uimg_tool::run_as_tool(world, tool, line, out, complaints)
 }
 
 /// Writes the payloads of a FIT image to a folder, with a line for each on `out`.

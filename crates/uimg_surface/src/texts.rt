@@ -1,7 +1,9 @@
 //! The calls of `uimg_base` that give texts and codes.
 
-ghost use Rattle.std.specs.Prelude.{◌≡◌, ◌<◌, codes, is_err};
-ghost use Rattle.uimg_texts.specs.Names.{code_of, name_printed, os_table, arch_table, kind_table, comp_table};
+ghost use Rattle.std.specs.Prelude.{◌≡◌, ◌<◌, is_err};
+ghost use Rattle.uimg_texts.specs.Naming.{code_named, code_text};
+ghost use Rattle.uimg_texts.specs.declared.naming.Naming.TheVariants.{Profile};
+ghost use Rattle.uimg_texts.specs.declared.field.Field.TheVariants.{Architecture, System, Kind, Compression};
 ghost use Rattle.uimg_texts.specs.Sizes.{size_text};
 ghost use Rattle.uimg_texts.specs.Times.{time_text};
 ghost use Rattle.uimg_base.specs.Writing.{Writes};
@@ -28,56 +30,56 @@ pub fn time_text(seconds: u32) -> [u8; 24]
 
 /// Looks up the code of an operating system (`IH_OS_` of U-Boot's image.h) by its short name.
 pub fn os_code(name: &[u8]) -> Option<u8>
-    ensures { result ≡ code_of os_table name.now }
+    ensures { result ≡ code_named Profile System name.now }
 {
     uimg_base::os_code(name)
 }
 
 /// Looks up the code of an architecture (`IH_ARCH_`) by its short name.
 pub fn arch_code(name: &[u8]) -> Option<u8>
-    ensures { result ≡ code_of arch_table name.now }
+    ensures { result ≡ code_named Profile Architecture name.now }
 {
     uimg_base::arch_code(name)
 }
 
 /// Looks up the code of an image type (`IH_TYPE_`) by its short name.
 pub fn kind_code(name: &[u8]) -> Option<u8>
-    ensures { result ≡ code_of kind_table name.now }
+    ensures { result ≡ code_named Profile Kind name.now }
 {
     uimg_base::kind_code(name)
 }
 
 /// Looks up the code of a compression (`IH_COMP_`) by its short name.
 pub fn comp_code(name: &[u8]) -> Option<u8>
-    ensures { result ≡ code_of comp_table name.now }
+    ensures { result ≡ code_named Profile Compression name.now }
 {
     uimg_base::comp_code(name)
 }
 
 /// Returns the printed name of an operating system's code, or `Unknown OS`.
 pub fn os_text(code: u8) -> &'static str
-    ensures { result.now ≡ name_printed os_table (codes "Unknown OS") code }
+    ensures { result.now ≡ code_text Profile System code }
 {
     uimg_base::os_text(code)
 }
 
 /// Returns the printed name of an architecture's code, or `Unknown Architecture`.
 pub fn arch_text(code: u8) -> &'static str
-    ensures { result.now ≡ name_printed arch_table (codes "Unknown Architecture") code }
+    ensures { result.now ≡ code_text Profile Architecture code }
 {
     uimg_base::arch_text(code)
 }
 
 /// Returns the printed name of an image type's code, or `Unknown Image`.
 pub fn kind_text(code: u8) -> &'static str
-    ensures { result.now ≡ name_printed kind_table (codes "Unknown Image") code }
+    ensures { result.now ≡ code_text Profile Kind code }
 {
     uimg_base::kind_text(code)
 }
 
 /// Returns the printed name of a compression's code, or `Unknown Compression`.
 pub fn comp_text(code: u8) -> &'static str
-    ensures { result.now ≡ name_printed comp_table (codes "Unknown Compression") code }
+    ensures { result.now ≡ code_text Profile Compression code }
 {
     uimg_base::comp_text(code)
 }

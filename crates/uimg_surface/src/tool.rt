@@ -2,7 +2,7 @@
 
 ghost use Rattle.std.specs.Prelude.{◌≡◌, ◌+◌, ◌*◌, length, true, false, [], Some, Err, is_err, IsTrue};
 ghost use Rattle.uimg_base.specs.{Honest.HonestSource, Device.SameDevice, Held.held_bytes};
-ghost use Rattle.uimg_names.specs.declared.naming.Naming.TheVariants.{Profile};
+ghost use Rattle.uimg_texts.specs.declared.naming.Naming.TheVariants.{Profile};
 ghost use Rattle.uimg_requests.specs.Commands.{HasFitNames};
 ghost use Rattle.uimg_engine.specs.declared.fault.Fault.TheVariants.{Read, Put};
 ghost use Rattle.uimg_engine.specs.Faults.{is_no_memory, is_refused, is_of_making};

@@ -5,3 +5,4 @@ pub mod CalendarLaw
 pub mod ClockLaw
 pub mod TimeLine
 pub mod NulLaws
+pub mod LengthLaws

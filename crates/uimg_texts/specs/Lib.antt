@@ -6,4 +6,4 @@ pub mod Sizes
 pub mod Calendar
 pub mod Times
 pub mod Names
-pub mod CodeRows
+pub mod Naming

@@ -3,7 +3,7 @@ use Rattle.std.proofs.Common.{◌≡◌, ℕ, List, ◌∷◌, Bool, true, false
 use Rattle.std.specs.Borrow.{Bor}
 use Rattle.std.specs.declared.io.Error.{Error}
 use Rattle.uimg_cli.specs.declared.command_line.map.MapRequest.{MapRequest}
-use Rattle.uimg_tool.specs.Drawing.{AsksToMap, Draws, DrawsTo, DrawsUnlessTaken, LooksTaken, NamesPicture, Overwrites, apart, beside_it, in_place, no_memory, to_pipe, uncreated}
+use Rattle.uimg_tool.specs.Drawing.{AsksToMap, Draws, DrawsTo, DrawsUnlessTaken, Fills, LooksTaken, NamesPicture, Overwrites, apart, beside_it, in_place, no_memory, to_pipe, uncreated}
 use Rattle.uimg_tool.specs.{Images.Compares, Writings.WritesFor}
 use Rattle.uimg_tool.specs.declared.safe_path.SafePath.{SafePath}
 use Rattle.uimg_tool.specs.declared.safe_path.Writing.{Writing}
@@ -20,11 +20,11 @@ gives_as one two new whole is_forced answer last before after is to ends gives =
 pub writes_as : {F Z : Type 0} (path : List ℕ) (result last : Result (Writing F) Z) (before after : List Deed) → result ≡ last → WritesFor path result before after → WritesFor path last before after
 writes_as {F = F} {Z = Z} path result last before after is writes = subst (λ (r : Result (Writing F) Z). WritesFor path r before after) is writes
 
-pub drawn_beside : {F Z : Type 0} (path : List ℕ) (is_forced : Bool) (result : Result (Writing F) Z) (file : F) (safe : SafePath) (before begun after : List Deed) → result ≡ Ok (writing.Beside file safe)
-    → WritesFor path result before begun → NamesPicture (string_bytes safe.new) (string_bytes safe.whole) is_forced begun after → DrawsTo path is_forced before after
-drawn_beside path is_forced result file safe before begun after is writes names =
+pub drawn_beside : {F Z : Type 0} (path : List ℕ) (is_forced : Bool) (result : Result (Writing F) Z) (file : F) (safe : SafePath) (new : List ℕ) (before begun filled after : List Deed) → result ≡ Ok (writing.Beside file safe) → new ≡ string_bytes safe.new
+    → WritesFor path result before begun → Fills new begun filled → NamesPicture (string_bytes safe.new) (string_bytes safe.whole) is_forced filled after → DrawsTo path is_forced before after
+drawn_beside path is_forced result file safe new before begun filled after is at writes fills names =
     let w = writes_as path result (Ok (writing.Beside file safe)) before begun is writes in
-    beside_it (string_bytes safe.whole) (string_bytes safe.new) w.0 begun w.1 w.2 names
+    beside_it (string_bytes safe.whole) (string_bytes safe.new) w.0 begun filled w.1 w.2 (subst (λ (n : List ℕ). Fills n begun filled) at fills) names
 
 pub drawn_in_place : {F Z : Type 0} (path : List ℕ) (is_forced : Bool) (result : Result (Writing F) Z) (before seen after : List Deed) → result ≡ Ok writing.InPlace
     → WritesFor path result before seen → Overwrites path seen after → DrawsTo path is_forced before after

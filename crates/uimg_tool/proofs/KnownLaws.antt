@@ -1,38 +1,31 @@
--- What is known of a source, by what was read and compiled.
-use Rattle.std.proofs.Common.{◌≡◌, ◌&&◌, ◌==◌, ℕ, List, Option, Some, Bool, true, false, not, IsTrue, ap, subst, sym, ◌∙◌}
-use Rattle.uimg_base.specs.Named.{FileMap}
+-- The tree that a text spells is what was compiled of it.
+use Rattle.std.proofs.Common.{◌≡◌, ◌&&◌, ◌==◌, ℕ, List, [], Option, Bool, true, false, not, Result, Ok, Err, IsTrue, subst, sym}
+use Rattle.std.specs.Prelude.{IfOk}
 use Rattle.uimg_blob_reading.specs.Plain.{Nodes}
-use Rattle.uimg_blob_writing.specs.Content.{AreKept, Unread, in_full}
-use Rattle.uimg_its.specs.{Grammar.Spells, Words.words}
-use Rattle.uimg_tool.specs.LeavingOut.{in_folder, seen_in}
+use Rattle.uimg_blob_writing.specs.{Content.{AreKept, in_full}, Trees.node_of}
+use Rattle.uimg_dts.specs.declared.compiler.Compiled.{Compiled}
+use Rattle.uimg_its.{specs.{Grammar.Spells, Words.words}, proofs.CompileLaws.one_tree}
+use Rattle.uimg_tool.specs.Sources.{Spelled}
 
 -- a folder alone is as honest as what opens its files
 pub alone : (honest : Bool) (others : ℕ) → IsTrue honest → others ≡ 0 → IsTrue (others == 0 && honest)
 alone honest others is none = subst (λ (n : ℕ). IsTrue (n == 0 && honest)) (sym none) is
 
-pub some_is : (a b : List ℕ) → (let x : Option (List ℕ) = Some a in x ≡ Some b) → a ≡ b
-some_is a b e = cc
-
 never : (b : Bool) → true ≡ not b → b ≡ true → ⊥
 never true e f = cc
 never false e f = cc
 
--- a text was compiled over the files of a folder alone, which are as honest as what opens them
-module _ (folder : List ℕ) (others : ℕ) (lent here : FileMap) (is : here ≡ seen_in folder others lent) (true_of : IsTrue lent.honest) (none : others ≡ 0) where
-  abbrev files : List ℕ → Option (List ℕ)
-  files = in_folder folder lent.bytes
+pub compiled : {A : Type 0} (files : List ℕ → Option (List ℕ)) (text : List ℕ) (c : Compiled A) → Spells (words text) files (in_full files (node_of c.tree.root)) → AreKept files (node_of c.tree.root) → c.reservations.items ≡ [] → Spelled files text c
+compiled files text c only kept bare = λ t spells. record {
+  tree = one_tree (words text) files (in_full files (node_of c.tree.root)) t only spells;
+  kept = kept;
+  bare = bare;
+}
 
-  pub true_here : IsTrue here.honest
-  true_here = subst (λ (m : FileMap). IsTrue m.honest) (sym is) (alone lent.honest others true_of none)
+-- a text that the profile refuses for its words spells nothing
+beyond : {A : Type 0} (files : List ℕ → Option (List ℕ)) (text : List ℕ) (c : Compiled A) (is_outside : Bool) → ((t : Nodes) → Spells (words text) files t → is_outside ≡ true) → true ≡ not is_outside → Spelled files text c
+beyond files text c is_outside accepts inside = λ t spells. absurd (never is_outside inside (accepts t spells))
 
-  pub are : here.bytes ≡ files
-  are = ap (λ (m : FileMap). m.bytes) is
-
-  pub compiled : (text : List ℕ) (tree : Unread) → (IsTrue here.honest → Spells (words text) here.bytes (in_full here.bytes tree)) → (IsTrue here.honest → AreKept here.bytes tree) → Spells (words text) files (in_full files tree) × AreKept files tree
-  compiled text tree spells kept = subst (λ (f : List ℕ → Option (List ℕ)). Spells (words text) f (in_full f tree) × AreKept f tree) are (spells true_here, kept true_here)
-
-  pub beyond : (text : List ℕ) (is_outside : Bool) → (IsTrue here.honest → (t : Nodes) → Spells (words text) here.bytes t → is_outside ≡ true) → true ≡ not is_outside → (t : Nodes) → Spells (words text) files t → ⊥
-  beyond text is_outside accepts inside t spells = never is_outside inside (accepts true_here t (subst (λ (f : List ℕ → Option (List ℕ)). Spells (words text) f t) (sym are) spells))
-
-  pub has : (asked name text : List ℕ) → asked ≡ name → (IsTrue here.honest → here.bytes asked ≡ Some text) → files name ≡ Some text
-  has asked name text same read = sym (ap (λ (f : List ℕ → Option (List ℕ)). f name) are) ∙ ap (λ (n : List ℕ). here.bytes n) (sym same) ∙ read true_here
+pub beyond_any : {A E : Type 0} (files : List ℕ → Option (List ℕ)) (text : List ℕ) (result : Result (Compiled A) E) (is_outside : Bool) → ((t : Nodes) → Spells (words text) files t → is_outside ≡ true) → true ≡ not is_outside → IfOk result (Spelled files text)
+beyond_any files text (Ok c) is_outside accepts inside = beyond files text c is_outside accepts inside
+beyond_any files text (Err reason) is_outside accepts inside = tt

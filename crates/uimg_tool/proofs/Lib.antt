@@ -15,6 +15,7 @@ pub mod MakingLaws
 pub mod MapLaws
 pub mod MemoryLaws
 pub mod OldAnswerLaws
+pub mod OldCommandLaws
 pub mod OldImageLaws
 pub mod OldMakingLaws
 pub mod OldWordLaws

@@ -1,12 +1,12 @@
 -- What the making of an image by the names of mkimage asks of a world, and its status.
 use Rattle.std.proofs.Common.{◌≡◌, ℕ, ◌≤◌, List, ◌∷◌, Bool, false, true, Result, Ok, Err, ◌⊎◌, inl, inr, ap, refl, subst, sym, ◌∙◌, string_bytes, true≢false}
-use Rattle.std.specs.{Prelude.{is_err, is_ok}, declared.io.Error.Error}
+use Rattle.std.specs.{Prelude.{IfOk, IfSome, Option, Some, None, [], is_err, is_ok}, declared.io.Error.Error}
 use Rattle.std.specs.Borrow.{Bor}
 use Rattle.uimg_base.specs.declared.status.Status.{Status}
 use Rattle.uimg_requests.specs.declared.requests.MakeRequest.{MakeRequest}
 use Rattle.uimg_tool.proofs.DrawingLaws.{writes_as}
 use Rattle.uimg_tool.specs.{BesidePaths.{Finishes, incomplete, named, not_named}, Finishing.FinishesBy}
-use Rattle.uimg_tool.specs.OldMakings.{FinishesMade, LendsAt, MakesFor, MakesWithin, Named, beside_it, in_place, no_memory, to_pipe, uncreated}
+use Rattle.uimg_tool.specs.OldMakings.{Begins, FinishesMade, LendsAt, MakesFor, MakesWithin, Named, beside_it, in_place, no_memory, to_pipe, uncreated}
 use Rattle.uimg_tool.specs.{RequestEnds.{MakeEnds, TreeEnds}, Statuses.end_status}
 use Rattle.uimg_tool.specs.Writings.{WritesFor}
 use Rattle.uimg_tool.specs.declared.request_fault.RequestFault.{RequestFault}
@@ -17,11 +17,19 @@ use Rattle.uimg_world.specs.declared.call.Answer.{Answer}
 use Rattle.uimg_world.specs.declared.call.Answer.TheVariants.{Done}
 use Rattle.uimg_unpacking.specs.Naming.{is_done}
 
-pub made_beside : {F Z : Type 0} (path : List ℕ) (status : ℕ) (result : Result (Writing F) Z) (file : F) (safe : SafePath) (before begun after : List Deed) → result ≡ Ok (writing.Beside file safe)
-    → WritesFor path result before begun → FinishesMade safe status begun after → MakesFor path status before after
-made_beside path status result file safe before begun after is writes finishes =
-    let w = writes_as path result (Ok (writing.Beside file safe)) before begun is writes in
-    beside_it safe w.0 begun w.1 w.2 finishes
+begins_as : {F : Type 0} (path : List ℕ) (one two : Result (Option (F × SafePath)) ℕ) (before after : List Deed) → one ≡ two → Begins path one before after → Begins path two before after
+begins_as path one two before after is = subst (λ (r : Result (Option (_ × SafePath)) ℕ). Begins path r before after) is
+
+pub made_beside : {F : Type 0} (path : List ℕ) (status : ℕ) (begun : Result (Option (F × SafePath)) ℕ) (new : F × SafePath) (before opened after : List Deed) → begun ≡ Ok (Some new)
+    → Begins path begun before opened → FinishesMade new.1 status opened after → MakesFor path status before after
+made_beside path status begun new before opened after is begins finishes =
+    let b = begins_as path begun (Ok (Some new)) before opened is begins in
+    beside_it new.1 b.0 opened b.1 b.2 finishes
+
+-- nothing is in the new file
+pub begun_empty : {F : Type 0} (contents : F → Option (List ℕ)) (begun : Result (Option (F × SafePath)) ℕ) (new : F × SafePath) → begun ≡ Ok (Some new)
+    → IfOk begun (λ b. IfSome b (λ n. contents n.0 ≡ Some [])) → contents new.0 ≡ Some []
+begun_empty contents begun new is = subst (λ (r : Result (Option (_ × SafePath)) ℕ). IfOk r (λ b. IfSome b (λ n. contents n.0 ≡ Some []))) is
 
 -- A file that is removed did not get its name.
 abbrev is_removal : List Deed → Bool
@@ -71,16 +79,16 @@ lends_kept : (path : List ℕ) (status : ℕ) (has_failed : Bool) (before made a
 lends_kept path status has_failed before made after fails (inl same) kept = inl (fails same.0, kept ∙ same.1)
 lends_kept path status has_failed before made after fails (inr lent) kept = inr (kept ∙ lent)
 
-pub made_in_place : {F Z : Type 0} (path : List ℕ) (status : ℕ) (has_failed : Bool) (result : Result (Writing F) Z) (before seen made after : List Deed) → result ≡ Ok writing.InPlace
-    → WritesFor path result before seen → (has_failed ≡ true → 1 ≤ status) → LendsAt path has_failed seen made → changes after ≡ changes made → MakesFor path status before after
-made_in_place path status has_failed result before seen made after is writes fails lends kept =
-    in_place seen (writes_as path result (Ok writing.InPlace) before seen is writes) (lends_kept path status has_failed seen made after fails lends kept)
+pub made_in_place : {F : Type 0} (path : List ℕ) (status : ℕ) (has_failed : Bool) (begun : Result (Option (F × SafePath)) ℕ) (before seen made after : List Deed) → begun ≡ Ok None
+    → Begins path begun before seen → (has_failed ≡ true → 1 ≤ status) → LendsAt path has_failed seen made → changes after ≡ changes made → MakesFor path status before after
+made_in_place path status has_failed begun before seen made after is begins fails lends kept =
+    in_place seen (begins_as path begun (Ok None) before seen is begins) (lends_kept path status has_failed seen made after fails lends kept)
 
 -- what exists there is not written to
-pub left_in_place : {F Z : Type 0} (path : List ℕ) (status : ℕ) (result : Result (Writing F) Z) (before after : List Deed) → result ≡ Ok writing.InPlace
-    → WritesFor path result before after → 1 ≤ status → MakesFor path status before after
-left_in_place path status result before after is writes fails =
-    in_place after (writes_as path result (Ok writing.InPlace) before after is writes) (inl (fails, refl))
+pub left_in_place : {F : Type 0} (path : List ℕ) (status : ℕ) (begun : Result (Option (F × SafePath)) ℕ) (before after : List Deed) → begun ≡ Ok None
+    → Begins path begun before after → 1 ≤ status → MakesFor path status before after
+left_in_place path status begun before after is begins fails =
+    in_place after (begins_as path begun (Ok None) before after is begins) (inl (fails, refl))
 
 pub not_to_pipe : {F Z : Type 0} (path : List ℕ) (status : ℕ) (result : Result (Writing F) Z) (before after : List Deed) → result ≡ Ok writing.Pipe
     → WritesFor path result before after → 1 ≤ status → MakesFor path status before after

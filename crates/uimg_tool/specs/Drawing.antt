@@ -2,7 +2,7 @@
 use Rattle.std.specs.Prelude.{◌≡◌, ◌⊎◌, ℕ, List, ◌∷◌, Bool, true, false, Option, Some, None}
 use Rattle.std.specs.Borrow.{Bor}
 use Rattle.uimg_cli.specs.declared.command_line.map.MapRequest.{MapRequest}
-use Rattle.uimg_tool.specs.Images.{Compares}
+use Rattle.uimg_tool.specs.Images.{ClosesAt, Compares}
 use Rattle.uimg_tool.specs.Writings.{CreatesNew, CreatesNone, IsAt, IsInPlace, StopsTrying}
 use Rattle.uimg_world.specs.Deeds as deed
 use Rattle.uimg_world.specs.Deeds.{Deed, Explains, Finds, Looks, Opens, Removes, changes}
@@ -27,14 +27,18 @@ pub data NamesPicture (new whole : List ℕ) (is_forced : Bool) (before after : 
   unnamed : (answer removed : Answer) (seen : List Deed) → is_done answer ≡ false → GivesName new whole is_forced answer before seen → after ≡ Removes new removed ∷ seen → NamesPicture new whole is_forced before after
   unfinished : (removed : Answer) → after ≡ Removes new removed ∷ before → NamesPicture new whole is_forced before after
 
--- the file at a path was created or emptied, or could not be
+-- what was written to the file at a path was closed, or it was not begun
+abbrev pub Fills : List ℕ → (before after : List Deed) → Type 0
+Fills path before after = (after ≡ before) ⊎ ClosesAt path before after
+
+-- the file at a path was created or emptied, and filled; or it could not be created
 abbrev pub Overwrites : List ℕ → (before after : List Deed) → Type 0
-Overwrites path before after = (answer : Answer) × (after ≡ deed.Overwrites path answer ∷ before)
+Overwrites path before after = (answer : Answer) × Fills path (deed.Overwrites path answer ∷ before) after
 
 -- A picture is written to a new file beside the one that its path leads to, which gets that path; or in
 -- place, to a device or a pipe. Nothing is changed if the new file cannot be created.
 pub data DrawsTo (path : List ℕ) (is_forced : Bool) (before after : List Deed) : Type 0 where
-  beside_it : (whole new : List ℕ) (seen begun : List Deed) → IsAt path whole before seen → CreatesNew whole new seen begun → NamesPicture new whole is_forced begun after → DrawsTo path is_forced before after
+  beside_it : (whole new : List ℕ) (seen begun filled : List Deed) → IsAt path whole before seen → CreatesNew whole new seen begun → Fills new begun filled → NamesPicture new whole is_forced filled after → DrawsTo path is_forced before after
   in_place : (seen : List Deed) → IsInPlace path before seen → Overwrites path seen after → DrawsTo path is_forced before after
   to_pipe : Overwrites path (Finds path target.Pipe ∷ before) after → DrawsTo path is_forced before after
   uncreated : (whole : List ℕ) (seen : List Deed) → IsAt path whole before seen → CreatesNone whole seen after → DrawsTo path is_forced before after

@@ -15,13 +15,13 @@ pub mod Images
 pub mod InMemory
 pub mod InfoEnds
 pub mod JsonLines
-pub mod KnownSources
 pub mod LeavingOut
 pub mod Leavings
 pub mod Made
 pub mod MadeEnds
 pub mod Makings
 pub mod Maps
+pub mod OldCommands
 pub mod OldImages
 pub mod OldMakings
 pub mod OldTexts
@@ -30,6 +30,7 @@ pub mod Programs
 pub mod RequestEnds
 pub mod SearchedNames
 pub mod SourceStatuses
+pub mod Sources
 pub mod Statuses
 pub mod TreesMade
 pub mod UnpackComplaints

@@ -1,6 +1,6 @@
 -- Builds by the names of mkimage: what they request of a world, which files they change, and what they
 -- answer.
-use Rattle.std.specs.Prelude.{◌≡◌, ⊤, ◌⊎◌, ◌≤◌, ℕ, List, [], ◌∷◌, Option, Some, None, Bool, false, true, not, Result, string_bytes}
+use Rattle.std.specs.Prelude.{◌≡◌, ⊤, ◌⊎◌, ◌≤◌, ℕ, List, [], ◌∷◌, Option, Some, None, Bool, false, true, not, Result, Ok, Err, string_bytes}
 use Rattle.std.specs.Io.KnownBytes.{Keeps}
 use Rattle.uimg_base.specs.{Device.Device, Named.FileMap, Sink.Sink}
 use Rattle.uimg_base.specs.declared.status.Status.{Status}
@@ -45,6 +45,13 @@ pub data MakesFor (path : List ℕ) (status : ℕ) (before after : List Deed) : 
   to_pipe : 1 ≤ status → after ≡ Finds path target.Pipe ∷ before → MakesFor path status before after
   uncreated : (whole : List ℕ) (seen : List Deed) → 1 ≤ status → IsAt path whole before seen → CreatesNone whole seen after → MakesFor path status before after
   no_memory : (whole : List ℕ) (seen : List Deed) → 1 ≤ status → IsAt path whole before seen → (seen ≡ after) ⊎ StopsTrying whole seen after → MakesFor path status before after
+
+-- An image is begun in a new file, or what its path leads to is written in place. Or its making is over with a status.
+abbrev pub Begins : {F : Type 0} → List ℕ → Result (Option (F × SafePath)) ℕ → (before after : List Deed) → Type 0
+Begins path (Ok (Some new)) before after = (seen : List Deed)
+    × IsAt path (string_bytes new.1.whole) before seen × CreatesNew (string_bytes new.1.whole) (string_bytes new.1.new) seen after
+Begins path (Ok None) before after = IsInPlace path before after
+Begins path (Err status) before after = MakesFor path status before after
 
 -- The same after calls that change no file, or nothing is changed and the status is not 0.
 abbrev pub MakesWithin : List ℕ → ℕ → (before after : List Deed) → Type 0

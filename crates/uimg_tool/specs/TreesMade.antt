@@ -1,18 +1,18 @@
 -- The image of a tree, which is kept in its file.
-use Rattle.std.specs.Prelude.{◌≡◌, ◌⊎◌, ℕ, List, [], length, drop, Option, Some, None, Ok, IsTrue, Bool, true, false, if◌then◌else◌}
+use Rattle.std.specs.Prelude.{◌≡◌, ◌⊎◌, ℕ, List, [], length, Option, Some, None, Ok, IsTrue, Bool, true, false, if◌then◌else◌}
 use Rattle.uimg_base.specs.{Device.Device, Named.FileMap}
 use Rattle.uimg_blob_reading.specs.Plain.{Nodes}
 use Rattle.uimg_blob_writing.specs.Content.{AreKept, Unread, in_full}
 use Rattle.uimg_blob_writing.specs.declared.reservation.Reservation.{Reservation}
 use Rattle.uimg_compat.specs.declared.request.{FitRequest.FitRequest, UpdateRequest.UpdateRequest}
-use Rattle.uimg_engine.specs.{MakingOfTrees.MakesOfTree, MakingTrees.SpellsTree}
+use Rattle.uimg_engine.specs.MakingOfTrees.{MakesOfTree}
 use Rattle.uimg_fit_base.specs.Placements.{aligned_by}
 use Rattle.uimg_fit_base.specs.declared.placement.Placement.{Placement, TheVariants.{Inside, After, At}}
 use Rattle.uimg_fit_base.specs.declared.placement.AlignedPlacement.{AlignedPlacement}
 use Rattle.uimg_fit_base.specs.declared.placement.AlignedPlacement.TheVariants as aligned
 use Rattle.uimg_fit_building.specs.{PayloadSums.no_files, Refusing.fill_by}
 use Rattle.uimg_fit_updating.specs.Updating.{IsUpdated}
-use Rattle.uimg_names.specs.declared.naming.Naming.TheVariants.{All}
+use Rattle.uimg_texts.specs.declared.naming.Naming.TheVariants.{All}
 use Rattle.uimg_requests.specs.Requests.{folder_of}
 use Rattle.uimg_its.specs.{Grammar.Spells, Words.words}
 use Rattle.uimg_tool.specs.{LeavingOut.in_folder, declared.{old_files.Begun.Begun, tree_program.TreeRequest.TreeRequest}}
@@ -75,18 +75,12 @@ KeepsEither there new t time placement = KeepsFilled there t time placement ⊎ 
 abbrev pub KeepsAsked : {K N : Type 0} → (K → Device) → (N → Device) → FitRequest → Nodes → Type 0
 KeepsAsked there new asked t = KeepsEither there new t asked.manner.time (aligned_by asked.placement asked.manner.align)
 
--- what a known tree of a source gives at status 0, if its files are looked for in one folder
-abbrev pub KeepsKnown : {K N : Type 0} → (K → Device) → (N → Device) → FitRequest → List ℕ → FileMap → Unread → ℕ → Type 0
-KeepsKnown there new asked folder files u status = IsTrue files.honest → length asked.dtc.folders.items ≡ 0 → status ≡ 0
-    → AreKept (in_folder folder files.bytes) u
-    → KeepsAsked there new asked (in_full (in_folder folder files.bytes) u)
-
 -- At status 0 the image of the tree that a text spells is kept, if its files are looked for in one folder.
-abbrev pub BuildsText : {K N : Type 0} → (K → Device) → (N → Device) → FitRequest → List ℕ → List ℕ → FileMap → ℕ → Type 0
+abbrev pub BuildsText : {K N : Type 0} → (K → Device) → (N → Device) → FitRequest → (folder text : List ℕ) → FileMap → ℕ → Type 0
 BuildsText there new asked folder text files status = IsTrue files.honest → length asked.dtc.folders.items ≡ 0 → status ≡ 0
     → (t : Nodes) → Spells (words text) (in_folder folder files.bytes) t → KeepsAsked there new asked t
 
--- the same of a source at a path; its name is what follows its folder
-abbrev pub BuildsPath : {K N : Type 0} → (K → Device) → (N → Device) → FitRequest → List ℕ → FileMap → ℕ → Type 0
-BuildsPath there new asked path files status = IsTrue files.honest → length asked.dtc.folders.items ≡ 0 → status ≡ 0
-    → (t : Nodes) → SpellsTree (in_folder (folder_of path) files.bytes) (drop (length (folder_of path)) path) t → KeepsAsked there new asked t
+-- the same of the text at a path, whose files are in the folder of the path
+abbrev pub BuildsPath : {K N : Type 0} → (K → Device) → (N → Device) → FitRequest → FileMap → ℕ → Type 0
+BuildsPath there new asked files status =
+    (text : List ℕ) → files.bytes asked.source.now ≡ Some text → BuildsText there new asked (folder_of asked.source.now) text files status

@@ -30,7 +30,8 @@ pub struct Complaints<'a, V: Write> {
 }
 
 impl<'a, V: Write> Complaints<'a, V> {
-    pub(crate) fn new(name: &'a str, err: &'a mut V) -> Complaints<'a, V>
+    /// Creates the standard error of a program of this name, which writes to `err`.
+    pub fn new(name: &'a str, err: &'a mut V) -> Complaints<'a, V>
         ensures count { result.count ≡ 0 }
         ensures lost { result.is_lost ≡ false }
         ensures name { result.name ≡ name.entry }

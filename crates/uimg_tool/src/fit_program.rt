@@ -1,35 +1,34 @@
-//! Makes a FIT image from a source, as mkimage does.
+//! FIT images that mkimage makes from a source.
 
-ghost use Rattle.std.specs.Prelude.{◌≡◌, ◌≢◌, [], IfOk, None, codes, length};
+ghost use Rattle.std.specs.Prelude.{◌≡◌, ◌≢◌, [], IfOk, IsTrue, codes, length};
+ghost use Rattle.std.specs.Path.{path_buf_bytes};
 ghost use Rattle.uimg_base.specs.Named.{SameFiles};
-ghost use Rattle.uimg_blob_writing.specs.{Content.FilesAtData, Trees.node_of};
-ghost use Rattle.uimg_requests.specs.{Plain.IsAt, Requests.{AsksSource, folder_of}};
+ghost use Rattle.uimg_blob_writing.specs.{Content.FilesAtData, LentFiles.IfInFull, Trees.node_of};
+ghost use Rattle.uimg_fit_base.specs.Placements.{aligned_by};
+ghost use Rattle.uimg_requests.specs.Requests.{folder_of};
 ghost use Rattle.uimg_tool.specs.{Complaints.Ends, OldMakings.MakesWithin};
-ghost use Rattle.uimg_tool.specs.TreesMade.{BuildsPath, BuildsText, KeepsKnown};
+ghost use Rattle.uimg_tool.specs.TreesMade.{BuildsPath, BuildsText, KeepsEither};
 ghost use Rattle.uimg_world.specs.Deeds.{changes};
 
 use crate::complaints::Complaints;
-use crate::dts_program::{Beyond, make_beyond, make_compiled, tree_request};
-use crate::images::is_same_file;
-use crate::known_sources::{Known, files_of, known_text, source_text};
-use crate::old_files::{about_end, tell_end};
-use crate::request_fault::{REFUSED, RequestFault, WRONG_LINE};
-use std::alloc::{AllocError, Global};
-use std::io;
-use std::io::{Read, Write};
-use std::path::{Path, PathBuf};
-use uimg_blob_writing::Tree;
-use uimg_compat::{FitRequest, OldFault, has_labels, warn};
-use uimg_requests::MakeRequest;
+use crate::no_tree::{NoTree, tell_no_tree};
+use crate::request_fault::{RequestFault, WRONG_LINE};
+use crate::sources::{SourceText, files_of, read_source, tree_of, unread};
+use crate::tree_program::{TreeRequest, write_image};
+use std::alloc::Global;
+use std::io::Write;
+use uimg_base::Files;
+use uimg_compat::{AutoRequest, AutoSource, FitRequest, OldFault, warn};
+use uimg_dts::Compiled;
+use uimg_engine::Fault;
+use uimg_fit_building::fill_by;
+use uimg_its::compile;
+use uimg_requests::cut_behind_folder;
+use uimg_texts::Naming;
 use uimg_world::{MakingWorld, Target, World};
 
-/// The name of standard input as a source, and its path.
-const INPUT_NAME: &str = "-";
-
-const INPUT: &str = "/dev/stdin";
-
-/// The most bytes that are read of standard input.
-const MOST_INPUT: u64 = 1 << 26;
+/// What faults call the source that mkimage makes itself.
+const OWN_SOURCE: &str = "-f auto";
 
 /// Makes the image of a source that is a file, or standard input.
 pub(crate) fn make_fit<'p, D: MakingWorld<'p>, W: Write, V: Write>(
@@ -42,19 +41,19 @@ pub(crate) fn make_fit<'p, D: MakingWorld<'p>, W: Write, V: Write>(
     ensures made { MakesWithin request.now.outfile.now result (D.trace world.old)
         (D.trace world.new) }
     ensures built { request.now.source.now ≢ codes "-" → BuildsPath D.Shelf.Kept.device
-        D.NewShelf.Kept.device request.now request.now.source.now (D.map world.old) result }
+        D.NewShelf.Kept.device request.now (D.map world.old) result }
 {
     if is_key(world, request.key) {
         return complaints.tell(&OldFault::Signs('g'), WRONG_LINE);
     }
-    if request.source == INPUT_NAME {
-        return make_of_input(world, request, out, complaints);
+    match read_source(world, request) {
+        Ok(source) => make_of_text(world, request, source, out, complaints),
+        Err(reason) => tell_no_tree(world, request.source, request.outfile, reason, complaints),
     }
-    make_of_file(world, request, out, complaints)
 }
 
 /// Returns whether anything is at the path of a key, if there is one.
-pub(crate) fn is_key<D: World>(world: &mut D, key: Option<&str>) -> bool
+fn is_key<D: World>(world: &mut D, key: Option<&str>) -> bool
     ensures same { SameFiles (D.map world.old) (D.map world.new) }
     ensures kept { changes (D.trace world.new) ≡ changes (D.trace world.old) }
 {
@@ -73,148 +72,11 @@ fn leads_somewhere(target: Target) -> bool {
     }
 }
 
-// Makes the image of a source at its path, or in the first folder for dtc that has it.
-fn make_of_file<'p, D: MakingWorld<'p>, W: Write, V: Write>(
-    world: &mut D,
-    request: &FitRequest<'p>,
-    out: &mut W,
-    complaints: &mut Complaints<'_, V>,
-) -> u8
-    ensures ends { Ends result complaints.old.count complaints.new.count }
-    ensures made { MakesWithin request.now.outfile.now result (D.trace world.old)
-        (D.trace world.new) }
-    ensures built { BuildsPath D.Shelf.Kept.device D.NewShelf.Kept.device request.now
-        request.now.source.now (D.map world.old) result }
-{
-    if world.open(request.source).is_ok() {
-        return make_of_path(world, request, request.source, out, complaints);
-    }
-    match path_in_folders(world, request) {
-        Ok(Some(path)) => make_of_path(world, request, path.as_str(), out, complaints),
-        Ok(None) => complaints.tell_unread(world, request.source),
-        Err(_) => complaints.tell_no_memory(),
-    }
-}
-
-fn path_in_folders<D: World>(
-    world: &mut D,
-    request: &FitRequest<'_>,
-) -> Result<Option<PathBuf>, AllocError>
-    ensures kept { changes (D.trace world.new) ≡ changes (D.trace world.old) }
-    ensures none { length request.now.dtc.folders.items ≡ 0 → IfOk result (λ found. found ≡ None) }
-{
-    for folder in request.dtc.folders.as_slice() {
-        let Ok(path) = Path::new(folder).join(world.alloc(), request.source) else {
-            return Err(AllocError);
-        };
-        if world.open(path.as_str()).is_ok() {
-            return Ok(Some(path));
-        }
-    }
-    Ok(None)
-}
-
-fn make_of_path<'p, D: MakingWorld<'p>, W: Write, V: Write>(
-    world: &mut D,
-    request: &FitRequest<'p>,
-    path: &str,
-    out: &mut W,
-    complaints: &mut Complaints<'_, V>,
-) -> u8
-    ensures ends { Ends result complaints.old.count complaints.new.count }
-    ensures made { MakesWithin request.now.outfile.now result (D.trace world.old)
-        (D.trace world.new) }
-    ensures built { BuildsPath D.Shelf.Kept.device D.NewShelf.Kept.device request.now path.now
-        (D.map world.old) result }
-{
-    let alloc = world.alloc();
-    let Ok(making) = making_of_path(alloc, request, path, request.outfile) else {
-        return complaints.tell_no_memory();
-    };
-    let reader = world.reader();
-    match source_text(reader, alloc, &making, &request.dtc) {
-        Ok(text) => warn_and_make(world, request, making, text, out, complaints),
-        Err(fault) => {
-            let end = Err(fault);
-            let about = about_end(&end, path, request.outfile);
-            tell_end(world, &end, about, complaints)
-        }
-    }
-}
-
 // The files are in the source's folder.
-fn making_of_path<'a>(
-    alloc: Global,
-    request: &FitRequest<'_>,
-    path: &'a str,
-    outfile: &'a str,
-) -> Result<MakeRequest<'a>, AllocError>
-    ensures asks { IfOk result (λ making. AsksSource making.command making.folder.now
-        path.entry.now request.now.placement) }
-    ensures place { IfOk result (λ making.
-        IsAt making path.entry.now (folder_of path.entry.now)) }
-{
-    MakeRequest::of_source(alloc, path, request.placement, request.manner.time, outfile)
-}
-
-// Refuses to write to standard input.
-fn make_of_input<'p, D: MakingWorld<'p>, W: Write, V: Write>(
+fn make_of_text<'p, D: MakingWorld<'p>, W: Write, V: Write>(
     world: &mut D,
     request: &FitRequest<'p>,
-    out: &mut W,
-    complaints: &mut Complaints<'_, V>,
-) -> u8
-    ensures ends { Ends result complaints.old.count complaints.new.count }
-    ensures made { MakesWithin request.now.outfile.now result (D.trace world.old)
-        (D.trace world.new) }
-{
-    if is_same_file(world, request.outfile, INPUT) {
-        let end = Err(RequestFault::WritesWhatIsRead(request.outfile));
-        return tell_end(world, &end, request.outfile, complaints);
-    }
-    let Ok(text) = read_input(world) else {
-        return complaints.tell_unread(world, INPUT);
-    };
-    if text.len() as u64 > MOST_INPUT {
-        let reason = format_args!("{INPUT_NAME}: a source of more than 64 MiB");
-        return complaints.tell(&reason, REFUSED);
-    }
-    match making_of_input(world.alloc(), request) {
-        Ok(making) => warn_and_make(world, request, making, text, out, complaints),
-        Err(_) => complaints.tell_no_memory(),
-    }
-}
-
-// The files are in the current folder.
-fn making_of_input<'a>(
-    alloc: Global,
-    request: &FitRequest<'a>,
-) -> Result<MakeRequest<'a>, AllocError> {
-    MakeRequest::of_source_here(
-        alloc,
-        INPUT_NAME,
-        request.placement,
-        request.manner.time,
-        request.outfile,
-    )
-}
-
-// Reads standard input to its end, or one byte more than the most.
-fn read_input<D: World>(world: &mut D) -> io::Result<Vec<u8>>
-    ensures { changes (D.trace world.new) ≡ changes (D.trace world.old) }
-{
-    let mut text = Vec::new(world.alloc());
-    let input = world.read(INPUT)?;
-    input.take(MOST_INPUT + 1).read_to_end(&mut text)?;
-    Ok(text)
-}
-
-// A text that the profile refuses is read in the language of dtc.
-fn warn_and_make<'p, D: MakingWorld<'p>, W: Write, V: Write>(
-    world: &mut D,
-    request: &FitRequest<'p>,
-    making: MakeRequest<'_>,
-    text: Vec<u8>,
+    source: SourceText,
     out: &mut W,
     complaints: &mut Complaints<'_, V>,
 ) -> u8
@@ -222,55 +84,158 @@ fn warn_and_make<'p, D: MakingWorld<'p>, W: Write, V: Write>(
     ensures made { MakesWithin request.now.outfile.now result (D.trace world.old)
         (D.trace world.new) }
     ensures built { BuildsText D.Shelf.Kept.device D.NewShelf.Kept.device request.now
-        making.entry.folder.now text.items (D.map world.old) result }
+        (folder_of (path_buf_bytes source.path)) source.text.items (D.map world.old) result }
 {
+    let SourceText { path, text } = source;
+    let path = path.as_str();
+    let (folder, _) = cut_behind_folder(path);
     let alloc = world.alloc();
-    let dtc = &request.dtc;
-    if dtc.has_symbols && has_labels(&text) {
-        return complaints.tell(&OldFault::DtcSymbols, WRONG_LINE);
+    let others = request.dtc.folders.as_slice();
+    let mut files = files_of(world.reader(), alloc, folder, others, request.outfile);
+    let compiled = tree_of(alloc, request, &text, &mut files);
+    drop(text);
+    match compiled {
+        Ok(compiled) => {
+            warn(alloc, &compiled.tree, request.dtc.silenced, complaints.err);
+            make_compiled(
+                world,
+                fit_request(request, path),
+                compiled,
+                &mut files,
+                out,
+                complaints,
+            )
+        }
+        Err(reason) => tell_no_tree(world, path, request.outfile, reason, complaints),
     }
-    let reader = world.reader();
-    match known_text(reader, alloc, &making, dtc, &text) {
-        Known::Beyond(_) if dtc.has_symbols => complaints.tell(&OldFault::DtcSymbols, WRONG_LINE),
-        Known::Beyond(fault) => {
-            let beyond = Beyond {
-                making,
-                text,
-                fault,
+}
+
+fn fit_request<'a, 'p>(request: &FitRequest<'p>, source: &'a str) -> TreeRequest<'a, 'p>
+    ensures made { result.image ≡ request.now.outfile }
+    ensures placed { (result.placement ≡ aligned_by request.now.placement request.now.manner.align)
+        × (result.manner ≡ request.now.manner) }
+{
+    TreeRequest {
+        source,
+        image: request.outfile,
+        in_place: true,
+        placement: request.placement.aligned_by(request.manner.align),
+        reservations: &[],
+        manner: request.manner,
+        is_quiet: request.is_quiet,
+    }
+}
+
+// Fills the tree by all algorithms.
+fn make_compiled<'p, D: MakingWorld<'p>, F: Files, W: Write, V: Write>(
+    world: &mut D,
+    making: TreeRequest<'_, 'p>,
+    compiled: Compiled<Global>,
+    files: &mut F,
+    out: &mut W,
+    complaints: &mut Complaints<'_, V>,
+) -> u8
+    requires { FilesAtData (node_of compiled.tree.root) }
+    ensures ends { Ends result complaints.old.count complaints.new.count }
+    ensures made { MakesWithin making.entry.image.now result (D.trace world.old) (D.trace world.new) }
+    ensures kept { IsTrue D.knows → compiled.reservations.items ≡ [] → result ≡ 0 →
+        IfInFull F.map files (node_of compiled.tree.root) (λ t. KeepsEither D.Shelf.Kept.device
+        D.NewShelf.Kept.device t making.entry.manner.time making.entry.placement) }
+{
+    let Compiled { tree, reservations } = compiled;
+    match fill_by(world.alloc(), tree, making.manner.time, Naming::All, files) {
+        Ok(tree) => {
+            let making = TreeRequest {
+                reservations: reservations.as_slice(),
+                ..making
             };
-            make_beyond(world, request, &beyond, out, complaints)
+            write_image(world, making, &tree, files, out, complaints)
         }
-        Known::Tree(tree) => {
-            drop(text);
-            warn(alloc, &tree, dtc.silenced, complaints.err);
-            make_known(world, request, &making, tree, out, complaints)
-        }
-        Known::Unread(fault) => {
-            let end = Err(fault);
-            let about = about_end(&end, making.source, making.outfile);
-            tell_end(world, &end, about, complaints)
+        Err(fault) => {
+            let reason = NoTree::Stopped(RequestFault::Stopped(Fault::Fit(fault)));
+            tell_no_tree(world, making.source, making.image, reason, complaints)
         }
     }
 }
 
-// The files are opened again.
-fn make_known<'p, D: MakingWorld<'p>, W: Write, V: Write>(
+/// Makes the image of the source that mkimage makes itself. Its text is in memory, and its files are
+/// in the current folder.
+pub(crate) fn make_auto<'p, D: MakingWorld<'p>, W: Write, V: Write>(
     world: &mut D,
-    request: &FitRequest<'p>,
-    making: &MakeRequest<'_>,
-    tree: Tree<Global>,
+    request: &AutoRequest<'p>,
     out: &mut W,
     complaints: &mut Complaints<'_, V>,
 ) -> u8
-    requires { FilesAtData (node_of tree.root) }
     ensures ends { Ends result complaints.old.count complaints.new.count }
     ensures made { MakesWithin request.now.outfile.now result (D.trace world.old)
         (D.trace world.new) }
-    ensures kept { KeepsKnown D.Shelf.Kept.device D.NewShelf.Kept.device request.now making.now.folder.now
-        (D.map world.old) (node_of tree.root) result }
 {
-    let reader = world.reader();
-    let mut files = files_of(reader, world.alloc(), making, &request.dtc);
-    let making = tree_request(request, making.source);
-    make_compiled(world, making, tree, &mut files, out, complaints)
+    if is_key(world, request.key) {
+        return complaints.tell(&OldFault::Signs('g'), WRONG_LINE);
+    }
+    if let Some(path) = unread_file(world, &request.source) {
+        return complaints.tell_unread(world, path);
+    }
+    let alloc = world.alloc();
+    let mut text = Vec::new(alloc);
+    if write!(text, "{}", request.source).is_err() {
+        return complaints.tell_no_memory();
+    }
+    let mut files = files_of(world.reader(), alloc, "", &[], request.outfile);
+    let compiled = compile(alloc, &text, &mut files);
+    drop(text);
+    match compiled {
+        Ok(tree) => {
+            let compiled = Compiled {
+                tree,
+                reservations: Vec::new(alloc),
+            };
+            make_compiled(
+                world,
+                auto_request(request),
+                compiled,
+                &mut files,
+                out,
+                complaints,
+            )
+        }
+        Err(fault) => {
+            let reason = unread(request.outfile, files.has_met_left_out(), fault);
+            tell_no_tree(world, OWN_SOURCE, request.outfile, reason, complaints)
+        }
+    }
+}
+
+fn auto_request<'p>(request: &AutoRequest<'p>) -> TreeRequest<'p, 'p>
+    ensures { result.image ≡ request.now.outfile }
+{
+    TreeRequest {
+        source: OWN_SOURCE,
+        image: request.outfile,
+        in_place: true,
+        placement: request.placement.aligned_by(request.manner.align),
+        reservations: &[],
+        manner: request.manner,
+        is_quiet: request.is_quiet,
+    }
+}
+
+// Returns the first path of a source whose file cannot be opened: the data, a device tree or the
+// RAM disk.
+fn unread_file<'a, D: World>(world: &mut D, source: &AutoSource<'a>) -> Option<&'a str>
+    ensures { changes (D.trace world.new) ≡ changes (D.trace world.old) }
+{
+    if world.open(source.data).is_err() {
+        return Some(source.data);
+    }
+    let mut left = source.trees();
+    while let Some(path) = left.take() {
+        if world.open(path).is_err() {
+            return Some(path);
+        }
+    }
+    match source.ramdisk {
+        Some(path) if world.open(path).is_err() => Some(path),
+        _ => None,
+    }
 }

@@ -1,14 +1,12 @@
 //! The program uimg, as a function of arguments, streams and files.
 #![tactic(auto)]
 
-mod auto_program;
 mod body_source;
 mod checks;
 mod command_line;
 mod commands;
 mod complaint;
 mod complaints;
-mod dts_program;
 mod facts;
 mod fit_program;
 mod folder_files;
@@ -16,13 +14,13 @@ mod images;
 mod in_memory;
 mod json_lines;
 mod keys;
-mod known_sources;
 mod lookup;
 mod made;
 mod main_program;
 mod making;
 mod maps;
 mod moments;
+mod no_tree;
 mod old_files;
 mod old_images;
 mod old_program;
@@ -34,6 +32,7 @@ mod reasons;
 mod request_fault;
 mod safe_path;
 mod source_names;
+mod sources;
 mod tree_program;
 mod unpack_answers;
 mod unpacks;
@@ -47,6 +46,8 @@ pub use complaints::Complaints;
 pub use in_memory::{Answered, answer_in_memory};
 pub use main_program::{program, run_as_uimg};
 pub use moments::{can_erase, epoch, now};
+pub use old_program::run_as_tool;
+pub use old_tools::Tool;
 pub use progress::{Cleared, Meter};
 pub use uimg_engine::{Action, Command, DiskFiles, Fault, Form, MakeCommand, make, run};
 pub use watched_files::WatchedFiles;

@@ -44,22 +44,23 @@ pub fn program<R: Files + AllocGlobal, W: Write, V: Write>(
         epoch,
         time: now,
     };
-    match Tool::of_words(words) {
+    let world = &mut DiskWorld::new(rt);
+    let (status, out) = match Tool::of_words(words) {
         Some(tool) => {
             let complaints = &mut Complaints::new(tool.name(), err);
-            run_as_tool(rt, tool, line, out, complaints)
+            run_as_tool(world, tool, line, out, complaints)
         }
         None => {
             let complaints = &mut Complaints::new("uimg", err);
-            let (status, out) = run_as_uimg(&mut DiskWorld::new(rt), line, out, complaints);
-            if let Some(out) = out {
-                // No effect at run time. The proof reads what `out` holds from this use.
-                let _ = &*out;
-                return status;
-            }
-            status
+            run_as_uimg(world, line, out, complaints)
         }
+    };
+    if let Some(out) = out {
+        // No effect at run time. The proof reads what `out` holds from this use.
+        let _ = &*out;
+        return status;
     }
+    status
 }
 
 /// Carries out a command line of `uimg` over a world of files. Returns the status, and `out` unless

@@ -9,7 +9,7 @@ ghost use Rattle.uimg_world.specs.Deeds.{Deed};
 
 use crate::folder_files::{FolderFiles, LeftOut};
 use crate::lookup::Folders;
-use crate::old_files::{Begun, How};
+use crate::old_files::Begun;
 use crate::reasons::Watched;
 use crate::request_fault::RequestFault;
 use std::alloc::Global;
@@ -76,15 +76,14 @@ fn make_among<'a, R: Reader, H: Shelf, W: Write, L: LeftOut>(
 /// Writes to a file that was begun, or else to one at the path of the image.
 pub(crate) fn make_command<'a, 'p, D: MakingWorld<'p>, W: Write>(
     world: &mut D,
-    request: &'a MakeRequest<'_>,
+    request: &'a MakeRequest<'p>,
     reader: D::Reader,
     begun: Option<Begun<'_, D::File>>,
-    how: How<'p>,
     out: &mut Out<W>,
 ) -> Result<Status, RequestFault<'a>>
     ensures ends { MakeEnds request.now result }
     ensures lent { D.trace world.new
-        ≡ Deed.LendsShelf (path_for how.entry.outfile.now begun.entry) ∷ D.trace world.old }
+        ≡ Deed.LendsShelf (path_for request.now.outfile.now begun.entry) ∷ D.trace world.old }
     ensures told { IsTrue D.knows → IsTrue (D.Reader.map reader).honest →
         IsNew D.File.contents begun.entry → request.now.is_xip ≡ false →
         MakesIn begun.entry D.Shelf.Kept.device D.NewShelf.Kept.device
@@ -101,7 +100,7 @@ pub(crate) fn make_command<'a, 'p, D: MakingWorld<'p>, W: Write>(
             Err(_) => Err(RequestFault::OutOfMemory),
         },
         None => {
-            let shelf = Watched::new(world.shelf_at(how.outfile), &code);
+            let shelf = Watched::new(world.shelf_at(request.outfile), &code);
             make_among::<_, _, _, Brand>(alloc, request, request.is_xip, reader, shelf, out)
         }
     };

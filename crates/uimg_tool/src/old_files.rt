@@ -2,45 +2,27 @@
 
 ghost use Rattle.std.specs.Prelude.{◌≡◌, ◌∷◌, ◌⊎◌, [], IsTrue, false, is_err, is_ok, true, if◌then◌else◌};
 ghost use Rattle.std.specs.Io.Buffered.{writer_buffer, writer_contents};
-ghost use Rattle.uimg_tool.specs.{Complaints.{Complains, Ends}, Finishing.FinishesBy, RequestEnds.{MakeEnds, is_about_source}};
+ghost use Rattle.uimg_tool.specs.{Complaints.Ends, Finishing.FinishesBy, RequestEnds.{MakeEnds, is_about_source}};
 ghost use Rattle.uimg_tool.specs.OldMakings.{AnswersOldMaking, IsNew, LendsAt, ListsIn, MakesFor, Named, path_for};
-ghost use Rattle.uimg_tool.specs.{OldTexts.told_of_old};
 ghost use Rattle.uimg_tool.specs.Statuses.{end_status};
 ghost use Rattle.uimg_world.specs.Deeds.{Deed, changes};
 
 use crate::complaints::Complaints;
 use crate::made::Made;
 use crate::making::make_command;
-use crate::request_fault::{DONE, FAILED, REFUSED, RequestFault, status_of};
-use crate::safe_path::{SafePath, Writing};
-use crate::writing::writing_of;
+use crate::request_fault::{DONE, REFUSED, RequestFault, status_of};
+use crate::safe_path::SafePath;
+use crate::writing::begin_image;
 use std::alloc::Global;
 use std::io;
 use std::io::{BufWriter, Write};
 use uimg_base::{Out, Status};
 use uimg_checks::status_of_fault;
-use uimg_compat::OldFault;
 use uimg_engine::Fault;
 use uimg_fit_base::FitFault;
 use uimg_printing::Printed;
 use uimg_requests::MakeRequest;
 use uimg_world::{MakingWorld, World};
-
-/// How an image is made: whether nothing is printed, and the path of the image.
-#[derive(Clone, Copy)]
-pub(crate) struct How<'a> {
-    pub(crate) is_quiet: bool,
-    pub(crate) outfile: &'a str,
-}
-
-impl<'a> How<'a> {
-    pub(crate) fn new(is_quiet: bool, outfile: &'a str) -> How<'a>
-        ensures quiet { result.is_quiet ≡ is_quiet }
-        ensures outfile { result.outfile ≡ outfile.entry }
-    {
-        How { is_quiet, outfile }
-    }
-}
 
 /// A file that is written beside its name, and its paths.
 #[derive(Drop)]
@@ -54,73 +36,68 @@ pub(crate) struct Begun<'a, F: Drop> {
 /// `out`, too.
 pub(crate) fn make_old<'a, 'p, D: MakingWorld<'p>, W: Write + Drop, V: Write>(
     world: &mut D,
-    how: How<'p>,
-    request: &'a MakeRequest<'a>,
+    is_quiet: bool,
+    request: &'a MakeRequest<'p>,
     out: BufWriter<W, Global>,
     complaints: &mut Complaints<'_, V>,
 ) -> (u8, BufWriter<W, Global>)
     ensures ends { Ends result.0 complaints.old.count complaints.new.count }
-    ensures quiet { how.entry.is_quiet ≡ true → result.1 ≡ out }
-    ensures made { MakesFor how.entry.outfile.now result.0
+    ensures quiet { is_quiet ≡ true → result.1 ≡ out }
+    ensures made { MakesFor request.now.outfile.now result.0
         (Deed.LendsReader ∷ D.trace world.old) (D.trace world.new) }
     ensures told { IsTrue (D.map world.old).honest → request.now.is_xip ≡ false →
-        AnswersOldMaking how.entry.is_quiet D.Shelf.Kept.device D.NewShelf.Kept.device
+        AnswersOldMaking is_quiet D.Shelf.Kept.device D.NewShelf.Kept.device
         (D.identities world.old) request.now (D.map world.old) result.0
         (writer_contents W.contents out) (writer_contents W.contents result.1) }
     ensures flushed { result.0 ≡ 0 → writer_buffer out ≡ [] → writer_buffer result.1 ≡ [] }
 {
     let reader = world.reader();
-    match writing_of(world, world.alloc(), how.outfile) {
-        Ok(Writing::InPlace) => {
-            let (made, out) = make_by(world, request, reader, None, how, out);
+    match begin_image(world, request.outfile, complaints) {
+        Ok(Some((file, path))) => {
+            let begun = Begun { file, path: &path };
+            let (made, out) = make_by(world, is_quiet, request, reader, Some(begun), out);
+            let about = about_end(&made.end, request.source, request.outfile);
+            (tell_made(world, &path, &made, about, complaints), out)
+        }
+        Ok(None) => {
+            let (made, out) = make_by(world, is_quiet, request, reader, None, out);
             let end = made.told();
             let about = about_end(&end, request.source, request.outfile);
             (tell_end(world, &end, about, complaints), out)
         }
-        Ok(Writing::Beside(file, path)) => {
-            let begun = Begun { file, path: &path };
-            let (made, out) = make_by(world, request, reader, Some(begun), how, out);
-            let about = about_end(&made.end, request.source, request.outfile);
-            (tell_made(world, &path, &made, about, complaints), out)
-        }
-        Ok(Writing::Pipe) => {
-            let path = Printed(how.outfile.as_bytes());
-            (complaints.tell(&OldFault::MadeAsPipe(path), FAILED), out)
-        }
-        Ok(Writing::Nowhere(reason)) => (complaints.tell_unwritten(how.outfile, &reason), out),
-        Err(_) => (complaints.tell_no_memory(), out),
+        Err(status) => (status, out),
     }
 }
 
 // Makes an image in a new file or in place. A quiet build prints nothing.
 fn make_by<'a, 'p, D: MakingWorld<'p>, W: Write + Drop>(
     world: &mut D,
-    request: &'a MakeRequest<'a>,
+    is_quiet: bool,
+    request: &'a MakeRequest<'p>,
     reader: D::Reader,
     begun: Option<Begun<'_, D::File>>,
-    how: How<'p>,
     out: BufWriter<W, Global>,
 ) -> (Made<'a>, BufWriter<W, Global>)
     ensures ends { MakeEnds request.now result.0.end }
-    ensures quiet { how.entry.is_quiet ≡ true → result.1 ≡ out }
-    ensures lent { LendsAt (path_for how.entry.outfile.now begun.entry) (is_err result.0.end)
+    ensures quiet { is_quiet ≡ true → result.1 ≡ out }
+    ensures lent { LendsAt (path_for request.now.outfile.now begun.entry) (is_err result.0.end)
         (D.trace world.old) (D.trace world.new) }
     ensures told { IsTrue D.knows → IsTrue (D.Reader.map reader).honest →
         IsNew D.File.contents begun.entry → request.now.is_xip ≡ false →
-        ListsIn how.entry.is_quiet begun.entry D.Shelf.Kept.device D.NewShelf.Kept.device
+        ListsIn is_quiet begun.entry D.Shelf.Kept.device D.NewShelf.Kept.device
         (D.Reader.identities reader) request.now (D.Reader.map reader) result.0.end
         (writer_contents W.contents out) (writer_contents W.contents result.1) }
     ensures flushed { is_ok result.0.printed ≡ true → writer_buffer out ≡ [] →
         writer_buffer result.1 ≡ [] }
 {
-    if how.is_quiet {
+    if is_quiet {
         let mut sink = Out::new(io::sink());
-        let end = make_command(world, request, reader, begun, how, &mut sink);
+        let end = make_command(world, request, reader, begun, &mut sink);
         let printed = Ok(());
         return (Made { end, printed }, out);
     }
     let mut listing = Out::new(out);
-    let end = make_command(world, request, reader, begun, how, &mut listing);
+    let end = make_command(world, request, reader, begun, &mut listing);
     let mut out = listing.into_inner();
     let printed = out.flush();
     (Made { end, printed }, out)
@@ -202,7 +179,6 @@ pub(crate) fn tell_end<D: World, V: Write>(
 ) -> u8
     ensures status { result ≡ end_status end.now }
     ensures ends { Ends result complaints.old.count complaints.new.count }
-    ensures line { Complains V.contents (told_of_old path.now end.now) complaints }
     ensures kept { changes (D.trace world.new) ≡ changes (D.trace world.old) }
 {
     match end {

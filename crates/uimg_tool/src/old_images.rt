@@ -35,8 +35,7 @@ pub(crate) fn run_old<D: World, W: Write + Drop, V: Write>(
     ensures told { IsTrue (D.map world.old).honest → request.now.outfile ≡ None →
         (result.0 ≡ 3) ⊎ PrintsOutcome is_quiet request.now (D.map world.old) result.0
         (writer_contents W.contents out) (writer_contents W.contents result.1) }
-    ensures flushed { request.now.outfile ≡ None → result.0 ≢ 3 → writer_buffer out ≡ [] →
-        writer_buffer result.1 ≡ [] }
+    ensures flushed { result.0 ≢ 3 → writer_buffer out ≡ [] → writer_buffer result.1 ≡ [] }
     ensures kept { request.now.outfile ≡ None →
         changes (D.trace world.new) ≡ changes (D.trace world.old) }
     ensures extracted { IsTrue (D.map world.old).honest → IfSome request.now.outfile (λ path.

@@ -1,16 +1,15 @@
 //! The program with the names of mkimage and dumpimage.
 
-ghost use Rattle.std.specs.Prelude.{◌≡◌, ◌≤◌, ◌⊎◌, OnOk};
-ghost use Rattle.std.specs.Io.KnownBytes.{Appends};
-ghost use Rattle.uimg_tool.specs.Complaints.{Ends};
-ghost use Rattle.uimg_tool.specs.OldTexts.{ShowsText, name_line, shown_status, version_line};
+ghost use Rattle.std.specs.Prelude.{◌≡◌, ◌≢◌, ◌≤◌, [], None, OnOk, Some};
+ghost use Rattle.std.specs.Io.{Buffered.{writer_buffer, writer_contents}, KnownBytes.{Appends}};
+ghost use Rattle.uimg_tool.specs.{Complaints.Ends, OldTexts.{name_line, version_line}, WordAnswers.printed};
+ghost use Rattle.uimg_tool.specs.OldCommands.{AnswersTool, IsShownOld};
 ghost use Rattle.uimg_tool.specs.{Programs.{OldAsksNothing, ReadsOld, epoch_of, words_of}, Statuses.old_words_status};
 
-use crate::auto_program::make_auto;
 use crate::command_line::CommandLine;
 use crate::complaints::Complaints;
-use crate::fit_program::make_fit;
-use crate::old_files::{How, make_old};
+use crate::fit_program::{make_auto, make_fit};
+use crate::old_files::make_old;
 use crate::old_images::run_old;
 use crate::old_tools::Tool;
 use crate::request_fault::{DONE, WRONG_LINE};
@@ -18,106 +17,70 @@ use crate::update_program::update_image;
 use std::alloc::Global;
 use std::io;
 use std::io::{BufWriter, Write};
-use std::rt::Files;
-use uimg_compat::{
-    AutoRequest, FitRequest, OldFault, OldRequest, Show, read_dumpimage, read_mkimage, title_of,
-};
-use uimg_names::Field;
-use uimg_requests::{MakeRequest, RunRequest, VERSION};
-use uimg_world::DiskWorld;
+use uimg_compat::{OldFault, OldRequest, Show, read_dumpimage, read_mkimage, title_of};
+use uimg_requests::VERSION;
+use uimg_texts::Field;
+use uimg_world::MakingWorld;
 
-/// Carries out the arguments of a tool of U-Boot 2023.01. An image is written to a new file and
-/// gets its name when it is complete, unless something exists there that is not a regular file.
+/// Carries out the arguments of a tool of U-Boot 2023.01 over a world of files. An image is written to
+/// a new file and gets its name when it is complete, unless something exists there that is not a
+/// regular file. Returns the status, and `out` unless memory for its buffer was refused.
+///
+/// If the definition of the tool's arguments accepts them, then output, new files and status are
+/// those of the definition, as far as `AnswersTool` says. Else nothing is done or printed.
 #[tactic(auto, using(crate::proofs::OldWordLaws::nothing_read))]
-pub(crate) fn run_as_tool<R: Files + AllocGlobal, W: Write, V: Write>(
-    rt: &R,
+pub fn run_as_tool<'a, D: MakingWorld<'a>, W: Write + Drop, V: Write>(
+    world: &mut D,
     tool: Tool,
-    line: CommandLine<'_>,
-    out: &mut W,
+    line: CommandLine<'a>,
+    out: W,
     complaints: &mut Complaints<'_, V>,
-) -> u8
-    ensures ends { Ends result complaints.old.count complaints.new.count }
+) -> (u8, Option<W>)
+    ensures ends { Ends result.0 complaints.old.count complaints.new.count }
     ensures nothing { OldAsksNothing tool (epoch_of line.entry) line.entry.time (words_of line.entry)
-        → 2 ≤ result }
+        → 2 ≤ result.0 }
     ensures unprinted { OldAsksNothing tool (epoch_of line.entry) line.entry.time (words_of line.entry)
-        → out.new ≡ out.old }
+        → result.1 ≡ Some out }
+    ensures lost { result.1 ≡ None → result.0 ≡ 3 }
+    ensures answers { AnswersTool (record {
+      there = D.Shelf.Kept.device;
+      new = D.NewShelf.Kept.device;
+      identities = D.identities world.old;
+    }) tool line.entry (D.map world.old) result.0 (W.contents out) (printed W.contents result.1)
+        (D.trace world.old) (D.trace world.new) }
 {
-    match read_old_words(rt.alloc(), tool, line) {
-        Ok(OldRequest::Run { request, is_quiet }) => {
-            run_on_disk(rt, is_quiet, &request, out, complaints)
-        }
-        Ok(OldRequest::Make { request, is_quiet }) => {
-            make_on_disk(rt, is_quiet, request, out, complaints)
-        }
-        Ok(OldRequest::MakeFit(request)) => make_fit_on_disk(rt, &request, out, complaints),
-        Ok(OldRequest::MakeAuto(request)) => make_auto_on_disk(rt, request, out, complaints),
-        Ok(OldRequest::Update(request)) => {
-            update_image(&mut DiskWorld::new(rt), &request, out, complaints)
-        }
-        Ok(OldRequest::Show(show)) => show_text(tool, show, out, complaints),
-        Err(fault) => tell_old_fault(&fault, complaints),
-    }
-}
-
-fn run_on_disk<R: Files + AllocGlobal, W: Write, V: Write>(
-    rt: &R,
-    is_quiet: bool,
-    request: &RunRequest<'_>,
-    out: &mut W,
-    complaints: &mut Complaints<'_, V>,
-) -> u8
-    ensures { Ends result complaints.old.count complaints.new.count }
-{
-    let Ok(gathered) = BufWriter::new(rt.alloc(), out) else {
-        return complaints.tell_no_memory();
+    let alloc = world.alloc();
+    let asked = match read_old_words(alloc, tool, line) {
+        Ok(asked) => asked,
+        Err(fault) => return (tell_old_fault(&fault, complaints), Some(out)),
     };
-    let world = &mut DiskWorld::new(rt);
-    let (status, gathered) = run_old(world, is_quiet, request, gathered, complaints);
-    // A failed write leaves text in the buffer, which its drop would try to write again.
-    let (_, _) = gathered.into_parts();
-    status
-}
-
-fn make_on_disk<R: Files + AllocGlobal, W: Write, V: Write>(
-    rt: &R,
-    is_quiet: bool,
-    request: MakeRequest<'_>,
-    out: &mut W,
-    complaints: &mut Complaints<'_, V>,
-) -> u8
-    ensures { Ends result complaints.old.count complaints.new.count }
-{
-    let Ok(gathered) = BufWriter::new(rt.alloc(), out) else {
-        return complaints.tell_no_memory();
+    let Ok(mut out) = BufWriter::new(alloc, out) else {
+        return (complaints.tell_no_memory(), None);
     };
-    let world = &mut DiskWorld::new(rt);
-    let how = How::new(is_quiet, request.outfile);
-    let (status, gathered) = make_old(world, how, &request, gathered, complaints);
+    let (status, out) = match &asked {
+        OldRequest::Run { request, is_quiet } => {
+            run_old(world, *is_quiet, request, out, complaints)
+        }
+        OldRequest::Make { request, is_quiet } => {
+            make_old(world, *is_quiet, request, out, complaints)
+        }
+        OldRequest::MakeFit(request) => {
+            let status = make_fit(world, request, &mut out, complaints);
+            (status, out)
+        }
+        OldRequest::MakeAuto(request) => {
+            let status = make_auto(world, request, &mut out, complaints);
+            (status, out)
+        }
+        OldRequest::Update(request) => {
+            let status = update_image(world, request, &mut out, complaints);
+            (status, out)
+        }
+        OldRequest::Show(show) => show_text(tool, *show, out, complaints),
+    };
     // A failed write leaves text in the buffer, which its drop would try to write again.
-    let (_, _) = gathered.into_parts();
-    status
-}
-
-fn make_fit_on_disk<'a, R: Files + AllocGlobal, W: Write, V: Write>(
-    rt: &'a R,
-    request: &FitRequest<'a>,
-    out: &mut W,
-    complaints: &mut Complaints<'_, V>,
-) -> u8
-    ensures { Ends result complaints.old.count complaints.new.count }
-{
-    make_fit(&mut DiskWorld::new(rt), request, out, complaints)
-}
-
-fn make_auto_on_disk<R: Files + AllocGlobal, W: Write, V: Write>(
-    rt: &R,
-    request: AutoRequest<'_>,
-    out: &mut W,
-    complaints: &mut Complaints<'_, V>,
-) -> u8
-    ensures { Ends result complaints.old.count complaints.new.count }
-{
-    make_auto(&mut DiskWorld::new(rt), &request, out, complaints)
+    let (out, _) = out.into_parts();
+    (status, Some(out))
 }
 
 // Not inlined, to free the stack that this takes before the request is carried out.
@@ -148,33 +111,49 @@ fn tell_old_fault<V: Write>(fault: &OldFault<'_>, complaints: &mut Complaints<'_
 }
 
 // The names of a field go to standard error, as with the originals.
-fn show_text<W: Write, V: Write>(
+fn show_text<W: Write + Drop, V: Write>(
     tool: Tool,
     show: Show,
-    out: &mut W,
+    mut out: BufWriter<W, Global>,
     complaints: &mut Complaints<'_, V>,
-) -> u8
-    ensures ends { Ends result complaints.old.count complaints.new.count }
-    ensures status { (result ≡ 3) ⊎ (result ≡ shown_status show) }
-    ensures text { (result ≡ 3) ⊎ ShowsText tool show (W.contents out.old) (W.contents out.new) }
+) -> (u8, BufWriter<W, Global>)
+    ensures ends { Ends result.0 complaints.old.count complaints.new.count }
+    ensures means { IsShownOld tool show result.0 (writer_contents W.contents out)
+        (writer_contents W.contents result.1) }
+    ensures flushed { result.0 ≢ 3 → writer_buffer out ≡ [] → writer_buffer result.1 ≡ [] }
 {
     let written = match show {
-        Show::Help(text) => write!(out, "{text}"),
-        Show::Version => put_version(tool, out, complaints.err),
+        Show::Help(text) => put_help(text, &mut out),
+        Show::Version => put_version(tool, &mut out, complaints.err),
         Show::Names(field) => put_names(field, complaints.err),
     };
-    match (written, show) {
+    let status = match (written, show) {
         (Err(error), _) => complaints.tell_unprinted(&error),
         (Ok(()), Show::Names(field)) if field != Field::Kind => WRONG_LINE,
         (Ok(()), _) => DONE,
-    }
+    };
+    (status, out)
 }
 
-// Others read the last word of the version. The version of uimg goes to standard error.
-fn put_version<W: Write, V: Write>(tool: Tool, out: &mut W, err: &mut V) -> io::Result<()>
-    ensures { OnOk result (Appends (W.contents out.old) (W.contents out.new) (version_line tool)) }
+fn put_help<W: Write + Drop>(text: &str, out: &mut BufWriter<W, Global>) -> io::Result<()>
+    ensures { OnOk result (Appends (writer_contents W.contents out.old)
+        (writer_contents W.contents out.new) text.now × (writer_buffer out.new ≡ [])) }
+{
+    write!(out, "{text}")?;
+    out.flush()
+}
+
+// Others read the last word of the version. The version of uimg goes to standard error, after it.
+fn put_version<W: Write + Drop, V: Write>(
+    tool: Tool,
+    out: &mut BufWriter<W, Global>,
+    err: &mut V,
+) -> io::Result<()>
+    ensures { OnOk result (Appends (writer_contents W.contents out.old)
+        (writer_contents W.contents out.new) (version_line tool) × (writer_buffer out.new ≡ [])) }
 {
     writeln!(out, "{} version 2023.01", tool.name())?;
+    out.flush()?;
     let _ = writeln!(err, "uimg {VERSION}");
     Ok(())
 }
@@ -182,7 +161,7 @@ fn put_version<W: Write, V: Write>(tool: Tool, out: &mut W, err: &mut V) -> io::
 // The originals leave out `ppc`, which is another name of `powerpc`.
 fn put_names<V: Write>(field: Field, err: &mut V) -> io::Result<()> {
     writeln!(err, "\nInvalid {}, supported are:", title_of(field))?;
-    for (name, _, long) in field.rows() {
+    for (name, _, long, _) in field.rows() {
         put_name(name, long, err)?;
     }
     writeln!(err)

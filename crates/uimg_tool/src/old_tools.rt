@@ -6,8 +6,11 @@ use uimg_compat::file_name;
 
 /// A tool of U-Boot, whose command line the program takes if it has the tool's name.
 #[derive(Clone, Copy, Debug, PartialEq, Eq)]
-pub(crate) enum Tool {
+pub enum Tool {
+    /// `mkimage`.
     Mkimage,
+
+    /// `dumpimage`.
     Dumpimage,
 }
 
@@ -15,8 +18,8 @@ impl Tool {
     ghost use Rattle.std.specs.Prelude.{◌≡◌, map};
     ghost use Rattle.uimg_tool.specs.Programs.{tool_named, tool_of, name_of};
 
-    /// The first word is the program's path.
-    pub(crate) fn of_words(words: &[&str]) -> Option<Tool>
+    /// Returns the tool of a command line, whose first word is the program's path.
+    pub fn of_words(words: &[&str]) -> Option<Tool>
         ensures { result ≡ tool_of (map (λ word. word.now) words.now) }
     {
         match words.first() {

@@ -3,7 +3,7 @@
 ghost use Rattle.std.specs.Prelude.{◌≡◌, ◌≤◌, ℕ, List, IfErr, IfOk, IsTrue, Option, string_bytes};
 ghost use Rattle.uimg_map.specs.Maps.{IsMapOf};
 ghost use Rattle.uimg_tool.specs.{Answering.Comes, FaultTexts.told_of_exit, Maps.{MeansPicture, mapped_status, mapped_told}, Statuses.{exit_status, request_status}};
-ghost use Rattle.uimg_tool.specs.Drawing.{Draws, DrawsTo, DrawsUnlessTaken, LooksTaken, NamesPicture, Overwrites};
+ghost use Rattle.uimg_tool.specs.Drawing.{Draws, DrawsTo, DrawsUnlessTaken, Fills, LooksTaken, NamesPicture, Overwrites};
 
 use crate::complaints::unread;
 use crate::images::is_same_file;
@@ -12,7 +12,6 @@ use crate::reasons::reason_of_code;
 use crate::request_fault::RequestFault;
 use crate::safe_path::{SafePath, Writing};
 use crate::writing::writing_of;
-use std::alloc::Global;
 use std::io;
 use std::io::{BufWriter, Write};
 use uimg_base::Source;
@@ -98,7 +97,8 @@ fn draw<'a, D: World, S: Source>(
 {
     match writing_of(world, world.alloc(), path) {
         Ok(Writing::Beside(file, safe)) => {
-            let drawn = draw_into(world.alloc(), request, path, file, source, map);
+            let paths = (path, safe.new.as_str());
+            let drawn = draw_into(world, request, paths, file, source, map);
             name_picture(world, path, &safe, request.is_forced, drawn)
         }
         Ok(Writing::InPlace) => draw_in_place(world, request, path, source, map),
@@ -120,7 +120,7 @@ fn draw_in_place<'a, D: World, S: Source>(
     ensures asks { Overwrites path.now (D.trace world.old) (D.trace world.new) }
 {
     match world.create(path) {
-        Ok(file) => draw_into(world.alloc(), request, path, file, source, map),
+        Ok(file) => draw_into(world, request, (path, path), file, source, map),
         Err(reason) => Err(unwritten(path, reason)),
     }
 }
@@ -155,16 +155,21 @@ fn name_picture<'a, D: World>(
     }
 }
 
-fn draw_into<'a, F: Write + Drop, S: Source>(
-    alloc: Global,
+// Draws to an empty file at the second path, which is closed. A failed write is reported with the
+// first.
+fn draw_into<'a, D: World, S: Source>(
+    world: &mut D,
     request: &MapRequest<'a>,
-    path: &'a str,
-    file: F,
+    paths: (&'a str, &str),
+    file: D::File,
     source: &mut S,
     map: &Map,
 ) -> Result<(), RequestFault<'a>>
     ensures fails { IfErr result (λ fault. request_status fault ≡ 3) }
+    ensures fills { Fills paths.entry.1.now (D.trace world.old) (D.trace world.new) }
 {
+    let (path, at) = paths;
+    let alloc = world.alloc();
     let Ok(name) = format!(in alloc; "{}", Printed(request.image.as_bytes())) else {
         return Err(RequestFault::OutOfMemory);
     };
@@ -174,14 +179,15 @@ fn draw_into<'a, F: Write + Drop, S: Source>(
     let put = put_picture(alloc, source, map, name.as_str(), &mut gathered);
     let flushed = gathered.flush();
     // A failed write leaves text in the buffer, which its drop would try to write again.
-    let (_, _) = gathered.into_parts();
+    let (file, _) = gathered.into_parts();
+    let closed = world.close(at, file, false);
     match put {
         Ok(()) => {}
         Err(MapStop::Stopped(fault)) => return Err(RequestFault::Unmapped(fault)),
         Err(_) if flushed.is_ok() => return Err(unwritten(path, reason_of_code(None))),
         Err(_) => {}
     }
-    match flushed {
+    match flushed.and(closed) {
         Ok(()) => Ok(()),
         Err(reason) => Err(unwritten(path, reason)),
     }

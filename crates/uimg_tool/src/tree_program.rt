@@ -1,6 +1,6 @@
 //! Writes the image of a tree, as mkimage does.
 
-ghost use Rattle.std.specs.Prelude.{◌≡◌, Err, IsTrue, OnOk, Some, [], is_err, string_bytes};
+ghost use Rattle.std.specs.Prelude.{◌≡◌, IsTrue, OnOk, Some, [], is_err, string_bytes};
 ghost use Rattle.uimg_blob_writing.specs.{LentFiles.IfInFull, Trees.node_of};
 ghost use Rattle.uimg_tool.specs.{Complaints.Ends, OldMakings.{IsNew, LendsAt, MakesFor, path_for}, RequestEnds.TreeEnds, TreesMade.{KeepsBegun, KeepsTree, MakesKept}};
 
@@ -8,19 +8,16 @@ use crate::complaints::Complaints;
 use crate::made::Made;
 use crate::old_files::{Begun, about_end, tell_end, tell_made};
 use crate::reasons::{Watched, reason_of_code};
-use crate::request_fault::{FAILED, RequestFault};
-use crate::safe_path::Writing;
-use crate::writing::writing_of;
+use crate::request_fault::RequestFault;
+use crate::writing::begin_image;
 use std::alloc::Global;
 use std::cell::Cell;
 use std::io;
-use std::io::{BufWriter, Write};
+use std::io::Write;
 use uimg_base::{Files, Out, Room, Shelf, Status};
 use uimg_blob_writing::{Reservation, Tree};
-use uimg_compat::OldFault;
 use uimg_engine::{Fault, TreeManner, make_tree};
 use uimg_fit_base::AlignedPlacement;
-use uimg_printing::Printed;
 use uimg_requests::Manner;
 use uimg_world::MakingWorld;
 
@@ -53,14 +50,14 @@ pub(crate) fn write_image<'p, D: MakingWorld<'p>, F: Files, W: Write, V: Write>(
     ensures kept { IsTrue D.knows → result ≡ 0 → IfInFull F.map files (node_of tree.now.root)
         (KeepsTree D.Shelf.Kept.device D.NewShelf.Kept.device request.entry) }
 {
-    match writing_of(world, world.alloc(), request.image) {
-        Ok(Writing::Beside(file, path)) => {
+    match begin_image(world, request.image, complaints) {
+        Ok(Some((file, path))) => {
             let begun = Begun { file, path: &path };
             let made = make_listed(world, request, tree, files, Some(begun), out);
             let about = about_end(&made.end, request.source, request.image);
             tell_made(world, &path, &made, about, complaints)
         }
-        Ok(Writing::InPlace) => {
+        Ok(None) => {
             if !request.in_place {
                 let reason = io::Error::other("it is not a regular file");
                 return complaints.tell_unwritten(request.image, &reason);
@@ -70,12 +67,7 @@ pub(crate) fn write_image<'p, D: MakingWorld<'p>, F: Files, W: Write, V: Write>(
             let about = about_end(&end, request.source, request.image);
             tell_end(world, &end, about, complaints)
         }
-        Ok(Writing::Pipe) => {
-            let path = Printed(request.image.as_bytes());
-            complaints.tell(&OldFault::MadeAsPipe(path), FAILED)
-        }
-        Ok(Writing::Nowhere(reason)) => complaints.tell_unwritten(request.image, &reason),
-        Err(_) => complaints.tell_no_memory(),
+        Err(status) => status,
     }
 }
 
@@ -102,7 +94,7 @@ fn make_listed<'p, D: MakingWorld<'p>, F: Files, W: Write>(
     }
 }
 
-// Returns how the build ended, and how the flush of the buffered listing did.
+// Returns how the build ended, and how the flush of the listing did.
 fn make_in<'p, D: MakingWorld<'p>, F: Files, W: Write>(
     world: &mut D,
     request: TreeRequest<'_, 'p>,
@@ -118,33 +110,18 @@ fn make_in<'p, D: MakingWorld<'p>, F: Files, W: Write>(
         IfInFull F.map files (node_of tree.now.root) (λ t. OnOk result.end
         (KeepsBegun begun.entry D.Shelf.Kept.device D.NewShelf.Kept.device request.entry t)) }
 {
-    let Ok(mut gathered) = BufWriter::new(world.alloc(), out) else {
-        return unprinted(RequestFault::OutOfMemory);
-    };
     let end = match begun {
         Some(Begun { file, path }) => match world.shelf_in(path.new.as_str(), file) {
-            Ok(shelf) => make_on(world.alloc(), request, tree, files, shelf, &mut gathered),
+            Ok(shelf) => make_on(world.alloc(), request, tree, files, shelf, out),
             Err(_) => Err(RequestFault::OutOfMemory),
         },
         None => {
             let shelf = world.shelf_at(request.image);
-            make_on(world.alloc(), request, tree, files, shelf, &mut gathered)
+            make_on(world.alloc(), request, tree, files, shelf, out)
         }
     };
-    let printed = gathered.flush();
-    // A failed write leaves text in the buffer, which its drop would try to write again.
-    let (_, _) = gathered.into_parts();
+    let printed = out.flush();
     Made { end, printed }
-}
-
-// Nothing was printed before the build ended.
-fn unprinted<'a>(fault: RequestFault<'a>) -> Made<'a>
-    ensures { result.end ≡ Err fault.entry }
-{
-    Made {
-        end: Err(fault),
-        printed: Ok(()),
-    }
 }
 
 fn make_on<'p, F: Files, H: Shelf, W: Write>(

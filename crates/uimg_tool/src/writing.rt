@@ -1,12 +1,17 @@
 //! Where the file for a path is written.
 
-ghost use Rattle.std.specs.Prelude.{◌≡◌, ◌++◌, [], Some, codes, decimal, true, IfOk, IsTrue, string_bytes};
+ghost use Rattle.std.specs.Prelude.{◌≡◌, ◌++◌, [], Some, codes, decimal, true, IfErr, IfOk, IfSome, IsTrue, string_bytes};
+ghost use Rattle.uimg_tool.specs.{Complaints.Ends, OldMakings.Begins};
 ghost use Rattle.uimg_tool.specs.{BesidePaths.is_beside, Writings.{CreatesBeside, IsFile, LeadsTo, WritesFor, WritesNew}};
 
+use crate::complaints::Complaints;
+use crate::request_fault::FAILED;
 use crate::safe_path::{NewBeside, SafePath, Writing};
 use std::alloc::{AllocError, Global};
 use std::io;
-use std::io::ErrorKind;
+use std::io::{ErrorKind, Write};
+use uimg_compat::OldFault;
+use uimg_printing::Printed;
 use uimg_world::{Kind, Target, World};
 
 /// How many names are tried beside a path. Commands that were stopped left those that exist.
@@ -23,6 +28,32 @@ pub(crate) enum Lead {
 
     /// A file at this path, or nothing.
     File(String),
+}
+
+/// Creates a new file for the image at a path, or finds that it is written in place: then returns
+/// `None`. If neither can be done, tells why and returns the status.
+pub(crate) fn begin_image<D: World, V: Write>(
+    world: &mut D,
+    path: &str,
+    complaints: &mut Complaints<'_, V>,
+) -> Result<Option<(D::File, SafePath)>, u8>
+    ensures begins { Begins path.now result (D.trace world.old) (D.trace world.new) }
+    ensures empty { IsTrue D.knows → IfOk result (λ begun.
+        IfSome begun (λ new. D.File.contents new.0 ≡ Some [])) }
+    ensures failed { IfErr result (λ status. status ≡ 3) }
+    ensures ends { IfErr result (λ status. Ends status complaints.old.count complaints.new.count) }
+    ensures silent { IfOk result (λ begun. complaints.new.count ≡ complaints.old.count) }
+{
+    match writing_of(world, world.alloc(), path) {
+        Ok(Writing::Beside(file, beside)) => Ok(Some((file, beside))),
+        Ok(Writing::InPlace) => Ok(None),
+        Ok(Writing::Pipe) => {
+            let path = Printed(path.as_bytes());
+            Err(complaints.tell(&OldFault::MadeAsPipe(path), FAILED))
+        }
+        Ok(Writing::Nowhere(reason)) => Err(complaints.tell_unwritten(path, &reason)),
+        Err(_) => Err(complaints.tell_no_memory()),
+    }
 }
 
 /// Creates the file if it is a new one. Fails if memory for the paths is refused.

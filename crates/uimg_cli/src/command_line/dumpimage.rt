@@ -16,8 +16,8 @@ use super::readings::{decimal, is_set, text_of, text_or};
 use clap::ArgMatches;
 use std::alloc::{AllocError, Global};
 use uimg_base::{FLAT_DT, kind_code};
-use uimg_names::Naming;
 use uimg_requests::{Action, Command, Form, RunRequest};
+use uimg_texts::Naming;
 
 // What it is about, and the helps of its options.
 const ABOUT: &str = "List an image, or extract a part of it";

@@ -25,8 +25,8 @@ use std::alloc::{AllocError, Global};
 use uimg_base::{FLAT_DT, arch_code, comp_code, kind_code, os_code};
 use uimg_fit_base::Placement;
 use uimg_legacy::{Options, name_field};
-use uimg_names::Naming;
 use uimg_requests::{Action, Command, Form, MakeRequest, RunRequest};
+use uimg_texts::Naming;
 
 // What it is about, and the helps of its options.
 const ABOUT: &str = "Make an image from files, or list one";

@@ -12,8 +12,8 @@ use super::help_notes::VERIFY_NOTES;
 use super::readings::text_or;
 use clap::ArgMatches;
 use std::alloc::{AllocError, Global};
-use uimg_names::Naming;
 use uimg_requests::{Action, Command, Form, RunRequest};
+use uimg_texts::Naming;
 
 // What it is about.
 const ABOUT: &str = "Verify the checksums and hashes of an image, and print a line for each";

@@ -21,9 +21,9 @@ use std::alloc::Global;
 use uimg_base::FLAT_DT;
 use uimg_fit_base::{Placement, WORD_ALIGNMENT};
 use uimg_legacy::{Options, has_parts, name_field};
-use uimg_names::Naming;
 use uimg_printing::Printed;
 use uimg_requests::{Action, Command, MakeRequest, Manner, RunRequest};
+use uimg_texts::Naming;
 
 /// The argument of -f for a source that mkimage makes itself.
 const AUTO: &str = "auto";

@@ -7,7 +7,7 @@ use std::alloc::{AllocError, Global};
 use std::io::Write;
 use uimg_base::before_nul;
 use uimg_blob_writing::{Node, Prop};
-use uimg_names::{Field, Naming};
+use uimg_texts::{Field, Naming};
 
 /// The images are the child nodes of a node. Fails if memory is refused.
 pub(crate) fn tell_of_images<W: Write>(

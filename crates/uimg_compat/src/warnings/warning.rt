@@ -4,7 +4,7 @@ use crate::names::title_of;
 use crate::quoted::{Escaped, Quoted};
 use std::fmt;
 use std::fmt::{Display, Formatter, Write};
-use uimg_names::Field;
+use uimg_texts::Field;
 
 /// The path of a node: the names of the nodes from the root to it; empty for the root.
 #[derive(Clone, Copy)]

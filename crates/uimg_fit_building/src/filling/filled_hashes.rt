@@ -16,7 +16,7 @@ use std::mem;
 use uimg_base::{Algo, before_nul};
 use uimg_blob_writing::{ByteList, Node, Props, Value};
 use uimg_fit_base::{AlgoSet, Digests, FitFault, algo_by};
-use uimg_names::Naming;
+use uimg_texts::Naming;
 
 fn is_hash(name: &[u8]) -> bool
     ensures { result ≡ is_hash name.now }

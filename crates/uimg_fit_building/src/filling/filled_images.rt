@@ -20,7 +20,7 @@ use std::mem;
 use uimg_base::Files;
 use uimg_blob_writing::{Node, Nodes, Props, Value};
 use uimg_fit_base::FitFault;
-use uimg_names::Naming;
+use uimg_texts::Naming;
 
 fn fill_hashes<F: Files, A: Allocator + Copy>(
     alloc: A,

@@ -16,7 +16,7 @@ use uimg_blob_reading::Blob;
 use uimg_fit_base::AlgoSet;
 use uimg_fit_reading::nodes::{first_hash, name_of};
 use uimg_fit_reading::{compared_algos, payload_digests};
-use uimg_names::Naming;
+use uimg_texts::Naming;
 
 /// The result of checking an image.
 #[derive(Clone, Copy, Debug, PartialEq, Eq)]

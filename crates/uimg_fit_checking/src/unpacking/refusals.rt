@@ -1,7 +1,7 @@
 //! Whether the hash nodes of an image vouch for what was written of its payload.
 
 ghost use Rattle.std.specs.Prelude.{◌≡◌, ◌≤◌, ◌+◌, ℕ, List, length, is_err, IfOk};
-ghost use Rattle.uimg_names.specs.declared.naming.Naming.TheVariants as naming;
+ghost use Rattle.uimg_texts.specs.declared.naming.Naming.TheVariants as naming;
 ghost use Rattle.uimg_base.specs.Honest.{HonestSource};
 ghost use Rattle.uimg_base.specs.Using.{Asks, Uses};
 ghost use Rattle.uimg_blob_reading.specs.LookUps.{hashes};

@@ -22,7 +22,7 @@ use uimg_blob_reading::Blob;
 use uimg_fit_base::Fault;
 use uimg_fit_reading::compared_algos;
 use uimg_fit_reading::nodes::{first_hash, next_of};
-use uimg_names::Naming;
+use uimg_texts::Naming;
 
 // Returns whether the payload is kept.
 fn take_requested<S: Source, A: Allocator, T: Taker>(

@@ -25,7 +25,7 @@ use std::alloc::Allocator;
 use std::io::Write;
 use uimg_base::{MoveFault, Out, Room, Source, Span, size_text};
 use uimg_blob_reading::put_text;
-use uimg_names::Field;
+use uimg_texts::Field;
 
 pub(crate) fn put_text_line<S: Source, A: Allocator, W: Write>(
     source: &mut S,

@@ -22,7 +22,7 @@ use std::io::Write;
 use uimg_base::{MoveFault, Out, Source, Span};
 use uimg_blob_reading::Key;
 use uimg_fit_base::FitFault;
-use uimg_names::Naming;
+use uimg_texts::Naming;
 
 /// The kind of a listed node.
 #[derive(Clone, Copy)]

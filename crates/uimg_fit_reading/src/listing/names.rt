@@ -4,7 +4,7 @@ ghost use Rattle.std.specs.Prelude.{◌≡◌, ◌+◌, ◌≤◌, ◌++◌, min
 ghost use Rattle.uimg_base.specs.{Honest.HonestSource, Outcome.line, Using.Asks};
 ghost use Rattle.uimg_base.specs.declared.ranges.MoveFault.TheVariants.{Read};
 ghost use Rattle.uimg_texts.specs.Nul.{text};
-ghost use Rattle.uimg_names.specs.Naming.{code_named};
+ghost use Rattle.uimg_texts.specs.Naming.{code_named};
 ghost use Rattle.uimg_fit_base.specs.Files.{bytes_in};
 ghost use Rattle.uimg_fit_reading.specs.{Shows.name_in, Puts.PutsFrom, Values.in_span};
 ghost use Rattle.uimg_fit_reading.specs.{PayloadPlaces.Ends, Rows.kind_said};
@@ -13,7 +13,7 @@ use crate::puts::put_line;
 use std::io::Write;
 use uimg_base::{MoveFault, Out, Source, SourceFault, Span};
 use uimg_blob_reading::short_text;
-use uimg_names::{Field, Naming};
+use uimg_texts::{Field, Naming};
 
 fn code_in<S: Source>(
     source: &mut S,
@@ -34,7 +34,7 @@ fn code_in<S: Source>(
     }
 }
 
-#[tactic(auto, unfolding(uimg_names::specs::Naming::name_text))]
+#[tactic(auto, unfolding(uimg_texts::specs::Naming::name_text))]
 fn long_name<S: Source>(
     source: &mut S,
     naming: Naming,

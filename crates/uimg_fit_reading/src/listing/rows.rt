@@ -6,7 +6,7 @@ ghost use Rattle.uimg_fit_reading.specs.Rows.{all_image_rows, only_for};
 use crate::listing::shows::Show;
 use crate::listing::shows::Show::{Address, Hexadecimal, List, Name, Text};
 use uimg_blob_reading::Key;
-use uimg_names::{Field, Naming};
+use uimg_texts::{Field, Naming};
 
 /// A line of a listing, with a label that is padded with blanks.
 #[derive(Clone, Copy)]

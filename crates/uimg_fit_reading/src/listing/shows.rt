@@ -1,6 +1,6 @@
 //! How values are printed.
 
-use uimg_names::{Field, Naming};
+use uimg_texts::{Field, Naming};
 
 /// How the value of a property is printed.
 #[derive(Clone, Copy)]

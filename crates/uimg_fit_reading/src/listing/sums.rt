@@ -16,7 +16,7 @@ use std::alloc::Allocator;
 use std::io::Write;
 use uimg_base::{MoveFault, Out, Source};
 use uimg_blob_reading::Key;
-use uimg_names::Naming;
+use uimg_texts::Naming;
 
 fn rows_of(naming: Naming, sum: Option<Sum>, has_algo: bool) -> &'static [Row]
     ensures { result.now ≡ sum_rows naming sum has_algo }

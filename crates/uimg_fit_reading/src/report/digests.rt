@@ -13,7 +13,7 @@ use std::alloc::Allocator;
 use uimg_base::{Room, Source, SourceFault, Span, feed_through};
 use uimg_blob_reading::Blob;
 use uimg_fit_base::{AlgoSet, Digests};
-use uimg_names::Naming;
+use uimg_texts::Naming;
 
 // Adds the algorithm of a plan that compares to a set.
 fn with_plan(set: AlgoSet, plan: Plan) -> AlgoSet

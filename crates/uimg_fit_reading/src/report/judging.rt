@@ -16,7 +16,7 @@ use std::io::Write;
 use uimg_base::{MoveFault, Out, Room, Source, SourceFault, Span};
 use uimg_blob_reading::{Blob, Key};
 use uimg_fit_base::{Digests, Verdict};
-use uimg_names::Naming;
+use uimg_texts::Naming;
 
 /// Returns the word of a hash node, by the algorithms of a set of names and the digests of its
 /// payload. Requests at most 96 bytes.

@@ -13,7 +13,7 @@ use std::alloc::Allocator;
 use uimg_base::{Algo, Room, Source, SourceFault, Span};
 use uimg_blob_reading::{Blob, Key, short_text};
 use uimg_fit_base::{Digests, Verdict, algo_by};
-use uimg_names::Naming;
+use uimg_texts::Naming;
 
 /// The plan for a hash node, made before any payload is read.
 #[derive(Clone, Copy)]

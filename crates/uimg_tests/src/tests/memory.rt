@@ -8,7 +8,7 @@ use std::test::Fail;
 use uimg_base::{Out, Room, Source};
 use uimg_engine::{Command, Form, Manner, make_in_memory, run_in_memory};
 use uimg_fit_base::WORD_ALIGNMENT;
-use uimg_names::Naming;
+use uimg_texts::Naming;
 
 // The image, the action, its end, and what is written.
 const ROWS: [(&str, &str, &str, &str); 6] = [

@@ -6,7 +6,7 @@ use std::test::Fail;
 use uimg_base::Source;
 use uimg_base_tests::samples::legacy::ABC_KERNEL;
 use uimg_fit_tests::samples::{four_hash_fit, set_cell};
-use uimg_tool::answer_in_memory;
+use uimg_tool::{CommandLine, Complaints, Tool, answer_in_memory, run_as_tool};
 use uimg_world::{Kind, MemoryWorld, World};
 
 const FILES: [(&[u8], &[u8]); 3] = [(b"a", b"abc"), (b"a", b"def"), (b"b/c", b"ghi")];
@@ -213,6 +213,60 @@ fn images_unpacked_in_memory(rt: HostRuntime) -> Result<(), Fail> {
         assert!(rt; answered.status == *status, "{line}: {}", answered.status);
         let found = answered.new_files.bytes_at(path).unwrap_or(b"");
         assert!(rt; found == bytes.as_bytes(), "{line}: {path}");
+    }
+    Ok(())
+}
+
+#[test]
+fn picture_in_memory(rt: HostRuntime) -> Result<(), Fail> {
+    let words = ["uimg", "map", "--svg", "drawn", "abc"];
+    let mut err = Vec::new(rt.alloc());
+    let answered = answer_in_memory(rt.alloc(), &words, None, 0, &IMAGES, &mut err);
+    let drawn = answered.new_files.bytes_at("drawn").unwrap_or(b"");
+    assert_eq!(rt; answered.status, 0);
+    assert!(rt; drawn.starts_with(b"<?xml ") && drawn.ends_with(b"</svg>\n"));
+    Ok(())
+}
+
+// A command line by the old names over files in memory, the exit status, standard output, and standard
+// error.
+const OLD_COMMANDS: [(&str, u8, &str, &str); 3] = [
+    (
+        "mkimage -A arm64 -O linux -T kernel -C none -a 80000 -n demo -d data new",
+        0,
+        LISTING,
+        "",
+    ),
+    ("mkimage -l data", 1, "", "mkimage: data: L1 too short\n"),
+    (
+        "dumpimage -V",
+        0,
+        "dumpimage version 2023.01\n",
+        "uimg 0.1.0\n",
+    ),
+];
+
+#[test]
+fn old_commands_over_files_in_memory(rt: HostRuntime) -> Result<(), Fail> {
+    for (text, status, printed, told) in &OLD_COMMANDS {
+        let mut words = Vec::new(rt.alloc());
+        for word in text.split(' ') {
+            words.push(word)?;
+        }
+        let line = CommandLine {
+            words: &words,
+            epoch: None,
+            time: 1700000000,
+        };
+        let tool = Tool::of_words(&words).unwrap_or(Tool::Mkimage);
+        let mut world = MemoryWorld::new(rt.alloc(), &IMAGES);
+        let mut err = Vec::new(rt.alloc());
+        let complaints = &mut Complaints::new(words[0], &mut err);
+        let (ended, out) = run_as_tool(&mut world, tool, line, Vec::new(rt.alloc()), complaints);
+        let out = out.unwrap_or(Vec::new(rt.alloc()));
+        assert!(rt; ended == *status, "{text}: {ended}");
+        assert!(rt; shown(&out) == *printed, "{text}: {}", shown(&out));
+        assert!(rt; shown(&err) == *told, "{text}: {}", shown(&err));
     }
     Ok(())
 }

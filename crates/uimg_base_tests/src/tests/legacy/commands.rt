@@ -3,7 +3,7 @@ use std::alloc::{Allocator, Global};
 use std::io::Write;
 use uimg_base::{FuseSource, FuseWriter, MemSource, Out, Room, Source, Status};
 use uimg_legacy::{Fault, extract, list, list_by, verify};
-use uimg_names::Naming;
+use uimg_texts::Naming;
 
 /// The result of a command.
 #[derive(Drop)]

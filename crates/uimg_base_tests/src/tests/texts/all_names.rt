@@ -1,7 +1,7 @@
 //! Names of both sets: what mkimage 2023.01 prints for codes in headers and names in FIT images.
 
-use uimg_names::Field::{Architecture, Compression, Kind, System};
-use uimg_names::{Field, Naming};
+use uimg_texts::Field::{Architecture, Compression, Kind, System};
+use uimg_texts::{Field, Naming};
 
 // A field, a name, its code among all names, and the printed name.
 const ROWS: [(Field, &str, Option<u8>, &str); 14] = [

@@ -1,5 +1,5 @@
 use Rattle.std.proofs.Common.{◌≡◌, drop, map}
-use Rattle.uimg_texts.specs.CodeRows.{row_of}
+use Rattle.uimg_texts.specs.Names.{row_of}
 use Rattle.uimg_compat.specs.AutoSource.{short_in}
 use Rattle.uimg_compat.proofs.auto_source.first_short.Given as goal
 

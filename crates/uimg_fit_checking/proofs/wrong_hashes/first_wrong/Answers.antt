@@ -1,7 +1,7 @@
 use Rattle.std.proofs.Common.{rules, ◌≡◌, ℕ, Option, true, false, refl, subst}
 use Rattle.std.specs.Prelude.{is_err}
 use Rattle.uimg_blob_reading.specs.Roles.{in_image}
-use Rattle.uimg_names.specs.declared.naming.Naming.TheVariants as naming
+use Rattle.uimg_texts.specs.declared.naming.Naming.TheVariants as naming
 use Rattle.uimg_fit_base.specs.AlgoSets.{set_of}
 use Rattle.uimg_fit_base.specs.Report.{is_right}
 use Rattle.uimg_fit_reading.specs.Nodes.{HashesAt}

@@ -6,7 +6,7 @@ use Rattle.uimg_fit_reading.specs.{Rooms.DeliversBetween, Work.{list_work, extra
 use Rattle.uimg_fit_reading.proofs.ExtractionLaws.{at_least, refusal_delivers, refusal_told, refusal_ahead, stop_delivers, stop_ahead, stop_told, stop_unrefused}
 use Rattle.uimg_fit_reading.proofs.PassedLaws.{passed_on}
 use Rattle.uimg_fit_reading.proofs.extraction.extract.Goals as goal
-use Rattle.uimg_names.specs.declared.naming.Naming.{TheVariants.{Profile}}
+use Rattle.uimg_texts.specs.declared.naming.Naming.{TheVariants.{Profile}}
 
 pub returns-in_err-span : goal.returns-in_err-span
 returns-in_err-span g c =

@@ -5,7 +5,7 @@ use std::alloc::{AllocError, Global};
 use std::test::Fail;
 use uimg_base::{MemSource, Out, Room, Status, crc_of};
 use uimg_fit::{Fault, extract, list, list_by, verify};
-use uimg_names::Naming;
+use uimg_texts::Naming;
 
 fn told(alloc: Global, end: Result<Status, Fault>) -> Result<String, AllocError> {
     match end {

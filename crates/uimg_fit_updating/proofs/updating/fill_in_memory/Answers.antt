@@ -1,5 +1,5 @@
 use Rattle.std.proofs.Common.{◌≡◌, ℕ, List, Option, Global, IfOk, refl, ap, subst}
-use Rattle.uimg_names.specs.declared.naming.Naming.TheVariants.{All}
+use Rattle.uimg_texts.specs.declared.naming.Naming.TheVariants.{All}
 use Rattle.uimg_base.specs.Named.{FileMap}
 use Rattle.uimg_blob_writing.specs.{declared.tree.Tree.Tree, Trees.node_of}
 use Rattle.uimg_fit_building.specs.UnreadTrees.{filled_unread}

@@ -1,6 +1,6 @@
 use Rattle.std.proofs.Common.{◌≡◌, ◌==◌, map, drop}
 use Rattle.std.specs.List.{list_any}
-use Rattle.uimg_texts.specs.CodeRows.{row_of}
+use Rattle.uimg_texts.specs.Names.{row_of}
 use Rattle.uimg_strict.proofs.headers.has_code.Given as goal
 
 -- no row before the index has the code

@@ -4,9 +4,9 @@ use Rattle.std.specs.Io.{Buffered.writer_contents, KnownBytes.Keeps}
 use Rattle.uimg_base.specs.Sink.{Sink}
 use Rattle.uimg_tool.proofs.old_files.make_by.Goals as goal
 
-pub returns-then-how-clause-told : goal.returns-then-how-clause-told
-returns-then-how-clause-told g c = λ knows honest is_new plain.
-    (c.new-sink.result, c.make_command-end.new.out, c.make_command-end.ensures.told knows honest is_new plain, λ loud. absurd (true≢false (sym c.if-how.true ∙ loud)))
+pub returns-then-is_quiet-clause-told : goal.returns-then-is_quiet-clause-told
+returns-then-is_quiet-clause-told g c = λ knows honest is_new plain.
+    (c.new-sink.result, c.make_command-end.new.out, c.make_command-end.ensures.told knows honest is_new plain, λ loud. absurd (true≢false (sym c.if-is_quiet.true ∙ loud)))
 
 pub returns-clause-told : goal.returns-clause-told
 returns-clause-told g c = λ knows honest is_new plain. (

@@ -1,7 +1,7 @@
 use Rattle.std.proofs.Common.{rules, ◌≡◌, ◌∙◌, ℕ, List, Some, None, true, refl, subst, sym, arith}
 use Rattle.std.specs.Prelude.{is_err, Ok}
 use Rattle.uimg_texts.specs.Slices.{slice}
-use Rattle.uimg_names.specs.declared.naming.Naming.TheVariants as naming
+use Rattle.uimg_texts.specs.declared.naming.Naming.TheVariants as naming
 use Rattle.uimg_base.proofs.Slices.{length-slice}
 use Rattle.uimg_blob_reading.specs.LookUps.{hashes}
 use Rattle.uimg_blob_reading.specs.Roles.{in_images}

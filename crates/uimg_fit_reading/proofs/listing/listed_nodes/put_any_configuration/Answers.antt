@@ -1,7 +1,7 @@
 use Rattle.std.proofs.Common.{◌≤◌, ◌+◌, ◌*◌, ℕ, List, true, false, refl, is_err, subst, append_assoc, codes, arith}
 use Rattle.std.specs.List.{flat_map, sum_by}
 use Rattle.uimg_blob_reading.specs.{Roles.in_configurations, LookUps.{NodeOf, listed}, Spots.Spot}
-use Rattle.uimg_names.specs.declared.naming.Naming.TheVariants.{All}
+use Rattle.uimg_texts.specs.declared.naming.Naming.TheVariants.{All}
 use Rattle.uimg_fit_reading.specs.{Allowances.{text_sizes, node_allowance}, Listing.sum_lines}
 use Rattle.uimg_fit_reading.specs.{Rows.{all_configuration_rows, no_facts, row_cost, rows_lines, title}, Telling.ListsBetween}
 use Rattle.uimg_fit_reading.proofs.{TellingLaws.{then_lists, cut_lists, more_lists}, OpenedLaws.stays}

@@ -1,12 +1,12 @@
 use Rattle.std.proofs.Common.{◌++◌, List, ℕ, refl, is_err, sym, subst, append-nil, arith, codes}
 use Rattle.uimg_blob_reading.specs.Roles.{in_configurations}
-use Rattle.uimg_names.specs.declared.naming.Naming.{Naming}
+use Rattle.uimg_texts.specs.declared.naming.Naming.{Naming}
 use Rattle.uimg_fit_reading.specs.{Allowances.node_allowance, Listing.configuration_lines}
 use Rattle.uimg_fit_reading.specs.Rows.{no_facts, profile_configuration_rows, rows_lines, title}
 use Rattle.uimg_fit_reading.specs.Telling.{ListsBetween}
 use Rattle.uimg_fit_reading.proofs.{SharesLaws.{two_texts, one_text}, TellingLaws.more_lists}
 use Rattle.uimg_fit_reading.proofs.listing.listed_nodes.put_configuration.Goals as goal
-use Rattle.uimg_names.specs.declared.naming.Naming.{TheVariants.{Profile, All}}
+use Rattle.uimg_texts.specs.declared.naming.Naming.{TheVariants.{Profile, All}}
 
 pub returns-in-Profile-clause-told : goal.returns-in-Profile-clause-told
 returns-in-Profile-clause-told g c = λ t o found n.

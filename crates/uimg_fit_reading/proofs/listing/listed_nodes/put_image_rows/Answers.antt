@@ -1,8 +1,8 @@
 use Rattle.std.proofs.Common.{◌≤◌, ◌+◌, ◌*◌, ◌++◌, ℕ, List, Option, true, false, refl, ap, ◌∙◌, sym, subst, is_err, arith, codes}
 use Rattle.std.specs.List.{list_all, sum_by}
 use Rattle.uimg_blob_reading.specs.{Roles.in_images, LookUps.NodeOf, Spots.Spot}
-use Rattle.uimg_names.specs.declared.field.Field.TheVariants.{Architecture, System, Kind, Compression}
-use Rattle.uimg_names.specs.declared.naming.Naming.{Naming, TheVariants.{Profile, All}}
+use Rattle.uimg_texts.specs.declared.field.Field.TheVariants.{Architecture, System, Kind, Compression}
+use Rattle.uimg_texts.specs.declared.naming.Naming.{Naming, TheVariants.{Profile, All}}
 use Rattle.uimg_fit_base.specs.Files.{value_bytes}
 use Rattle.uimg_fit_reading.specs.{Allowances.text_sizes, Telling.ListsBetween}
 use Rattle.uimg_fit_reading.specs.Rows.{all_image_rows, image_rows, keeps_row, kind_of, kind_said, profile_image_rows, row_cost, rows_lines, title}

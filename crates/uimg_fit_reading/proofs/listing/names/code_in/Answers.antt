@@ -1,7 +1,7 @@
 use Rattle.std.proofs.Common.{ℕ, Option, sym, subst}
 use Rattle.uimg_texts.specs.{Nul.text, Slices.slice}
 use Rattle.uimg_blob_reading.specs.Texts.{GivesShort}
-use Rattle.uimg_names.proofs.LengthLaws.{none_named}
+use Rattle.uimg_texts.proofs.LengthLaws.{none_named}
 use Rattle.uimg_fit_reading.proofs.listing.names.code_in.Goals as goal
 
 pub returns-in-None-clause-code : goal.returns-in-None-clause-code

@@ -1,6 +1,6 @@
 use Rattle.std.{proofs.Common.{rules, ℕ, List, Option, Some, refl, subst, Err}, specs.List.flat_map}
 use Rattle.uimg_blob_reading.specs.{LookUps.NodeOf, Roles.in_image, Spots.Spot}
-use Rattle.uimg_names.specs.declared.naming.Naming.{Naming}
+use Rattle.uimg_texts.specs.declared.naming.Naming.{Naming}
 use Rattle.uimg_fit_reading.specs.{Listing.sum_lines, Nodes.AreFrom}
 use Rattle.uimg_fit_reading.proofs.{ImageLaws.{front, none_left}, OpenedLaws.stays}
 use Rattle.uimg_fit_reading.proofs.TellingLaws.{left_more, left_fails, left_ends}

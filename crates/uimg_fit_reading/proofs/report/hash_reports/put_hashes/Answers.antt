@@ -2,7 +2,7 @@ use Rattle.std.proofs.Common.{rules, refl, ◌∙◌, ◌&&◌, ℕ, List, Optio
 use Rattle.uimg_texts.specs.Slices.{slice}
 use Rattle.uimg_base.specs.Writing.{Written}
 use Rattle.uimg_fit_base.specs.{AlgoSets.set_of, Report.hash_line}
-use Rattle.uimg_names.specs.declared.naming.Naming.TheVariants.{Profile}
+use Rattle.uimg_texts.specs.declared.naming.Naming.TheVariants.{Profile}
 use Rattle.uimg_fit_reading.specs.Nodes.{HashesAt}
 use Rattle.uimg_fit_reading.proofs.OpenedLaws.{kept, kept_then, stays}
 use Rattle.uimg_fit_reading.proofs.PassedLaws.{failed_of, leaves_stops, leaves_then}

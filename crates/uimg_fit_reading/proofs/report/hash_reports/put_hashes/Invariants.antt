@@ -1,7 +1,7 @@
 use Rattle.std.proofs.Common.{◌≡◌, ◌-◌, ◌<◌, ℕ, List, length, IfSome, false}
 use Rattle.std.specs.Option.{option_map_or}
 use Rattle.uimg_texts.specs.Slices.{slice}
-use Rattle.uimg_names.specs.declared.naming.Naming.TheVariants.{Profile}
+use Rattle.uimg_texts.specs.declared.naming.Naming.TheVariants.{Profile}
 use Rattle.uimg_blob_reading.specs.{Grammar.Siblings, LookUps.NodeOf, Spots.Spot}
 use Rattle.uimg_fit_base.specs.AlgoSets.{set_of, AreDigests}
 use Rattle.uimg_fit_reading.specs.{HashReports.AllCovered, Nodes.{HashesAt, Opened}}

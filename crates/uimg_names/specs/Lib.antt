@@ -1,2 +1,0 @@
-pub mod AllNames
-pub mod Naming

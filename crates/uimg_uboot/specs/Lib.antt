@@ -1,2 +1,0 @@
-pub mod UBoot
-pub mod Readings
