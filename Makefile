@@ -87,7 +87,7 @@ wheel: lib/libuimg.a
 	@scripts/needs.sh python3
 	@LIBUIMG_DIR=lib python3 bindings/python/backend.py lib
 
-## make json-test   validates `uimg check --json`, `info` and `unpack --json` by docs/*.schema.json, with
+## make json-test   validates `uimg check --json`, `info`, `unpack --json` and `diff --json` by docs/*.schema.json, with
 ##               python3-jsonschema
 json-test: bin/uimg
 	@scripts/needs.sh python3

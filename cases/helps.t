@@ -14,6 +14,7 @@ Helps
     unpack     Write the payloads of an image to a folder, if their hashes are right
     info       Print the facts of an image as JSON, for scripts
     map        Show the layout of an image's file, even of a broken one
+    diff       Compare two images by what they mean, and print a line for each difference
     help       Print this message or the help of the given subcommand(s)
   
   Options:
@@ -147,6 +148,7 @@ Helps
         --key <[name=]file>  Require each configuration to be signed by the key in this file
         --config <name>      With --key: require only this configuration to be signed
         --allow-sha1         With --key: accept signatures over SHA-1
+        --recursive          Check the images below each folder that is given
         --files-from <file>  Also check the images whose paths are in this file, one a line
     -0                       Paths in that file end with NUL, not with a newline
         --json               Print a JSON object for each image
@@ -192,11 +194,13 @@ Helps
     refused      The image is refused, with this fault
     failed       The file cannot be opened, a read failed, or memory ran out
   In paths and names, control characters and \ are printed as \xNN, in names also
-  spaces, colons and commas. --files-from - reads standard input; a file without a
-  path is refused (--allow-empty). --json prints path, status and verdict (the
-  word), and depending on it format, images, hashes, unchecked, configurations,
-  signed, signatures, checksums, algo, image, hash, configuration, property, name,
-  node, fault, message and offset.
+  spaces, colons and commas. --recursive takes the files below a folder that begin
+  as an image does, by the order of their names, follows no symbolic link, and ends
+  with a line that counts the others. --files-from - reads standard input; a file
+  without a path, or a folder without an image, is refused (--allow-empty). --json
+  prints path, status and verdict (the word), and depending on it format, images,
+  hashes, unchecked, configurations, signed, signatures, checksums, algo, image,
+  hash, configuration, property, name, node, fault, message and offset.
   
   --key implies --strict. Its file has an RSA key in PEM (openssl pkey -pubout), or
   is U-Boot's control devicetree with the keys that it requires for configurations.
@@ -235,6 +239,7 @@ Without words the command line is wrong: the help goes to standard error.
     unpack     Write the payloads of an image to a folder, if their hashes are right
     info       Print the facts of an image as JSON, for scripts
     map        Show the layout of an image's file, even of a broken one
+    diff       Compare two images by what they mean, and print a line for each difference
     help       Print this message or the help of the given subcommand(s)
   
   Options:

@@ -11,7 +11,7 @@ The completions have the commands, options and short names of the helps:
   >         "$top/completions/$1.bash" "$@"
   > }
   $ complete_at uimg ''
-  mkimage dumpimage verify check unpack info map help -h --help --version
+  mkimage dumpimage verify check unpack info map diff help -h --help --version
   $ complete_at uimg help m
   mkimage map
   $ complete_at uimg check --n

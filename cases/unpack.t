@@ -60,6 +60,56 @@ A single one, and one that does not exist:
   uimg: F4 no such image
   [1]
 
+The images that a configuration names, in any of nine properties, each once. `conf NODES` makes a FIT image c.itb with four
+images and these configurations. `default` is the default one (U-Boot's fit_conf_get_node), unless one has that name itself:
+
+  $ conf() {
+  >     echo "/dts-v1/; / { description = \"d\"; images { kernel { data = [61]; }; fdt-1 { data = [62]; }; fdt-2 { data = [63]; };
+  >         initrd { data = [64]; }; }; configurations { $1 }; };" > c.its
+  >     SOURCE_DATE_EPOCH=0 uimg mkimage -f c.its c.itb > /dev/null
+  > }
+  $ conf 'default = "two"; one { loadables = "initrd", "fdt-1"; kernel = "kernel"; fdt = "fdt-1", "fdt-1"; }; two { script = "fdt-2"; };'
+  $ rm -r out && mkdir out && uimg unpack --config one -C out c.itb && cat out/* && echo
+  kernel: 1 byte, unhashed
+  fdt-1: 1 byte, unhashed
+  initrd: 1 byte, unhashed
+  bda
+  $ rm out/* && uimg unpack --config default -C out c.itb && ls out
+  fdt-2: 1 byte, unhashed
+  fdt-2
+  $ conf 'default = "two"; two { kernel = "kernel"; }; default { kernel = "initrd"; };' && uimg unpack --config default -C out c.itb
+  initrd: 1 byte, unhashed
+  $ rm out/*
+
+Without the configuration, or an image that it names, nothing is written; a name is no prefix of another:
+
+  $ conf 'default = "three"; one { kernel = "kernel"; fdt = "fdt-1", "fdt"; }; empty { description = "e"; };'
+  $ uimg unpack --config tw -C out c.itb
+  uimg: c.itb: missing configuration tw
+  [1]
+  $ uimg unpack --config default -C out c.itb
+  uimg: c.itb: missing default three
+  [1]
+  $ uimg unpack --config one -C out c.itb
+  uimg: c.itb: missing one fdt fdt
+  [1]
+  $ uimg unpack --config one --json -C out c.itb
+  {"path":"c.itb","status":1,"verdict":"missing","format":"fit","configuration":"one","property":"fdt","name":"fdt"}
+  [1]
+  $ uimg unpack --config empty -C out c.itb
+  uimg: F4 no such image
+  [1]
+  $ conf 'one { kernel = "kernel"; };' && uimg unpack --config default -C out c.itb
+  uimg: c.itb: missing configuration default
+  [1]
+  $ uimg unpack --config one -C out "$files/abc-kernel.img"
+  uimg: */files/abc-kernel.img: refused a legacy image has no configuration (glob)
+  [1]
+  $ uimg unpack --config one --only kernel -C out c.itb
+  uimg: --only with --config
+  [2]
+  $ ls -A out
+
 If the hash of one payload is not right, nothing is written, with --force too. --keep-good writes the others, and with
 --force it removes an existing file of that name:
 

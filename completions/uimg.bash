@@ -2,7 +2,7 @@
 _uimg() {
     local current=${COMP_WORDS[COMP_CWORD]} previous=${COMP_WORDS[COMP_CWORD - 1]}
     if test "$COMP_CWORD" = 1; then
-        COMPREPLY=($(compgen -W 'mkimage dumpimage verify check unpack info map help -h --help --version' -- "$current"))
+        COMPREPLY=($(compgen -W 'mkimage dumpimage verify check unpack info map diff help -h --help --version' -- "$current"))
         return
     fi
     case "${COMP_WORDS[1]}" in
@@ -34,17 +34,18 @@ _uimg() {
                 --need) COMPREPLY=($(compgen -W 'crc32 md5 sha1 sha256 sha384 sha512' -- "$current")); return ;;
                 --config) return ;;
             esac
-            test "${current#-}" = "$current" || { COMPREPLY=($(compgen -W '--need --strict --key --config --allow-sha1 --files-from -0 --json --quiet --allow-empty -h --help' -- "$current")); return; }
+            test "${current#-}" = "$current" || { COMPREPLY=($(compgen -W '--need --strict --key --config --allow-sha1 --recursive --files-from -0 --json --quiet --allow-empty -h --help' -- "$current")); return; }
             ;;
         unpack)
             case "$previous" in
                 -C) compopt -o dirnames; return ;;
                 --only) return ;;
+                --config) return ;;
                 --need) COMPREPLY=($(compgen -W 'crc32 md5 sha1 sha256 sha384 sha512' -- "$current")); return ;;
                 --max-files) return ;;
                 --max-bytes) return ;;
             esac
-            test "${current#-}" = "$current" || { COMPREPLY=($(compgen -W '-C --only --need --key --allow-sha1 --force --keep-good --no-sync --max-files --max-bytes --json --clean -h --help' -- "$current")); return; }
+            test "${current#-}" = "$current" || { COMPREPLY=($(compgen -W '-C --only --config --need --key --allow-sha1 --force --keep-good --no-sync --max-files --max-bytes --json --clean -h --help' -- "$current")); return; }
             ;;
         info)
             test "${current#-}" = "$current" || { COMPREPLY=($(compgen -W '--json -h --help' -- "$current")); return; }
@@ -52,8 +53,11 @@ _uimg() {
         map)
             test "${current#-}" = "$current" || { COMPREPLY=($(compgen -W '--svg --force -h --help' -- "$current")); return; }
             ;;
+        diff)
+            test "${current#-}" = "$current" || { COMPREPLY=($(compgen -W '--json -h --help' -- "$current")); return; }
+            ;;
         help)
-            COMPREPLY=($(compgen -W 'mkimage dumpimage verify check unpack info map help' -- "$current"))
+            COMPREPLY=($(compgen -W 'mkimage dumpimage verify check unpack info map diff help' -- "$current"))
             return
             ;;
     esac

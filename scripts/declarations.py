@@ -34,6 +34,8 @@ ITEM = re.compile(r"(?:pub(?:\([a-z]+\))? )?(?:const|static|struct|enum|mod|use|
 HEADER = re.compile(r"(?:unsafe )?impl(?:<(.*?)>)? (?:([\w:]+)(?:<([^<>]*)>)? for )?([\w:]+)(?:<([^<>]*)>)?(?: where .*)?")
 # What a file brings in from its crate, and from the definitions of Rattle's libraries.
 IMPORTED = re.compile(r"^use crate::([\w:]+)::(?:\{([^}]*)\}|(\w+));", re.M)
+# The same from the module above.
+ABOVE = re.compile(r"^use super::(?:\{([^}]*)\}|(\w+));", re.M)
 USE = re.compile(r"^ *(?:pub )?(?:ghost )?use Rattle\.(.*?);?$", re.M)
 CLAUSE = re.compile(r"(?:requires|ensures)\b")
 NO_CODE = re.compile(r"$|//|(?:pub(?:\([a-z]+\))? )?(?:ghost )?use ")
@@ -94,11 +96,12 @@ def owner_of(header):
     return kind + (found[2] or "").split("::")[-1]
 
 
-def homes_of(text):
-    """Returns the modules of what a file brings in from its crate. The prover names a method by the
-    module of its type, wherever the impl is."""
-    found = IMPORTED.finditer(text)
-    return {name.strip(): it[1].split("::") for it in found for name in (it[2] or it[3]).split(",")}
+def homes_of(text, module):
+    """Returns the modules of what the file of a module brings in from its crate. The prover names a
+    method by the module of its type, wherever the impl is."""
+    found = [(it[1].split("::"), it[2] or it[3]) for it in IMPORTED.finditer(text)]
+    found += [(module[:-1], it[1] or it[2]) for it in ABOVE.finditer(text)]
+    return {name.strip(): home for home, names in found for name in names.split(",")}
 
 
 def functions_in(file, module, homes):
@@ -123,7 +126,8 @@ def functions_in(file, module, homes):
 def functions_of_text(text, name):
     """Returns the functions of a file's text; the name is the file's below the crate's folder."""
     module = name[len("src/") : -len(".rt")].split("/")
-    found = list(functions_in(text.splitlines(True), [] if module == ["lib"] else module, homes_of(text)))
+    module = [] if module == ["lib"] else module
+    found = list(functions_in(text.splitlines(True), module, homes_of(text, module)))
     for it, end in zip(found, [*(after.begin for after in found[1:]), len(text)]):
         it.text = text[it.begin : end]
         # One that calls itself is a cycle of its own.

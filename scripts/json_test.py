@@ -1,14 +1,14 @@
 #!/usr/bin/env python3
-"""json_test.py PROGRAM: validates the output of `PROGRAM check --json`, `PROGRAM info` and
-`PROGRAM unpack --json` by the schemas docs/*.schema.json, and looks for each of their members in
-docs/JSON.md.
+"""json_test.py PROGRAM: validates the output of `PROGRAM check --json`, `PROGRAM info`,
+`PROGRAM unpack --json` and `PROGRAM diff --json` by the schemas docs/*.schema.json, and looks for
+each of their members in docs/JSON.md.
 
 It checks all files of examples/ and cases/files/, FIT images of a fixed seed, whole and damaged,
 and some with hostile names. Each line must be JSON without a control character and without a
 repeated member, be valid by the schema, and have the path and the line of text of
 the same image; for `info`, what a reader of device trees in this file finds in it (of a refused
 image, the line of a check); for `unpack`, what is in the files, and as many lines as without
---json. It needs jsonschema, and reports if no Python here has it. The last
+--json; for `diff`, of each image and the next one, the lines without --json. It needs jsonschema, and reports if no Python here has it. The last
 line is 'N passed, M failed'."""
 import base64
 import binascii
@@ -31,7 +31,7 @@ sys.path.insert(0, os.path.join(TOP, "bench"))
 import fits  # noqa: E402
 
 # The commands that print JSON, each with a schema in docs/.
-COMMANDS = ("check", "info", "unpack")
+COMMANDS = ("check", "info", "unpack", "diff")
 # The key of examples/signed.itb.
 KEY = os.path.join(TOP, "examples/dev.pem")
 # How many FIT images are made.
@@ -518,6 +518,36 @@ def try_unpacking(program, paths, validator, folder):
     return failures, told
 
 
+def difference_line(told):
+    """The line of text of a difference."""
+    ending = lambda text: f": {text}" if text else ""
+    if "old" not in told:
+        return f"+ {told['key']}{ending(told['new'])}"
+    if "new" not in told:
+        return f"- {told['key']}{ending(told['old'])}"
+    return f"{told['key']}{ending(told['old'])} -> {told['new']}"
+
+
+def try_differences(program, paths, validator):
+    """Compares each image with the next one, as JSON and as text. Returns the number of failures,
+    and the objects."""
+    failures, told = 0, []
+    for pair in zip(paths, paths[1:]):
+        try:
+            end = subprocess.run([program, "diff", "--json", *pair], capture_output=True)
+            plain = subprocess.run([program, "diff", *pair], capture_output=True)
+            assert (end.returncode, end.stderr) == (plain.returncode, plain.stderr), "without --json the end is another"
+            objects = [json.loads(line, object_pairs_hook=once) for line in end.stdout.decode().split("\n")[:-1]]
+            for one in objects:
+                validator.validate(one)
+            assert [difference_line(one) for one in objects] == plain.stdout.decode().split("\n")[:-1], "other lines"
+            told += objects
+        except Exception as error:
+            print(f"diff {pair!r}: {(str(error).splitlines() or [repr(error)])[0]}")
+            failures += 1
+    return failures, told
+
+
 def main():
     program = os.path.abspath(sys.argv[1])
     try:
@@ -530,7 +560,7 @@ def main():
     schemas = [schema_of(command) for command in COMMANDS]
     for schema in schemas:
         jsonschema.Draft202012Validator.check_schema(schema)
-    validator, of_facts, of_payloads = (jsonschema.Draft202012Validator(schema) for schema in schemas)
+    validator, of_facts, of_payloads, of_differences = (jsonschema.Draft202012Validator(schema) for schema in schemas)
     failures, told = 0, []
     for member in left_out(schemas):
         print(f"docs/JSON.md does not name the member {member}")
@@ -544,12 +574,15 @@ def main():
         failures += failed
         failed, payloads = try_unpacking(program, [path for path in paths if path], of_payloads, folder)
         failures += failed
+        failed, differences = try_differences(program, [path for path in paths if path], of_differences)
+        failures += failed
     verdicts = sorted({one["verdict"] for one in told})
     print(f"{len(told)} lines, verdicts: {' '.join(verdicts)}; {len({one.get('fault') for one in told}) - 1} faults")
     print(f"info: {len(facts)} lines, {sum(one['status'] == 0 for one in facts)} with facts")
     verdicts = sorted({one["verdict"] for one in payloads})
     print(f"unpack: {len(payloads)} lines, verdicts: {' '.join(verdicts)}")
-    print(f"{len(told) + len(facts) + len(payloads)} passed, {failures} failed")
+    print(f"diff: {len(differences)} lines")
+    print(f"{len(told) + len(facts) + len(payloads) + len(differences)} passed, {failures} failed")
     return 1 if failures else 0
 
 

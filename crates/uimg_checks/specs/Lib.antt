@@ -12,3 +12,4 @@ pub mod CheckEnds
 pub mod FaultStatuses
 pub mod StrictEnds
 pub mod Verdicts
+pub mod Choices

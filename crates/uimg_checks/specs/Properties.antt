@@ -1,7 +1,7 @@
 -- The properties whose values are names (Flattened Image Tree format, "'/configurations' node").
 use Rattle.std.specs.Prelude.{ℕ, List, codes}
 use Rattle.uimg_checks.specs.declared.references.reference.Reference.{Reference}
-use Rattle.uimg_checks.specs.declared.references.reference.Reference.TheVariants.{Default, Kernel}
+use Rattle.uimg_checks.specs.declared.references.reference.Reference.TheVariants.{Requested, Default, Kernel}
 use Rattle.uimg_checks.specs.declared.references.reference.Reference.TheVariants.{Ramdisk, Fdt}
 use Rattle.uimg_checks.specs.declared.references.reference.Reference.TheVariants.{Loadables}
 use Rattle.uimg_checks.specs.declared.references.reference.Reference.TheVariants.{Firmware, Fpga}
@@ -9,6 +9,7 @@ use Rattle.uimg_checks.specs.declared.references.reference.Reference.TheVariants
 use Rattle.uimg_checks.specs.declared.references.reference.Reference.TheVariants.{Script}
 
 abbrev pub property_name : Reference → List ℕ
+property_name Requested = codes "configuration"
 property_name Default = codes "default"
 property_name Kernel = codes "kernel"
 property_name Ramdisk = codes "ramdisk"

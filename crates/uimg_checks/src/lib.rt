@@ -3,6 +3,7 @@
 #![tactic(auto)]
 
 mod answer;
+mod choosing;
 mod counting;
 mod ends;
 mod finding;
@@ -14,6 +15,7 @@ mod signatures;
 mod statuses;
 
 pub use answer::{Answer, Configurations, Format, Signed, Stop};
+pub use choosing::configuration_images;
 pub use counting::count_in_memory;
 pub use ends::{CHANGED, NOT_UTF8, Names, answer_of_fault, answer_of_line};
 pub use finding::{Checked, check};

@@ -6,6 +6,7 @@ use Rattle.clap.specs.Walk.{Text}
 use Rattle.clap.specs.declared.error.kind.ErrorKind.TheVariants.{DisplayHelp, DisplayVersion}
 use Rattle.uimg_cli.specs.Check.{check}
 use Rattle.uimg_cli.specs.CommandLines.{uimg, words_asked}
+use Rattle.uimg_cli.specs.Diff.{diff}
 use Rattle.uimg_cli.specs.Dumpimage.{dumpimage}
 use Rattle.uimg_cli.specs.Info.{info}
 use Rattle.uimg_cli.specs.KeyRequests.{named_path}
@@ -16,7 +17,7 @@ use Rattle.uimg_cli.specs.Runs.{plain_run}
 use Rattle.uimg_cli.specs.Unpack.{chosen_rules, unpack, written_rules}
 use Rattle.uimg_cli.specs.Verify.{verify}
 use Rattle.uimg_cli.specs.Wanted.{Wanted, checks, informs, makes, maps, runs, shows, unpacks}
-use Rattle.uimg_cli.specs.Wrong.{Wrong, bad_number, data_with_source, flat_dt_needs_source, no_command, no_data_or_source, no_key, no_list_or_outfile, not_number, unknown_algo, unknown_name}
+use Rattle.uimg_cli.specs.Wrong.{Wrong, bad_number, data_with_source, flat_dt_needs_source, no_command, no_data_or_source, no_key, no_list_or_outfile, not_number, only_with_config, unknown_algo, unknown_name}
 use Rattle.uimg_fit_base.specs.declared.placement.Placement.TheVariants.{At}
 use Rattle.uimg_legacy.specs.{Header.padded_name, Parts.has_parts}
 use Rattle.uimg_requests.specs.declared.command.Action.TheVariants as action
@@ -24,7 +25,7 @@ use Rattle.uimg_requests.specs.declared.command.Form.TheVariants as form
 use Rattle.uimg_sums.specs.declared.algo.Algo.TheVariants.{Crc32, Sha1, Sha256}
 
 unfoldable pub uimg_on_literals : ⊤
-unfolding has_parts uimg named_path check dumpimage info map_command mkimage header_rules source_rules unpack chosen_rules written_rules verify
+unfolding has_parts uimg named_path check diff dumpimage info map_command mkimage header_rules source_rules unpack chosen_rules written_rules verify
 uimg_on_literals = tt
 
 abbrev asked : List Text → List (Result Wanted Wrong)
@@ -111,17 +112,17 @@ a_blob_of_data = refl
 -- ---- the other commands
 
 a_check : asked (codes "check" ∷ codes "--strict" ∷ codes "a.itb" ∷ codes "--json" ∷ codes "b.itb" ∷ [])
-    ≡ Ok (checks (record { need = Some Crc32; is_strict = true; key = None; images = codes "a.itb" ∷ codes "b.itb" ∷ []; files_from = None; has_nuls = false; as_json = true; is_quiet = false; allows_none = false })) ∷ []
+    ≡ Ok (checks (record { need = Some Crc32; is_strict = true; key = None; images = codes "a.itb" ∷ codes "b.itb" ∷ []; is_recursive = false; files_from = None; has_nuls = false; as_json = true; is_quiet = false; allows_none = false })) ∷ []
 unfolding clap_on_literals uimg_on_literals
 a_check = refl
 
 by_a_key : asked (codes "check" ∷ codes "--key" ∷ codes "dev=keys/dev.pem" ∷ codes "--config=a" ∷ codes "a.itb" ∷ [])
-    ≡ Ok (checks (record { need = Some Sha256; is_strict = true; key = Some (record { path = codes "keys/dev.pem"; name = Some (codes "dev"); config = Some (codes "a"); takes_sha1 = false }); images = codes "a.itb" ∷ []; files_from = None; has_nuls = false; as_json = false; is_quiet = false; allows_none = false })) ∷ []
+    ≡ Ok (checks (record { need = Some Sha256; is_strict = true; key = Some (record { path = codes "keys/dev.pem"; name = Some (codes "dev"); config = Some (codes "a"); takes_sha1 = false }); images = codes "a.itb" ∷ []; is_recursive = false; files_from = None; has_nuls = false; as_json = false; is_quiet = false; allows_none = false })) ∷ []
 unfolding clap_on_literals uimg_on_literals
 by_a_key = refl
 
 a_path_of_keys : asked (codes "unpack" ∷ codes "--key=./a=b.pem" ∷ codes "--allow-sha1" ∷ codes "a.itb" ∷ [])
-    ≡ Ok (unpacks (record { folder = codes "."; only = None; need = Some Sha1; key = Some (record { path = codes "./a=b.pem"; name = None; config = None; takes_sha1 = true }); is_forced = false; keeps_good = false; is_synced = true; as_json = false; cleans = false; most_files = 4096; most_bytes = None; image = Some (codes "a.itb") })) ∷ []
+    ≡ Ok (unpacks (record { folder = codes "."; only = None; config = None; need = Some Sha1; key = Some (record { path = codes "./a=b.pem"; name = None; config = None; takes_sha1 = true }); is_forced = false; keeps_good = false; is_synced = true; as_json = false; cleans = false; most_files = 4096; most_bytes = None; image = Some (codes "a.itb") })) ∷ []
 unfolding clap_on_literals uimg_on_literals
 a_path_of_keys = refl
 
@@ -130,9 +131,18 @@ unfolding clap_on_literals uimg_on_literals
 without_a_key = refl
 
 an_unpacking : asked (codes "unpack" ∷ codes "-C" ∷ codes "out" ∷ codes "--need-hash=sha256" ∷ codes "--max-files" ∷ codes "9" ∷ codes "a.itb" ∷ [])
-    ≡ Ok (unpacks (record { folder = codes "out"; only = None; need = Some Sha256; key = None; is_forced = false; keeps_good = false; is_synced = true; as_json = false; cleans = false; most_files = 9; most_bytes = None; image = Some (codes "a.itb") })) ∷ []
+    ≡ Ok (unpacks (record { folder = codes "out"; only = None; config = None; need = Some Sha256; key = None; is_forced = false; keeps_good = false; is_synced = true; as_json = false; cleans = false; most_files = 9; most_bytes = None; image = Some (codes "a.itb") })) ∷ []
 unfolding clap_on_literals uimg_on_literals
 an_unpacking = refl
+
+of_a_configuration : (name image : Text) → asked (codes "unpack" ∷ (codes "--config=" ++ name) ∷ codes "--" ∷ image ∷ [])
+    ≡ Ok (unpacks (record { folder = codes "."; only = None; config = Some name; need = None; key = None; is_forced = false; keeps_good = false; is_synced = true; as_json = false; cleans = false; most_files = 4096; most_bytes = None; image = Some image })) ∷ []
+unfolding clap_on_literals uimg_on_literals
+of_a_configuration name image = refl
+
+of_an_image_and_a_configuration : asked (codes "unpack" ∷ codes "--only=a" ∷ codes "--config=b" ∷ codes "a.itb" ∷ []) ≡ Err only_with_config ∷ []
+unfolding clap_on_literals uimg_on_literals
+of_an_image_and_a_configuration = refl
 
 a_plus : asked (codes "unpack" ∷ codes "--max-bytes" ∷ codes "+9" ∷ codes "a.itb" ∷ []) ≡ Err (not_number (codes "max-bytes") (codes "+9")) ∷ []
 unfolding clap_on_literals uimg_on_literals
@@ -181,16 +191,16 @@ unfolding clap_on_literals uimg_on_literals
 any_listed_image image = refl
 
 any_checked_images : (one two : Text) → asked (codes "check" ∷ codes "--quiet" ∷ codes "--" ∷ one ∷ two ∷ [])
-    ≡ Ok (checks (record { need = None; is_strict = false; key = None; images = one ∷ two ∷ []; files_from = None; has_nuls = false; as_json = false; is_quiet = true; allows_none = false })) ∷ []
+    ≡ Ok (checks (record { need = None; is_strict = false; key = None; images = one ∷ two ∷ []; is_recursive = false; files_from = None; has_nuls = false; as_json = false; is_quiet = true; allows_none = false })) ∷ []
 unfolding clap_on_literals uimg_on_literals
 any_checked_images one two = refl
 
 any_list_of_images : (file : Text) → asked (codes "check" ∷ (codes "--files-from=" ++ file) ∷ [])
-    ≡ Ok (checks (record { need = None; is_strict = false; key = None; images = []; files_from = Some file; has_nuls = false; as_json = false; is_quiet = false; allows_none = false })) ∷ []
+    ≡ Ok (checks (record { need = None; is_strict = false; key = None; images = []; is_recursive = false; files_from = Some file; has_nuls = false; as_json = false; is_quiet = false; allows_none = false })) ∷ []
 unfolding clap_on_literals uimg_on_literals
 any_list_of_images file = refl
 
 any_one_payload : (name image : Text) → asked (codes "unpack" ∷ (codes "--only=" ++ name) ∷ codes "--" ∷ image ∷ [])
-    ≡ Ok (unpacks (record { folder = codes "."; only = Some name; need = None; key = None; is_forced = false; keeps_good = false; is_synced = true; as_json = false; cleans = false; most_files = 4096; most_bytes = None; image = Some image })) ∷ []
+    ≡ Ok (unpacks (record { folder = codes "."; only = Some name; config = None; need = None; key = None; is_forced = false; keeps_good = false; is_synced = true; as_json = false; cleans = false; most_files = 4096; most_bytes = None; image = Some image })) ∷ []
 unfolding clap_on_literals uimg_on_literals
 any_one_payload name image = refl

@@ -58,7 +58,7 @@ settles image images few = rw (few, none_below_zero (suc (length images)), all_a
 
 -- a check of images without an option
 abbrev pub check_of : List Text → Checking
-check_of images = record { need = None; is_strict = false; key = None; images = images; files_from = None; has_nuls = false; as_json = false; is_quiet = false; allows_none = false }
+check_of images = record { need = None; is_strict = false; key = None; images = images; is_recursive = false; files_from = None; has_nuls = false; as_json = false; is_quiet = false; allows_none = false }
 
 some_images : (image : Text) (images : List Text) → is_empty (image ∷ images) ≡ false
 some_images image images = ne_eqb (suc (length images)) 0 (λ none. absurd (omega (arith, none)))

@@ -21,7 +21,7 @@ images_rule = record (new_rule (codes "image")) {
 }
 
 -- check [--need ALGO] [--strict] [--key [NAME=]FILE] [--config NAME] [--allow-sha1]
--- [--files-from FILE] [-0] [--json] [--quiet] [--allow-empty] [IMAGE ..]
+-- [--recursive] [--files-from FILE] [-0] [--json] [--quiet] [--allow-empty] [IMAGE ..]
 unfoldable pub check : App
 check = with_rules (
     long_rule (codes "need")
@@ -29,6 +29,7 @@ check = with_rules (
     ∷ long_rule (codes "key")
     ∷ long_rule (codes "config")
     ∷ switch_rule (codes "allow-sha1")
+    ∷ switch_rule (codes "recursive")
     ∷ long_rule (codes "files-from")
     ∷ flag_rule (codes "nuls") 48
     ∷ switch_rule (codes "json")
@@ -42,6 +43,7 @@ pub record Checking : Type 0 where
   pub is_strict : Bool
   pub key : Option Keying
   pub images : List Text
+  pub is_recursive : Bool
   pub files_from : Option Text
   pub has_nuls : Bool
   pub as_json : Bool
@@ -54,6 +56,7 @@ checking_of request = record {
   is_strict = request.is_strict;
   key = option_map keying_of request.key;
   images = texts request.images.items;
+  is_recursive = request.is_recursive;
   files_from = option_map (λ path. path.now) request.files_from;
   has_nuls = request.has_nuls;
   as_json = request.as_json;
@@ -71,6 +74,7 @@ checking_by rows need = record {
   is_strict = is_to_be_strict rows;
   key = key_asked rows (first_of (codes "config") rows);
   images = texts_given (codes "image") rows;
+  is_recursive = is_set (codes "recursive") rows;
   files_from = first_of (codes "files-from") rows;
   has_nuls = is_set (codes "nuls") rows;
   as_json = is_set (codes "json") rows;

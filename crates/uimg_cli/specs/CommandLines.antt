@@ -9,13 +9,14 @@ use Rattle.clap.specs.declared.builder.action.ArgAction.TheVariants.{Version}
 use Rattle.clap.specs.declared.error.kind.ErrorKind.{ErrorKind}
 use Rattle.clap.specs.declared.error.kind.ErrorKind.TheVariants.{DisplayHelp, DisplayVersion}
 use Rattle.uimg_cli.specs.Check.{check, check_asked}
+use Rattle.uimg_cli.specs.Diff.{diff, diff_asked}
 use Rattle.uimg_cli.specs.Dumpimage.{dumpimage, dumpimage_asked}
 use Rattle.uimg_cli.specs.Info.{info, info_asked}
 use Rattle.uimg_cli.specs.Map.{map_asked, map_command}
 use Rattle.uimg_cli.specs.Mkimage.{mkimage, mkimage_asked}
 use Rattle.uimg_cli.specs.Unpack.{unpack, unpack_asked}
 use Rattle.uimg_cli.specs.Verify.{verify, verify_asked}
-use Rattle.uimg_cli.specs.Wanted.{Wanted, checks, informs, maps, runs, shows, unpacks}
+use Rattle.uimg_cli.specs.Wanted.{Wanted, checks, compares, informs, maps, runs, shows, unpacks}
 use Rattle.uimg_cli.specs.Wrong.{Tells, Wrong, and_then, no_command, no_subcommand}
 use Rattle.uimg_cli.specs.declared.command_line.words_fault.WordsFault.{WordsFault}
 
@@ -44,7 +45,7 @@ with_command above command = with_subcommand above command.top
 -- the program with its commands
 unfoldable pub uimg : App
 uimg = fold with_command program
-    (mkimage ∷ dumpimage ∷ verify ∷ check ∷ unpack ∷ info ∷ map_command ∷ [])
+    (mkimage ∷ dumpimage ∷ verify ∷ check ∷ unpack ∷ info ∷ map_command ∷ diff ∷ [])
 
 -- what a command is asked for by what the words gave for its arguments
 abbrev pub asked_by : Option Text → ℕ → Text → List Row → Result Wanted Wrong
@@ -55,11 +56,12 @@ asked_by epoch moment name rows =
     else (if bytes_eq name (codes "map")
     then and_then (map_asked rows) (λ it. Ok (maps it))
     else (if bytes_eq name (codes "info") then Ok (informs (info_asked rows))
+    else (if bytes_eq name (codes "diff") then Ok (compares (diff_asked rows))
     else (if bytes_eq name (codes "dumpimage")
     then and_then (dumpimage_asked rows) (λ it. Ok (runs it))
     else (if bytes_eq name (codes "mkimage") then mkimage_asked epoch moment rows
     else (if bytes_eq name (codes "verify") then Ok (runs (verify_asked rows))
-    else Err no_subcommand))))))
+    else Err no_subcommand)))))))
 
 abbrev pub request_asked : Option Text → ℕ → Option (Text × List Row) → Result Wanted Wrong
 request_asked epoch moment None = Err no_subcommand

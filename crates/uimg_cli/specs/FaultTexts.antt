@@ -22,6 +22,7 @@ text_of (fault.NotNumber option text) =
 text_of fault.PictureToOutput =
     codes "--svg -: standard output is not supported; for a file of that name use ./-"
 text_of fault.CleansWithJson = codes "--clean with --json"
+text_of fault.OnlyWithConfig = codes "--only with --config"
 text_of (fault.WithoutKey option) = codes "--" ++ option.now ++ codes " without --key"
 text_of fault.DataWithSource = codes "-d with -f"
 text_of fault.UnknownName = codes "unknown name"

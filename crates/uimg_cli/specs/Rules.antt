@@ -21,9 +21,13 @@ switch_rule id = record (new_rule id) { long = Some id; action = Some SetTrue }
 abbrev pub long_rule : Text → Rule
 long_rule id = record (new_rule id) { long = Some id; action = Some Set; value_names = 1 }
 
--- the operand for the image, which has to be there
+-- an operand, which has to be there
+abbrev pub operand_rule : Text → Rule
+operand_rule id = record (new_rule id) { required = true }
+
+-- the operand for the image
 abbrev pub image_rule : Rule
-image_rule = record (new_rule (codes "image")) { required = true }
+image_rule = operand_rule (codes "image")
 
 -- the command with these arguments more, in this order
 abbrev pub with_rules : List Rule → App → App

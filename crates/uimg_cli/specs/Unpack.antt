@@ -1,5 +1,5 @@
 -- The arguments of `unpack`.
-use Rattle.std.specs.Prelude.{ℕ, Bool, not, ◌&&◌, List, [], ◌∷◌, Option, Some, None, Result, Ok, Err, codes, false, if◌then◌else◌, is_none, option_map, unwrap_or}
+use Rattle.std.specs.Prelude.{ℕ, Bool, not, ◌&&◌, List, [], ◌∷◌, Option, Some, None, Result, Ok, Err, codes, false, if◌then◌else◌, is_none, is_some, option_map, unwrap_or}
 use Rattle.std.specs.Option.{option_map_or}
 use Rattle.clap.specs.Simple.{App, new_app, new_rule}
 use Rattle.clap.specs.Walk.{Row, Rule, Text, first_of, is_empty}
@@ -7,7 +7,7 @@ use Rattle.uimg_cli.specs.KeyRequests.{Keying, key_asked, keying_of, without_key
 use Rattle.uimg_cli.specs.Needs.{least_need, need_asked}
 use Rattle.uimg_cli.specs.Readings.{count_of, is_set, or_wrong, text_or}
 use Rattle.uimg_cli.specs.Rules.{long_rule, switch_rule, value_rule, with_rules}
-use Rattle.uimg_cli.specs.Wrong.{Wrong, and_then, cleans_with_json, no_folder, no_images, not_number}
+use Rattle.uimg_cli.specs.Wrong.{Wrong, and_then, cleans_with_json, no_folder, no_images, not_number, only_with_config}
 use Rattle.uimg_cli.specs.declared.command_line.unpack.UnpackRequest.{UnpackRequest}
 use Rattle.uimg_sums.specs.declared.algo.Algo.{Algo}
 
@@ -20,6 +20,7 @@ unfoldable pub chosen_rules : List Rule
 chosen_rules =
     value_rule (codes "folder") 67
     ∷ long_rule (codes "only")
+    ∷ long_rule (codes "config")
     ∷ need_rule
     ∷ long_rule (codes "key")
     ∷ switch_rule (codes "allow-sha1")
@@ -35,8 +36,8 @@ written_rules =
     ∷ long_rule (codes "max-bytes")
     ∷ []
 
--- unpack [-C FOLDER] [--only NAME] [--need ALGO] [--key [NAME=]FILE] [--allow-sha1] [--force]
--- [--keep-good] [--no-sync] [--max-files NUMBER] [--max-bytes NUMBER] [--json] [--clean] [IMAGE]
+-- unpack [-C FOLDER] [--only NAME] [--config NAME] [--need ALGO] [--key [NAME=]FILE] [--allow-sha1]
+-- [--force] [--keep-good] [--no-sync] [--max-files NUMBER] [--max-bytes NUMBER] [--json] [--clean] [IMAGE]
 unfoldable pub unpack : App
 unpack = with_rules (
     switch_rule (codes "json")
@@ -47,6 +48,7 @@ unpack = with_rules (
 pub record Unpacking : Type 0 where
   pub folder : Text
   pub only : Option Text
+  pub config : Option Text
   pub need : Option Algo
   pub key : Option Keying
   pub is_forced : Bool
@@ -62,6 +64,7 @@ abbrev pub unpacking_of : UnpackRequest → Unpacking
 unpacking_of request = record {
   folder = request.folder.now;
   only = option_map (λ name. name.now) request.only;
+  config = option_map (λ name. name.now) request.config;
   need = request.need;
   key = option_map keying_of request.key;
   is_forced = request.is_forced;
@@ -87,6 +90,7 @@ abbrev pub unpacking_by : List Row → Option Algo → Option ℕ → Option ℕ
 unpacking_by rows need files bytes = record {
   folder = text_or (codes "folder") rows (codes ".");
   only = first_of (codes "only") rows;
+  config = first_of (codes "config") rows;
   need = least_need rows false need;
   key = key_asked rows None;
   is_forced = is_set (codes "force") rows;
@@ -99,14 +103,16 @@ unpacking_by rows need files bytes = record {
   image = first_of (codes "image") rows;
 }
 
--- What excludes what: a folder has a name, there is an image or --clean, --clean has no JSON, and
--- SHA-1 is allowed of keys alone.
+-- What excludes what: a folder has a name, there is an image or --clean, --clean has no JSON, an image
+-- or a configuration is chosen, and SHA-1 is allowed of keys alone.
 abbrev pub clash : List Row → Option Wrong
 clash rows = if is_empty (text_or (codes "folder") rows (codes ".")) then Some no_folder
     else (if is_none (first_of (codes "image") rows) && not (is_set (codes "clean") rows)
     then Some no_images
     else (if is_set (codes "json") rows && is_set (codes "clean") rows then Some cleans_with_json
-    else without_key rows None))
+    else (if is_some (first_of (codes "only") rows) && is_some (first_of (codes "config") rows)
+    then Some only_with_config
+    else without_key rows None)))
 
 abbrev pub unpacking_limited : List Row → Option Algo → Result Unpacking Wrong
 unpacking_limited rows need = and_then (count_asked (codes "max-files") rows) (λ files.

@@ -3,6 +3,7 @@ use Rattle.clap.specs.Values.{kind_of}
 use Rattle.clap.specs.Walk.{Text}
 use Rattle.clap.specs.declared.error.kind.ErrorKind.{ErrorKind}
 use Rattle.uimg_cli.specs.Check.{Checking, checking_of}
+use Rattle.uimg_cli.specs.Diff.{Comparing, comparing_of}
 use Rattle.uimg_cli.specs.Makings.{Making, making_of}
 use Rattle.uimg_cli.specs.Map.{Mapping, mapping_of}
 use Rattle.uimg_cli.specs.Runs.{Run, run_of}
@@ -13,7 +14,7 @@ use Rattle.uimg_cli.specs.declared.command_line.Request.{Request}
 use Rattle.uimg_cli.specs.declared.command_line.Request.TheVariants as request
 
 -- a command on an image, the making of one, a text (help or the version), a check, an unpacking, a
--- map, or the facts of an image
+-- map, the facts of an image, or the differences of two
 pub data Wanted : Type 0 where
   runs : Run → Wanted
   makes : Making → Wanted
@@ -22,6 +23,7 @@ pub data Wanted : Type 0 where
   unpacks : Unpacking → Wanted
   maps : Mapping → Wanted
   informs : Text → Wanted
+  compares : Comparing → Wanted
 
 abbrev pub wanted_by_one : Request → Wanted
 wanted_by_one (request.Run command) = runs (run_of command)
@@ -34,3 +36,4 @@ wanted_of (asked.Check request) = checks (checking_of request)
 wanted_of (asked.Unpack request) = unpacks (unpacking_of request)
 wanted_of (asked.Map request) = maps (mapping_of request)
 wanted_of (asked.Info request) = informs request.image.now
+wanted_of (asked.Diff request) = compares (comparing_of request)

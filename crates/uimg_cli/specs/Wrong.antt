@@ -17,6 +17,7 @@ pub data Wrong : Type 0 where
   not_number : Text → Text → Wrong
   picture_to_output : Wrong
   cleans_with_json : Wrong
+  only_with_config : Wrong
   no_key : Text → Wrong
   data_with_source : Wrong
   unknown_name : Wrong
@@ -36,6 +37,7 @@ wrong_of (fault.UnknownAlgo name) = unknown_algo (string_bytes name)
 wrong_of (fault.NotNumber option text) = not_number option.now (string_bytes text)
 wrong_of fault.PictureToOutput = picture_to_output
 wrong_of fault.CleansWithJson = cleans_with_json
+wrong_of fault.OnlyWithConfig = only_with_config
 wrong_of (fault.WithoutKey option) = no_key option.now
 wrong_of fault.DataWithSource = data_with_source
 wrong_of fault.UnknownName = unknown_name

@@ -16,6 +16,7 @@ ghost use Rattle.uimg_cli.specs.Wrong.{IsWrong, Tells, Wrong, no_command, wrong_
 mod arguments;
 mod check;
 mod complaints;
+mod diff;
 mod dumpimage;
 mod help_notes;
 mod info;
@@ -33,6 +34,7 @@ pub use check::CheckRequest;
 use clap::error::ErrorKind;
 use clap::{ArgMatches, Command};
 use complaints::complaint;
+pub use diff::DiffRequest;
 pub use info::InfoRequest;
 pub use keys::KeyRequest;
 pub use map::MapRequest;
@@ -59,6 +61,9 @@ pub enum Asked<'a> {
 
     /// The facts of an image.
     Info(InfoRequest<'a>),
+
+    /// The differences of two images.
+    Diff(DiffRequest<'a>),
 }
 
 /// A command on an image, a build of one, or a text.

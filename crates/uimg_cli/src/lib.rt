@@ -4,6 +4,6 @@
 mod command_line;
 
 pub use command_line::{
-    Asked, CheckRequest, InfoRequest, KeyRequest, MapRequest, Request, UnpackRequest, WordsFault,
-    read_words,
+    Asked, CheckRequest, DiffRequest, InfoRequest, KeyRequest, MapRequest, Request, UnpackRequest,
+    WordsFault, read_words,
 };

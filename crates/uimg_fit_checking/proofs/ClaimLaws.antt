@@ -19,21 +19,21 @@ use Rattle.uimg_fit_checking.specs.declared.unpacking.claims.Claim.TheVariants.{
 use Rattle.uimg_fit_checking.specs.declared.unpacking.node_names.NodeName.{NodeName}
 use Rattle.uimg_fit_checking.specs.Claiming as Claiming
 use Rattle.uimg_fit_checking.specs.Claiming.{ClaimsTo, claim, claim_of, claims, claims_before}
-use Rattle.uimg_fit_checking.specs.Unpacking.{is_asked, overlapping, fits_before, as_bytes}
+use Rattle.uimg_fit_checking.specs.Unpacking.{is_asked, overlapping, fits_before, as_bytes, Which}
 use Rattle.uimg_fit_checking.specs.declared.unpacking.requested.Requested.{Requested}
 use Rattle.uimg_fit_checking.specs.UnpackingParts.{IsPayloadOf, TellsFound, Claims, ClaimsAll, ClaimsImagesBetween, size_if}
 use Rattle.uimg_fit_reading.specs.Nodes.{AreFrom}
 use Rattle.uimg_fit_reading.proofs.ImageLaws.{none_left}
 
 -- a requested image without a payload
-pub found_lacks : (file : List ℕ) (only : Option (List ℕ)) (image : NodeOf Spot) (fault : Fault) (r : Result (Option Requested) Fault) → r ≡ Err fault → is_asked only image.name ≡ true → TellsPlace file image (Err fault) → TellsFound only file image r
+pub found_lacks : (file : List ℕ) (only : Which) (image : NodeOf Spot) (fault : Fault) (r : Result (Option Requested) Fault) → r ≡ Err fault → is_asked only image.name ≡ true → TellsPlace file image (Err fault) → TellsFound only file image r
 found_lacks file only image (of.Blob fault at) r is asked tells = absurd tells
 found_lacks file only image (of.Fit fault) r is asked tells = subst (λ (x : Result (Option Requested) Fault). TellsFound only file image x) (sym is) (asked, tells)
 found_lacks file only image of.Read r is asked tells = subst (λ (x : Result (Option Requested) Fault). TellsFound only file image x) (sym is) tt
 found_lacks file only image of.Put r is asked tells = subst (λ (x : Result (Option Requested) Fault). TellsFound only file image x) (sym is) tt
 
 -- What is told of the images that are left, with the bytes that are left, is told of all.
-pub record LeftClaimed (t : Siblings) (file : List ℕ) (only : Option (List ℕ)) (found : List (NodeOf Spot)) (asked new left : ℕ) (next : Option ℕ) (notes : Bool) (before after : List Claiming.Claim) : Type 0 where
+pub record LeftClaimed (t : Siblings) (file : List ℕ) (only : Which) (found : List (NodeOf Spot)) (asked new left : ℕ) (next : Option ℕ) (notes : Bool) (before after : List Claiming.Claim) : Type 0 where
   pub rest : List (NodeOf Spot)
   pub from : AreFrom t in_images next rest
   pub same : overlapping only file (length file) found ≡ overlapping only file left rest
@@ -41,13 +41,13 @@ pub record LeftClaimed (t : Siblings) (file : List ℕ) (only : Option (List ℕ
   pub claimed : IsTrue notes → before ++ claims only file (length file) found ≡ after ++ claims only file left rest
 
 -- an image, and those after it
-pub overlapping_more : (only : Option (List ℕ)) (file : List ℕ) (left : ℕ) (image : NodeOf Spot) (more : List (NodeOf Spot))
+pub overlapping_more : (only : Which) (file : List ℕ) (left : ℕ) (image : NodeOf Spot) (more : List (NodeOf Spot))
     → overlapping only file left (image ∷ more)
     ≡ (if is_asked only image.name then fits_before image.name left (payload file image) (λ rest. overlapping only file rest more) else overlapping only file left more)
 unfolding overlapping
 overlapping_more only file left image more = refl
 
-pub none_overlapping : (only : Option (List ℕ)) (file : List ℕ) (left : ℕ) → overlapping only file left [] ≡ Ok None
+pub none_overlapping : (only : Which) (file : List ℕ) (left : ℕ) → overlapping only file left [] ≡ Ok None
 unfolding overlapping
 none_overlapping only file left = refl
 
@@ -56,7 +56,7 @@ rest_of (Fits rest) = rest
 rest_of (Overlaps name) = 0
 
 -- one that is not asked for, or fits
-fits : (number : ℕ) (only : Option (List ℕ)) (file : List ℕ) (left rest : ℕ) (image : NodeOf Spot) (found : Option Requested) (later : ℕ → Result (Option (List ℕ)) FitFault) → TellsFound only file image (Ok found)
+fits : (number : ℕ) (only : Which) (file : List ℕ) (left rest : ℕ) (image : NodeOf Spot) (found : Option Requested) (later : ℕ → Result (Option (List ℕ)) FitFault) → TellsFound only file image (Ok found)
     → IfSome found (IsPayloadOf number (length file)) → Claims left found (Fits rest) → (if is_asked only image.name then fits_before image.name left (payload file image) later else later left) ≡ later rest
 unfolding rest_of
 fits number only file left rest image None later tells inside same =
@@ -68,7 +68,7 @@ fits number only file left rest image (Some it) later tells inside sum =
     ∙ ap (λ (p : Result (List ℕ) FitFault). fits_before image.name left p later) tells.is ∙ rw (le-ltb left (length message) (omega (arith, sum, len))) (ap later (omega (arith, sum, len)))
 
 -- one with which they overlap
-overlaps_here : (number : ℕ) (only : Option (List ℕ)) (file : List ℕ) (left : ℕ) (image : NodeOf Spot) (found : Option Requested) (its : NodeName) (later : ℕ → Result (Option (List ℕ)) FitFault) → TellsFound only file image (Ok found)
+overlaps_here : (number : ℕ) (only : Which) (file : List ℕ) (left : ℕ) (image : NodeOf Spot) (found : Option Requested) (its : NodeName) (later : ℕ → Result (Option (List ℕ)) FitFault) → TellsFound only file image (Ok found)
     → IfSome found (IsPayloadOf number (length file)) → Claims left found (Overlaps its) → (if is_asked only image.name then fits_before image.name left (payload file image) later else later left) ≡ Ok (Some (as_bytes its))
 overlaps_here number only file left image None its later tells inside same = absurd (cc)
 overlaps_here number only file left image (Some it) its later tells inside over =
@@ -80,7 +80,7 @@ overlaps_here number only file left image (Some it) its later tells inside over 
     ∙ rw (lt-ltb left (length message) (omega (arith, over.0, len))) (ap (λ (n : List ℕ). let r : Result (Option (List ℕ)) FitFault = Ok (Some n) in r) named)
 
 -- one that is refused
-refused_here : (only : Option (List ℕ)) (file : List ℕ) (left : ℕ) (image : NodeOf Spot) (fault : Fault) (later : ℕ → Result (Option (List ℕ)) FitFault) → TellsFound only file image (Err fault)
+refused_here : (only : Which) (file : List ℕ) (left : ℕ) (image : NodeOf Spot) (fault : Fault) (later : ℕ → Result (Option (List ℕ)) FitFault) → TellsFound only file image (Err fault)
     → ClaimsAll (if is_asked only image.name then fits_before image.name left (payload file image) later else later left) (Err fault)
 refused_here only file left image (of.Blob fault at) later tells = absurd tells
 refused_here only file left image (of.Fit fault) later tells =
@@ -90,18 +90,18 @@ refused_here only file left image of.Read later tells = tt
 refused_here only file left image of.Put later tells = tt
 
 -- the claims of an image, and of those after it
-claims_next : (only : Option (List ℕ)) (file : List ℕ) (left : ℕ) (image : NodeOf Spot) (more : List (NodeOf Spot))
+claims_next : (only : Which) (file : List ℕ) (left : ℕ) (image : NodeOf Spot) (more : List (NodeOf Spot))
     → claims only file left (image ∷ more)
     ≡ (if is_asked only image.name then claims_before image.name left (payload file image) (λ rest. claims only file rest more) else claims only file left more)
 unfolding claims
 claims_next only file left image more = refl
 
-no_claims : (only : Option (List ℕ)) (file : List ℕ) (left : ℕ) → claims only file left [] ≡ []
+no_claims : (only : Which) (file : List ℕ) (left : ℕ) → claims only file left [] ≡ []
 unfolding claims
 no_claims only file left = refl
 
 -- that of one that is not asked for, or fits
-claim_fits : (number : ℕ) (only : Option (List ℕ)) (file : List ℕ) (left rest : ℕ) (image : NodeOf Spot) (found : Option Requested) (later : ℕ → List Claiming.Claim) → TellsFound only file image (Ok found)
+claim_fits : (number : ℕ) (only : Which) (file : List ℕ) (left rest : ℕ) (image : NodeOf Spot) (found : Option Requested) (later : ℕ → List Claiming.Claim) → TellsFound only file image (Ok found)
     → IfSome found (IsPayloadOf number (length file)) → Claims left found (Fits rest) → (if is_asked only image.name then claims_before image.name left (payload file image) later else later left) ≡ claim_of left found ++ later rest
 unfolding rest_of
 claim_fits number only file left rest image None later tells inside same =
@@ -119,7 +119,7 @@ claim_fits number only file left rest image (Some it) later tells inside sum =
     ∙ ap (λ (k : ℕ). claim (as_bytes it.name) size ∷ later k) gone)
 
 -- of one with which they overlap there is none
-claim_over : (number : ℕ) (only : Option (List ℕ)) (file : List ℕ) (left : ℕ) (image : NodeOf Spot) (found : Option Requested) (its : NodeName) (later : ℕ → List Claiming.Claim) → TellsFound only file image (Ok found)
+claim_over : (number : ℕ) (only : Which) (file : List ℕ) (left : ℕ) (image : NodeOf Spot) (found : Option Requested) (its : NodeName) (later : ℕ → List Claiming.Claim) → TellsFound only file image (Ok found)
     → IfSome found (IsPayloadOf number (length file)) → Claims left found (Overlaps its) → (if is_asked only image.name then claims_before image.name left (payload file image) later else later left) ≡ claim_of left found
 claim_over number only file left image None its later tells inside same = absurd (cc)
 claim_over number only file left image (Some it) its later tells inside over =
@@ -130,7 +130,7 @@ claim_over number only file left image (Some it) its later tells inside over =
     ∙ rw (lt-ltb left (length message) (omega (arith, over.0, len)), lt-ltb left it.span.length over.0) refl
 
 -- that of one whose claim failed is the first of those that are left
-unclaimed : (number : ℕ) (only : Option (List ℕ)) (file : List ℕ) (left : ℕ) (image : NodeOf Spot) (found : Option Requested) (later : ℕ → List Claiming.Claim) → TellsFound only file image (Ok found)
+unclaimed : (number : ℕ) (only : Which) (file : List ℕ) (left : ℕ) (image : NodeOf Spot) (found : Option Requested) (later : ℕ → List Claiming.Claim) → TellsFound only file image (Ok found)
     → IfSome found (IsPayloadOf number (length file)) → (rest : List Claiming.Claim) × (claim_of left found ++ rest ≡ (if is_asked only image.name then claims_before image.name left (payload file image) later else later left))
 unclaimed number only file left image None later tells inside =
     let whole = if is_asked only image.name then claims_before image.name left (payload file image) later else later left in
@@ -145,7 +145,7 @@ unclaimed number only file left image (Some it) later tells inside = by_bool (na
     let sum : rest + it.span.length ≡ left = omega (arith, ltb-false left it.span.length under) in
     (later rest, sym (claim_fits number only file left rest image (Some it) later tells inside sum)))
 
-pub claims_more : (t : Siblings) (file : List ℕ) (only : Option (List ℕ)) (found : List (NodeOf Spot)) (asked new left : ℕ) (next : Option ℕ) (notes : Bool) (before after ended : List Claiming.Claim) (k : LeftClaimed t file only found asked new left next notes before after)
+pub claims_more : (t : Siblings) (file : List ℕ) (only : Which) (found : List (NodeOf Spot)) (asked new left : ℕ) (next : Option ℕ) (notes : Bool) (before after ended : List Claiming.Claim) (k : LeftClaimed t file only found asked new left next notes before after)
     → (image : NodeOf Spot) (more : List (NodeOf Spot)) → k.rest ≡ image ∷ more → (later rest : ℕ) (following : Option ℕ) (number : ℕ) (it : Option Requested) → later ≤ new + 267 → TellsFound only file image (Ok it)
     → IfSome it (IsPayloadOf number (length file)) → Claims left it (Fits rest)
     → AreFrom t in_images following more → (IsTrue notes → ended ≡ after ++ claim_of left it) → LeftClaimed t file only found asked later rest following notes before ended
@@ -161,7 +161,7 @@ claims_more t file only found asked new left next notes before after ended k ima
       ∙ ap (λ (xs : List Claiming.Claim). xs ++ claims only file rest more) (sym (told known));
 }
 
-pub claims_end : (t : Siblings) (file : List ℕ) (only : Option (List ℕ)) (found : List (NodeOf Spot)) (asked new left : ℕ) (next : Option ℕ) (notes : Bool) (before after ended : List Claiming.Claim) (k : LeftClaimed t file only found asked new left next notes before after)
+pub claims_end : (t : Siblings) (file : List ℕ) (only : Which) (found : List (NodeOf Spot)) (asked new left : ℕ) (next : Option ℕ) (notes : Bool) (before after ended : List Claiming.Claim) (k : LeftClaimed t file only found asked new left next notes before after)
     → (image : NodeOf Spot) (more : List (NodeOf Spot)) → k.rest ≡ image ∷ more → (later : ℕ) (its : NodeName) (number : ℕ) (it : Option Requested) → later ≤ new + 267 → TellsFound only file image (Ok it)
     → IfSome it (IsPayloadOf number (length file)) → Claims left it (Overlaps its) → (IsTrue notes → ended ≡ after ++ claim_of left it)
     → ClaimsImagesBetween file only found asked later (Ok (Some its)) notes before ended
@@ -175,7 +175,7 @@ claims_end t file only found asked new left next notes before after ended k imag
 }
 
 -- what was claimed before a fault
-cut_claims : (file : List ℕ) (only : Option (List ℕ)) (left : ℕ) (image : NodeOf Spot) (later : ℕ → List Claiming.Claim) (fault : Fault) (all before after : List Claiming.Claim) → TellsFound only file image (Err fault)
+cut_claims : (file : List ℕ) (only : Which) (left : ℕ) (image : NodeOf Spot) (later : ℕ → List Claiming.Claim) (fault : Fault) (all before after : List Claiming.Claim) → TellsFound only file image (Err fault)
     → before ++ all ≡ after ++ (if is_asked only image.name then claims_before image.name left (payload file image) later else later left) → ClaimsTo {X = Option NodeName} all (Err fault) before after
 cut_claims file only left image later (of.Blob fault at) all before after tells is = absurd tells
 cut_claims file only left image later (of.Fit fault) all before after tells is =
@@ -184,7 +184,7 @@ cut_claims file only left image later (of.Fit fault) all before after tells is =
 cut_claims file only left image later of.Read all before after tells is = record { rest = _; is = sym is }
 cut_claims file only left image later of.Put all before after tells is = record { rest = _; is = sym is }
 
-pub claims_cut : (t : Siblings) (file : List ℕ) (only : Option (List ℕ)) (found : List (NodeOf Spot)) (asked new left : ℕ) (next : Option ℕ) (notes : Bool) (before after ended : List Claiming.Claim) (k : LeftClaimed t file only found asked new left next notes before after)
+pub claims_cut : (t : Siblings) (file : List ℕ) (only : Which) (found : List (NodeOf Spot)) (asked new left : ℕ) (next : Option ℕ) (notes : Bool) (before after ended : List Claiming.Claim) (k : LeftClaimed t file only found asked new left next notes before after)
     → (image : NodeOf Spot) (more : List (NodeOf Spot)) → k.rest ≡ image ∷ more → (later : ℕ) (fault : Fault) (r : Result (Option NodeName) Fault) → r ≡ Err fault → later ≤ new + 267 → TellsFound only file image (Err fault) → ended ≡ after
     → ClaimsImagesBetween file only found asked later r notes before ended
 claims_cut t file only found asked new left next notes before after ended k image more are later fault r is paid tells same = record {
@@ -199,7 +199,7 @@ claims_cut t file only found asked new left next notes before after ended k imag
       (subst (λ (xs : List Claiming.Claim). ClaimsTo {X = Option NodeName} (claims only file (length file) found) (Err fault) before xs) (sym same) told);
 }
 
-pub claims_failed : (t : Siblings) (file : List ℕ) (only : Option (List ℕ)) (found : List (NodeOf Spot)) (asked new left : ℕ) (next : Option ℕ) (notes : Bool) (before after ended : List Claiming.Claim) (k : LeftClaimed t file only found asked new left next notes before after)
+pub claims_failed : (t : Siblings) (file : List ℕ) (only : Which) (found : List (NodeOf Spot)) (asked new left : ℕ) (next : Option ℕ) (notes : Bool) (before after ended : List Claiming.Claim) (k : LeftClaimed t file only found asked new left next notes before after)
     → (image : NodeOf Spot) (more : List (NodeOf Spot)) → k.rest ≡ image ∷ more → (later : ℕ) (r : Result (Option NodeName) Fault) → r ≡ Err of.Put → (number : ℕ) (it : Option Requested) → later ≤ new + 267 → TellsFound only file image (Ok it)
     → IfSome it (IsPayloadOf number (length file)) → (IsTrue notes → ended ≡ after ++ claim_of left it)
     → ClaimsImagesBetween file only found asked later r notes before ended
@@ -214,7 +214,7 @@ claims_failed t file only found asked new left next notes before after ended k i
       subst (λ (x : Result (Option NodeName) Fault). ClaimsTo all x before ended) (sym is) (record { rest = u.0; is = first });
 }
 
-pub claims_unread : (file : List ℕ) (only : Option (List ℕ)) (found : List (NodeOf Spot)) (asked new : ℕ) (r : Result (Option NodeName) Fault) (notes : Bool) (before after : List Claiming.Claim) → r ≡ Err of.Read → new ≤ asked + 267 * length found → (IsTrue notes → after ≡ before)
+pub claims_unread : (file : List ℕ) (only : Which) (found : List (NodeOf Spot)) (asked new : ℕ) (r : Result (Option NodeName) Fault) (notes : Bool) (before after : List Claiming.Claim) → r ≡ Err of.Read → new ≤ asked + 267 * length found → (IsTrue notes → after ≡ before)
     → ClaimsImagesBetween file only found asked new r notes before after
 claims_unread file only found asked new r notes before after is paid same = record {
   told = subst (λ (x : Result (Option NodeName) Fault). ClaimsAll (overlapping only file (length file) found) x) (sym is) tt;
@@ -224,7 +224,7 @@ claims_unread file only found asked new r notes before after is paid same = reco
       subst (λ (x : Result (Option NodeName) Fault). ClaimsTo all x before after) (sym is) (record { rest = all; is = ap (λ (xs : List Claiming.Claim). xs ++ all) (same known) });
 }
 
-pub claims_done : (t : Siblings) (file : List ℕ) (only : Option (List ℕ)) (found : List (NodeOf Spot)) (asked new left : ℕ) (next : Option ℕ) (notes : Bool) (before after : List Claiming.Claim) → next ≡ None → LeftClaimed t file only found asked new left next notes before after
+pub claims_done : (t : Siblings) (file : List ℕ) (only : Which) (found : List (NodeOf Spot)) (asked new left : ℕ) (next : Option ℕ) (notes : Bool) (before after : List Claiming.Claim) → next ≡ None → LeftClaimed t file only found asked new left next notes before after
     → ClaimsImagesBetween file only found asked new (Ok None) notes before after
 claims_done t file only found asked new left next notes before after none k =
     let nothing : k.rest ≡ [] = none_left t in_images k.rest (subst (λ (o : Option ℕ). AreFrom t in_images o k.rest) none k.from) in
@@ -235,7 +235,7 @@ claims_done t file only found asked new left next notes before after none k =
     }
 
 -- Where payloads do not overlap, the next one fits, and those after it.
-pub record FitsFirst (only : Option (List ℕ)) (file : List ℕ) (left : ℕ) (image : NodeOf Spot) (more : List (NodeOf Spot)) : Type 0 where
+pub record FitsFirst (only : Which) (file : List ℕ) (left : ℕ) (image : NodeOf Spot) (more : List (NodeOf Spot)) : Type 0 where
   pub rest : ℕ
   pub sum : rest + size_if (is_asked only image.name) (payload file image) ≡ left
   pub there : is_asked only image.name ≡ true → is_ok (payload file image) ≡ true
@@ -265,7 +265,7 @@ room true name left (Ok message) later is = by_bool (nat_lt left (length message
 room true name left (Err fault) later is = absurd (no_fault fault is)
 room false name left p later is = record { rest = left; sum = omega arith; there = λ yes. absurd (true_false (sym yes)); fits = is }
 
-pub fits_first : (only : Option (List ℕ)) (file : List ℕ) (left : ℕ) (image : NodeOf Spot) (more : List (NodeOf Spot)) → overlapping only file left (image ∷ more) ≡ Ok None → FitsFirst only file left image more
+pub fits_first : (only : Which) (file : List ℕ) (left : ℕ) (image : NodeOf Spot) (more : List (NodeOf Spot)) → overlapping only file left (image ∷ more) ≡ Ok None → FitsFirst only file left image more
 fits_first only file left image more is =
     let r = room (is_asked only image.name) image.name left (payload file image) (λ n. overlapping only file n more) (sym (overlapping_more only file left image more) ∙ is) in
     record { rest = r.rest; sum = r.sum; there = r.there; fits = r.fits }

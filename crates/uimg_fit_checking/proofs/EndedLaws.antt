@@ -23,7 +23,7 @@ use Rattle.uimg_fit_checking.specs.declared.unpacking.Unpacked.TheVariants.{Take
 use Rattle.uimg_fit_checking.specs.declared.unpacking.node_names.NodeName.{NodeName}
 use Rattle.uimg_fit_checking.specs.declared.unpacking.taker.Refusal.{Refusal}
 use Rattle.uimg_fit_checking.specs.Checks.{NamedFinding, wrong_in, or_weak}
-use Rattle.uimg_fit_checking.specs.Unpacking.{Take, UnpackOutcome, taken, overlaps, take_by, take_of, told_of, is_asked, bytes_or_none, is_kept, is_any, takes, overlapping, told_or_fault, as_bytes, EndsAs, GivesBy}
+use Rattle.uimg_fit_checking.specs.Unpacking.{Take, UnpackOutcome, taken, overlaps, take_by, take_of, told_of, is_asked, bytes_or_none, is_kept, is_any, takes, overlapping, told_or_fault, as_bytes, EndsAs, GivesBy, Which}
 use Rattle.uimg_fit_checking.specs.UnpackingParts.{TellsFound, ClaimsAll, EndsImage, EndsAll}
 use Rattle.uimg_fit_checking.proofs.ClaimLaws.{fits_first}
 use Rattle.uimg_fit_checking.proofs.TakeLaws.{takes_more, no_takes}
@@ -38,22 +38,22 @@ pub is_wrong : (need : Option Algo) (image : NodeOf Spot) (message : List ℕ) (
 is_wrong need image message refusal told = ap (λ (o : Option NamedFinding). is_kept (take_by image message o)) told
 
 -- an image that is not asked for
-pub ends_skipped : (file : List ℕ) (only : Option (List ℕ)) (one : Take) (image : NodeOf Spot) (begun : Bool) → is_asked only image.name ≡ false → EndsImage (is_asked only image.name) one (Ok true) (payload file image) begun begun
+pub ends_skipped : (file : List ℕ) (only : Which) (one : Take) (image : NodeOf Spot) (begun : Bool) → is_asked only image.name ≡ false → EndsImage (is_asked only image.name) one (Ok true) (payload file image) begun begun
 ends_skipped file only one image begun is = (sym (ap (λ (b : Bool). if b then is_kept one else true) is), sym (ap (λ (b : Bool). b || begun) is))
 
 -- one whose payload is not there, or was not found
-lacks_it : (file : List ℕ) (only : Option (List ℕ)) (one : Take) (image : NodeOf Spot) (fault : Fault) (old new : Bool) → TellsFound only file image (Err fault) → EndsImage (is_asked only image.name) one (Err fault) (payload file image) old new
+lacks_it : (file : List ℕ) (only : Which) (one : Take) (image : NodeOf Spot) (fault : Fault) (old new : Bool) → TellsFound only file image (Err fault) → EndsImage (is_asked only image.name) one (Err fault) (payload file image) old new
 lacks_it file only one image (of.Blob fault at) old new tells = absurd tells
 lacks_it file only one image (of.Fit fault) old new tells = tells
 lacks_it file only one image of.Read old new tells = tt
 lacks_it file only one image of.Put old new tells = tt
 
-pub ends_lacking : (file : List ℕ) (only : Option (List ℕ)) (one : Take) (image : NodeOf Spot) (fault : Fault) (r : Result Bool Fault) (old new : Bool) → r ≡ Err fault → TellsFound only file image (Err fault)
+pub ends_lacking : (file : List ℕ) (only : Which) (one : Take) (image : NodeOf Spot) (fault : Fault) (r : Result Bool Fault) (old new : Bool) → r ≡ Err fault → TellsFound only file image (Err fault)
     → EndsImage (is_asked only image.name) one r (payload file image) old new
 ends_lacking file only one image fault r old new is tells = subst (λ (x : Result Bool Fault). EndsImage (is_asked only image.name) one x (payload file image) old new) (sym is) (lacks_it file only one image fault old new tells)
 
 -- one whose payload is there
-pub ends_there : (file : List ℕ) (only : Option (List ℕ)) (need : Option Algo) (image : NodeOf Spot) (message : List ℕ) (r : Result Bool Fault) (old new : Bool) → is_asked only image.name ≡ true → payload file image ≡ Ok message
+pub ends_there : (file : List ℕ) (only : Which) (need : Option Algo) (image : NodeOf Spot) (message : List ℕ) (r : Result Bool Fault) (old new : Bool) → is_asked only image.name ≡ true → payload file image ≡ Ok message
     → EndsImage true (take_of need image message) r (Ok message) old new
     → EndsImage (is_asked only image.name) (take_of need image (bytes_or_none (payload file image))) r (payload file image) old new
 ends_there file only need image message r old new asked is ended =
@@ -61,7 +61,7 @@ ends_there file only need image message r old new asked is ended =
     (subst (λ (b : Bool). EndsImage b (take_of need image message) r (Ok message) old new) (sym asked) ended)
 
 -- What was kept and begun so far, with what is still to be, is all.
-pub record LeftToEnd (t : Siblings) (file : List ℕ) (need : Option Algo) (only : Option (List ℕ)) (found : List (NodeOf Spot)) (all old new : Bool) (next : Option ℕ) : Type 0 where
+pub record LeftToEnd (t : Siblings) (file : List ℕ) (need : Option Algo) (only : Which) (found : List (NodeOf Spot)) (all old new : Bool) (next : Option ℕ) : Type 0 where
   pub rest : List (NodeOf Spot)
   pub from : AreFrom t in_images next rest
   pub left : ℕ
@@ -69,7 +69,7 @@ pub record LeftToEnd (t : Siblings) (file : List ℕ) (need : Option Algo) (only
   pub joined : (all && list_all is_kept (takes need only file rest)) ≡ list_all is_kept (takes need only file found)
   pub begun : (is_any (takes need only file rest) || new) ≡ (is_any (takes need only file found) || old)
 
-pub end_first : (t : Siblings) (file : List ℕ) (need : Option Algo) (only : Option (List ℕ)) (found : List (NodeOf Spot)) (old : Bool) (next : Option ℕ) → AreFrom t in_images next found
+pub end_first : (t : Siblings) (file : List ℕ) (need : Option Algo) (only : Which) (found : List (NodeOf Spot)) (old : Bool) (next : Option ℕ) → AreFrom t in_images next found
     → overlapping only file (length file) found ≡ Ok None → LeftToEnd t file need only found true old old next
 end_first t file need only found old next from fits = record { rest = found; from = from; left = length file; fits = fits; joined = refl; begun = refl }
 
@@ -85,7 +85,7 @@ begun_one true c one [] = refl
 begun_one true c one (x ∷ later) = refl
 begun_one false c one later = refl
 
-pub end_more : (t : Siblings) (file : List ℕ) (need : Option Algo) (only : Option (List ℕ)) (found : List (NodeOf Spot)) (all ok old m new : Bool) (next : Option ℕ)
+pub end_more : (t : Siblings) (file : List ℕ) (need : Option Algo) (only : Which) (found : List (NodeOf Spot)) (all ok old m new : Bool) (next : Option ℕ)
     (k : LeftToEnd t file need only found all old m next) → (image : NodeOf Spot) (more : List (NodeOf Spot)) → k.rest ≡ image ∷ more → (following : Option ℕ)
     → EndsImage (is_asked only image.name) (take_of need image (bytes_or_none (payload file image))) (Ok ok) (payload file image) m new
     → AreFrom t in_images following more → LeftToEnd t file need only found (all && ok) old new following
@@ -109,7 +109,7 @@ cut b one (of.Fit fault) p ts old m new there ended = true_false (sym (there end
 cut b one of.Read p ts old m new there ended = tt
 cut b one of.Put p ts old m new there ended = tt
 
-pub end_cut : (t : Siblings) (file : List ℕ) (need : Option Algo) (only : Option (List ℕ)) (found : List (NodeOf Spot)) (all old m new : Bool) (next : Option ℕ)
+pub end_cut : (t : Siblings) (file : List ℕ) (need : Option Algo) (only : Which) (found : List (NodeOf Spot)) (all old m new : Bool) (next : Option ℕ)
     (k : LeftToEnd t file need only found all old m next) → (image : NodeOf Spot) (more : List (NodeOf Spot)) → k.rest ≡ image ∷ more → (fault : Fault)
     → EndsImage (is_asked only image.name) (take_of need image (bytes_or_none (payload file image))) (Err fault) (payload file image) m new
     → EndsAll (takes need only file found) (Err fault) old new
@@ -118,7 +118,7 @@ end_cut t file need only found all old m new next k image more are fault ended =
     cut (is_asked only image.name) (take_of need image (bytes_or_none (payload file image))) fault (payload file image) (takes need only file found) old m new f.there ended
 
 -- all were taken
-pub end_done : (t : Siblings) (file : List ℕ) (need : Option Algo) (only : Option (List ℕ)) (found : List (NodeOf Spot)) (all old new : Bool) (next : Option ℕ) → next ≡ None
+pub end_done : (t : Siblings) (file : List ℕ) (need : Option Algo) (only : Which) (found : List (NodeOf Spot)) (all old new : Bool) (next : Option ℕ) → next ≡ None
     → LeftToEnd t file need only found all old new next → EndsAll (takes need only file found) (Ok all) old new
 end_done t file need only found all old new next none k =
     let nothing : k.rest ≡ [] = none_left t in_images k.rest (subst (λ (o : Option ℕ). AreFrom t in_images o k.rest) none k.from) in

@@ -9,3 +9,4 @@ pub mod TakeLaws
 pub mod EndedLaws
 pub mod UnpackedLaws
 pub mod SurveyLaws
+pub mod WantedLaws

@@ -34,7 +34,7 @@ use Rattle.uimg_fit_checking.specs.Checks.{NamedFinding, wrong_in, or_weak}
 use Rattle.uimg_fit_reading.specs.Allowances.{node_allowance}
 use Rattle.uimg_fit_reading.specs.Nodes.{AreFrom}
 use Rattle.uimg_fit_reading.specs.Plans.{with_all}
-use Rattle.uimg_fit_checking.specs.Unpacking.{Take, kept, refused, told_of, take_by, take_of, is_asked, bytes_or_none, is_kept, vouched_by, takes, overlapping, GivenFirst}
+use Rattle.uimg_fit_checking.specs.Unpacking.{Take, kept, refused, told_of, take_by, take_of, is_asked, bytes_or_none, is_kept, vouched_by, takes, overlapping, GivenFirst, Which}
 use Rattle.uimg_fit_checking.specs.UnpackingParts.{TellsFound, TakesTo, TakesAll, size_if, take_allowance}
 use Rattle.uimg_fit_checking.proofs.CheckLaws.{some_nodes}
 use Rattle.uimg_fit_checking.proofs.ClaimLaws.{fits_first}
@@ -86,23 +86,23 @@ given_none seen its m r p old new failed same =
     subst (λ (x : Result Bool Fault). TakesTo seen true its x p old new) (sym failed) (none_given seen true its m p old new same)
 
 -- an image that is not asked for
-pub takes_skips : (seen : Take → List Take) (file : List ℕ) (only : Option (List ℕ)) (one : Take) (image : NodeOf Spot) (given : List Take) → is_asked only image.name ≡ false
+pub takes_skips : (seen : Take → List Take) (file : List ℕ) (only : Which) (one : Take) (image : NodeOf Spot) (given : List Take) → is_asked only image.name ≡ false
     → TakesTo seen (is_asked only image.name) one (Ok true) (payload file image) given given
 takes_skips seen file only one image given is = subst (λ (b : Bool). TakesTo seen b one (Ok true) (payload file image) given given) (sym is) (refl, refl)
 
 -- one whose payload is not there, or was not found
-lacks_it : (seen : Take → List Take) (file : List ℕ) (only : Option (List ℕ)) (one : Take) (image : NodeOf Spot) (fault : Fault) (given : List Take) → TellsFound only file image (Err fault) → TakesTo seen (is_asked only image.name) one (Err fault) (payload file image) given given
+lacks_it : (seen : Take → List Take) (file : List ℕ) (only : Which) (one : Take) (image : NodeOf Spot) (fault : Fault) (given : List Take) → TellsFound only file image (Err fault) → TakesTo seen (is_asked only image.name) one (Err fault) (payload file image) given given
 lacks_it seen file only one image (of.Blob fault at) given tells = absurd tells
 lacks_it seen file only one image (of.Fit fault) given tells = subst (λ (b : Bool). TakesTo seen b one (Err (of.Fit fault)) (payload file image) given given) (sym tells.0) (refl, tells.1)
 lacks_it seen file only one image of.Read given tells = none_given seen (is_asked only image.name) one move.Read (payload file image) given given refl
 lacks_it seen file only one image of.Put given tells = none_given seen (is_asked only image.name) one move.Put (payload file image) given given refl
 
-pub takes_lacks : (seen : Take → List Take) (file : List ℕ) (only : Option (List ℕ)) (one : Take) (image : NodeOf Spot) (fault : Fault) (r : Result Bool Fault) (given : List Take) → r ≡ Err fault → TellsFound only file image (Err fault)
+pub takes_lacks : (seen : Take → List Take) (file : List ℕ) (only : Which) (one : Take) (image : NodeOf Spot) (fault : Fault) (r : Result Bool Fault) (given : List Take) → r ≡ Err fault → TellsFound only file image (Err fault)
     → TakesTo seen (is_asked only image.name) one r (payload file image) given given
 takes_lacks seen file only one image fault r given is tells = subst (λ (x : Result Bool Fault). TakesTo seen (is_asked only image.name) one x (payload file image) given given) (sym is) (lacks_it seen file only one image fault given tells)
 
 -- one whose payload is there
-pub takes_there : (seen : Take → List Take) (file : List ℕ) (only : Option (List ℕ)) (need : Option Algo) (image : NodeOf Spot) (message : List ℕ) (r : Result Bool Fault) (old new : List Take) → is_asked only image.name ≡ true → payload file image ≡ Ok message
+pub takes_there : (seen : Take → List Take) (file : List ℕ) (only : Which) (need : Option Algo) (image : NodeOf Spot) (message : List ℕ) (r : Result Bool Fault) (old new : List Take) → is_asked only image.name ≡ true → payload file image ≡ Ok message
     → TakesTo seen true (take_of need image message) r (Ok message) old new
     → TakesTo seen (is_asked only image.name) (take_of need image (bytes_or_none (payload file image))) r (payload file image) old new
 takes_there seen file only need image message r old new asked is told =
@@ -110,7 +110,7 @@ takes_there seen file only need image message r old new asked is told =
     (subst (λ (b : Bool). TakesTo seen b (take_of need image message) r (Ok message) old new) (sym asked) told)
 
 -- what it may take
-pub take_paid : (file : List ℕ) (only : Option (List ℕ)) (image : NodeOf Spot) (span : Span) (asked middle new : ℕ) → is_asked only image.name ≡ true → payload file image ≡ Ok (slice file span.place span.length)
+pub take_paid : (file : List ℕ) (only : Which) (image : NodeOf Spot) (span : Span) (asked middle new : ℕ) → is_asked only image.name ≡ true → payload file image ≡ Ok (slice file span.place span.length)
     → span.place + span.length ≤ length file → middle ≤ asked + 267 → new ≤ middle + (span.length + 383 * length (hashes image))
     → new ≤ asked + (size_if (is_asked only image.name) (payload file image) + take_allowance image)
 take_paid file only image span asked middle new it is inside one two =
@@ -119,29 +119,29 @@ take_paid file only image span asked middle new it is inside one two =
     omega (arith, size, length-slice file span.place span.length inside, one, two, some_nodes (hashes image), hashes_allowed Profile image)
 
 -- an image, and those after it
-pub takes_more : (need : Option Algo) (only : Option (List ℕ)) (file : List ℕ) (image : NodeOf Spot) (more : List (NodeOf Spot))
+pub takes_more : (need : Option Algo) (only : Which) (file : List ℕ) (image : NodeOf Spot) (more : List (NodeOf Spot))
     → takes need only file (image ∷ more)
     ≡ (if is_asked only image.name then take_of need image (bytes_or_none (payload file image)) ∷ takes need only file more else takes need only file more)
 unfolding takes
 takes_more need only file image more = refl
 
-pub no_takes : (need : Option Algo) (only : Option (List ℕ)) (file : List ℕ) → takes need only file [] ≡ []
+pub no_takes : (need : Option Algo) (only : Which) (file : List ℕ) → takes need only file [] ≡ []
 unfolding takes
 no_takes need only file = refl
 
 -- What is still to be paid for is within what may be.
-pub record LeftToPay (t : Siblings) (file : List ℕ) (only : Option (List ℕ)) (found : List (NodeOf Spot)) (asked new : ℕ) (next : Option ℕ) : Type 0 where
+pub record LeftToPay (t : Siblings) (file : List ℕ) (only : Which) (found : List (NodeOf Spot)) (asked new : ℕ) (next : Option ℕ) : Type 0 where
   pub rest : List (NodeOf Spot)
   pub from : AreFrom t in_images next rest
   pub left : ℕ
   pub fits : overlapping only file left rest ≡ Ok None
   pub paid : new + left + sum_by take_allowance rest ≤ asked + (length file + sum_by take_allowance found)
 
-pub pay_first : (t : Siblings) (file : List ℕ) (only : Option (List ℕ)) (found : List (NodeOf Spot)) (asked : ℕ) (next : Option ℕ) → AreFrom t in_images next found → overlapping only file (length file) found ≡ Ok None
+pub pay_first : (t : Siblings) (file : List ℕ) (only : Which) (found : List (NodeOf Spot)) (asked : ℕ) (next : Option ℕ) → AreFrom t in_images next found → overlapping only file (length file) found ≡ Ok None
     → LeftToPay t file only found asked asked next
 pay_first t file only found asked next from fits = record { rest = found; from = from; left = length file; fits = fits; paid = omega arith }
 
-pub pay_more : (t : Siblings) (file : List ℕ) (only : Option (List ℕ)) (found : List (NodeOf Spot)) (asked new : ℕ) (next : Option ℕ) (k : LeftToPay t file only found asked new next)
+pub pay_more : (t : Siblings) (file : List ℕ) (only : Which) (found : List (NodeOf Spot)) (asked new : ℕ) (next : Option ℕ) (k : LeftToPay t file only found asked new next)
     → (image : NodeOf Spot) (more : List (NodeOf Spot)) → k.rest ≡ image ∷ more → (later : ℕ) (following : Option ℕ) → later ≤ new + (size_if (is_asked only image.name) (payload file image) + take_allowance image)
     → AreFrom t in_images following more → LeftToPay t file only found asked later following
 pay_more t file only found asked new next k image more are later following paid from =
@@ -154,7 +154,7 @@ pay_more t file only found asked new next k image more are later following paid 
       paid = omega (arith, k.paid, paid, f.sum, ap (sum_by take_allowance) are, sum_by-cons take_allowance image more);
     }
 
-pub pay_cut : (t : Siblings) (file : List ℕ) (only : Option (List ℕ)) (found : List (NodeOf Spot)) (asked new : ℕ) (next : Option ℕ) (k : LeftToPay t file only found asked new next)
+pub pay_cut : (t : Siblings) (file : List ℕ) (only : Which) (found : List (NodeOf Spot)) (asked new : ℕ) (next : Option ℕ) (k : LeftToPay t file only found asked new next)
     → (image : NodeOf Spot) (more : List (NodeOf Spot)) → k.rest ≡ image ∷ more → (later : ℕ) → later ≤ new + (size_if (is_asked only image.name) (payload file image) + take_allowance image)
     → later ≤ asked + (length file + sum_by take_allowance found)
 pay_cut t file only found asked new next k image more are later paid =
@@ -162,7 +162,7 @@ pay_cut t file only found asked new next k image more are later paid =
     omega (arith, k.paid, paid, f.sum, ap (sum_by take_allowance) are, sum_by-cons take_allowance image more)
 
 -- What was given, with what is still to be given, is all.
-pub record LeftToTake (seen : Take → List Take) (t : Siblings) (file : List ℕ) (need : Option Algo) (only : Option (List ℕ)) (found : List (NodeOf Spot)) (all : Bool) (old new : List Take) (next : Option ℕ) : Type 0 where
+pub record LeftToTake (seen : Take → List Take) (t : Siblings) (file : List ℕ) (need : Option Algo) (only : Which) (found : List (NodeOf Spot)) (all : Bool) (old new : List Take) (next : Option ℕ) : Type 0 where
   pub rest : List (NodeOf Spot)
   pub from : AreFrom t in_images next rest
   pub left : ℕ
@@ -172,7 +172,7 @@ pub record LeftToTake (seen : Take → List Take) (t : Siblings) (file : List �
   pub joined : given ++ takes need only file rest ≡ takes need only file found
   pub kept : all ≡ list_all is_kept given
 
-pub take_first : (seen : Take → List Take) (t : Siblings) (file : List ℕ) (need : Option Algo) (only : Option (List ℕ)) (found : List (NodeOf Spot)) (old : List Take) (next : Option ℕ) → AreFrom t in_images next found
+pub take_first : (seen : Take → List Take) (t : Siblings) (file : List ℕ) (need : Option Algo) (only : Which) (found : List (NodeOf Spot)) (old : List Take) (next : Option ℕ) → AreFrom t in_images next found
     → overlapping only file (length file) found ≡ Ok None → LeftToTake seen t file need only found true old old next
 take_first seen t file need only found old next from fits = record { rest = found; from = from; left = length file; fits = fits; given = []; now = sym (append-nil old); joined = refl; kept = refl }
 
@@ -204,7 +204,7 @@ one_more seen false one all ok p given old m new later whole now right joined to
   kept = ap (λ (b : Bool). all && b) told.1 ∙ and-true all ∙ right;
 }
 
-pub take_more : (seen : Take → List Take) (t : Siblings) (file : List ℕ) (need : Option Algo) (only : Option (List ℕ)) (found : List (NodeOf Spot)) (all ok : Bool) (old m new : List Take) (next : Option ℕ)
+pub take_more : (seen : Take → List Take) (t : Siblings) (file : List ℕ) (need : Option Algo) (only : Which) (found : List (NodeOf Spot)) (all ok : Bool) (old m new : List Take) (next : Option ℕ)
     (k : LeftToTake seen t file need only found all old m next) → (image : NodeOf Spot) (more : List (NodeOf Spot)) → k.rest ≡ image ∷ more → (following : Option ℕ)
     → TakesTo seen (is_asked only image.name) (take_of need image (bytes_or_none (payload file image))) (Ok ok) (payload file image) m new
     → AreFrom t in_images following more → LeftToTake seen t file need only found (all && ok) old new following
@@ -236,7 +236,7 @@ stopped seen false one of.Read p given later whole old m new there now joined to
 stopped seen false one of.Put p given later whole old m new there now joined told = first_given seen given later whole old new (told ∙ now) joined
 
 -- a device failed
-pub take_cut : (seen : Take → List Take) (t : Siblings) (file : List ℕ) (need : Option Algo) (only : Option (List ℕ)) (found : List (NodeOf Spot)) (all : Bool) (old m new : List Take) (next : Option ℕ)
+pub take_cut : (seen : Take → List Take) (t : Siblings) (file : List ℕ) (need : Option Algo) (only : Which) (found : List (NodeOf Spot)) (all : Bool) (old m new : List Take) (next : Option ℕ)
     (k : LeftToTake seen t file need only found all old m next) → (image : NodeOf Spot) (more : List (NodeOf Spot)) → k.rest ≡ image ∷ more → (fault : Fault)
     → TakesTo seen (is_asked only image.name) (take_of need image (bytes_or_none (payload file image))) (Err fault) (payload file image) m new
     → TakesAll seen (takes need only file found) (Err fault) old new
@@ -246,14 +246,14 @@ take_cut seen t file need only found all old m new next k image more are fault t
     stopped seen (is_asked only image.name) (take_of need image (bytes_or_none (payload file image))) fault (payload file image) k.given (takes need only file more) (takes need only file found) old m new f.there k.now joined told
 
 -- all were given
-pub take_done : (seen : Take → List Take) (t : Siblings) (file : List ℕ) (need : Option Algo) (only : Option (List ℕ)) (found : List (NodeOf Spot)) (all : Bool) (old new : List Take) (next : Option ℕ) → next ≡ None
+pub take_done : (seen : Take → List Take) (t : Siblings) (file : List ℕ) (need : Option Algo) (only : Which) (found : List (NodeOf Spot)) (all : Bool) (old new : List Take) (next : Option ℕ) → next ≡ None
     → LeftToTake seen t file need only found all old new next → TakesAll seen (takes need only file found) (Ok all) old new
 take_done seen t file need only found all old new next none k =
     let nothing : k.rest ≡ [] = none_left t in_images k.rest (subst (λ (o : Option ℕ). AreFrom t in_images o k.rest) none k.from) in
     let whole : k.given ≡ takes need only file found = sym (ap (λ (l : List Take). k.given ++ l) (ap (takes need only file) nothing ∙ no_takes need only file) ∙ append-nil k.given) ∙ k.joined in
     (k.now ∙ ap (λ (l : List Take). old ++ flat_map seen l) whole, k.kept ∙ ap (list_all is_kept) whole)
 
-pub pay_done : (t : Siblings) (file : List ℕ) (only : Option (List ℕ)) (found : List (NodeOf Spot)) (asked new : ℕ) (next : Option ℕ) → LeftToPay t file only found asked new next
+pub pay_done : (t : Siblings) (file : List ℕ) (only : Which) (found : List (NodeOf Spot)) (asked new : ℕ) (next : Option ℕ) → LeftToPay t file only found asked new next
     → new ≤ asked + (length file + sum_by take_allowance found)
 pay_done t file only found asked new next k = omega (arith, k.paid)
 

@@ -20,19 +20,19 @@ use Rattle.uimg_fit_checking.specs.Claiming.{Claim, ClaimsTo, claims, claims_in,
 use Rattle.uimg_fit_checking.specs.declared.unpacking.Unpacked.{Unpacked}
 use Rattle.uimg_fit_checking.specs.declared.unpacking.Unpacked.TheVariants.{Taken, Overlapping}
 use Rattle.uimg_fit_checking.specs.declared.unpacking.node_names.NodeName.{NodeName}
-use Rattle.uimg_fit_checking.specs.Unpacking.{Take, UnpackOutcome, taken, overlaps, takes, overlapping, told_or_fault, images_unpacked, unpack_of, unpack_work, as_bytes, StopsIn, Unpacks}
+use Rattle.uimg_fit_checking.specs.Unpacking.{Take, UnpackOutcome, taken, overlaps, takes, overlapping, told_or_fault, images_unpacked, unpack_of, unpack_work, as_bytes, StopsIn, Unpacks, Which}
 use Rattle.uimg_fit_checking.specs.UnpackingParts.{ClaimsAll, TakesAll, EndsAll, take_allowance}
 use Rattle.uimg_fit_checking.proofs.CheckLaws.{check_within}
 use Rattle.uimg_fit_checking.proofs.TakeLaws.{allowed}
 
 -- what is told of a file whose images are known
-pub unpack_is : (file : List ℕ) (t : Siblings) (need : Option Algo) (only : Option (List ℕ)) (found : List (NodeOf Spot)) → tree file ≡ Ok t → images (spots t) ≡ Some found
+pub unpack_is : (file : List ℕ) (t : Siblings) (need : Option Algo) (only : Which) (found : List (NodeOf Spot)) → tree file ≡ Ok t → images (spots t) ≡ Some found
     → unpack_of need only file ≡ told_or_fault (overlapping only file (length file) found) (takes need only file found)
 unpack_is file t need only found is has =
     ap (λ (r : Result (List (NodeOf Spot)) Fault). r >>= images_unpacked need only file) (images_are file t (Some found) is has)
 
 -- the claims of its images
-pub claims_is : (file : List ℕ) (t : Siblings) (only : Option (List ℕ)) (found : List (NodeOf Spot)) → tree file ≡ Ok t → images (spots t) ≡ Some found → claims_of only file ≡ claims only file (length file) found
+pub claims_is : (file : List ℕ) (t : Siblings) (only : Which) (found : List (NodeOf Spot)) → tree file ≡ Ok t → images (spots t) ≡ Some found → claims_of only file ≡ claims only file (length file) found
 claims_is file t only found is has = ap (claims_in only file) (images_are file t (Some found) is has)
 
 treeless : (X : Type 0) (file : List ℕ) (es : List (List ℕ)) (fault : Fault) (all old : List Claim) → GivesTree file (Err fault) es → ClaimsTo {X = X} all (Err fault) old old
@@ -58,7 +58,7 @@ pub claims_treeless : (X : Type 0) (file : List ℕ) (es : List (List ℕ)) (fau
 claims_treeless X file es fault r all old is gives = subst (λ (x : Result X Fault). ClaimsTo all x old old) (sym is) (treeless X file es fault all old gives)
 
 -- the claims are those of the result, by another name of all of them
-pub claims_by : (X Y : Type 0) (file : List ℕ) (only : Option (List ℕ)) (found : List (NodeOf Spot)) (fault : Fault) (r : Result Y Fault) (told : List Claim) (old new : List Claim) → r ≡ Err fault → told ≡ claims only file (length file) found
+pub claims_by : (X Y : Type 0) (file : List ℕ) (only : Which) (found : List (NodeOf Spot)) (fault : Fault) (r : Result Y Fault) (told : List Claim) (old new : List Claim) → r ≡ Err fault → told ≡ claims only file (length file) found
     → ClaimsTo {X = X} (claims only file (length file) found) (Err fault) old new → ClaimsTo told r old new
 claims_by X Y file only found fault r told old new is named claimed =
     subst (λ (x : Result Y Fault). ClaimsTo told x old new) (sym is)

@@ -1,8 +1,7 @@
 -- The claims that the taker of a FIT image's payloads gets before any is unpacked, in order, whatever
 -- it does with them.
-use Rattle.std.specs.Prelude.{◌≡◌, ⊤, ℕ, ◌-◌, List, [], ◌∷◌, ◌++◌, length, nat_lt, if◌then◌else◌}
-use Rattle.std.specs.Prelude.{Option, Some, None, Result, Ok, Err, Bool, IsTrue}
-use Rattle.uimg_base.specs.Lent.{Lent}
+use Rattle.std.specs.Prelude.{◌≡◌, ℕ, ◌-◌, List, [], ◌∷◌, ◌++◌, length, nat_lt, if◌then◌else◌}
+use Rattle.std.specs.Prelude.{Option, Some, None, Result, Ok, Err}
 use Rattle.uimg_blob_reading.specs.LookUps.{NodeOf}
 use Rattle.uimg_blob_reading.specs.Spots.{Spot}
 use Rattle.uimg_fit_base.specs.declared.fault.Fault.{Fault}
@@ -11,7 +10,7 @@ use Rattle.uimg_fit_base.specs.declared.fault.FitFault.{FitFault}
 use Rattle.uimg_fit_base.specs.Places.{payload}
 use Rattle.uimg_fit_base.specs.Files.{images_of}
 use Rattle.uimg_fit_checking.specs.declared.unpacking.requested.Requested.{Requested}
-use Rattle.uimg_fit_checking.specs.Unpacking.{as_bytes, is_asked}
+use Rattle.uimg_fit_checking.specs.Unpacking.{Which, as_bytes, is_asked}
 
 -- a claim: the name of an image, and the length of its payload
 pub record Claim : Type 0 where
@@ -30,7 +29,7 @@ claims_before name left (Err fault) later = []
 
 -- The requested payloads are claimed in order, up to the first that is refused or exceeds the bytes
 -- that may be read.
-unfoldable pub claims : Option (List ℕ) → List ℕ → ℕ → List (NodeOf Spot) → List Claim
+unfoldable pub claims : Which → List ℕ → ℕ → List (NodeOf Spot) → List Claim
 claims only file left [] = []
 claims only file left (image ∷ more) =
     if is_asked only image.name then claims_before image.name left (payload file image)
@@ -38,12 +37,12 @@ claims only file left (image ∷ more) =
     else claims only file left more
 
 -- the same for the images of a file; as many bytes may be read as it has
-abbrev pub claims_in : {E : Type 0} → Option (List ℕ) → List ℕ → Result (List (NodeOf Spot)) E
+abbrev pub claims_in : {E : Type 0} → Which → List ℕ → Result (List (NodeOf Spot)) E
     → List Claim
 claims_in only file (Ok found) = claims only file (length file) found
 claims_in only file (Err fault) = []
 
-abbrev pub claims_of : Option (List ℕ) → List ℕ → List Claim
+abbrev pub claims_of : Which → List ℕ → List Claim
 claims_of only file = claims_in only file (images_of file)
 
 -- the claim for a payload that was found, if `left` bytes may be read

@@ -1,8 +1,8 @@
 -- What becomes of the unpacked payloads of a FIT image.
 use Rattle.std.specs.Prelude.{◌≡◌, ⊤, ℕ, ◌+◌, ◌-◌, List, [], ◌∷◌, ◌++◌, length, take, nat_lt, Bool}
 use Rattle.std.specs.Prelude.{true, false, if◌then◌else◌, Option, Some, None, Result, Ok, Err}
-use Rattle.std.specs.Prelude.{IfSome, ◌||◌, ◌⊎◌, flat_map}
-use Rattle.std.specs.List.{last_or, list_all}
+use Rattle.std.specs.Prelude.{IfSome, ◌||◌, ◌⊎◌, flat_map, map}
+use Rattle.std.specs.List.{last_or, list_all, list_any}
 use Rattle.std.specs.Option.{option_map}
 use Rattle.std.specs.Str.{bytes_eq}
 use Rattle.uimg_sums.specs.declared.algo.Algo.{Algo}
@@ -23,6 +23,8 @@ use Rattle.uimg_fit_checking.specs.declared.unpacking.node_names.NodeName.{NodeN
 use Rattle.uimg_fit_checking.specs.declared.unpacking.taker.Vouched.{Vouched}
 use Rattle.uimg_fit_checking.specs.declared.unpacking.taker.Refusal.{Refusal}
 use Rattle.uimg_fit_checking.specs.declared.unpacking.taker.Refusal.TheVariants.{Wrong, Weak}
+use Rattle.uimg_fit_checking.specs.declared.unpacking.wanted.Wanted.{Wanted}
+use Rattle.uimg_fit_checking.specs.declared.unpacking.wanted.Wanted.TheVariants.{All, Named, Among}
 use Rattle.uimg_fit_checking.specs.declared.unpacking.Unpacked.{Unpacked}
 use Rattle.uimg_fit_checking.specs.declared.unpacking.Unpacked.TheVariants.{Taken, Overlapping}
 use Rattle.uimg_blob_reading.specs.Faults.{refuses_memory}
@@ -80,10 +82,22 @@ abbrev pub take_of : Option Algo → NodeOf Spot → List ℕ → Take
 take_of need image message =
     take_by image message (or_weak (wrong_in image.name message (hashes image)) need image)
 
--- whether an image is requested: all are, or those of one name
-abbrev pub is_asked : Option (List ℕ) → List ℕ → Bool
-is_asked None name = true
-is_asked (Some asked) name = bytes_eq asked name
+-- Which images are requested: all, those of one name, or those whose names are among some.
+pub data Which : Type 0 where
+  every : Which
+  called : List ℕ → Which
+  among : List (List ℕ) → Which
+
+abbrev pub which : Wanted → Which
+which All = every
+which (Named name) = called (as_bytes name)
+which (Among names) = among (map (λ name. name.items) names.now.keys)
+
+-- whether the image of a name is requested
+abbrev pub is_asked : Which → List ℕ → Bool
+is_asked every name = true
+is_asked (called asked) name = bytes_eq asked name
+is_asked (among asked) name = list_any (bytes_eq name) asked
 
 -- the bytes of a payload, none if it is refused: then nothing of the file is taken
 abbrev pub bytes_or_none : Result (List ℕ) FitFault → List ℕ
@@ -91,7 +105,7 @@ bytes_or_none (Ok message) = message
 bytes_or_none (Err fault) = []
 
 -- what becomes of the payloads of the requested images
-unfoldable pub takes : Option Algo → Option (List ℕ) → List ℕ → List (NodeOf Spot) → List Take
+unfoldable pub takes : Option Algo → Which → List ℕ → List (NodeOf Spot) → List Take
 takes need only file [] = []
 takes need only file (image ∷ more) =
     if is_asked only image.name then take_of need image (bytes_or_none (payload file image))
@@ -107,7 +121,7 @@ fits_before name left (Err fault) later = Err fault
 
 -- The name of the first requested image with which the payloads exceed the bytes that may be read,
 -- if there is one, or the fault of a payload before it.
-unfoldable pub overlapping : Option (List ℕ) → List ℕ → ℕ → List (NodeOf Spot)
+unfoldable pub overlapping : Which → List ℕ → ℕ → List (NodeOf Spot)
     → Result (Option (List ℕ)) FitFault
 overlapping only file left [] = Ok None
 overlapping only file left (image ∷ more) =
@@ -130,13 +144,13 @@ told_or_fault (Ok found) ts = Ok (outcome found ts)
 told_or_fault (Err fault) ts = Err (of.Fit fault)
 
 -- the same for its images; as many bytes may be read as the file has
-abbrev pub images_unpacked : Option Algo → Option (List ℕ) → List ℕ → List (NodeOf Spot)
+abbrev pub images_unpacked : Option Algo → Which → List ℕ → List (NodeOf Spot)
     → Result UnpackOutcome Fault
 images_unpacked need only file found =
     told_or_fault (overlapping only file (length file) found) (takes need only file found)
 
 -- the outcome for a file, or its first fault
-abbrev pub unpack_of : Option Algo → Option (List ℕ) → List ℕ → Result UnpackOutcome Fault
+abbrev pub unpack_of : Option Algo → Which → List ℕ → Result UnpackOutcome Fault
 unpack_of need only file = do
   found ← images_of file
   images_unpacked need only file found

@@ -1,5 +1,5 @@
 -- Unpacking the payloads of a FIT image, one after the other.
-use Rattle.std.specs.Prelude.{◌≡◌, ⊤, ℕ, ◌+◌, ◌<◌, ◌≤◌, ◌*◌, List, [], ◌∷◌, ◌++◌, length, Bool}
+use Rattle.std.specs.Prelude.{◌≡◌, ⊤, ℕ, ◌+◌, ◌<◌, ◌≤◌, ◌*◌, List, ◌++◌, length, Bool}
 use Rattle.std.specs.Prelude.{true, false, ◌||◌, ◌⊎◌, if◌then◌else◌, IfOk, IsTrue, flat_map}
 use Rattle.std.specs.Prelude.{Option, Some, None, Result, Ok, Err}
 use Rattle.std.specs.List.{list_all}
@@ -27,7 +27,7 @@ use Rattle.uimg_fit_checking.specs.declared.unpacking.requested.Requested.{Reque
 use Rattle.uimg_fit_checking.specs.Checks.{wrong_in, or_weak}
 use Rattle.uimg_fit_checking.specs.Claiming as Claiming
 use Rattle.uimg_fit_checking.specs.Claiming.{ClaimsTo, claims}
-use Rattle.uimg_fit_checking.specs.Unpacking.{Take, GivenFirst, overlapping, is_asked, is_kept}
+use Rattle.uimg_fit_checking.specs.Unpacking.{Take, GivenFirst, Which, overlapping, is_asked, is_kept}
 use Rattle.uimg_fit_checking.specs.Unpacking.{is_any, told_of, as_bytes, take_of}
 use Rattle.uimg_texts.specs.declared.naming.Naming.{TheVariants.{Profile}}
 
@@ -80,14 +80,14 @@ pub record IsPayloadOf (image size : ℕ) (found : Requested) : Type 0 where
   pub inside : found.span.place + found.span.length ≤ size
 
 -- The image is requested, and this is its payload.
-pub record FindsPayload (only : Option (List ℕ)) (file : List ℕ) (image : NodeOf Spot)
+pub record FindsPayload (only : Which) (file : List ℕ) (image : NodeOf Spot)
     (found : Requested) : Type 0 where
   pub asked : is_asked only image.name ≡ true
   pub named : as_bytes found.name ≡ image.name
   pub is : payload file image ≡ Ok (in_span file found.span)
 
 -- What a result says of the payload of an image: where it is, if it is requested.
-abbrev pub TellsFound : Option (List ℕ) → List ℕ → NodeOf Spot → Result (Option Requested) Fault
+abbrev pub TellsFound : Which → List ℕ → NodeOf Spot → Result (Option Requested) Fault
     → Type 0
 TellsFound only file image (Ok (Some found)) = FindsPayload only file image found
 TellsFound only file image (Ok None) = is_asked only image.name ≡ false
@@ -110,14 +110,14 @@ ClaimsAll told (Err (of.Blob fault at)) = ⊥
 ClaimsAll told (Err fault) = ⊤
 
 -- The images were claimed, up to the first with which payloads overlap.
-pub record ClaimsImagesBetween (file : List ℕ) (only : Option (List ℕ)) (found : List (NodeOf Spot))
+pub record ClaimsImagesBetween (file : List ℕ) (only : Which) (found : List (NodeOf Spot))
     (asked new : ℕ) (result : Result (Option NodeName) Fault) (notes : Bool)
     (before after : List Claiming.Claim) : Type 0 where
   pub told : ClaimsAll (overlapping only file (length file) found) result
   pub paid : new ≤ asked + 267 * length found
   pub claimed : IsTrue notes → ClaimsTo (claims only file (length file) found) result before after
 
-abbrev pub ClaimsImages : {S T : Type 0} → Option (List ℕ) → List (NodeOf Spot)
+abbrev pub ClaimsImages : {S T : Type 0} → Which → List (NodeOf Spot)
     → Result (Option NodeName) Fault → (S → Device) → Lent S → Bool → (T → List Claiming.Claim)
     → Lent T → Type 0
 ClaimsImages only found result device source notes claimed taker =
@@ -165,7 +165,7 @@ size_if true (Err fault) = 0
 size_if false payload = 0
 
 -- A fact about images whose payloads have at most the file's length together.
-abbrev pub Fitting : Option (List ℕ) → List ℕ → List (NodeOf Spot) → Type 0 → Type 0
+abbrev pub Fitting : Which → List ℕ → List (NodeOf Spot) → Type 0 → Type 0
 Fitting only file found P = overlapping only file (length file) found ≡ Ok None → P
 
 -- Images were taken, or some of them if a device failed; no other fault is returned.

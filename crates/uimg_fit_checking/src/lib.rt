@@ -16,4 +16,6 @@ pub use surveying::{
     ConfigurationFacts, FullSurvey, HashFacts, ImageFacts, Survey, SurveyFault, read_bytes, survey,
     survey_with_properties,
 };
-pub use unpacking::{MemTake, MemTaker, NodeName, Refusal, Taker, Unpacked, Vouched, unpack};
+pub use unpacking::{
+    MemTake, MemTaker, NodeName, Refusal, Taker, Unpacked, Vouched, Wanted, unpack,
+};

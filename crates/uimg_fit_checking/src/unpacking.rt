@@ -1,10 +1,9 @@
 //! Unpacks the payloads of a FIT image: each is summed while it is written, kept if it is right.
 
 ghost use Rattle.std.specs.Prelude.{◌≡◌, IfOk, IsTrue};
-ghost use Rattle.std.specs.Option.{option_map};
 ghost use Rattle.uimg_base.specs.Honest.{IfHonest};
-ghost use Rattle.uimg_fit_checking.specs.Unpacking.{Unpacks, EndsAs, Gives};
-ghost use Rattle.uimg_fit_checking.specs.Unpacking.{unpack_of, unpack_work, as_bytes};
+ghost use Rattle.uimg_fit_checking.specs.Unpacking.{Unpacks, EndsAs, Gives, which};
+ghost use Rattle.uimg_fit_checking.specs.Unpacking.{unpack_of, unpack_work};
 ghost use Rattle.uimg_fit_checking.specs.Claiming.{ClaimsTo, claims_of};
 ghost use Rattle.uimg_fit_reading.specs.Rooms.{TakesOut};
 
@@ -16,6 +15,7 @@ mod refusals;
 mod requested;
 mod taker;
 mod takes;
+mod wanted;
 
 use crate::unpacking::claims::claim_images;
 use crate::unpacking::requested::Request;
@@ -28,6 +28,7 @@ use uimg_base::{Algo, Room, Source};
 use uimg_fit_base::Fault;
 use uimg_fit_reading::images::first_image;
 use uimg_fit_reading::read_tree;
+pub use wanted::Wanted;
 
 /// The result of unpacking a FIT image.
 #[derive(Clone, Copy, Debug)]
@@ -39,8 +40,8 @@ pub enum Unpacked {
     Overlapping(NodeName),
 }
 
-/// Unpacks the payloads of a FIT image in their order: those of all images, or of the images of one
-/// name.
+/// Unpacks the payloads of a FIT image in their order: those of all images, or of those that are
+/// requested.
 ///
 /// Each payload is written to a shelf of the taker while it is summed, by the algorithms of its
 /// image's hash nodes. It is kept if each hash node is right. If a strength is needed, one of them
@@ -62,7 +63,7 @@ pub enum Unpacked {
 ///
 /// What was given before a fault stays given.
 pub fn unpack<S: Source, A: Allocator, T: Taker>(
-    only: Option<NodeName>,
+    only: Wanted<'_>,
     need: Option<Algo>,
     source: &mut S,
     room: &mut Room<A>,
@@ -71,14 +72,14 @@ pub fn unpack<S: Source, A: Allocator, T: Taker>(
     ensures takes { TakesOut unpack_work result S.device source room }
     ensures place { T.place taker.new ≡ T.place taker.old }
     ensures told { IfHonest S.device source (λ file. IsTrue T.honest → Unpacks T.seen result
-        (unpack_of need (option_map as_bytes only) file) (T.takes taker.old) (T.takes taker.new)) }
+        (unpack_of need (which only.entry) file) (T.takes taker.old) (T.takes taker.new)) }
     ensures given { IsTrue T.honest → IfOk result
         (λ found. Gives T.seen found (T.takes taker.old) (T.takes taker.new)) }
     ensures ended { IfHonest S.device source (λ file.
-        EndsAs result (unpack_of need (option_map as_bytes only) file)
+        EndsAs result (unpack_of need (which only.entry) file)
         (T.begun taker.old) (T.begun taker.new)) }
     ensures claimed { IfHonest S.device source (λ file. IsTrue T.notes → ClaimsTo
-        (claims_of (option_map as_bytes only) file) result (T.claimed taker.old)
+        (claims_of (which only.entry) file) result (T.claimed taker.old)
         (T.claimed taker.new)) }
 {
     let blob = read_tree(source, room)?;

@@ -1,3 +1,4 @@
+mod ComparingLaws
 mod EntryLaws
 mod InformLaws
 mod InsideLaws
@@ -8,4 +9,5 @@ mod PlacingLaws
 mod PropertyLaws
 mod SignatureLaws
 mod SoundLaws
+mod StatementLaws
 mod WorkLaws

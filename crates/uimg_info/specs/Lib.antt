@@ -6,3 +6,9 @@ pub mod Steps
 pub mod Work
 pub mod Reservations
 pub mod Signatures
+pub mod ValueTexts
+pub mod Statements
+pub mod Comparing
+pub mod DifferenceLines
+pub mod Statement
+pub mod LegacyFields

@@ -16,8 +16,8 @@ use std::alloc::{AllocError, Global};
 use uimg_base::{before_nul, first_nul};
 use uimg_printing::{put_key, put_number, put_number_if, put_text};
 
-// Returns the bytes before the first NUL, and those after it.
-fn cut(bytes: &[u8]) -> (&[u8], &[u8])
+/// Returns the bytes before the first NUL, and those after it.
+pub(crate) fn cut(bytes: &[u8]) -> (&[u8], &[u8])
     requires { 0 < length bytes.now }
     ensures pieces { pieces bytes.now ≡ result.0.now ∷ pieces result.1.now }
     ensures fewer { length result.1.now < length bytes.now }

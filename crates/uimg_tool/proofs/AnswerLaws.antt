@@ -1,15 +1,19 @@
 -- What came of a request, once it was told.
-use Rattle.std.proofs.Common.{◌≡◌, ◌⊎◌, inl, inr, ℕ, List, Option, Some, None, Result, ap, subst, sym, ◌∙◌}
+use Rattle.std.proofs.Common.{◌≡◌, ◌⊎◌, inl, inr, ℕ, List, Option, Some, None, Result, Ok, Err, ap, subst, sym, ◌∙◌}
 use Rattle.std.specs.{Borrow.Bor, Io.KnownBytes.{Keeps}}
 use Rattle.std.proofs.KnownBytes.{Appends-kept, Keeps-trans}
 use Rattle.uimg_base.specs.{Device.Device, Named.FileMap}
+use Rattle.uimg_checks.specs.FaultStatuses.{fault_status}
 use Rattle.uimg_cli.specs.declared.command_line.Asked.{Asked}
-use Rattle.uimg_cli.specs.declared.command_line.Asked.TheVariants.{One, Check, Unpack, Map, Info}
-use Rattle.uimg_cli.specs.declared.command_line.Request.{Request}
+use Rattle.uimg_cli.specs.declared.command_line.Asked.TheVariants.{One, Check, Unpack, Map, Info, Diff}
+use Rattle.uimg_cli.specs.declared.command_line.{Request.Request, diff.DiffRequest.DiffRequest}
 use Rattle.uimg_cli.specs.declared.command_line.Request.TheVariants as asked
+use Rattle.uimg_engine.specs.{FaultTexts.text_of, declared.fault.Fault.Fault}
+use Rattle.uimg_info.specs.{Comparing.{Differs, compared}, Statement.Stated, declared.comparing.CompareFault.CompareFault}
+use Rattle.uimg_info.specs.declared.comparing.CompareFault.TheVariants.{TwiceInOld, TwiceInNew, OutOfMemory}
 use Rattle.uimg_requests.specs.declared.requests.RunRequest.{RunRequest}
 use Rattle.uimg_tool.proofs.LeaveLaws.{left_failed}
-use Rattle.uimg_tool.specs.{Answering.Comes, Commands.{Guards, Means, MeansOne}, Complaints.ComplainsBetween, Images.MeansRun, FaultTexts.told_of_complaint, Leavings.LeavesAsked, Maps.MeansMap, Statuses.closing_status}
+use Rattle.uimg_tool.specs.{Answering.Comes, Commands.{Guards, Means, MeansOne}, Complaints.ComplainsBetween, Diffs.{IsCompared, IsRefusedFor, MeansFirst, MeansSecond, stated_of, twice_text}, Images.MeansRun, FaultTexts.told_of_complaint, Leavings.LeavesAsked, Maps.MeansMap, Statuses.closing_status}
 use Rattle.uimg_tool.specs.declared.{complaint.Complaint.Complaint, complaints.Complaints.Complaints}
 use Rattle.uimg_world.specs.Deeds.{Deed, changes}
 use Rattle.uimg_world.specs.declared.file_id.FileId.{FileId}
@@ -54,12 +58,30 @@ module _ {K : Type 0} (device : K → Device) (identities : List ℕ → Option 
   }
   one (asked.Show text) means = means
 
+  refused : (wanted : ℕ) (path text : List ℕ) → IsRefusedFor wanted path text status told old mid → IsRefusedFor wanted path text status told old new
+  refused wanted path text (is, tells, silent) = (is, tells, Keeps-trans old mid new silent kept)
+
+  compares : (it : DiffRequest) (r : Result (List Differs) CompareFault) → IsCompared it r status told old mid → IsCompared it r status told old new
+  compares it (Ok found) (is, silent, put) = (is, silent, Appends-kept old mid new _ put kept)
+  compares it (Err TwiceInOld) means = refused 1 it.old.now twice_text means
+  compares it (Err TwiceInNew) means = refused 1 it.new.now twice_text means
+  compares it (Err OutOfMemory) means = tt
+
+  second_read : (it : DiffRequest) (one : List Stated) (r : Result (List Stated) Fault) → MeansSecond it one r status told old mid → MeansSecond it one r status told old new
+  second_read it one (Err fault) means = refused (fault_status fault) it.new.now (text_of fault) means
+  second_read it one (Ok other) means = compares it (compared one other) means
+
+  first_read : (it : DiffRequest) (r : Result (List Stated) Fault) → MeansFirst it files r status told old mid → MeansFirst it files r status told old new
+  first_read it (Err fault) means = refused (fault_status fault) it.old.now (text_of fault) means
+  first_read it (Ok one) (file, has, means) = (file, has, second_read it one (stated_of file) means)
+
   flushed : (it : Asked) → Means device identities it files before after status told old mid → Means device identities it files before after status told old new
   flushed (One it) means = one it means
   flushed (Check it) (keyed, is, terms, keys, (last, all, calls, ends, text)) = (keyed, is, terms, keys, (last, all, calls, ends, Keeps-trans last.text mid new text kept))
   flushed (Unpack it) means = means
   flushed (Map it) means = map it.image.now it.picture means
   flushed (Info it) (file, has, (silent, (text, facts, put))) = (file, has, (silent, (text, facts, Appends-kept old mid new _ put kept)))
+  flushed (Diff it) (file, has, means) = (file, has, first_read it (stated_of file) means)
 
 pub closed : {K V : Type 0} (device : K → Device) (identities : List ℕ → Option FileId) (contents : V → Option (List ℕ)) (it : Asked) (files : FileMap) (before after : List Deed) (end : Result ℕ Complaint) (status : ℕ)
     (old mid new : Option (List ℕ)) (told_before told_after : Complaints V) → Comes (Means device identities it files before after) (closing_status end) (told_of_complaint end) old mid

@@ -1,17 +1,19 @@
 -- Answers about some images, and then about others.
-use Rattle.std.proofs.Common.{◌≡◌, ℕ, List, [], ◌∷◌, ◌++◌, map, drop, Bool, true, false, ◌&&◌, ◌||◌, Option, Some, None, Result, Ok, Err, OnOk, IfSome, IsTrue, filter, inl, inr, refl, ap, ap₂, sym, subst, subst₂, ◌∙◌, true≢false}
+use Rattle.std.proofs.Common.{◌≡◌, ◌+◌, ◌<◌, get_or, length, ℕ, List, [], ◌∷◌, ◌++◌, map, drop, Bool, true, false, ◌&&◌, ◌||◌, Option, Some, None, Result, Ok, Err, OnOk, IfSome, IsTrue, filter, inl, inr, refl, ap, ap₂, sym, subst, subst₂, ◌∙◌, true≢false}
 use mathlib.Core.List.{append-nil}
 use Rattle.std.specs.{Borrow.Bor, Io.KnownBytes.{IsAtEnd}, List.list_all}
 use Rattle.std.proofs.KnownBytes.{Keeps-refl}
+use Rattle.std.proofs.lemmas.List.{drop_more}
 use Rattle.std.proofs.lemmas.List.Folds.{list_all-append}
 use Rattle.uimg_tool.specs.declared.keys.Keyed.{Keyed}
-use Rattle.uimg_tool.specs.{Answering.Comes, Checking.{ChecksBy, EndsWith, KeysAt, MeansCheck, keys_read, nothing_told, terms_of}}
+use Rattle.uimg_tool.specs.{Answering.Comes, Below.{AnswersAllGiven, AnswersGiven}, Checking.{AnswersAll, ChecksBy, EndsWith, KeysAt, MeansCheck, keys_read, nothing_told, terms_of}}
 use Rattle.uimg_cli.specs.declared.command_line.check.CheckRequest.{CheckRequest}
 use Rattle.uimg_base.specs.{Device.Device, Named.{FileMap, Opens, SameFiles}}
 use Rattle.uimg_checks.specs.{CheckEnds.{AnswersLine, Shows}, Verdicts.verdict_of}
-use Rattle.uimg_tool.specs.Checks.{Answers, AnswersAll, AnswersBytes, AnswersEach, AnswersFile, AnswersNamed, AnswersFrom, AnswersUnlessEmpty, AreNames, Told, after_names, names_end, names_path, told}
+use Rattle.uimg_tool.specs.Checks.{AnswersBytes, AnswersEach, AnswersFile, AnswersNamed, AnswersFrom, AnswersUnlessEmpty, AreNames, Told, after_names, names_end, names_path, told}
 use Rattle.uimg_tool.specs.Paths.{is_name, paths_in}
 use Rattle.uimg_tool.proofs.PathLaws.{Left, left_ends}
+use Rattle.uimg_tool.proofs.SameLaws.{all_given_same, answers_same, given_same}
 use Rattle.uimg_checks.specs.declared.answer.Answer.{Answer}
 use Rattle.uimg_checks.specs.declared.answer.Answer.TheVariants.{Found, Missing, Loose, Refused, Failed}
 use Rattle.uimg_tool.specs.declared.checks.Checks.{Checks}
@@ -27,7 +29,7 @@ pub file_answered : (files : FileMap) (asked : Keyed) (path : List ℕ) (answer 
 file_answered files asked path answer d opens shows honest =
     subst (λ (file : Option (List ℕ)). AnswersBytes asked file answer) (sym (opens.bytes honest)) (shows (opens.honest honest))
 
-failed_bytes : (asked : Keyed) (file : Option (List ℕ)) (answer : Answer) → AnswersLine false answer → AnswersBytes asked file answer
+pub failed_bytes : (asked : Keyed) (file : Option (List ℕ)) (answer : Answer) → AnswersLine false answer → AnswersBytes asked file answer
 failed_bytes asked None (Failed stop) told = refl
 failed_bytes asked None (Found found more) told = absurd told
 failed_bytes asked None (Missing configuration property name) told = absurd told
@@ -43,31 +45,11 @@ failed_bytes asked (Some file) (Refused stop) told = absurd (true≢false (sym t
 pub failed_file : (files : FileMap) (asked : Keyed) (path : List ℕ) (answer : Answer) → AnswersLine false answer → AnswersFile files asked path answer
 failed_file files asked path answer told honest = failed_bytes asked (files.bytes path) answer told
 
--- an answer about the same files
-pub file_same : (old new : FileMap) (asked : Keyed) (path : List ℕ) (answer : Answer) → SameFiles old new → AnswersFile new asked path answer → AnswersFile old asked path answer
-file_same old new asked path answer same told honest =
-    subst (λ (bytes : List ℕ → Option (List ℕ)). AnswersBytes asked (bytes path) answer) same.bytes
-    (told (subst (λ (b : Bool). IsTrue b) (sym same.honest) honest))
-
 pub each_then : (files : FileMap) (asked : Keyed) (paths others : List (List ℕ)) (old mid new : Told) → AnswersEach files asked paths old mid
     → AnswersEach files asked others mid new → AnswersEach files asked (paths ++ others) old new
 each_then files asked [] others old mid new first more = subst (λ (it : Told). AnswersEach files asked others it new) first more
 each_then files asked (path ∷ paths) others old mid new first more =
     (first.0, first.1, each_then files asked paths others first.0 mid new first.2 more)
-
--- the same answers about files that are the same
-pub answers_same : (old_files new_files : FileMap) (asked : Keyed) (path : List ℕ) (old new : Told) → SameFiles old_files new_files → Answers new_files asked path old new
-    → Answers old_files asked path old new
-answers_same old_files new_files asked path old new same answers = (
-  answers.0,
-  record {
-    file = file_same old_files new_files asked path answers.0 same answers.1.file;
-    status = answers.1.status;
-    counted = answers.1.counted;
-    written = answers.1.written;
-    looked = answers.1.looked;
-  },
-)
 
 pub each_same : (old_files new_files : FileMap) (asked : Keyed) (paths : List (List ℕ)) (old new : Told) → SameFiles old_files new_files → AnswersEach new_files asked paths old new
     → AnswersEach old_files asked paths old new
@@ -77,11 +59,21 @@ each_same old_files new_files asked (path ∷ paths) old new same each =
 
 -- all images, when none is left
 pub each_left : (files : FileMap) (asked : Keyed) (items : List (Bor (List ℕ))) (i : ℕ) (old cur : Told) → items ≡ asked.request.now.images.items → drop i items ≡ []
-    → ((last : Told) → AnswersEach files asked (map (λ path. path.now) (drop i items)) cur last → AnswersEach files asked (map (λ path. path.now) items) old last)
-    → AnswersEach files asked (map (λ path. path.now) asked.request.now.images.items) old cur
+    → ((last : Told) → AnswersAllGiven files asked (map (λ path. path.now) (drop i items)) cur last → AnswersAllGiven files asked (map (λ path. path.now) items) old last)
+    → AnswersAllGiven files asked (map (λ path. path.now) asked.request.now.images.items) old cur
 each_left files asked items i old cur are none so =
-    subst (λ (l : List (Bor (List ℕ))). AnswersEach files asked (map (λ path. path.now) l) old cur) are
-    (so cur (subst (λ (l : List (Bor (List ℕ))). AnswersEach files asked (map (λ path. path.now) l) cur cur) (sym none) refl))
+    subst (λ (l : List (Bor (List ℕ))). AnswersAllGiven files asked (map (λ path. path.now) l) old cur) are
+    (so cur (subst (λ (l : List (Bor (List ℕ))). AnswersAllGiven files asked (map (λ path. path.now) l) cur cur) (sym none) refl))
+
+-- one more of the command line
+pub given_more : (files then_files : FileMap) (asked : Keyed) (items : List (Bor (List ℕ))) (i : ℕ) (d : Bor (List ℕ)) (old cur next last : Told) → i < length items → SameFiles files then_files
+    → ((last : Told) → AnswersAllGiven files asked (map (λ path. path.now) (drop i items)) cur last → AnswersAllGiven files asked (map (λ path. path.now) items) old last)
+    → AnswersGiven then_files asked (get_or items i d).now cur next → AnswersAllGiven files asked (map (λ path. path.now) (drop (i + 1) items)) next last
+    → AnswersAllGiven files asked (map (λ path. path.now) items) old last
+given_more files then_files asked items i d old cur next last within stay so given rest =
+    so last
+    (subst (λ (l : List (Bor (List ℕ))). AnswersAllGiven files asked (map (λ path. path.now) l) cur last) (sym (drop_more items i d within))
+    (next, given_same files then_files asked (get_or items i d).now cur next stay given, rest))
 
 -- one more, unless its name is empty
 each_more : (files then_files : FileMap) (asked : Keyed) (path : List ℕ) (names : List (List ℕ)) (old mid new : Told) → SameFiles files then_files → AnswersEach files asked names old mid
@@ -115,13 +107,13 @@ names_same files then_files asked path names same are = record {
       (are.file (subst (λ (b : Bool). IsTrue b) (sym same.honest) honest));
 }
 
-pub all_given : (files : FileMap) (asked : Keyed) (old new : Told) → asked.request.now.files_from ≡ None → AnswersEach files asked (map (λ path. path.now) asked.request.now.images.items) old new
+pub all_given : (files : FileMap) (asked : Keyed) (old new : Told) → asked.request.now.files_from ≡ None → AnswersAllGiven files asked (map (λ path. path.now) asked.request.now.images.items) old new
     → AnswersAll files asked old new
 all_given files asked old new none each =
     (new, each, subst (λ (it : Option (Bor (List ℕ))). AnswersFrom files asked it new new) (sym none) refl)
 
 pub all_named : (files then_files : FileMap) (asked : Keyed) (file : Bor (List ℕ)) (old mid new : Told) → SameFiles files then_files → asked.request.now.files_from ≡ Some file
-    → AnswersEach files asked (map (λ path. path.now) asked.request.now.images.items) old mid → AnswersNamed then_files asked file.now mid new → AnswersAll files asked old new
+    → AnswersAllGiven files asked (map (λ path. path.now) asked.request.now.images.items) old mid → AnswersNamed then_files asked file.now mid new → AnswersAll files asked old new
 all_named files then_files asked file old mid new stay is each names = (
   mid,
   each,
@@ -137,7 +129,7 @@ from_same old_files new_files asked (Some path) old new same told =
 
 all_same : (old_files new_files : FileMap) (asked : Keyed) (old new : Told) → SameFiles old_files new_files → AnswersAll new_files asked old new → AnswersAll old_files asked old new
 all_same old_files new_files asked old new same all =
-    (all.0, each_same old_files new_files asked (map (λ path. path.now) asked.request.now.images.items) old all.0 same all.1, from_same old_files new_files asked asked.request.now.files_from all.0 new same all.2)
+    (all.0, all_given_same old_files new_files asked (map (λ path. path.now) asked.request.now.images.items) old all.0 same all.1, from_same old_files new_files asked asked.request.now.files_from all.0 new same all.2)
 
 -- the end of all checks
 pub checks_told : (files : FileMap) (asked : Keyed) (checks : Checks) (before after : List Deed) (old new : Option (List ℕ)) (first : Told) (status : ℕ) (tells : Option (Option (List ℕ))) → first ≡ nothing_told old before

@@ -1,6 +1,6 @@
 -- What is left as it was where an unpacking is refused.
 use Rattle.std.proofs.Common.{◌≡◌, inl, inr, ℕ, List, ◌∷◌, true, false, Option, Some, None, refl, ap, sym, subst, ◌∙◌, true≢false}
-use Rattle.std.specs.Borrow.{Bor}
+use Rattle.std.specs.{Borrow.Bor, BTreeSet.BTreeSet, Global.Global, Prelude.Vec}
 use Rattle.uimg_cli.specs.declared.command_line.keys.KeyRequest.{KeyRequest}
 use Rattle.uimg_cli.specs.declared.command_line.unpack.UnpackRequest.{UnpackRequest}
 use Rattle.uimg_tool.specs.{Checking.keys_read, EndingStatuses.{HasEndingStatus, ending_status}, Leavings.{LeavesAsked, LeavesEnding, is_refusal}, UnpackEnds.end_of, Unpackings.unpacking_of}
@@ -30,10 +30,10 @@ pub left_ended : (asked : Unpacking) (ended : Ended) (end : Ending) (before afte
 left_ended asked ended end before after is leaves good refused = leaves good (left_status ended (ap (λ (e : Ending). is_refusal (ending_status e)) (sym is) ∙ refused))
 
 -- the image was opened and looked at before
-pub left_at : (asked : UnpackRequest) (path : Bor (List ℕ)) (image : Option FileId) (unpacked : Unpacking) (end : Ending) (old middle new : List Deed) → unpacked ≡ unpacking_of asked image path
+pub left_at : (asked : UnpackRequest) (path : Bor (List ℕ)) (among : Option (Bor (BTreeSet (Vec ℕ Global)))) (image : Option FileId) (unpacked : Unpacking) (end : Ending) (old middle new : List Deed) → unpacked ≡ unpacking_of asked among image path
     → middle ≡ Identifies path.now image ∷ Opens path.now true ∷ old → LeavesEnding unpacked end middle new → asked.keeps_good ≡ false → is_refusal (ending_status end) ≡ true → Leaves asked.folder.now old new
-left_at asked path image unpacked end old middle new is looked leaves good refused start told p own =
-    let its : LeavesEnding (unpacking_of asked image path) end middle new = subst (λ (a : Unpacking). LeavesEnding a end middle new) is leaves in
+left_at asked path among image unpacked end old middle new is looked leaves good refused start told p own =
+    let its : LeavesEnding (unpacking_of asked among image path) end middle new = subst (λ (a : Unpacking). LeavesEnding a end middle new) is leaves in
     its good refused start told p own ∙ ap (λ (t : List Deed). files_after start t p) looked
 
 -- the same after it was told, by the status

@@ -1,11 +1,14 @@
 pub mod AnswerLaws
+pub mod BelowLaws
 pub mod BesideLaws
 pub mod BodyLaws
 pub mod BufferLaws
 pub mod CheckLaws
+pub mod DiffLaws
 pub mod DrawingLaws
 pub mod ExtractLaws
 pub mod FolderLaws
+pub mod FolderPathLaws
 pub mod InfoLaws
 pub mod KeyLaws
 pub mod KnownLaws
@@ -21,6 +24,7 @@ pub mod OldMakingLaws
 pub mod OldWordLaws
 pub mod PathLaws
 pub mod RunLaws
+pub mod SameLaws
 pub mod SearchedLaws
 pub mod SignedLaws
 pub mod SpelledLaws

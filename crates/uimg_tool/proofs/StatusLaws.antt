@@ -39,6 +39,7 @@ request_fails (request.WritesWhatIsRead path) = omega arith
 request_fails (request.DrawsOverWhatIsRead path) = omega arith
 request_fails (request.NoRoom path) = omega arith
 request_fails (request.Stopped fault) = fault_fails fault
+request_fails (request.InImage path fault) = fault_fails fault
 request_fails fault = omega arith
 
 pub end_fails : (end : Result Status RequestFault) → is_err end ≡ true → 1 ≤ end_status end

@@ -5,15 +5,15 @@ use Rattle.std.proofs.lemmas.List.Folds.{list_all-append}
 use Rattle.uimg_unpacking.proofs.Placing.{no_more, stays_naming}
 use Rattle.uimg_world.specs.Deeds.{Deed, Opens, Identifies, changes, changes_only}
 use Rattle.uimg_world.specs.declared.file_id.FileId.{FileId}
-use Rattle.std.specs.Prelude.{Option, Some, None}
-use Rattle.std.specs.Borrow.{Bor}
+use Rattle.std.specs.Prelude.{Option, Some, None, Vec}
+use Rattle.std.specs.{Borrow.Bor, BTreeSet.BTreeSet, Global.Global, Option.option_copied}
 use Rattle.uimg_base.specs.Named.{FileMap, SameFiles}
 use Rattle.uimg_cli.specs.declared.command_line.unpack.UnpackRequest.{UnpackRequest}
 use Rattle.uimg_unpacking.specs.Places.{ChangesWithin, Obeys, Terms, may_change, terms_of}
 use Rattle.uimg_checks.specs.Answers.{answer_status}
 use Rattle.uimg_verifying.specs.declared.required.Required.{Required}
 use Rattle.uimg_checks.specs.declared.answer.Answer.{Answer, TheVariants.{Failed, Refused}}
-use Rattle.uimg_tool.specs.{Checking.keys_read, UnpackEnds.AnswersEnding, Unpackings.{HoldsPayloads, IsRight, KeepsAt, KeepsBy, KeepsImage, RightAt, SignedBy, UnpacksRight, unpacking_of}}
+use Rattle.uimg_tool.specs.{Checking.keys_read, UnpackEnds.AnswersEnding, Unpackings.{HoldsPayloads, IsChosen, IsRight, KeepsAt, KeepsBy, KeepsImage, RightAt, SignedBy, UnpacksRight, unpacking_of}}
 use Rattle.uimg_tool.specs.declared.unpack_answers.Ending.{Ending}
 use Rattle.uimg_tool.specs.declared.unpack_answers.Ending.TheVariants as ending
 
@@ -76,12 +76,15 @@ pub nothing_called : (terms : Terms) (old new : List Deed) → new ≡ old → O
 nothing_called terms old new same = no_more terms true old new same
 
 -- an image that was opened and looked at before
-pub right_at : (asked : UnpackRequest) (keys : Option Required) (path : Bor (List ℕ)) (image : Option FileId) (file : List ℕ) (old middle new : List Deed) → middle ≡ Identifies path.now image ∷ Opens path.now true ∷ old
-    → Obeys (terms_of (unpacking_of asked image path).folder) true middle new → IsRight (unpacking_of asked image path) file → HoldsPayloads (unpacking_of asked image path) file new → SignedBy keys file → UnpacksRight asked keys path file old new
-right_at asked keys path image file old middle new looked obeys right holds signed =
+pub right_at : (asked : UnpackRequest) (keys : Option Required) (path : Bor (List ℕ)) (among : Option (Bor (BTreeSet (Vec ℕ Global)))) (image : Option FileId) (file : List ℕ) (old middle new : List Deed) → middle ≡ Identifies path.now image ∷ Opens path.now true ∷ old
+    → IsChosen asked.config file (option_copied among) → Obeys (terms_of (unpacking_of asked among image path).folder) true middle new → IsRight (unpacking_of asked among image path) file → HoldsPayloads (unpacking_of asked among image path) file new → SignedBy keys file
+    → UnpacksRight asked keys path file old new
+right_at asked keys path among image file old middle new looked chosen obeys right holds signed =
     record {
       image = image;
-      obeys = subst (λ (t : List Deed). Obeys (terms_of (unpacking_of asked image path).folder) true t new) looked obeys;
+      among = among;
+      chosen = chosen;
+      obeys = subst (λ (t : List Deed). Obeys (terms_of (unpacking_of asked among image path).folder) true t new) looked obeys;
       right = right;
       holds = holds;
       signed = signed;

@@ -1,34 +1,42 @@
 -- What is told of an unpacking is that of its end.
 use Rattle.std.proofs.Common.{◌≡◌, ◌⊎◌, inl, inr, ℕ, List, Option, Some, None, Bool, true, false, refl, ap, sym, subst, ◌∙◌, true≢false}
-use Rattle.std.specs.Borrow.{Bor}
+use Rattle.std.specs.{Borrow.Bor, BTreeSet.BTreeSet, Global.Global, Option.option_copied, Prelude.Vec}
 use Rattle.uimg_base.specs.Named.{FileMap, SameFiles}
 use Rattle.uimg_cli.specs.declared.command_line.unpack.UnpackRequest.{UnpackRequest}
-use Rattle.uimg_checks.specs.declared.judging.Terms.{Terms}
+use Rattle.uimg_checks.specs.declared.{answer.Answer.Answer, judging.Terms.Terms}
 use Rattle.uimg_engine.specs.Headline.{is_fit}
 use Rattle.uimg_verifying.specs.declared.required.Required.{Required}
 use Rattle.uimg_requests.specs.declared.command.Form.TheVariants as form
-use Rattle.uimg_tool.specs.{EndingStatuses.{HasEndingStatus, ending_status}, Unpacked.TellsImage, Unpackings.{signed_terms, unpacking_of}}
+use Rattle.uimg_tool.specs.{EndingStatuses.{HasEndingStatus, ending_status}, Unpacked.TellsImage, Unpackings.{IsChosen, IsUnchosen, signed_terms, unpacking_of}}
 use Rattle.uimg_tool.specs.UnpackComplaints.{EndsAsked, EndsAt, EndsIn, EndsOver, EndsSigned, EndsUnsigned, told_of_unpacking}
 use Rattle.uimg_tool.specs.declared.unpack_answers.Ending.{Ending}
+use Rattle.uimg_tool.specs.declared.unpack_answers.Ending.TheVariants as ending
 use Rattle.uimg_world.specs.declared.file_id.FileId.{FileId}
 use Rattle.uimg_unpacking.specs.declared.unpacking.Unpacking.{Unpacking}
 
 -- The definition does not ask which file the image is.
-any_image : (is : Bool) (asked : UnpackRequest) (image : Option FileId) (path : Bor (List ℕ)) (file : List ℕ) (end : Ending) → EndsIn is (unpacking_of asked image path) file end → EndsIn is (unpacking_of asked None path) file end
-any_image true asked image path file end ends = ends
-any_image false asked image path file end ends = ends
+any_image : (is : Bool) (asked : UnpackRequest) (among : Option (Bor (BTreeSet (Vec ℕ Global)))) (image : Option FileId) (path : Bor (List ℕ)) (file : List ℕ) (end : Ending) → EndsIn is (unpacking_of asked among image path) file end → EndsIn is (unpacking_of asked among None path) file end
+any_image true asked among image path file end ends = ends
+any_image false asked among image path file end ends = ends
 
-over_at : (files : FileMap) (asked : UnpackRequest) (path : Bor (List ℕ)) (image : Option FileId) (file : List ℕ) (end : Ending) → files.bytes path.now ≡ Some file → EndsOver (unpacking_of asked image path) file end → EndsAt files (unpacking_of asked None path) path.now end
-over_at files asked path image file end found (inl failed) = inl failed
-over_at files asked path image file end found (inr ends) = inr (file, found, any_image (is_fit form.Guess file) asked image path file end ends)
+over_at : (files : FileMap) (asked : UnpackRequest) (path : Bor (List ℕ)) (among : Option (Bor (BTreeSet (Vec ℕ Global)))) (image : Option FileId) (file : List ℕ) (end : Ending) → files.bytes path.now ≡ Some file → IsChosen asked.config file (option_copied among)
+    → EndsOver (unpacking_of asked among image path) file end → EndsAt files asked path end
+over_at files asked path among image file end found chosen (inl failed) = inl failed
+over_at files asked path among image file end found chosen (inr ends) =
+    inr (file, found, record { among = among; chosen = chosen; ends = any_image (is_fit form.Guess file) asked among image path file end ends })
 
 -- an image that was opened
-pub ended_at : (files : FileMap) (asked : UnpackRequest) (terms : Terms) (path : Bor (List ℕ)) (image : Option FileId) (file : List ℕ) (unpacking : Unpacking) (end : Ending) → unpacking ≡ unpacking_of asked image path
-    → terms ≡ signed_terms asked terms.required → files.bytes path.now ≡ Some file → EndsSigned unpacking terms file end → EndsAsked files asked terms.required path end
-ended_at files asked terms path image file unpacking end is are found (inl ends) =
-    inl (over_at files asked path image file end found (subst (λ (it : Unpacking). EndsOver it file end) is ends))
-ended_at files asked terms path image file unpacking end is are found (inr unsigned) =
-    inr (file, found, subst (λ (it : Terms). EndsUnsigned it file end) are unsigned)
+pub ended_at : (files : FileMap) (asked : UnpackRequest) (terms : Terms) (path : Bor (List ℕ)) (among : Option (Bor (BTreeSet (Vec ℕ Global)))) (image : Option FileId) (file : List ℕ) (unpacking : Unpacking) (end : Ending) → unpacking ≡ unpacking_of asked among image path
+    → terms ≡ signed_terms asked terms.required → files.bytes path.now ≡ Some file → IsChosen asked.config file (option_copied among) → EndsSigned unpacking terms file end → EndsAsked files asked terms.required path end
+ended_at files asked terms path among image file unpacking end is are found chosen (inl ends) =
+    inl (over_at files asked path among image file end found chosen (subst (λ (it : Unpacking). EndsOver it file end) is ends))
+ended_at files asked terms path among image file unpacking end is are found chosen (inr unsigned) =
+    inr (file, found, inl (subst (λ (it : Terms). EndsUnsigned it file end) are unsigned))
+
+-- an image without what is chosen
+pub unchosen_at : (files : FileMap) (asked : UnpackRequest) (keys : Option Required) (path : Bor (List ℕ)) (file : List ℕ) (answer : Answer) (end : Ending) → end ≡ ending.Unsigned answer → files.bytes path.now ≡ Some file
+    → IsUnchosen asked.config file answer → EndsAsked files asked keys path end
+unchosen_at files asked keys path file answer end is found shows = inr (file, found, inr (answer, is, shows))
 
 has_status : (end : Ending) (status : ℕ) → HasEndingStatus end status → (status ≡ 3) ⊎ (status ≡ ending_status end)
 has_status end status (inl same) = inr same

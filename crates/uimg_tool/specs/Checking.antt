@@ -1,5 +1,5 @@
 -- The whole of a check: its status is the greatest of those that are answered.
-use Rattle.std.specs.Prelude.{◌≡◌, ℕ, List, ◌∷◌, Option, Some, None, IfSome, IsTrue, Bool, true, false, ◌||◌, option_map}
+use Rattle.std.specs.Prelude.{◌≡◌, ℕ, List, ◌∷◌, Option, Some, None, IfSome, IsTrue, Bool, true, false, ◌||◌, map, option_map}
 use Rattle.std.specs.{Borrow.Bor, Io.KnownBytes.Keeps}
 use Rattle.uimg_base.specs.Named.{FileMap}
 use Rattle.uimg_checks.specs.declared.judging.Terms.{Terms}
@@ -7,13 +7,20 @@ use Rattle.uimg_cli.specs.declared.command_line.{check.CheckRequest.CheckRequest
 use Rattle.uimg_keys.specs.{Keys.HasKeys, declared.keys.Keys.Keys}
 use Rattle.uimg_cli.specs.FaultTexts.{text_of}
 use Rattle.uimg_cli.specs.declared.command_line.words_fault.WordsFault.TheVariants.{NoImages}
-use Rattle.uimg_tool.specs.{Answering.Meant, Checks.{AnswersAll, Told}}
+use Rattle.uimg_tool.specs.{Answering.Meant, Below.AnswersAllGiven, Checks.{AnswersFrom, Told}}
 use Rattle.uimg_tool.specs.declared.keys.Keyed.{Keyed}
 use Rattle.uimg_world.specs.Deeds.{Deed, Opens}
 use Rattle.uimg_verifying.specs.{Configurations.only_of, declared.required.Required.Required}
 
 abbrev pub nothing_told : Option (List ℕ) → List Deed → Told
-nothing_told text trace = record { greatest = 0; has_checked = false; text = text; trace = trace }
+nothing_told text trace =
+    record { greatest = 0; has_checked = false; skipped = 0; text = text; trace = trace }
+
+-- the images of the command line, and then those that a file names
+abbrev pub AnswersAll : FileMap → Keyed → Told → Told → Type 0
+AnswersAll files asked old new = (mid : Told)
+    × AnswersAllGiven files asked (map (λ path. path.now) asked.request.now.images.items) old mid
+    × AnswersFrom files asked asked.request.now.files_from mid new
 
 -- the same keys, but by this name, if one is given
 abbrev pub AreNamed : Option (Bor (List ℕ)) → Keys → Keys → Type 0

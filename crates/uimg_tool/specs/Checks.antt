@@ -1,5 +1,5 @@
 -- The checks of many images: what is answered of each, in order.
-use Rattle.std.specs.Prelude.{◌≡◌, ◌⊎◌, ℕ, max, List, [], ◌∷◌, map, codes, Option, Some, None, Bool, true, false, ◌&&◌, if◌then◌else◌, IsTrue, IfSome}
+use Rattle.std.specs.Prelude.{◌≡◌, ◌⊎◌, ℕ, max, List, [], ◌∷◌, codes, Option, Some, None, Bool, true, false, ◌&&◌, if◌then◌else◌, IsTrue, IfSome}
 use Rattle.std.specs.{Borrow.Bor, Io.KnownBytes.Appends, List.list_all, Str.bytes_eq}
 use Rattle.uimg_base.specs.Named.{FileMap}
 use Rattle.uimg_checks.specs.Answers.{answer_status, answer_word}
@@ -11,11 +11,12 @@ use Rattle.uimg_tool.specs.declared.checks.Checks.{Checks}
 use Rattle.uimg_world.specs.Deeds.{Deed, Explains, Opens, Reads}
 use Rattle.uimg_world.specs.declared.call.Answer.TheVariants.{Done}
 
--- The greatest status so far, whether any image was checked, what the output has, if contracts know
--- it, and what the world was asked.
+-- The greatest status so far, whether any image was checked, how many files below a folder were skipped,
+-- what the output has, if contracts know it, and what the world was asked.
 pub record Told : Type 0 where
   pub greatest : ℕ
   pub has_checked : Bool
+  pub skipped : ℕ
   pub text : Option (List ℕ)
   pub trace : List Deed
 
@@ -23,6 +24,7 @@ abbrev pub told : Checks → Option (List ℕ) → List Deed → Told
 told checks text trace = record {
   greatest = checks.greatest;
   has_checked = checks.has_checked;
+  skipped = checks.skipped;
   text = text;
   trace = trace;
 }
@@ -56,6 +58,7 @@ pub record IsAnswered (files : FileMap) (asked : Keyed) (path : List ℕ) (answe
   pub file : AnswersFile files asked path answer
   pub status : new.greatest ≡ max old.greatest (answer_status answer)
   pub counted : new.has_checked ≡ true
+  pub skipped : new.skipped ≡ old.skipped
   pub written : Appends old.text new.text (text_for asked path answer)
   pub looked : LooksAt path old.trace new.trace
 
@@ -100,9 +103,3 @@ AnswersNamed files asked path old new = (names : List (List ℕ)) × AreNames fi
 abbrev pub AnswersFrom : FileMap → Keyed → Option (Bor (List ℕ)) → Told → Told → Type 0
 AnswersFrom files asked None old new = new ≡ old
 AnswersFrom files asked (Some path) old new = AnswersNamed files asked path.now old new
-
--- the images of the command line, and then those that a file names
-abbrev pub AnswersAll : FileMap → Keyed → Told → Told → Type 0
-AnswersAll files asked old new =
-    (mid : Told) × AnswersEach files asked (map (λ path. path.now) asked.request.now.images.items) old mid
-    × AnswersFrom files asked asked.request.now.files_from mid new

@@ -2,10 +2,10 @@
 use Rattle.std.specs.Prelude.{◌≡◌, ⊤, ℕ, List, ◌∷◌, Option, None, true}
 use Rattle.uimg_base.specs.{Device.Device, Named.FileMap}
 use Rattle.uimg_cli.specs.declared.command_line.Asked.{Asked}
-use Rattle.uimg_cli.specs.declared.command_line.Asked.TheVariants.{One, Check, Unpack, Map, Info}
+use Rattle.uimg_cli.specs.declared.command_line.Asked.TheVariants.{One, Check, Unpack, Map, Info, Diff}
 use Rattle.uimg_cli.specs.declared.command_line.Request.{Request}
 use Rattle.uimg_cli.specs.declared.command_line.Request.TheVariants as asked
-use Rattle.uimg_tool.specs.{Answering.{Meant, OfFile}, Checking.MeansCheck, Drawing.AsksToMap, Facts.IsFacts, Images.{CallsToRun, MeansRun}, Made.MeansMake, Maps.MeansMap, Unpacked.{GuardsUnpack, MeansUnpack}}
+use Rattle.uimg_tool.specs.{Answering.{Meant, OfFile}, Checking.MeansCheck, Diffs.MeansDiff, Drawing.AsksToMap, Facts.IsFacts, Images.{CallsToRun, MeansRun}, Made.MeansMake, Maps.MeansMap, Unpacked.{GuardsUnpack, MeansUnpack}}
 use Rattle.uimg_unpacking.specs.Places.{ChangesWithin}
 use Rattle.uimg_world.specs.Deeds.{Deed, LendsReader, LendsShelf, changes}
 use Rattle.uimg_world.specs.declared.file_id.FileId.{FileId}
@@ -28,6 +28,7 @@ Means device identities (Check it) files before after = MeansCheck it files befo
 Means device identities (Unpack it) files before after = MeansUnpack it files before after
 Means device identities (Map it) files before after = MeansMap it.image.now it.picture files
 Means device identities (Info it) files before after = OfFile files it.image.now (IsFacts it.image.now)
+Means device identities (Diff it) files before after = MeansDiff it files
 
 -- What a request keeps to whatever comes of it: a refused unpacking leaves the folder, and one by keys changes no file
 -- unless they sign the image.
@@ -36,8 +37,8 @@ Guards (Unpack it) files status before after = GuardsUnpack it files status befo
 Guards asked files status before after = ⊤
 
 -- A command on one image opens it and nothing else, and changes only the file of an extraction. A making
--- lends a reader, and a shelf in its image's file alone. A check, facts and a map that is not drawn change
--- no file, and an unpacking only files and its temporary folder in its folder. A map that is drawn opens
+-- lends a reader, and a shelf in its image's file alone. A check, facts, a comparison and a map that is not
+-- drawn change no file, and an unpacking only files and its temporary folder in its folder. A map that is drawn opens
 -- its image, and changes the picture's file alone.
 abbrev pub ChangesOne : Request → List Deed → List Deed → Type 0
 ChangesOne (asked.Run it) old new = CallsToRun it it.outfile old new
@@ -50,3 +51,4 @@ Changes (Check it) old new = changes new ≡ changes old
 Changes (Unpack it) old new = ChangesWithin it.folder.now true old new
 Changes (Map it) old new = AsksToMap it it.picture old new
 Changes (Info it) old new = changes new ≡ changes old
+Changes (Diff it) old new = changes new ≡ changes old

@@ -46,7 +46,7 @@ abbrev pub IsTextOf : Json → List ℕ → Type 0
 IsTextOf told text = text ≡ print (json_tokens told)
 
 -- Facts are not told for this reason: it is their fault, or a read failed or memory was refused.
-abbrev pub StopsBy : Result Json Fault → NoFacts → Type 0
+abbrev pub StopsBy : {X : Type 0} → Result X Fault → NoFacts → Type 0
 StopsBy facts (stop.Refused fault) = (fault_status fault ≡ 3) ⊎ (facts ≡ Err fault)
 StopsBy facts stop.Changed = ⊥
 StopsBy facts stop.NoMemory = ⊤

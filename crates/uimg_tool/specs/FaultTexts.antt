@@ -41,6 +41,9 @@ request_text (request.Mapped fault) = Some (mapped.text_of fault)
 request_text (request.Unmapped fault) = Some (mapped.text_of fault)
 request_text request.NoImages = Some (words.text_of NoImages)
 request_text request.NoHash = Some (codes "no image has a hash, as there is none")
+request_text (request.InImage path fault) = Some (printed false path.0.now ++ codes ": " ++ text_of fault)
+request_text (request.Twice path) =
+    Some (printed false path.0.now ++ codes ": two nodes or properties have the same name")
 request_text fault = None
 
 -- what is told of a fault: nothing where nobody reads it, or a line

@@ -33,6 +33,8 @@ request_status request.NoImages = 2
 request_status (request.NoRoom path) = 1
 request_status (request.Mapped fault) = 1
 request_status request.NoHash = 1
+request_status (request.Twice path) = 1
+request_status (request.InImage path fault) = fault_status fault
 request_status (request.Stopped fault) = fault_status fault
 request_status fault = 3
 

@@ -1,13 +1,13 @@
 -- What an unpacking prints on standard error, over the files of a world.
-use Rattle.std.specs.Prelude.{◌≡◌, ◌⊎◌, ℕ, List, codes, Bool, true, false, IsTrue, is_some, Option, Some, None, if◌then◌else◌}
-use Rattle.std.specs.Borrow.{Bor}
+use Rattle.std.specs.Prelude.{◌≡◌, ◌⊎◌, ℕ, List, codes, Bool, true, false, IsTrue, Vec, is_some, Option, Some, None, if◌then◌else◌}
+use Rattle.std.specs.{Borrow.Bor, BTreeSet.BTreeSet, Global.Global, Option.option_copied}
 use Rattle.uimg_base.specs.Named.{FileMap}
 use Rattle.uimg_cli.specs.declared.command_line.unpack.UnpackRequest.{UnpackRequest}
 use Rattle.uimg_engine.specs.{FaultTexts.text_of, Headline.is_fit}
 use Rattle.uimg_requests.specs.declared.command.Form.TheVariants as form
 use Rattle.uimg_checks.specs.{CheckEnds.Shows, Lines.answer_line, Verdicts.verdict_of, declared.{answer.Answer.Answer, judging.Terms.Terms}}
 use Rattle.uimg_verifying.specs.declared.required.Required.{Required}
-use Rattle.uimg_tool.specs.{EndingStatuses.ending_status, Statuses.is_of_command, UnpackEnds.end_of, Unpackings.{signed_terms, unpacking_of}}
+use Rattle.uimg_tool.specs.{EndingStatuses.ending_status, Statuses.is_of_command, UnpackEnds.end_of, Unpackings.{IsChosen, IsUnchosen, signed_terms, unpacking_of}}
 use Rattle.uimg_tool.specs.declared.unpack_answers.Ending.{Ending}
 use Rattle.uimg_tool.specs.declared.unpack_answers.Ending.TheVariants as ending
 use Rattle.uimg_unpacking.specs.Ends.{EndsByFile}
@@ -23,10 +23,20 @@ EndsIn false asked file end = (ended : Ended) × (end ≡ end_of ended)
 abbrev pub EndsOver : Unpacking → List ℕ → Ending → Type 0
 EndsOver asked file end = (ending_status end ≡ 3) ⊎ EndsIn (is_fit form.Guess file) asked file end
 
--- the same of the file at a path, which can be opened or not
-abbrev pub EndsAt : FileMap → Unpacking → List ℕ → Ending → Type 0
+-- the same of a request, with the images that are chosen in the file
+pub record EndsChosen (asked : UnpackRequest) (path : Bor (List ℕ)) (file : List ℕ) (end : Ending) : Type 0 where
+  pub among : Option (Bor (BTreeSet (Vec ℕ Global)))
+  pub chosen : IsChosen asked.config file (option_copied among)
+  pub ends : EndsIn (is_fit form.Guess file) (unpacking_of asked among None path) file end
+
+-- of the file at a path, which can be opened or not
+abbrev pub EndsAt : FileMap → UnpackRequest → Bor (List ℕ) → Ending → Type 0
 EndsAt files asked path end =
-    (ending_status end ≡ 3) ⊎ ((file : List ℕ) × (files.bytes path ≡ Some file) × EndsIn (is_fit form.Guess file) asked file end)
+    (ending_status end ≡ 3) ⊎ ((file : List ℕ) × (files.bytes path.now ≡ Some file) × EndsChosen asked path file end)
+
+-- The end is an answer that shows why no image is chosen.
+abbrev pub EndsUnchosen : UnpackRequest → List ℕ → Ending → Type 0
+EndsUnchosen asked file end = (answer : Answer) × (end ≡ ending.Unsigned answer) × IsUnchosen asked.config file answer
 
 -- The end is the answer of a check by keys, if there are any.
 pub record EndsUnsigned (terms : Terms) (file : List ℕ) (end : Ending) : Type 0 where
@@ -39,10 +49,10 @@ pub record EndsUnsigned (terms : Terms) (file : List ℕ) (end : Ending) : Type 
 abbrev pub EndsSigned : Unpacking → Terms → List ℕ → Ending → Type 0
 EndsSigned asked terms file end = EndsOver asked file end ⊎ EndsUnsigned terms file end
 
--- the same of the file at a path
+-- the end of the file at a path
 abbrev pub EndsAsked : FileMap → UnpackRequest → Option Required → Bor (List ℕ) → Ending → Type 0
-EndsAsked files asked keys path end = EndsAt files (unpacking_of asked None path) path.now end
-    ⊎ ((file : List ℕ) × (files.bytes path.now ≡ Some file) × EndsUnsigned (signed_terms asked keys) file end)
+EndsAsked files asked keys path end = EndsAt files asked path end
+    ⊎ ((file : List ℕ) × (files.bytes path.now ≡ Some file) × (EndsUnsigned (signed_terms asked keys) file end ⊎ EndsUnchosen asked file end))
 
 -- What is told of an end: a fault, or a trouble, whose text is not defined, or the line of a check of the image at this
 -- path. What was unpacked or is refused or weak has its lines on standard output.

@@ -4,8 +4,11 @@ ghost use Rattle.std.specs.Prelude.{◌≡◌, ◌≤◌, ◌||◌, max, true, I
 ghost use Rattle.std.specs.Io.KnownBytes.{Appends, Keeps};
 ghost use Rattle.uimg_base.specs.Named.{SameFiles};
 ghost use Rattle.uimg_checks.specs.Answers.{answer_status};
-ghost use Rattle.uimg_tool.specs.{AnswerTexts.{answer_text, object_line, text_line}, Answering.Comes, Checking.{ChecksBy, EndsWith, MeansCheck}, Checks.{AnswersFile, LooksAt, names_end, names_path}, FaultTexts.told_of_exit, Statuses.{Grows, exit_status, request_status}};
+ghost use Rattle.uimg_tool.specs.{AnswerTexts.{answer_text, object_line, text_line}, Answering.Comes, Checking.{AnswersAll, ChecksBy, EndsWith, MeansCheck}, Checks.{AnswersFile, LooksAt, names_end, names_path}, FaultTexts.told_of_exit, Statuses.{Grows, exit_status, request_status}};
 ghost use Rattle.uimg_world.specs.Deeds.{changes};
+
+mod below;
+mod folder_paths;
 
 use crate::complaints::unprinted;
 use crate::json_lines::put_json;
@@ -71,6 +74,7 @@ fn check_by<'a, D: World, W: Write>(
         room: Room::new(world.alloc()),
         greatest: DONE,
         has_checked: false,
+        skipped: 0,
     };
     match checks.check_all(world, asked, out) {
         Ok(()) => end_of(
@@ -95,16 +99,18 @@ fn end_of<'a>(has_checked: bool, allows_none: bool, greatest: u8) -> Result<u8, 
     }
 }
 
-// The checks so far: their shared room, the greatest status, and whether there was one.
+// The checks so far: their shared room, the greatest status, whether there was one, and how many files
+// below a folder were skipped.
 #[derive(Drop)]
 struct Checks {
     room: Room<Global>,
     greatest: u8,
     has_checked: bool,
+    skipped: u64,
 }
 
 impl Checks {
-    ghost use Rattle.uimg_tool.specs.Checks.{Answers, AnswersAll, AnswersNamed, AnswersUnlessEmpty, told};
+    ghost use Rattle.uimg_tool.specs.Checks.{Answers, AnswersNamed, AnswersUnlessEmpty, text_for, told};
 
     fn check_all<'b, D: World, W: Write>(
         &mut self,
@@ -121,7 +127,7 @@ impl Checks {
         ensures fails { IfErr result (λ fault. request_status fault ≡ 3) }
     {
         for path in &asked.request.images {
-            self.check(world, asked, path.as_bytes(), out)?;
+            self.check_given(world, asked, path, out)?;
         }
         match asked.request.files_from {
             Some(path) => self.check_named(world, asked, path, out),
@@ -199,19 +205,32 @@ impl Checks {
     {
         let mut names = Names::new(world.alloc());
         let answer = answer(world, asked, path, &mut self.room, &mut names);
-        self.note(&answer);
-        if asked.request.is_quiet && answer.word() == "ok" {
-            return Ok(());
-        }
-        put_answer(world.alloc(), asked.request.as_json, path, &answer, out)
+        self.put(world.alloc(), asked, path, &answer, out)
     }
 
-    fn note(&mut self, answer: &Answer<'_>)
+    // Notes an answer, and writes its line.
+    fn put<'b, W: Write>(
+        &mut self,
+        alloc: Global,
+        asked: &Keyed<'_, 'b>,
+        path: &[u8],
+        answer: &Answer<'_>,
+        out: &mut W,
+    ) -> Result<(), RequestFault<'b>>
+        ensures grows { Grows self.old.greatest self.new.greatest }
         ensures greatest { self.new.greatest ≡ max self.old.greatest (answer_status answer.now) }
         ensures checked { self.new.has_checked ≡ true }
+        ensures skipped { self.new.skipped ≡ self.old.skipped }
+        ensures put { OnOk result (Appends (W.contents out.old) (W.contents out.new)
+            (text_for asked.now path.now answer.now)) }
+        ensures fails { IfErr result (λ fault. request_status fault ≡ 3) }
     {
         self.greatest = u8::max(self.greatest, answer.status());
         self.has_checked = true;
+        if asked.request.is_quiet && answer.word() == "ok" {
+            return Ok(());
+        }
+        put_answer(alloc, asked.request.as_json, path, answer, out)
     }
 }
 

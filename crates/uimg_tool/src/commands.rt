@@ -10,6 +10,7 @@ ghost use Rattle.uimg_tool.specs.Complaints.{ComplainsBetween, Ends};
 use crate::checks::check_images;
 use crate::complaint::{Complaint, told};
 use crate::complaints::{Complaints, is_closed, unprinted};
+use crate::diffs::diff_images;
 use crate::facts::tell_facts;
 use crate::images::run_image;
 use crate::making::make_in;
@@ -58,6 +59,10 @@ pub(crate) fn run<'x, 'a, D: MakingWorld<'a>, W: Write + Drop>(
         }
         Asked::Info(request) => {
             let end = tell_facts(world, request, &mut out);
+            (told(end), out)
+        }
+        Asked::Diff(request) => {
+            let end = diff_images(world, request, &mut out);
             (told(end), out)
         }
     }

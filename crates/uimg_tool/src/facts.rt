@@ -60,15 +60,15 @@ pub(crate) fn put_object<'a, W: Write>(
     }
 }
 
-// Why an image has no facts.
-enum Stop {
-    // The image is refused, or a read failed.
+/// Why an image has no facts or statements.
+pub(crate) enum Stop {
+    /// The image is refused, or a read failed.
     Refused(Fault),
 
-    // The file has another blob when it is read again.
+    /// The file has another blob when it is read again.
     Changed,
 
-    // Memory ran out.
+    /// Memory ran out.
     NoMemory,
 }
 

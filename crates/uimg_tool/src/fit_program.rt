@@ -48,7 +48,7 @@ pub(crate) fn make_fit<'p, D: MakingWorld<'p>, W: Write, V: Write>(
     }
     match read_source(world, request) {
         Ok(source) => make_of_text(world, request, source, out, complaints),
-        Err(reason) => tell_no_tree(world, request.source, request.outfile, reason, complaints),
+        Err(reason) => tell_no_tree(world, request.source, request.outfile, &reason, complaints),
     }
 }
 
@@ -106,7 +106,7 @@ fn make_of_text<'p, D: MakingWorld<'p>, W: Write, V: Write>(
                 complaints,
             )
         }
-        Err(reason) => tell_no_tree(world, path, request.outfile, reason, complaints),
+        Err(reason) => tell_no_tree(world, path, request.outfile, &reason, complaints),
     }
 }
 
@@ -153,7 +153,7 @@ fn make_compiled<'p, D: MakingWorld<'p>, F: Files, W: Write, V: Write>(
         }
         Err(fault) => {
             let reason = NoTree::Stopped(RequestFault::Stopped(Fault::Fit(fault)));
-            tell_no_tree(world, making.source, making.image, reason, complaints)
+            tell_no_tree(world, making.source, making.image, &reason, complaints)
         }
     }
 }
@@ -201,7 +201,7 @@ pub(crate) fn make_auto<'p, D: MakingWorld<'p>, W: Write, V: Write>(
         }
         Err(fault) => {
             let reason = unread(request.outfile, files.has_met_left_out(), fault);
-            tell_no_tree(world, OWN_SOURCE, request.outfile, reason, complaints)
+            tell_no_tree(world, OWN_SOURCE, request.outfile, &reason, complaints)
         }
     }
 }

@@ -5,7 +5,7 @@ ghost use Rattle.uimg_base.specs.{Honest.IfHonest, Named.SameFiles};
 ghost use Rattle.uimg_tool.specs.{Answering.Comes, FaultTexts.told_of_end, Statuses.end_status};
 ghost use Rattle.uimg_tool.specs.Images.{CallsToRun, ClosesAt, Compares, IsExtracted, IsOutcome, IsWritten, MeansRun, WritesApart, run_end};
 
-use crate::reasons::{Watched, reason_of_code};
+use crate::reasons::{ReasonKeeper, reason_of_code};
 use crate::request_fault::RequestFault;
 use std::alloc::Global;
 use std::cell::Cell;
@@ -105,7 +105,12 @@ pub(crate) fn extract_to<'a, D: World, S: Source>(
 {
     let (path, at) = paths;
     let code = Cell::new(None);
-    let (end, file) = run_over(world.alloc(), request, source, Watched::new(file, &code));
+    let (end, file) = run_over(
+        world.alloc(),
+        request,
+        source,
+        ReasonKeeper::new(file, &code),
+    );
     let closed = world.close(at, file.into_inner(), false);
     match (end, closed) {
         (Err(RequestFault::Stopped(Fault::Put)), _) => {

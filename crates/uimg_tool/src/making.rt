@@ -10,7 +10,7 @@ ghost use Rattle.uimg_world.specs.Deeds.{Deed};
 use crate::folder_files::{FolderFiles, LeftOut};
 use crate::lookup::Folders;
 use crate::old_files::Begun;
-use crate::reasons::Watched;
+use crate::reasons::ReasonKeeper;
 use crate::request_fault::RequestFault;
 use std::alloc::Global;
 use std::cell::Cell;
@@ -37,7 +37,7 @@ pub(crate) fn make_in<'a, 'p, D: MakingWorld<'p>, W: Write>(
     let alloc = world.alloc();
     let reader = world.reader();
     let code = Cell::new(None);
-    let shelf = Watched::new(world.shelf_at(request.outfile), &code);
+    let shelf = ReasonKeeper::new(world.shelf_at(request.outfile), &code);
     let end = make_among::<_, _, _, Brand>(alloc, request, false, reader, shelf, out);
     end_written(request, end, code.get())
 }
@@ -94,13 +94,13 @@ pub(crate) fn make_command<'a, 'p, D: MakingWorld<'p>, W: Write>(
     let made = match begun {
         Some(Begun { file, path }) => match world.shelf_in(path.new.as_str(), file) {
             Ok(shelf) => {
-                let shelf = Watched::new(shelf, &code);
+                let shelf = ReasonKeeper::new(shelf, &code);
                 make_among::<_, _, _, Brand>(alloc, request, request.is_xip, reader, shelf, out)
             }
             Err(_) => Err(RequestFault::OutOfMemory),
         },
         None => {
-            let shelf = Watched::new(world.shelf_at(request.outfile), &code);
+            let shelf = ReasonKeeper::new(world.shelf_at(request.outfile), &code);
             make_among::<_, _, _, Brand>(alloc, request, request.is_xip, reader, shelf, out)
         }
     };

@@ -1,12 +1,13 @@
 //! Why a source gives no tree, and how mkimage tells that.
 
-ghost use Rattle.std.specs.Prelude.{◌≡◌, ◌≤◌};
+ghost use Rattle.std.specs.Prelude.{◌≡◌, ◌≤◌, ◌+◌, ◌-◌, ◌^◌, min};
 ghost use Rattle.uimg_tool.specs.{Complaints.Ends, SourceStatuses.refused_status};
 ghost use Rattle.uimg_world.specs.Deeds.{changes};
 
 use crate::complaints::Complaints;
-use crate::old_files::{about_end, tell_end};
+use crate::old_files::{about_fault, tell_fault};
 use crate::request_fault::{FAILED, REFUSED, RequestFault, WRONG_LINE};
+use std::fmt::Display;
 use std::io::Write;
 use uimg_compat::OldFault;
 use uimg_dts::{DtsFault, DtsKind, Refusal};
@@ -40,40 +41,58 @@ pub(crate) fn tell_no_tree<D: World, V: Write>(
     world: &mut D,
     source: &str,
     image: &str,
-    reason: NoTree<'_>,
+    reason: &NoTree<'_>,
     complaints: &mut Complaints<'_, V>,
 ) -> u8
     ensures failed { 1 ≤ result }
     ensures ends { Ends result complaints.old.count complaints.new.count }
     ensures kept { changes (D.trace world.new) ≡ changes (D.trace world.old) }
 {
-    let path = Printed(source.as_bytes());
     match reason {
-        NoTree::NotDone(fault) => complaints.tell(&fault, WRONG_LINE),
+        NoTree::NotDone(fault) => complaints.tell(fault, WRONG_LINE),
         NoTree::Stopped(fault) => {
-            let end = Err(fault);
-            let about = about_end(&end, source, image);
-            tell_end(world, &end, about, complaints)
+            let about = about_fault(fault, source, image);
+            tell_fault(world, fault, about, complaints)
         }
         NoTree::TooLong => {
-            let reason = format_args!("{path}: a source of more than 64 MiB");
-            complaints.tell(&reason, REFUSED)
+            let reason = "a source of more than 64 MiB";
+            tell_of(source, &reason, REFUSED, complaints)
         }
         NoTree::InSeveral => {
-            let reason = format_args!(
-                "{path}: a file that it includes is in several folders of -D -i"
-            );
-            complaints.tell(&reason, REFUSED)
+            let reason = "a file that it includes is in several folders of -D -i";
+            tell_of(source, &reason, REFUSED, complaints)
         }
-        NoTree::NotOpened(line, name) => {
-            let name = Printed(name.as_slice());
-            let reason = format_args!("{path}: cannot read {name}, which line {line} names");
-            complaints.tell(&reason, FAILED)
-        }
-        NoTree::Refused(fault) => {
-            complaints.tell(&format_args!("{path}: {fault}"), refused_status(fault.kind))
-        }
+        NoTree::NotOpened(line, name) => tell_not_opened(source, *line, name, complaints),
+        NoTree::Refused(fault) => { tell_of(source, fault, refused_status(fault.kind), complaints) }
     }
+}
+
+fn tell_not_opened<V: Write>(
+    source: &str,
+    line: u64,
+    name: &[u8],
+    complaints: &mut Complaints<'_, V>,
+) -> u8
+    ensures failed { 1 ≤ result }
+    ensures ends { Ends result complaints.old.count complaints.new.count }
+{
+    let name = Printed(name);
+    let reason = format_args!("cannot read {name}, which line {line} names");
+    tell_of(source, &reason, FAILED, complaints)
+}
+
+// The reason lies in the source at this path.
+fn tell_of<T: Display, V: Write>(
+    source: &str,
+    reason: &T,
+    status: u8,
+    complaints: &mut Complaints<'_, V>,
+) -> u8
+    ensures status { result ≡ status }
+    ensures counted { complaints.new.count ≡ min (complaints.old.count + 1) (2 ^ 64 - 1) }
+{
+    let path = Printed(source.as_bytes());
+    complaints.tell(&format_args!("{path}: {reason}"), status)
 }
 
 /// Returns the status where dtc's language refuses a source: that of a refusal, unless the reason is

@@ -1,10 +1,10 @@
 //! The images that mkimage makes: each is beside its name until it is complete.
 
-ghost use Rattle.std.specs.Prelude.{◌≡◌, ◌∷◌, ◌⊎◌, [], IsTrue, false, is_err, is_ok, true, if◌then◌else◌};
+ghost use Rattle.std.specs.Prelude.{◌≡◌, ◌∷◌, ◌⊎◌, [], Err, IsTrue, false, is_err, is_ok, true, if◌then◌else◌};
 ghost use Rattle.std.specs.Io.Buffered.{writer_buffer, writer_contents};
 ghost use Rattle.uimg_tool.specs.{Complaints.Ends, Finishing.FinishesBy, RequestEnds.{MakeEnds, is_about_source}};
 ghost use Rattle.uimg_tool.specs.OldMakings.{AnswersOldMaking, IsNew, LendsAt, ListsIn, MakesFor, Named, path_for};
-ghost use Rattle.uimg_tool.specs.Statuses.{end_status};
+ghost use Rattle.uimg_tool.specs.Statuses.{end_status, request_status};
 ghost use Rattle.uimg_world.specs.Deeds.{Deed, changes};
 
 use crate::complaints::Complaints;
@@ -139,10 +139,20 @@ pub(crate) fn about_end<'a>(
     ensures { result ≡ (if is_about_source end.now then source.entry else image.entry) }
 {
     match end {
-        Err(RequestFault::Stopped(Fault::Fit(FitFault::PositionTooLow))) => image,
-        Err(RequestFault::Stopped(Fault::Fit(FitFault::TooLarge))) => image,
-        Err(RequestFault::Stopped(Fault::Its(_))) => source,
-        Err(RequestFault::Stopped(Fault::Fit(_))) => source,
+        Err(fault) => about_fault(fault, source, image),
+        Ok(_) => image,
+    }
+}
+
+/// As `about_end`, of a fault.
+pub(crate) fn about_fault<'a>(fault: &RequestFault<'_>, source: &'a str, image: &'a str) -> &'a str
+    ensures { result ≡ (if is_about_source (Err fault.now) then source.entry else image.entry) }
+{
+    match fault {
+        RequestFault::Stopped(Fault::Fit(FitFault::PositionTooLow)) => image,
+        RequestFault::Stopped(Fault::Fit(FitFault::TooLarge)) => image,
+        RequestFault::Stopped(Fault::Its(_)) => source,
+        RequestFault::Stopped(Fault::Fit(_)) => source,
         _ => image,
     }
 }
@@ -184,20 +194,36 @@ pub(crate) fn tell_end<D: World, V: Write>(
     match end {
         Ok(Status::Done) => DONE,
         Ok(Status::NotRight) => REFUSED,
-        Err(RequestFault::Stopped(fault)) => {
+        Err(fault) => tell_fault(world, fault, path, complaints),
+    }
+}
+
+/// Reports a fault with its path, and returns its status.
+pub(crate) fn tell_fault<D: World, V: Write>(
+    world: &mut D,
+    fault: &RequestFault<'_>,
+    path: &str,
+    complaints: &mut Complaints<'_, V>,
+) -> u8
+    ensures status { result ≡ request_status fault.now }
+    ensures ends { Ends result complaints.old.count complaints.new.count }
+    ensures kept { changes (D.trace world.new) ≡ changes (D.trace world.old) }
+{
+    match fault {
+        RequestFault::Stopped(fault) => {
             let path = Printed(path.as_bytes());
             let status = status_of_fault(*fault);
             complaints.tell(&format_args!("{path}: {fault}"), status)
         }
-        Err(RequestFault::CannotRead(path)) => complaints.tell_unread(world, path),
-        Err(RequestFault::CannotWrite(path, reason) | RequestFault::NotPut(path, reason)) => {
+        RequestFault::CannotRead(path) => complaints.tell_unread(world, path),
+        RequestFault::CannotWrite(path, reason) | RequestFault::NotPut(path, reason) => {
             complaints.tell_unwritten(path, reason)
         }
-        Err(RequestFault::NotPrinted(error)) => complaints.tell_unprinted(error),
-        Err(RequestFault::WritesWhatIsRead(path)) => {
+        RequestFault::NotPrinted(error) => complaints.tell_unprinted(error),
+        RequestFault::WritesWhatIsRead(path) => {
             let fault = RequestFault::DrawsOverWhatIsRead(Printed(path.as_bytes()));
             complaints.tell(&fault, status_of(&fault))
         }
-        Err(fault) => complaints.tell(fault, status_of(fault)),
+        fault => complaints.tell(fault, status_of(fault)),
     }
 }

@@ -15,29 +15,29 @@ pub(crate) fn reason_of_code(code: Option<i32>) -> io::Error {
     }
 }
 
-/// A writer, or a shelf, that notes the code of the system's error where a write fails.
+/// A writer, or a shelf, that keeps the code of the system's error where a write fails.
 #[derive(Drop)]
-pub(crate) struct Watched<'a, W: Write> {
+pub(crate) struct ReasonKeeper<'a, W: Write> {
     writer: W,
     code: &'a Cell<Option<i32>>,
 }
 
-impl<'a, W: Write> Watched<'a, W> {
-    pub(crate) fn new(writer: W, code: &'a Cell<Option<i32>>) -> Watched<'a, W>
+impl<'a, W: Write> ReasonKeeper<'a, W> {
+    pub(crate) fn new(writer: W, code: &'a Cell<Option<i32>>) -> ReasonKeeper<'a, W>
         ensures { result.writer ≡ writer }
     {
-        Watched { writer, code }
+        ReasonKeeper { writer, code }
     }
 
     pub(crate) fn into_inner(self) -> W
         ensures { result ≡ self.entry.writer }
     {
-        let Watched { writer, code: _ } = self;
+        let ReasonKeeper { writer, code: _ } = self;
         writer
     }
 }
 
-impl<'a, W: Write> Write for Watched<'a, W> {
+impl<'a, W: Write> Write for ReasonKeeper<'a, W> {
     ghost contents = { λ s. W.contents s.writer };
 
     fn write(&mut self, buf: &[u8]) -> io::Result<usize> {
@@ -57,7 +57,7 @@ impl<'a, W: Write> Write for Watched<'a, W> {
     }
 }
 
-impl<'a, H: Shelf> Shelf for Watched<'a, H> {
+impl<'a, H: Shelf> Shelf for ReasonKeeper<'a, H> {
     type Kept = H::Kept;
 
     ghost honest = { H.honest };
@@ -65,7 +65,7 @@ impl<'a, H: Shelf> Shelf for Watched<'a, H> {
     ghost steady = { H.steady };
 
     fn keep(self) -> Result<H::Kept, SourceFault> {
-        let Watched { writer, code: _ } = self;
+        let ReasonKeeper { writer, code: _ } = self;
         writer.keep()
     }
 }

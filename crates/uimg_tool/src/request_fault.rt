@@ -75,6 +75,12 @@ pub(crate) enum RequestFault<'a> {
     NoKeys(Printed<'a>, KeyFault),
 
     NoHash,
+
+    // One of two images that are compared is refused, or a read of it failed.
+    InImage(Printed<'a>, Fault),
+
+    // It has two nodes or two properties of a name.
+    Twice(Printed<'a>),
 }
 
 impl<'a> Display for RequestFault<'a> {
@@ -112,6 +118,10 @@ impl<'a> Display for RequestFault<'a> {
             RequestFault::NoImages => write!(f, "{}", WordsFault::NoImages),
             RequestFault::NoKeys(path, fault) => write!(f, "{path}: {fault}"),
             RequestFault::NoHash => f.write_str("no image has a hash, as there is none"),
+            RequestFault::InImage(path, fault) => write!(f, "{path}: {fault}"),
+            RequestFault::Twice(path) => {
+                write!(f, "{path}: two nodes or properties have the same name")
+            }
         }
     }
 }
@@ -132,6 +142,8 @@ pub(crate) fn status_of(fault: &RequestFault<'_>) -> u8
         RequestFault::NoRoom(_) => REFUSED,
         RequestFault::Mapped(_) => REFUSED,
         RequestFault::NoHash => REFUSED,
+        RequestFault::Twice(_) => REFUSED,
+        RequestFault::InImage(_, fault) => status_of_fault(*fault),
         RequestFault::Stopped(fault) => status_of_fault(*fault),
         _ => FAILED,
     }

@@ -7,7 +7,7 @@ ghost use Rattle.uimg_tool.specs.{Complaints.Ends, OldMakings.{IsNew, LendsAt, M
 use crate::complaints::Complaints;
 use crate::made::Made;
 use crate::old_files::{Begun, about_end, tell_end, tell_made};
-use crate::reasons::{Watched, reason_of_code};
+use crate::reasons::{ReasonKeeper, reason_of_code};
 use crate::request_fault::RequestFault;
 use crate::writing::begin_image;
 use std::alloc::Global;
@@ -148,7 +148,7 @@ fn make_on<'p, F: Files, H: Shelf, W: Write>(
         tree,
         manner,
         files,
-        Watched::new(shelf, &code),
+        ReasonKeeper::new(shelf, &code),
         &mut Room::new(alloc),
         &mut Out::new(out),
     );

@@ -20,7 +20,7 @@ pub(crate) enum Ending<'a> {
     /// Lines have reported all. It is done if all is kept.
     Told(Status),
 
-    /// The keys do not sign the image, by this answer of a check.
+    /// The keys do not sign the image, or it lacks what is chosen, by this answer of a check.
     Unsigned(Answer<'a>),
 
     /// The image could not be opened.

@@ -1,31 +1,29 @@
 //! Unpacks an image.
 
-ghost use Rattle.std.specs.Prelude.{◌≡◌, ◌⊎◌, ◌≤◌, ℕ, List, Err, IfErr, IfOk, IfSome, IsTrue, None, OnErr, Option, Some, is_some, max, true, false};
+ghost use Rattle.std.specs.Prelude.{◌≡◌, ◌⊎◌, ◌≤◌, ℕ, List, Err, IfErr, IfOk, IfSome, IsTrue, None, OnErr, Option, Some, is_some, true, false};
 ghost use Rattle.uimg_base.specs.{Device.SameDevice, Honest.IfHonest};
-ghost use Rattle.uimg_checks.specs.{Answers.answer_status, CheckEnds.Shows, Verdicts.verdict_of};
-ghost use Rattle.uimg_tool.specs.{Answering.Comes, EndingStatuses.{HasEndingStatus, TellsCommand, ending_status}, FaultTexts.{told_of_complaint, told_of_exit}, Statuses.{closing_status, complaint_status, exit_status, is_of_command, request_status, trouble_status}};
+ghost use Rattle.uimg_checks.specs.{CheckEnds.Shows, Verdicts.verdict_of};
+ghost use Rattle.uimg_tool.specs.{Answering.Comes, EndingStatuses.ending_status, FaultTexts.told_of_complaint, Statuses.closing_status};
 ghost use Rattle.uimg_tool.specs.Leavings.{LeavesAsked, LeavesEnding, is_refusal};
-ghost use Rattle.uimg_tool.specs.UnpackComplaints.{EndsAsked, EndsOver, EndsSigned, told_of_unpacking};
-ghost use Rattle.uimg_tool.specs.Unpackings.{HoldsPayloads, IsRight, KeepsAt, KeepsBy, KeepsImage, RightAt, SignedBy, is_signed, signed_terms, unpacking_of};
+ghost use Rattle.uimg_tool.specs.UnpackComplaints.{EndsAsked, EndsOver, EndsSigned};
+ghost use Rattle.uimg_tool.specs.Unpackings.{HoldsPayloads, IsChosen, IsRight, IsUnchosen, KeepsAt, KeepsBy, KeepsImage, RightAt, SignedBy, is_signed, signed_terms, unpacking_of};
 ghost use Rattle.uimg_tool.specs.Unpacked.{GuardsUnpack, MeansUnpack, TellsImage};
 ghost use Rattle.uimg_unpacking.specs.Leaving.{Leaves};
 ghost use Rattle.uimg_unpacking.specs.Places.{ChangesWithin, Obeys, terms_of};
-ghost use Rattle.uimg_world.specs.Deeds.{changes};
 
-use crate::complaint::{Complaint, told};
-use crate::complaints::{unprinted, unread};
-use crate::facts::put_object;
+use crate::complaint::Complaint;
 use crate::json_lines::JsonOut;
 use crate::keys::keys_of;
-use crate::request_fault::{DONE, FAILED, REFUSED, RequestFault};
-use crate::unpack_answers::{Ending, answer_of_ending};
+use crate::request_fault::DONE;
+use crate::unpack_answers::Ending;
+use crate::unpack_ends::{end_of, troubled};
 use std::alloc::Global;
+use std::collections::BTreeSet;
 use std::io::Write;
 use uimg_base::{Room, Source, Status};
-use uimg_checks::{Answer, Configurations, Names, Terms, answer_of_source, line_text, object_text};
+use uimg_checks::{Answer, Configurations, Names, Terms, answer_of_source, configuration_images};
 use uimg_cli::UnpackRequest;
 use uimg_engine::{Fault, Form, is_fit};
-use uimg_printing::Printed;
 use uimg_unpacking::{Folder, Limits, Trouble, Unpacking, unpack, unpack_parts};
 use uimg_world::{FileId, World};
 
@@ -135,12 +133,12 @@ fn unpack_and_tell<'a, D: World, W: Write + Drop>(
         (D.map world.old) request.now terms.now.required (Some path.entry) (closing_status result)
         (told_of_complaint result) }
 {
-    let mut names = Names::new(world.alloc());
+    let mut names = (Names::new(world.alloc()), Names::new(world.alloc()));
     let ending = unpack_at(world, path, request, terms, &mut names, out);
     end_of(world, path, request.as_json, ending, out)
 }
 
-fn folder_of<'a>(request: &UnpackRequest<'a>, image: Option<FileId>) -> Folder<'a>
+fn folder_of<'a, 'p: 'a>(request: &UnpackRequest<'p>, image: Option<FileId>) -> Folder<'a>
     ensures { result ≡ record {
       path = request.now.folder;
       image = image;
@@ -156,16 +154,38 @@ fn folder_of<'a>(request: &UnpackRequest<'a>, image: Option<FileId>) -> Folder<'
     }
 }
 
-fn unpacking_of<'a>(
-    request: &UnpackRequest<'a>,
+// Returns the names of the images of the chosen configuration, if one is chosen.
+fn chosen_by<'n, S: Source>(
+    alloc: Global,
+    config: Option<&str>,
+    source: &mut S,
+    names: &'n mut Names,
+) -> Result<Option<BTreeSet<Vec<u8>>>, Answer<'n>>
+    ensures same { SameDevice (S.device source.old) (S.device source.new) }
+    ensures chosen { IfHonest S.device source (λ file.
+        IfOk result (IsChosen config.entry file)) }
+    ensures unchosen { IfHonest S.device source (λ file.
+        IfErr result (IsUnchosen config.entry file)) }
+{
+    let Some(config) = config else {
+        return Ok(None);
+    };
+    let chosen = configuration_images(alloc, config, source, names)?;
+    Ok(Some(chosen))
+}
+
+fn unpacking_of<'a, 'p: 'a>(
+    request: &UnpackRequest<'p>,
+    among: Option<&'a BTreeSet<Vec<u8>>>,
     image: Option<FileId>,
     path: &'a str,
 ) -> Unpacking<'a>
-    ensures { result ≡ unpacking_of request.now image path.entry }
+    ensures { result ≡ unpacking_of request.now among.entry image path.entry }
 {
     Unpacking {
         folder: folder_of(request, image),
         only: request.only,
+        among,
         need: request.need,
         limits: Limits {
             files: request.most_files,
@@ -182,7 +202,7 @@ fn unpack_at<'a, 'n, D: World, W: Write + Drop>(
     path: &'a str,
     request: &UnpackRequest<'a>,
     terms: &'n Terms<'_>,
-    names: &'n mut Names,
+    names: &'n mut (Names, Names),
     out: &mut W,
 ) -> Ending<'n>
     requires covers { terms.now.covers_images ≡ true }
@@ -202,11 +222,45 @@ fn unpack_at<'a, 'n, D: World, W: Write + Drop>(
     let Ok(mut source) = world.open(path) else {
         return Ending::Unread;
     };
-    let asked = unpacking_of(request, world.file_at(path), path);
-    if request.as_json {
-        unpack_signed(world, &asked, terms, names, &mut source, JsonOut::new(out))
+    let (lacking, names) = names;
+    match chosen_by(world.alloc(), request.config, &mut source, lacking) {
+        Ok(chosen) => {
+            let asked = unpacking_of(request, chosen.as_ref(), world.file_at(path), path);
+            unpack_as_asked(world, &asked, terms, names, &mut source, out)
+        }
+        Err(answer) => Ending::Unsigned(answer),
+    }
+}
+
+// Writes lines on `out`, or JSON objects.
+fn unpack_as_asked<'n, D: World, S: Source, W: Write + Drop>(
+    world: &mut D,
+    asked: &Unpacking<'_>,
+    terms: &'n Terms<'_>,
+    names: &'n mut Names,
+    source: &mut S,
+    out: &mut W,
+) -> Ending<'n>
+    requires { terms.now.covers_images ≡ true }
+    ensures within { ChangesWithin asked.now.folder.path.now true (D.trace world.old)
+        (D.trace world.new) }
+    ensures obeys { Obeys (terms_of asked.now.folder) true (D.trace world.old) (D.trace world.new) }
+    ensures done { IfHonest S.device source (λ file. result ≡ Ending.Told Status.Done →
+        IsRight asked.now file) }
+    ensures signed { IfHonest S.device source (λ file. result ≡ Ending.Told Status.Done →
+        SignedBy terms.now.required file) }
+    ensures kept { IfHonest S.device source (λ file. KeepsBy terms.now.required file
+        (D.trace world.old) (D.trace world.new)) }
+    ensures holds { IfHonest S.device source (λ file. IsTrue D.knows →
+        result ≡ Ending.Told Status.Done →
+        HoldsPayloads asked.now file (D.trace world.new)) }
+    ensures ended { IfHonest S.device source (λ file. EndsSigned asked.now terms.now file result) }
+    ensures left { LeavesEnding asked.now result (D.trace world.old) (D.trace world.new) }
+{
+    if asked.json.is_some() {
+        unpack_signed(world, asked, terms, names, source, JsonOut::new(out))
     } else {
-        unpack_signed(world, &asked, terms, names, &mut source, out)
+        unpack_signed(world, asked, terms, names, source, out)
     }
 }
 
@@ -301,127 +355,5 @@ fn unpack_source<'n, D: World, S: Source, W: Write + Drop>(
         Ok(true) => Ending::from(unpack(world, asked, source, out)),
         Ok(false) => Ending::from(unpack_parts(world, asked, source, out)),
         Err(fault) => Ending::Stopped(Fault::from(fault)),
-    }
-}
-
-// Writes what has a line or an object of its own on `out`.
-fn end_of<'a, D: World, W: Write>(
-    world: &mut D,
-    path: &'a str,
-    as_json: bool,
-    ending: Ending<'_>,
-    out: &mut W,
-) -> Result<u8, Complaint<'a>>
-    ensures most { IfOk result (λ status. status ≤ 3) }
-    ensures status { as_json ≡ false → HasEndingStatus ending.entry (closing_status result) }
-    ensures told { (closing_status result ≡ 3)
-        ⊎ (told_of_complaint result ≡ told_of_unpacking path.now as_json ending.entry) }
-    ensures command { TellsCommand ending.entry (closing_status result) out.old out.new }
-    ensures done { closing_status result ≡ 0 → ending.entry ≡ Ending.Told Status.Done }
-    ensures unasked { closing_status result ≡ 0 → D.trace world.new ≡ D.trace world.old }
-    ensures silent { as_json ≡ false → is_refusal (ending_status ending.entry) ≡ true →
-        D.trace world.new ≡ D.trace world.old }
-    ensures kept { changes (D.trace world.new) ≡ changes (D.trace world.old) }
-{
-    match ending {
-        Ending::Told(Status::Done) => Ok(DONE),
-        Ending::Told(Status::NotRight) => Ok(REFUSED),
-        Ending::Unsigned(answer) => unsigned_end(world.alloc(), path, as_json, &answer, out),
-        Ending::Troubled(trouble) if !as_json || is_of_command(&trouble) => Err(troubled(trouble)),
-        ending if as_json => told(put_ending(world, path, ending, out)),
-        Ending::Unread => Err(Complaint::Request(unread(world, path))),
-        Ending::Weak => told(put_weak(path, out)),
-        Ending::NoImage => Err(Complaint::Request(RequestFault::NoHash)),
-        Ending::Stopped(fault) => Err(Complaint::Request(RequestFault::Stopped(fault))),
-        Ending::Troubled(trouble) => Err(troubled(trouble)),
-    }
-}
-
-// The answer of a check is told, or for JSON written on `out`.
-fn unsigned_end<'a, W: Write>(
-    alloc: Global,
-    path: &str,
-    as_json: bool,
-    answer: &Answer<'_>,
-    out: &mut W,
-) -> Result<u8, Complaint<'a>>
-    ensures most { IfOk result (λ status. status ≤ 3) }
-    ensures status { (closing_status result ≡ max 1 (answer_status answer.now)) ⊎ (closing_status result ≡ 3) }
-    ensures told { (closing_status result ≡ 3) ⊎ (told_of_complaint result
-        ≡ told_of_unpacking path.now as_json (Ending.Unsigned answer.now)) }
-{
-    if as_json {
-        let status = u8::max(REFUSED, answer.status());
-        return told(put_answer(alloc, path, answer, status, out));
-    }
-    match line_text(alloc, path.as_bytes(), answer) {
-        Ok(line) => Err(Complaint::Unsigned(line, answer.status() == FAILED)),
-        Err(_) => Err(Complaint::Request(RequestFault::OutOfMemory)),
-    }
-}
-
-fn put_answer<'a, W: Write>(
-    alloc: Global,
-    path: &str,
-    answer: &Answer<'_>,
-    status: u8,
-    out: &mut W,
-) -> Result<u8, RequestFault<'a>>
-    ensures status { IfOk result (λ given. given ≡ status) }
-    ensures fails { IfErr result (λ fault. request_status fault ≡ 3) }
-{
-    match object_text(alloc, path.as_bytes(), answer) {
-        Ok(text) => put_object(text.as_slice(), status, out),
-        Err(_) => Err(RequestFault::OutOfMemory),
-    }
-}
-
-// Such a trouble is of the command line, of memory or of the output. It is told even for JSON.
-fn is_of_command(trouble: &Trouble) -> bool
-    ensures { result ≡ is_of_command trouble.now }
-{
-    match trouble {
-        Trouble::IsImage(_) | Trouble::OutOfMemory | Trouble::CannotPrint(_) | Trouble::Closed =>
-            true,
-        _ => false,
-    }
-}
-
-fn put_ending<'a, D: World, W: Write>(
-    world: &mut D,
-    path: &str,
-    ending: Ending<'_>,
-    out: &mut W,
-) -> Result<u8, RequestFault<'a>>
-    ensures most { IfOk result (λ status. status ≤ 3) }
-    ensures done { exit_status result ≡ 0 → ending.entry ≡ Ending.Told Status.Done }
-    ensures unasked { exit_status result ≡ 0 → D.trace world.new ≡ D.trace world.old }
-    ensures kept { changes (D.trace world.new) ≡ changes (D.trace world.old) }
-    ensures told { (exit_status result ≡ 3) ⊎ (told_of_exit result ≡ None) }
-{
-    let mut names = Names::new(world.alloc());
-    let answer = answer_of_ending(world, path, ending, &mut names);
-    let status = answer.status();
-    put_answer(world.alloc(), path, &answer, status, out)
-}
-
-// A legacy image has CRC-32 only.
-fn put_weak<'a, W: Write>(path: &str, out: &mut W) -> Result<u8, RequestFault<'a>>
-    ensures status { (exit_status result ≡ 1) ⊎ (exit_status result ≡ 3) }
-    ensures told { (exit_status result ≡ 3) ⊎ (told_of_exit result ≡ None) }
-{
-    match writeln!(out, "{}: weak crc32", Printed(path.as_bytes())) {
-        Ok(()) => Ok(REFUSED),
-        Err(error) => Err(unprinted(error)),
-    }
-}
-
-fn troubled<'a>(trouble: Trouble) -> Complaint<'a>
-    ensures status { complaint_status result ≡ trouble_status trouble }
-    ensures told { (complaint_status result ≡ 3) ⊎ (told_of_complaint (Err result) ≡ Some None) }
-{
-    match trouble {
-        Trouble::Closed => Complaint::Request(RequestFault::Closed),
-        trouble => Complaint::Troubled(trouble),
     }
 }

@@ -25,7 +25,7 @@ pub(crate) fn answer_of_unread<'a, D: World>(
     }
 }
 
-// Why a file could not be opened.
+/// Why a file or a folder could not be opened.
 #[derive(Debug, Drop, Error)]
 #[error("cannot read: {0}")]
-struct Unread(io::Error);
+pub(crate) struct Unread(pub(crate) io::Error);

@@ -4,7 +4,7 @@ use Rattle.std.specs.Prelude.{Result, Ok, Err, if◌then◌else◌}
 use Rattle.std.specs.List.{list_all}
 use Rattle.uimg_fit_base.specs.declared.fault.Fault.{Fault, TheVariants.{Blob, Fit, Read, Put}}
 use Rattle.uimg_fit_base.specs.declared.fault.FitFault.TheVariants.{NoSuchImage}
-use Rattle.uimg_fit_checking.specs.Unpacking.{Take, UnpackOutcome, taken, overlaps, unpack_of, is_any, is_kept, EndsAs}
+use Rattle.uimg_fit_checking.specs.Unpacking.{Take, UnpackOutcome, Which, taken, overlaps, unpack_of, is_any, is_kept, EndsAs}
 use Rattle.uimg_fit_checking.specs.declared.unpacking.Unpacked.{Unpacked, TheVariants.{Taken, Overlapping}}
 use Rattle.uimg_fit_checking.specs.declared.unpacking.node_names.NodeName.{NodeName}
 use Rattle.uimg_unpacking.specs.declared.trouble.Trouble.{Trouble}
@@ -14,7 +14,7 @@ use Rattle.uimg_unpacking.specs.declared.unpacking.Ended.TheVariants.{Kept, Refu
 use Rattle.uimg_unpacking.specs.declared.unpacking.Unpacking.{Unpacking}
 use Rattle.uimg_unpacking.specs.{Leaving.{Leaves, are_undone, is_left}, Places.{Obeys, Terms}}
 use Rattle.uimg_world.specs.Deeds.{Deed}
-use Rattle.uimg_unpacking.specs.Ends.{asked_name, end_of_taken, end_of, end_by_name, has_failed, is_whole, Ends, EndsByFile}
+use Rattle.uimg_unpacking.specs.Ends.{asked_which, chooses, end_of_taken, end_of, end_by, has_failed, is_whole, Ends, EndsByFile}
 use Rattle.uimg_unpacking.proofs.Placing.{obeys_naming}
 
 true_false : true ≡ false → ⊥
@@ -36,7 +36,7 @@ as_many (suc n) (one ∷ more) is = above n ∙ sym (above (length more))
 
 abbrev by_count : Unpacking → Bool → Bool → Ended
 by_count asked all none =
-    if none && is_some asked.only then Stopped (Fit NoSuchImage) else if none && is_some asked.need then NoImage else if all then Kept else Refused
+    if none && chooses asked then Stopped (Fit NoSuchImage) else if none && is_some asked.need then NoImage else if all then Kept else Refused
 
 same_end : (asked : Unpacking) (all : Bool) (count : ℕ) (ts : List Take) → all ≡ list_all is_kept ts → nat_lt 0 count ≡ (is_any ts || false) → end_of_taken asked all count ≡ end_of_taken asked (list_all is_kept ts) (length ts)
 same_end asked all count ts kept is = ap (λ (b : Bool). by_count asked b (count == 0)) kept ∙ ap (by_count asked (list_all is_kept ts)) (as_many count ts is)
@@ -69,12 +69,12 @@ by_result asked told (Err Put) count (Some trouble) end old new ends is good = f
 by_result asked told (Err Put) count None end old new ends is good = failed end (Troubled of.Put) _ is refl good
 
 -- it ends by the bytes of the file
-pub ends_by_file : (asked : Unpacking) (file : List ℕ) (only : Option (List ℕ)) (r : Result Unpacked Fault) (before after count : ℕ) (trouble : Option Trouble) (end : Ended) (old new : Option (List ℕ)) → Some only ≡ asked_name asked.only → before ≡ 0 → count ≡ after
+pub ends_by_file : (asked : Unpacking) (file : List ℕ) (only : Which) (r : Result Unpacked Fault) (before after count : ℕ) (trouble : Option Trouble) (end : Ended) (old new : Option (List ℕ)) → Some only ≡ asked_which asked → before ≡ 0 → count ≡ after
     → EndsAs r (unpack_of asked.need only file) (nat_lt 0 before) (nat_lt 0 after) → Ends asked r count trouble end old new → EndsByFile asked file end
 ends_by_file asked file only r before after count trouble end old new named none counted ends is good =
     by_result asked (unpack_of asked.need only file) r count trouble end old new (subst (λ (n : ℕ). EndsAs r (unpack_of asked.need only file) false (nat_lt 0 n)) (sym counted)
     (subst (λ (n : ℕ). EndsAs r (unpack_of asked.need only file) (nat_lt 0 n) (nat_lt 0 after)) none ends)) is good
-    ∙ ap (λ (o : Option (Option (List ℕ))). end_by_name asked o file) named
+    ∙ ap (λ (o : Option Which). end_by asked o file) named
 
 -- what is whole at an end
 abbrev is_kept_end : Ended → Bool
@@ -94,7 +94,7 @@ other_end end other is bad good = absurd (true≢false (sym (ap is_kept_end good
 pub whole_at : (asked : Unpacking) (r : Result Unpacked Fault) (count : ℕ) (trouble : Option Trouble) (end : Ended) (old new : Option (List ℕ)) → Ends asked r count trouble end old new → end ≡ Kept → (is_whole r ≡ true) × (trouble ≡ None)
 whole_at asked (Ok (Taken all)) count (Some trouble) end old new is good = other_end end (Troubled trouble) is refl good
 whole_at asked (Ok (Taken all)) count None end old new is good =
-    (kept_taken asked all (count == 0 && is_some asked.only) (count == 0 && is_some asked.need) (sym (ap is_kept_end is) ∙ ap is_kept_end good), refl)
+    (kept_taken asked all (count == 0 && chooses asked) (count == 0 && is_some asked.need) (sym (ap is_kept_end is) ∙ ap is_kept_end good), refl)
 whole_at asked (Ok (Overlapping name)) count trouble Kept old new is good = absurd is
 whole_at asked (Ok (Overlapping name)) count trouble Refused old new is good = other_end Refused Refused refl refl good
 whole_at asked (Ok (Overlapping name)) count trouble NoImage old new is good = absurd is

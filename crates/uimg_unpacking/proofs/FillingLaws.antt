@@ -4,11 +4,11 @@ use Rattle.std.specs.Prelude.{Result, Ok, Err}
 use Rattle.std.specs.List.{list_all}
 use Rattle.uimg_fit_base.specs.declared.fault.Fault.{Fault, TheVariants.{Blob, Fit, Read, Put}}
 use Rattle.uimg_fit_base.specs.declared.fault.FitFault.TheVariants.{NoSuchImage}
-use Rattle.uimg_fit_checking.specs.Unpacking.{Take, UnpackOutcome, taken, overlaps, unpack_of, Unpacks}
+use Rattle.uimg_fit_checking.specs.Unpacking.{Take, UnpackOutcome, Which, taken, overlaps, unpack_of, Unpacks}
 use Rattle.uimg_fit_checking.specs.declared.unpacking.Unpacked.{Unpacked, TheVariants.{Taken, Overlapping}}
 use Rattle.uimg_unpacking.specs.Contents.{differ, held_in}
 use Rattle.uimg_world.specs.Deeds.{Deed}
-use Rattle.uimg_unpacking.specs.Ends.{asked_name, end_of_taken, is_whole, Ends}
+use Rattle.uimg_unpacking.specs.Ends.{asked_which, chooses, end_of_taken, is_whole, Ends}
 use Rattle.uimg_unpacking.specs.Filling.{names_of_kept, kept_bytes, takes_by, takes_of, are_kept, Holds, FillsIf, Fills}
 use Rattle.uimg_unpacking.specs.FileNames.{is_file_name}
 use Rattle.uimg_unpacking.specs.Given.{seen_of, with_contents}
@@ -40,7 +40,7 @@ names_by asked false false true is = or_true asked.keeps_good
 names_by asked false false false is = or_false asked.keeps_good is
 
 pub named_at : (asked : Unpacking) (all : Bool) (count : ℕ) → are_kept asked (end_of_taken asked all count) ≡ true → (asked.keeps_good || all) ≡ true
-named_at asked all count is = names_by asked (count == 0 && is_some asked.only) (count == 0 && is_some asked.need) all is
+named_at asked all count is = names_by asked (count == 0 && chooses asked) (count == 0 && is_some asked.need) all is
 
 filled_by : (folder : List ℕ) (noted : List Take) (contents : List (Option (List ℕ))) (takes : List Take) (calls : List Deed) → length contents ≡ length (kept_bytes noted) → with_contents noted contents ≡ flat_map seen_of takes → HeldAs folder noted contents calls → Holds folder takes calls
 filled_by folder noted contents takes calls same is holds =
@@ -73,13 +73,13 @@ by_result asked told (Err Put) count (Some trouble) end old new noted contents t
 by_result asked told (Err Put) count None end old new noted contents takes calls unpacks are same is holds good = not_kept asked end _ is refl good
 
 -- the same for the requested name
-pub fills : (asked : Unpacking) (file : List ℕ) (only : Option (List ℕ)) (r : Result Unpacked Fault) (count : ℕ) (trouble : Option Trouble) (end : Ended) (old new : Option (List ℕ)) (folder : List ℕ) (noted : List Take) (contents : List (Option (List ℕ))) (before takes : List Take) (calls : List Deed)
-    → Some only ≡ asked_name asked.only → before ≡ [] → folder ≡ asked.folder.path.now
+pub fills : (asked : Unpacking) (file : List ℕ) (only : Which) (r : Result Unpacked Fault) (count : ℕ) (trouble : Option Trouble) (end : Ended) (old new : Option (List ℕ)) (folder : List ℕ) (noted : List Take) (contents : List (Option (List ℕ))) (before takes : List Take) (calls : List Deed)
+    → Some only ≡ asked_which asked → before ≡ [] → folder ≡ asked.folder.path.now
     → Unpacks seen_of r (unpack_of asked.need only file) before takes → takes ≡ with_contents noted contents → length contents ≡ length (kept_bytes noted) → Ends asked r count trouble end old new
     → ((asked.keeps_good || is_whole r) ≡ true → trouble ≡ None → HeldAs folder noted contents calls)
     → Fills asked file end calls
 fills asked file only r count trouble end old new folder noted contents before takes calls named none at unpacks are same is holds good =
-    subst (λ (o : Option (Option (List ℕ))). FillsIf asked.folder.path.now (takes_of asked o file) calls) named
+    subst (λ (o : Option Which). FillsIf asked.folder.path.now (takes_of asked o file) calls) named
     (by_result asked (unpack_of asked.need only file) r count trouble end old new noted contents takes calls
     (subst (λ (b : List Take). Unpacks seen_of r (unpack_of asked.need only file) b takes) none unpacks) are same is
     (λ names no. subst (λ (f : List ℕ). HeldAs f noted contents calls) at (holds names no)) good)

@@ -1,7 +1,8 @@
 -- What was claimed is within the limits.
 use Rattle.std.proofs.Common.{◌≡◌, ℕ, ◌+◌, ◌-◌, ◌^◌, ◌<◌, min, length-append, sum_by, List, [], ◌∷◌, ◌++◌, Bool, true, false, not, ◌&&◌, nat_lt, Option, Some, None, is_none, if◌then◌else◌, refl, ap, sym, subst, ◌∙◌, true≢false, arith}
+use Rattle.uimg_fit_checking.specs.Unpacking.{Which}
 use Rattle.uimg_fit_checking.specs.Claiming.{Claim, ClaimsTo, claim, claims_of}
-use Rattle.uimg_unpacking.specs.Ends.{FitsFor, asked_name, is_whole}
+use Rattle.uimg_unpacking.specs.Ends.{FitsFor, asked_which, is_whole}
 use Rattle.uimg_unpacking.specs.Limiting.{bytes_in, claims_by, exceeded, exceeded_bytes, files_in, fits, is_over, sum64}
 use Rattle.uimg_unpacking.specs.Troubles.{noted, trouble_in}
 use Rattle.uimg_unpacking.specs.declared.limits.Limits.{Limits}
@@ -71,6 +72,6 @@ all_claimed (Ok (Taken whole)) all before after is none told = told ∙ ap (λ (
 all_claimed (Ok (Overlapping name)) all before after is none told = absurd (true≢false (sym is))
 all_claimed (Err fault) all before after is none told = absurd (true≢false (sym is))
 
-pub fits_for : (asked : Unpacking) (only : Option (List ℕ)) (file : List ℕ) (claims : List Claim) → Some only ≡ asked_name asked.only → claims ≡ claims_of only file → fits asked.limits claims ≡ true → FitsFor asked (asked_name asked.only) file
+pub fits_for : (asked : Unpacking) (only : Which) (file : List ℕ) (claims : List Claim) → Some only ≡ asked_which asked → claims ≡ claims_of only file → fits asked.limits claims ≡ true → FitsFor asked (asked_which asked) file
 fits_for asked only file claims asks all is =
-    subst (λ (o : Option (Option (List ℕ))). FitsFor asked o file) asks (subst (λ (cs : List Claim). fits asked.limits cs ≡ true) all is)
+    subst (λ (o : Option Which). FitsFor asked o file) asks (subst (λ (cs : List Claim). fits asked.limits cs ≡ true) all is)

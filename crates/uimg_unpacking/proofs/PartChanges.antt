@@ -3,7 +3,7 @@ use Rattle.std.proofs.Common.{◌≡◌, ℕ, List, [], ◌∷◌, ◌++◌, Boo
 use mathlib.Core.List.{append_assoc}
 use Rattle.std.proofs.lemmas.List.Folds.{list_all-append}
 use Rattle.std.proofs.lemmas.Bool.{and_parts}
-use Rattle.uimg_world.specs.Deeds.{Deed, changes, changes_only, Creates, Links, Renames, Removes, MakesFolder, RemovesFolder, RemovesAll, Syncs, Resolves, Looks, Identifies, Opens, Explains, Reads, Finds, Overwrites, LendsReader, LendsShelf, Closes}
+use Rattle.uimg_world.specs.Deeds.{Deed, changes, changes_only, Creates, Links, Renames, Removes, MakesFolder, RemovesFolder, RemovesAll, Syncs, Resolves, Looks, Identifies, Opens, Explains, Reads, Finds, Lists, Overwrites, LendsReader, LendsShelf, Closes}
 use Rattle.uimg_world.specs.declared.call.Answer.{Answer}
 use Rattle.uimg_unpacking.specs.Places.{ChangesWithin, Obeys, Terms, is_temporary_folder, may_change, since, stays_within}
 use Rattle.uimg_world.specs.declared.kind.Kind.{Kind}
@@ -15,6 +15,7 @@ changes_of (Opens p x ∷ new) old = changes_of new old
 changes_of (Explains p ∷ new) old = changes_of new old
 changes_of (Reads p x ∷ new) old = changes_of new old
 changes_of (Finds p x ∷ new) old = changes_of new old
+changes_of (Lists p x ∷ new) old = changes_of new old
 changes_of (Identifies p x ∷ new) old = changes_of new old
 changes_of (Looks p x ∷ new) old = changes_of new old
 changes_of (Resolves p x ∷ new) old = changes_of new old
@@ -38,6 +39,7 @@ changes_stay folder n (Opens p x ∷ trace) ok = changes_stay folder n trace ok
 changes_stay folder n (Explains p ∷ trace) ok = changes_stay folder n trace ok
 changes_stay folder n (Reads p x ∷ trace) ok = changes_stay folder n trace ok
 changes_stay folder n (Finds p x ∷ trace) ok = changes_stay folder n trace ok
+changes_stay folder n (Lists p x ∷ trace) ok = changes_stay folder n trace ok
 changes_stay folder n (Identifies p x ∷ trace) ok = changes_stay folder n trace ok
 changes_stay folder n (Looks p x ∷ trace) ok = changes_stay folder n trace ok
 changes_stay folder n (Resolves p x ∷ trace) ok = changes_stay folder n trace ok

@@ -1,13 +1,14 @@
 -- How the unpacking of a FIT image ends.
-use Rattle.std.specs.Prelude.{◌≡◌, ⊤, ℕ, ◌==◌, ◌&&◌, ◌||◌, nat_le, length, List, ◌++◌, codes, Bool, true, false, if◌then◌else◌, is_some, Option, Some, None, Result, Ok, Err}
+use Rattle.std.specs.Prelude.{◌≡◌, ⊤, ℕ, ◌==◌, ◌&&◌, ◌||◌, nat_le, length, List, ◌++◌, codes, Bool, true, false, if◌then◌else◌, is_some, map, Vec, Option, Some, None, Result, Ok, Err}
 use Rattle.std.specs.List.{list_all}
 use Rattle.std.specs.Borrow.{Bor}
+use Rattle.std.specs.{BTreeSet.BTreeSet, Global.Global}
 use Rattle.std.specs.Io.KnownBytes.{Appends}
 use Rattle.uimg_fit_base.specs.declared.fault.Fault.{Fault, TheVariants.{Fit, Put}}
 use Rattle.uimg_fit_base.specs.declared.fault.FitFault.TheVariants.{NoSuchImage}
 use Rattle.uimg_printing.specs.Printing.{printed}
 use Rattle.uimg_fit_base.specs.Faults.{is_read, is_out_of_memory}
-use Rattle.uimg_fit_checking.specs.Unpacking.{as_bytes, UnpackOutcome, taken, overlaps, unpack_of, is_kept}
+use Rattle.uimg_fit_checking.specs.Unpacking.{as_bytes, UnpackOutcome, Which, every, called, among, taken, overlaps, unpack_of, is_kept}
 use Rattle.uimg_fit_checking.specs.declared.unpacking.Unpacked.{Unpacked, TheVariants.{Taken, Overlapping}}
 use Rattle.uimg_fit_checking.specs.Claiming.{claims_of}
 use Rattle.uimg_unpacking.specs.Limiting.{fits}
@@ -18,15 +19,23 @@ use Rattle.uimg_unpacking.specs.declared.unpacking.Ended.{Ended}
 use Rattle.uimg_unpacking.specs.declared.unpacking.Ended.TheVariants.{Kept, Refused, NoImage, Stopped, Troubled}
 use Rattle.uimg_unpacking.specs.declared.unpacking.Unpacking.{Unpacking}
 
--- the requested name, if there is one; no image has a name of more than 255 bytes
-abbrev pub asked_name : Option (Bor (List ℕ)) → Option (Option (List ℕ))
-asked_name None = Some None
-asked_name (Some name) = if nat_le (length name.now) 255 then Some (Some name.now) else None
+-- the requested images; none has a name of more than 255 bytes
+abbrev pub which_of : Option (Bor (List ℕ)) → Option (Bor (BTreeSet (Vec ℕ Global))) → Option Which
+which_of only (Some names) = Some (among (map (λ name. name.items) names.now.keys))
+which_of (Some name) None = if nat_le (length name.now) 255 then Some (called name.now) else None
+which_of None None = Some every
+
+abbrev pub asked_which : Unpacking → Option Which
+asked_which asked = which_of asked.only asked.among
+
+-- whether not all images are requested
+abbrev pub chooses : Unpacking → Bool
+chooses asked = is_some asked.among || is_some asked.only
 
 -- the end after all requested payloads were given: none may be there, or one may be refused
 abbrev pub end_of_taken : Unpacking → Bool → ℕ → Ended
 end_of_taken asked all count =
-    if count == 0 && is_some asked.only then Stopped (Fit NoSuchImage)
+    if count == 0 && chooses asked then Stopped (Fit NoSuchImage)
     else if count == 0 && is_some asked.need then NoImage
     else if all then Kept else Refused
 
@@ -66,13 +75,13 @@ end_of asked (Ok (taken ts)) = end_of_taken asked (list_all is_kept ts) (length 
 end_of asked (Ok (overlaps name)) = Refused
 end_of asked (Err fault) = Stopped fault
 
--- the same for the requested name, if an image can have it
-abbrev pub end_by_name : Unpacking → Option (Option (List ℕ)) → List ℕ → Ended
-end_by_name asked None file = Stopped (Fit NoSuchImage)
-end_by_name asked (Some only) file = end_of asked (unpack_of asked.need only file)
+-- the same for the requested images, if there can be any
+abbrev pub end_by : Unpacking → Option Which → List ℕ → Ended
+end_by asked None file = Stopped (Fit NoSuchImage)
+end_by asked (Some only) file = end_of asked (unpack_of asked.need only file)
 
 abbrev pub end_of_file : Unpacking → List ℕ → Ended
-end_of_file asked file = end_by_name asked (asked_name asked.only) file
+end_of_file asked file = end_by asked (asked_which asked) file
 
 -- whether a fault is a failed read or refused memory
 abbrev pub is_failure : Result Unpacked Fault → Bool
@@ -94,9 +103,9 @@ IfKept Kept claim = claim
 IfKept _ claim = ⊤
 
 -- If all is kept, the requested payloads are no more than the limits allow.
-abbrev pub FitsFor : Unpacking → Option (Option (List ℕ)) → List ℕ → Type 0
+abbrev pub FitsFor : Unpacking → Option Which → List ℕ → Type 0
 FitsFor asked None file = ⊥
 FitsFor asked (Some only) file = fits asked.limits (claims_of only file) ≡ true
 
 abbrev pub FitsIf : Unpacking → List ℕ → Ended → Type 0
-FitsIf asked file end = end ≡ Kept → FitsFor asked (asked_name asked.only) file
+FitsIf asked file end = end ≡ Kept → FitsFor asked (asked_which asked) file

@@ -2,10 +2,10 @@
 use Rattle.std.specs.Prelude.{◌≡◌, ⊤, ℕ, List, [], ◌∷◌, map, Bool, true, false, Option, Some, None, Result, Ok, Err}
 use Rattle.std.specs.List.{list_all}
 use Rattle.uimg_fit_base.specs.declared.fault.Fault.{Fault}
-use Rattle.uimg_fit_checking.specs.Unpacking.{Take, kept, refused, UnpackOutcome, taken, overlaps, unpack_of}
+use Rattle.uimg_fit_checking.specs.Unpacking.{Take, kept, refused, UnpackOutcome, Which, taken, overlaps, unpack_of}
 use Rattle.uimg_unpacking.specs.Contents.{differ, held_in}
 use Rattle.uimg_world.specs.Deeds.{Deed}
-use Rattle.uimg_unpacking.specs.Ends.{asked_name}
+use Rattle.uimg_unpacking.specs.Ends.{asked_which}
 use Rattle.uimg_unpacking.specs.FileNames.{file_name, is_file_name}
 use Rattle.uimg_unpacking.specs.declared.unpacking.Ended.{Ended}
 use Rattle.uimg_unpacking.specs.declared.unpacking.Ended.TheVariants.{Kept, Refused}
@@ -30,7 +30,7 @@ takes_by (Ok (taken takes)) = Some takes
 takes_by (Ok (overlaps name)) = None
 takes_by (Err fault) = None
 
-abbrev pub takes_of : Unpacking → Option (Option (List ℕ)) → List ℕ → Option (List Take)
+abbrev pub takes_of : Unpacking → Option Which → List ℕ → Option (List Take)
 takes_of asked None file = None
 takes_of asked (Some only) file = takes_by (unpack_of asked.need only file)
 
@@ -54,4 +54,4 @@ FillsIf folder (Some takes) calls = Holds folder takes calls
 -- At such an end the files of the kept payloads hold their bytes, unless payloads overlap.
 abbrev pub Fills : Unpacking → List ℕ → Ended → List Deed → Type 0
 Fills asked file end calls =
-    are_kept asked end ≡ true → FillsIf asked.folder.path.now (takes_of asked (asked_name asked.only) file) calls
+    are_kept asked end ≡ true → FillsIf asked.folder.path.now (takes_of asked (asked_which asked) file) calls

@@ -4,8 +4,8 @@ ghost use Rattle.std.specs.Prelude.{◌≡◌, ◌+◌, ◌≤◌, ◌||◌, IsT
 ghost use Rattle.std.specs.Option.{option_map};
 ghost use Rattle.uimg_base.specs.Device.{SameDevice};
 ghost use Rattle.uimg_base.specs.Honest.{IfHonest};
-ghost use Rattle.uimg_fit_checking.specs.Unpacking.{as_bytes, unpack_work};
-ghost use Rattle.uimg_unpacking.specs.Ends.{asked_name, is_whole, end_of_taken, end_of_fault, TellsOverlap, EndsGiven, Ends, EndsByFile, FitsIf};
+ghost use Rattle.uimg_fit_checking.specs.Unpacking.{as_bytes, unpack_work, which};
+ghost use Rattle.uimg_unpacking.specs.Ends.{asked_which, chooses, is_whole, end_of_taken, end_of_fault, TellsOverlap, EndsGiven, Ends, EndsByFile, FitsIf};
 ghost use Rattle.uimg_unpacking.specs.{Filling.Fills, Leaving.LeavesAt, Places.{ChangesWithin, Obeys, terms_of}};
 
 use crate::folder::Folder;
@@ -17,11 +17,12 @@ use crate::objects::told;
 use crate::task::Task;
 use crate::trouble::Trouble;
 use std::alloc::Global;
+use std::collections::BTreeSet;
 use std::io::Write;
 use std::marker::Brand;
 use uimg_base::{Algo, Room, Source};
 use uimg_fit_base::{Fault, FitFault};
-use uimg_fit_checking::{NodeName, Unpacked};
+use uimg_fit_checking::{NodeName, Unpacked, Wanted};
 use uimg_world::World;
 
 /// What to unpack from an image.
@@ -32,6 +33,9 @@ pub struct Unpacking<'a> {
 
     /// The name of the image, if only its payload is requested.
     pub only: Option<&'a str>,
+
+    /// The names of the images, if only their payloads are requested. Then `only` does not count.
+    pub among: Option<&'a BTreeSet<Vec<u8>>>,
 
     /// The weakest algorithm that is enough, if one is needed.
     pub need: Option<Algo>,
@@ -142,14 +146,14 @@ fn unpack_in<'w, W: World, S: Source, O: Write + Drop, M: Task>(
         Fills asked.now file end.new (W.trace result.now)) }
     ensures back { LeavesAt asked.now end.new M.before (W.trace result.now) }
 {
-    let Some(only) = only_of(asked.only) else {
+    let Some(wanted) = wanted_of(asked) else {
         *end = Ended::Stopped(Fault::Fit(FitFault::NoSuchImage));
         return world;
     };
     let mut room = Room::new(alloc);
     let code = ErrorCode::new(None);
     let mut taker = FolderTaker::<'w, '_, '_, W, M, O>::new(world, alloc, asked, out, &code);
-    let unpacked = uimg_fit_checking::unpack(only, asked.need, source, &mut room, &mut taker);
+    let unpacked = uimg_fit_checking::unpack(wanted, asked.need, source, &mut room, &mut taker);
     let names = gives_names(asked, &unpacked);
     let (world, mut out, count, trouble) = taker.end(names, asked.keeps_good);
     *end = how_ended(alloc, asked, unpacked, (count, trouble), &mut out);
@@ -216,22 +220,30 @@ fn stopped(fault: Fault, trouble: Option<Trouble>) -> Ended
 }
 
 // Returns `None` if the name is too long for an image's name.
-fn only_of(only: Option<&str>) -> Option<Option<NodeName>>
-    ensures { option_map (option_map as_bytes) result ≡ asked_name only.entry }
+fn wanted_of<'a>(asked: &Unpacking<'a>) -> Option<Wanted<'a>>
+    ensures { option_map which result ≡ asked_which asked.now }
 {
-    match only {
-        Some(name) => match NodeName::of(name.as_bytes()) {
-            Some(name) => Some(Some(name)),
+    match (asked.among, asked.only) {
+        (Some(names), _) => Some(Wanted::Among(names)),
+        (None, Some(name)) => match NodeName::of(name.as_bytes()) {
+            Some(name) => Some(Wanted::Named(name)),
             None => None,
         },
-        None => Some(None),
+        (None, None) => Some(Wanted::All),
     }
+}
+
+// Not all images are requested.
+fn chooses(asked: &Unpacking<'_>) -> bool
+    ensures { result ≡ chooses asked.now }
+{
+    asked.among.is_some() || asked.only.is_some()
 }
 
 fn taken(asked: &Unpacking<'_>, all: bool, count: usize) -> Ended
     ensures { result ≡ end_of_taken asked.now all count }
 {
-    if count == 0 && asked.only.is_some() {
+    if count == 0 && chooses(asked) {
         return Ended::Stopped(Fault::Fit(FitFault::NoSuchImage));
     }
     if count == 0 && asked.need.is_some() {

@@ -1,5 +1,5 @@
 -- What was requested of a world of files, and what it answered.
-use Rattle.std.specs.Prelude.{◌≡◌, ℕ, List, [], ◌∷◌, Option, Some, None, Result, Ok, Err, Bool, true, false, ◌&&◌, IsTrue}
+use Rattle.std.specs.Prelude.{◌≡◌, ℕ, List, [], ◌∷◌, Option, Some, None, Result, Ok, Err, Bool, true, false, ◌&&◌, IsTrue, Vec}
 use Rattle.std.specs.Fs.{IsDir, IsSymlink, file_type}
 use Rattle.std.specs.declared.fs.attrs.Metadata.{Metadata}
 use Rattle.std.specs.declared.io.Error.{Error}
@@ -38,6 +38,11 @@ abbrev pub resolved : {Z E : Type 0} → Result (PathBuf Z) E → Option (List �
 resolved (Ok path) = Some (path_buf_bytes path)
 resolved (Err error) = None
 
+-- the names that a call answers, if it does
+abbrev pub listed : {Z E : Type 0} → Result (Vec ℕ Z) E → Option (List ℕ)
+listed (Ok names) = Some names.items
+listed (Err error) = None
+
 -- a call, on which paths, and its answer
 pub data Deed : Type 0 where
   Creates : List ℕ → Answer → Deed
@@ -55,6 +60,7 @@ pub data Deed : Type 0 where
   Explains : List ℕ → Deed
   Reads : List ℕ → Answer → Deed
   Finds : List ℕ → Target → Deed
+  Lists : List ℕ → Option (List ℕ) → Deed
   Overwrites : List ℕ → Answer → Deed
   LendsReader : Deed
   LendsShelf : List ℕ → Deed
@@ -82,6 +88,7 @@ deed_of (call.Opens is_opened) path other = Opens path is_opened
 deed_of call.Explains path other = Explains path
 deed_of (call.Reads answer) path other = Reads path answer
 deed_of (call.Finds target) path other = Finds path target
+deed_of (call.Lists is_listed) path other = Lists path (path_if is_listed other)
 deed_of (call.Overwrites answer) path other = Overwrites path answer
 deed_of call.LendsReader path other = LendsReader
 deed_of call.LendsShelf path other = LendsShelf path
@@ -108,6 +115,7 @@ changes (Opens path opened ∷ before) = changes before
 changes (Explains path ∷ before) = changes before
 changes (Reads path answer ∷ before) = changes before
 changes (Finds path found ∷ before) = changes before
+changes (Lists path names ∷ before) = changes before
 changes (Identifies path file ∷ before) = changes before
 changes (Looks path kind ∷ before) = changes before
 changes (Resolves path answer ∷ before) = changes before

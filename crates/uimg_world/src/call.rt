@@ -69,6 +69,9 @@ pub enum Call {
     /// What a path leads to; links were followed.
     Finds(Target),
 
+    /// The names in a folder were requested. If they are there, they are noted as the second path.
+    Lists(bool),
+
     /// A file was created or emptied.
     Overwrites(Answer),
 

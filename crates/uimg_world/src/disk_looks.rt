@@ -6,6 +6,7 @@ ghost use Rattle.uimg_base.specs.Device.{IsFresh};
 ghost use Rattle.uimg_world.specs.Deeds.{IsKindOf};
 
 use crate::kind::{Kind, Target};
+use std::io::Read;
 use std::os::unix::fs::FileTypeExt;
 use std::rt::Files;
 use std::{fs, io};
@@ -13,6 +14,10 @@ use uimg_base::{FileSource, Source, SourceFault};
 
 /// The error of a path that leads to a folder (`EISDIR`).
 const IS_A_FOLDER: i32 = 21;
+
+/// How many bytes of names are read at once. The system refuses a read that has no place for a whole
+/// name, which has at most 255 bytes.
+const SOME_NAMES: usize = 8192;
 
 /// The error of a file system that cannot wait for a folder (`EINVAL`).
 const INVALID: i32 = 22;
@@ -60,6 +65,21 @@ pub(crate) fn kind_of(found: &io::Result<fs::Metadata>) -> Kind
         Ok(_) => Kind::File,
         Err(_) => Kind::Nothing,
     }
+}
+
+/// Returns the names in a folder, each with a NUL after it.
+pub(crate) fn names_at<R: Files + AllocGlobal>(rt: &R, path: &str) -> io::Result<Vec<u8>> {
+    let mut folder = rt.open_dir(path)?;
+    let mut names = Vec::new(rt.alloc());
+    let mut some = [0; SOME_NAMES];
+    for _ in 0..u64::MAX {
+        let count = folder.read(&mut some)?;
+        if count == 0 {
+            break;
+        }
+        names.extend_from_slice(&some[..count])?;
+    }
+    Ok(names)
 }
 
 /// Waits until the names in a folder are on the disk, if its file system can wait for a folder.

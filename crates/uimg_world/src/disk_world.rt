@@ -4,7 +4,7 @@
 ghost use Rattle.std.specs.Prelude.{◌≡◌, [], None, false};
 
 use crate::call::{Call, answer_of};
-use crate::disk_looks::{kind_of, open_source, reason_at, sync_folder, target_at};
+use crate::disk_looks::{kind_of, names_at, open_source, reason_at, sync_folder, target_at};
 use crate::file_id::FileId;
 use crate::kind::{Kind, Target};
 use crate::record::Record;
@@ -86,6 +86,17 @@ impl<'a, R: Files + AllocGlobal> World for DiskWorld<'a, R> {
         let call = Call::Finds(target);
         self.record.note(&call, path.as_bytes(), b"");
         target
+    }
+
+    fn read_dir(&mut self, path: &str) -> io::Result<Vec<u8>> {
+        let listed = names_at(self.rt, path);
+        match &listed {
+            Ok(names) => self
+                .record
+                .note(&Call::Lists(true), path.as_bytes(), names.as_slice()),
+            Err(_) => self.record.note(&Call::Lists(false), path.as_bytes(), b""),
+        }
+        listed
     }
 
     fn create(&mut self, path: &str) -> io::Result<R::File> {

@@ -23,8 +23,8 @@ use uimg_base::{MemSource, SourceFault};
 ///
 /// They are honest and complete, and never change. New files and folders are beside them: they are
 /// created, closed, linked, renamed and removed as on a disk, but are not opened again. What is
-/// written to a file of `create` is at its path once the file is closed. Calls that resolve a path or
-/// remove a folder with all in it fail, and no file is found by which it is (`file_at`).
+/// written to a file of `create` is at its path once the file is closed. Calls that resolve a path, list
+/// a folder or remove one with all in it fail, and no file is found by which it is (`file_at`).
 #[derive(Drop)]
 pub struct MemoryWorld<'a> {
     pub(crate) alloc: Global,
@@ -146,6 +146,10 @@ impl<'a> World for MemoryWorld<'a> {
         let call = Call::Finds(target);
         self.record.note(&call, path.as_bytes(), b"");
         target
+    }
+
+    fn read_dir(&mut self, path: &str) -> io::Result<Vec<u8>> {
+        self.refuse(Call::Lists(false), path)
     }
 
     fn create(&mut self, path: &str) -> io::Result<MemoryFile<'a>> {

@@ -18,7 +18,7 @@ use uimg_base::{Source, SourceFault};
 pub trait World: Drop {
     ghost use Rattle.std.specs.Prelude.{◌≡◌, List, [], ◌∷◌, Bool, None, Some, false, IfOk, IsTrue, OnErr, is_err, is_ok};
     ghost use Rattle.uimg_base.specs.{Device.RisesIf, Named.{FileMap, SameFiles, Opens}};
-    ghost use Rattle.uimg_world.specs.Deeds.{ClosesFile, Deed, answer_of, resolved};
+    ghost use Rattle.uimg_world.specs.Deeds.{ClosesFile, Deed, answer_of, listed, resolved};
 
     /// A file to read or to write to.
     type File: Read + Write + OpenFile + Drop;
@@ -69,6 +69,12 @@ pub trait World: Drop {
     /// Returns what a path leads to; links are followed.
     fn target_of(&mut self, path: &str) -> Target
         ensures noted { trace self.new ≡ Deed.Finds path.now result ∷ trace self.old }
+        ensures same { SameFiles (map self.old) (map self.new) };
+
+    /// Returns the names in a folder, in any order, each with a NUL after it. A name may have any
+    /// bytes but NUL and `/`, and may be `.` or `..`.
+    fn read_dir(&mut self, path: &str) -> io::Result<Vec<u8>>
+        ensures noted { trace self.new ≡ Deed.Lists path.now (listed result) ∷ trace self.old }
         ensures same { SameFiles (map self.old) (map self.new) };
 
     /// Opens the file at a path to be written to, without its bytes, or creates it. In an honest
@@ -124,7 +130,8 @@ pub trait World: Drop {
 
     /// Returns what exists at a path; links are not followed.
     fn kind_at(&mut self, path: &str) -> Kind
-        ensures { trace self.new ≡ Deed.Looks path.now result ∷ trace self.old };
+        ensures noted { trace self.new ≡ Deed.Looks path.now result ∷ trace self.old }
+        ensures same { SameFiles (map self.old) (map self.new) };
 
     /// Returns the file at a path, if there is one; links are followed.
     fn file_at(&mut self, path: &str) -> Option<FileId>

@@ -35,7 +35,7 @@ pub struct Missing {
 }
 
 // Returns the bytes after a text and its NUL.
-fn behind(bytes: &[u8], text: usize) -> &[u8]
+pub(crate) fn behind(bytes: &[u8], text: usize) -> &[u8]
     ensures { result.now ≡ drop (text + 1) bytes.now }
 {
     if text < bytes.len() {
@@ -65,7 +65,7 @@ fn lost_in<'a>(names: &BTreeSet<Vec<u8>>, value: &'a [u8]) -> Option<&'a [u8]>
 }
 
 #[tactic(auto, unfolding(crate::specs::ReferenceNames::is_ended))]
-fn is_ended(value: &[u8]) -> bool
+pub(crate) fn is_ended(value: &[u8]) -> bool
     ensures { result ≡ is_ended value.now }
 {
     if value.is_empty() {
@@ -114,7 +114,7 @@ fn missing_under<S: Source>(
 }
 
 // Returns the properties of a configuration that name images, in the order of the check.
-fn given_by(configuration: &ConfigurationFacts) -> [(Reference, Option<Span>); 9]
+pub(crate) fn given_by(configuration: &ConfigurationFacts) -> [(Reference, Option<Span>); 9]
     ensures { result ≡ given_facts configuration.now }
 {
     [
@@ -150,7 +150,7 @@ fn missing_among<S: Source>(
     Ok(None)
 }
 
-fn missing_of<S: Source>(
+pub(crate) fn missing_of<S: Source>(
     alloc: Global,
     source: &mut S,
     images: &BTreeSet<Vec<u8>>,

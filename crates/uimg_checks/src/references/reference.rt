@@ -6,6 +6,8 @@ ghost use Rattle.uimg_checks.specs.Properties.{property_name};
 /// A property whose value is the name of a configuration or of images.
 #[derive(Clone, Copy, Debug, PartialEq, Eq)]
 pub enum Reference {
+    /// The name of the configuration that is requested; it is no property.
+    Requested,
     /// `default`: a configuration's name.
     Default,
     /// `kernel`: an image's name.
@@ -34,6 +36,7 @@ impl Reference {
         ensures { result.now ≡ property_name self }
     {
         match self {
+            Reference::Requested => "configuration",
             Reference::Default => "default",
             Reference::Kernel => "kernel",
             Reference::Ramdisk => "ramdisk",

@@ -4,7 +4,7 @@ ghost use Rattle.std.specs.Prelude.{◌≡◌, IfOk, Some, codes, false};
 ghost use Rattle.clap.specs.Simple.{app_of, new_app, new_rule, with_rule};
 ghost use Rattle.clap.specs.Walk.{rule_of};
 ghost use Rattle.clap.specs.declared.builder.command.Command.TheViews.{out-Command as fields_of};
-ghost use Rattle.uimg_cli.specs.Rules.{flag_rule, image_rule, long_rule, switch_rule, value_rule};
+ghost use Rattle.uimg_cli.specs.Rules.{flag_rule, image_rule, long_rule, operand_rule, switch_rule, value_rule};
 
 use clap::{Arg, ArgAction, Command};
 use std::alloc::{AllocError, Global};
@@ -125,4 +125,20 @@ pub(super) fn with_image<'a>(
 {
     let image = Arg::new(alloc, "image").required(true).help(help);
     with(command, image)
+}
+
+// Adds an operand, which has to be there.
+pub(super) fn with_operand<'a>(
+    command: Command<'a>,
+    alloc: Global,
+    id: &'a str,
+    help: &'a str,
+) -> Result<Command<'a>, AllocError>
+    ensures rules { IfOk result (λ new. app_of new ≡ with_rule (app_of command.entry)
+        (operand_rule id.entry.now)) }
+    ensures local { IfOk result (λ new.
+        (fields_of new).has_globals ≡ (fields_of command.entry).has_globals) }
+{
+    let operand = Arg::new(alloc, id).required(true).help(help);
+    with(command, operand)
 }

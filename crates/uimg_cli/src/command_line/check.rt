@@ -35,6 +35,9 @@ pub struct CheckRequest<'a> {
     /// The paths of the images.
     pub images: Vec<&'a str>,
 
+    /// Whether a folder among them stands for the images below it.
+    pub is_recursive: bool,
+
     /// The path of a file with the paths of further images, `-` for standard input.
     pub files_from: Option<&'a str>,
 
@@ -70,6 +73,8 @@ const QUIET: &str = "Print no line for images that are ok";
 
 const ALLOW_EMPTY: &str = "Accept a file of paths that has none";
 
+const RECURSIVE: &str = "Check the images below each folder that is given";
+
 const FILES_FROM: &str = "Also check the images whose paths are in this file, one a line";
 
 const NULS: &str = "Paths in that file end with NUL, not with a newline";
@@ -84,6 +89,7 @@ pub(super) fn command<'a>(alloc: Global) -> Result<clap::Command<'a>, AllocError
     let command = with_long(command, alloc, "key", "[name=]file", KEY)?;
     let command = with_long(command, alloc, "config", "name", CONFIG)?;
     let command = with_switch(command, alloc, "allow-sha1", SHA1)?;
+    let command = with_switch(command, alloc, "recursive", RECURSIVE)?;
     let command = with_long(command, alloc, "files-from", "file", FILES_FROM)?;
     let command = with_flag(command, alloc, "nuls", '0', NULS)?;
     let command = with_switch(command, alloc, "json", JSON)?;
@@ -159,6 +165,7 @@ fn request_for<'a>(
         is_strict: is_to_be_strict(matches),
         key: key_of(matches, text_of(matches, "config")),
         images,
+        is_recursive: is_set(matches, "recursive"),
         files_from: text_of(matches, "files-from"),
         has_nuls: is_set(matches, "nuls"),
         as_json: is_set(matches, "json"),

@@ -101,11 +101,13 @@ A line has the path of the image and the first finding:
   refused      The image is refused, with this fault
   failed       The file cannot be opened, a read failed, or memory ran out
 In paths and names, control characters and \\ are printed as \\xNN, in names also
-spaces, colons and commas. --files-from - reads standard input; a file without a
-path is refused (--allow-empty). --json prints path, status and verdict (the
-word), and depending on it format, images, hashes, unchecked, configurations,
-signed, signatures, checksums, algo, image, hash, configuration, property, name,
-node, fault, message and offset.
+spaces, colons and commas. --recursive takes the files below a folder that begin
+as an image does, by the order of their names, follows no symbolic link, and ends
+with a line that counts the others. --files-from - reads standard input; a file
+without a path, or a folder without an image, is refused (--allow-empty). --json
+prints path, status and verdict (the word), and depending on it format, images,
+hashes, unchecked, configurations, signed, signatures, checksums, algo, image,
+hash, configuration, property, name, node, fault, message and offset.
 
 --key implies --strict. Its file has an RSA key in PEM (openssl pkey -pubout), or
 is U-Boot's control devicetree with the keys that it requires for configurations.
@@ -164,6 +166,7 @@ checksum of the data is right:
 Examples:
   uimg unpack -C /srv/tftp --need sha256 kernel.itb
   uimg unpack --only ramdisk kernel.itb
+  uimg unpack --config default kernel.itb
   uimg unpack --only image-1 uImage
   uimg unpack --clean -C /srv/tftp
 
@@ -222,3 +225,20 @@ Exit status:
   1  The image is refused
   2  The command line is wrong
   3  A file cannot be opened, a read or write failed, or memory ran out";
+
+pub(super) const DIFF_NOTES: &str =
+    "Prints a line for each difference of what the images state: their nodes, their
+properties, and their payloads wherever these are. A line gives a path and both
+values, or begins with - or + if only the first or the second image states it.
+Values of more than 128 bytes are given by their size and SHA-256. Of legacy images
+the fields of the header and the parts are compared. The order of nodes and of
+properties does not count.
+
+Examples:
+  uimg diff yesterday.itb today.itb
+
+Exit status:
+  0  The images mean the same
+  1  They differ, or one of them is refused: then a line on standard error says so
+  2  The command line is wrong
+  3  A file cannot be opened, a read failed, or memory ran out";

@@ -17,7 +17,9 @@ ghost use Rattle.uimg_cli.specs.Wrong.{Tells, and_then};
 
 use super::arguments::{titled, with};
 use super::help_notes::PROGRAM_NOTES;
-use super::{Asked, Request, WordsFault, check, dumpimage, info, map, mkimage, unpack, verify};
+use super::{
+    Asked, Request, WordsFault, check, diff, dumpimage, info, map, mkimage, unpack, verify,
+};
 use clap::{Arg, ArgAction, ArgMatches, Command};
 use std::alloc::{AllocError, Global};
 use uimg_requests::VERSION;
@@ -33,7 +35,8 @@ pub(super) fn commands<'a>(alloc: Global) -> Result<Command<'a>, AllocError>
     let command = with_command(command, check::command(alloc)?)?;
     let command = with_command(command, unpack::command(alloc)?)?;
     let command = with_command(command, info::command(alloc)?)?;
-    with_command(command, map::command(alloc)?)
+    let command = with_command(command, map::command(alloc)?)?;
+    with_command(command, diff::command(alloc)?)
 }
 
 fn with_image_commands<'a>(alloc: Global, command: Command<'a>) -> Result<Command<'a>, AllocError>
@@ -91,6 +94,8 @@ pub(super) fn request_by<'a>(
         mapped(own)
     } else if name == "info" {
         Ok(Asked::Info(info::request(own)))
+    } else if name == "diff" {
+        Ok(Asked::Diff(diff::request(own)))
     } else if name == "dumpimage" {
         dumped(own)
     } else if name == "mkimage" {

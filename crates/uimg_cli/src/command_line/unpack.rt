@@ -30,6 +30,9 @@ pub struct UnpackRequest<'a> {
     /// The image's name, or the part's file name, if only one is requested.
     pub only: Option<&'a str>,
 
+    /// The name of the configuration whose images are requested, if one is chosen.
+    pub config: Option<&'a str>,
+
     /// The weakest algorithm that is enough, if one is needed.
     pub need: Option<Algo>,
 
@@ -68,6 +71,8 @@ const MOST_FILES: u64 = 4096;
 const ABOUT: &str = "Write the payloads of an image to a folder, if their hashes are right";
 
 const ONLY: &str = "Unpack only the payload of the image of this name, or one part: image-0";
+
+const CONFIG: &str = "Unpack only what this configuration names; default: the default one";
 
 const NEED: &str = "Require a hash by this algorithm or a stronger one";
 
@@ -122,6 +127,7 @@ fn chosen_options<'a>(
 {
     let command = with_value(command, alloc, "folder", 'C', FOLDER)?;
     let command = with_long(command, alloc, "only", "name", ONLY)?;
+    let command = with_long(command, alloc, "config", "name", CONFIG)?;
     let command = with(command, need(alloc)?)?;
     let command = with_long(command, alloc, "key", "[name=]file", KEY)?;
     with_switch(command, alloc, "allow-sha1", SHA1)
@@ -187,6 +193,8 @@ fn clash(matches: &ArgMatches<'_>) -> Option<WordsFault>
         Some(WordsFault::NoImages)
     } else if is_set(matches, "json") & cleans {
         Some(WordsFault::CleansWithJson)
+    } else if !is_missing(text_of(matches, "only")) & !is_missing(text_of(matches, "config")) {
+        Some(WordsFault::OnlyWithConfig)
     } else {
         without_key(matches, None)
     }
@@ -204,6 +212,7 @@ fn limited<'a>(
     Ok(UnpackRequest {
         folder: text_or(matches, "folder", "."),
         only: text_of(matches, "only"),
+        config: text_of(matches, "config"),
         need: least_need(matches, false, need),
         key: key_of(matches, None),
         is_forced: is_set(matches, "force"),

@@ -42,6 +42,9 @@ pub enum WordsFault {
     /// The lines of --clean are no JSON.
     CleansWithJson,
 
+    /// An image is named beside a configuration.
+    OnlyWithConfig,
+
     /// This option is given without --key.
     WithoutKey(&'static str),
 
@@ -98,6 +101,7 @@ impl Display for WordsFault {
                 "--svg -: standard output is not supported; for a file of that name use ./-",
             ),
             WordsFault::CleansWithJson => f.write_str("--clean with --json"),
+            WordsFault::OnlyWithConfig => f.write_str("--only with --config"),
             WordsFault::WithoutKey(option) => write!(f, "--{option} without --key"),
             WordsFault::DataWithSource => f.write_str("-d with -f"),
             WordsFault::UnknownName => f.write_str("unknown name"),

@@ -2,15 +2,15 @@
 //! have at most the file's length together.
 
 ghost use Rattle.std.specs.Prelude.{◌≡◌, ◌++◌, IfOk, IsTrue};
-ghost use Rattle.std.specs.Option.{option_map};
 ghost use Rattle.uimg_blob_reading.specs.Roles.{in_images};
 ghost use Rattle.uimg_fit_reading.specs.Nodes.{OfNodes, HasNodes};
-ghost use Rattle.uimg_fit_checking.specs.{Unpacking.as_bytes, Claiming.claim_of};
+ghost use Rattle.uimg_fit_checking.specs.{Unpacking.which, Claiming.claim_of};
 ghost use Rattle.uimg_fit_checking.specs.UnpackingParts.{LeavesImage, Claims, ClaimsImages};
 
 use crate::unpacking::node_names::NodeName;
 use crate::unpacking::requested::{Requested, find_requested};
 use crate::unpacking::taker::Taker;
+use crate::unpacking::wanted::Wanted;
 use std::alloc::Allocator;
 use uimg_base::{PutFault, Room, Source};
 use uimg_blob_reading::Blob;
@@ -56,7 +56,7 @@ pub(super) fn claim_images<S: Source, A: Allocator, T: Taker>(
     blob: &Blob,
     room: &mut Room<A>,
     first: Option<usize>,
-    only: Option<NodeName>,
+    only: Wanted<'_>,
     taker: &mut T,
 ) -> Result<Option<NodeName>, Fault>
     requires { HasNodes (S.device source.old) blob.now room.old first }
@@ -65,7 +65,7 @@ pub(super) fn claim_images<S: Source, A: Allocator, T: Taker>(
     ensures none_begun { T.begun taker.new ≡ T.begun taker.old }
     ensures none_given { IsTrue T.honest → T.takes taker.new ≡ T.takes taker.old }
     ensures told { OfNodes (S.device source.old) blob.now room.old in_images first
-        (λ found. ClaimsImages (option_map as_bytes only) found result S.device source
+        (λ found. ClaimsImages (which only.entry) found result S.device source
         T.notes T.claimed taker) }
 {
     let mut left = source.size()?;

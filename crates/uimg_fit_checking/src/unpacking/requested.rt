@@ -7,10 +7,11 @@ ghost use Rattle.uimg_blob_reading.specs.Roles.{in_images};
 ghost use Rattle.uimg_fit_base.specs.Faults.{is_read};
 ghost use Rattle.uimg_fit_reading.specs.Nodes.{OfNode, HasNode};
 ghost use Rattle.uimg_fit_reading.specs.Puts.{OnlyReadFaults};
-ghost use Rattle.uimg_fit_checking.specs.Unpacking.{as_bytes, is_asked};
+ghost use Rattle.uimg_fit_checking.specs.Unpacking.{which};
 ghost use Rattle.uimg_fit_checking.specs.UnpackingParts.{IsPayloadOf, TellsFound};
 
 use crate::unpacking::node_names::{NodeName, read_name};
+use crate::unpacking::wanted::{Wanted, is_asked};
 use std::alloc::Allocator;
 use uimg_base::{Algo, Room, Source, Span};
 use uimg_blob_reading::Blob;
@@ -20,9 +21,9 @@ use uimg_fit_reading::payload_place;
 
 /// Which payloads are requested, and what must vouch for them.
 #[derive(Clone, Copy)]
-pub(super) struct Request {
-    // The name of the requested images, or `None` for all.
-    pub(super) only: Option<NodeName>,
+pub(super) struct Request<'a> {
+    // The requested images.
+    pub(super) only: Wanted<'a>,
     // The needed strength, if one is needed.
     pub(super) need: Option<Algo>,
 }
@@ -38,22 +39,12 @@ pub(super) struct Requested {
     pub(super) span: Span,
 }
 
-// Without a name all images are requested.
-fn is_asked(only: Option<NodeName>, name: &NodeName) -> bool
-    ensures { result ≡ is_asked (option_map as_bytes only) (as_bytes name.now) }
-{
-    match only {
-        Some(asked) => asked.bytes() == name.bytes(),
-        None => true,
-    }
-}
-
 pub(super) fn find_requested<S: Source, A: Allocator>(
     source: &mut S,
     blob: &Blob,
     room: &Room<A>,
     image: usize,
-    only: Option<NodeName>,
+    only: Wanted<'_>,
 ) -> Result<Option<Requested>, Fault>
     requires { HasNode (S.device source.old) blob.now room.now image }
     ensures uses { Asks 267 (is_read result) (S.device source.old) (S.device source.new) }
@@ -61,7 +52,7 @@ pub(super) fn find_requested<S: Source, A: Allocator>(
     ensures its { IfOk result (λ found. IfSome found
         (IsPayloadOf image (length (S.device source.old).bytes))) }
     ensures told { OfNode (S.device source.old) blob.now room.now in_images image
-        (λ found. TellsFound (option_map as_bytes only) (S.device source.old).bytes found result) }
+        (λ found. TellsFound (which only.entry) (S.device source.old).bytes found result) }
 {
     let name = read_name(source, name_of(blob, room, image))?;
     if !is_asked(only, &name) {

@@ -2,12 +2,11 @@
 
 ghost use Rattle.std.specs.Prelude.{◌≡◌, ◌≤◌, ◌+◌, ◌*◌, true, Some, Ok, length, IfOk, IsTrue};
 ghost use Rattle.std.specs.List.{sum_by};
-ghost use Rattle.std.specs.Option.{option_map};
 ghost use Rattle.uimg_blob_reading.specs.LookUps.{hashes};
 ghost use Rattle.uimg_blob_reading.specs.Roles.{in_images};
 ghost use Rattle.uimg_fit_base.specs.Places.{payload};
 ghost use Rattle.uimg_fit_reading.specs.Nodes.{OfNode, OfNodes, HasNode, HasNodes};
-ghost use Rattle.uimg_fit_checking.specs.Unpacking.{GivesBy, take_of, takes, as_bytes, bytes_or_none, is_asked};
+ghost use Rattle.uimg_fit_checking.specs.Unpacking.{GivesBy, take_of, takes, bytes_or_none, is_asked, which};
 ghost use Rattle.uimg_fit_checking.specs.UnpackingParts.{LeavesImage, TakesTo, TakesRequested, TakesAll, EndsImage, EndsAll, Fitting, size_if, take_allowance};
 ghost use Rattle.uimg_fit_reading.specs.Puts.{Pays};
 ghost use Rattle.uimg_fit_reading.specs.Values.{in_span};
@@ -73,7 +72,7 @@ fn take_image<S: Source, A: Allocator, T: Taker>(
     blob: &Blob,
     room: &mut Room<A>,
     image: usize,
-    request: Request,
+    request: Request<'_>,
     taker: &mut T,
 ) -> Result<bool, Fault>
     requires { HasNode (S.device source.old) blob.now room.old image }
@@ -81,18 +80,18 @@ fn take_image<S: Source, A: Allocator, T: Taker>(
     ensures place { T.place taker.new ≡ T.place taker.old }
     ensures none_claimed { IsTrue T.notes → T.claimed taker.new ≡ T.claimed taker.old }
     ensures paid { OfNode (S.device source.old) blob.now room.old in_images image
-        (λ found. Pays (size_if (is_asked (option_map as_bytes request.only) found.name)
+        (λ found. Pays (size_if (is_asked (which request.entry.only) found.name)
         (payload (S.device source.old).bytes found) + take_allowance found) S.device source) }
     ensures told { IsTrue T.honest → OfNode (S.device source.old) blob.now room.old in_images image
-        (λ found. TakesTo T.seen (is_asked (option_map as_bytes request.only) found.name)
-        (take_of request.need found (bytes_or_none (payload (S.device source.old).bytes found)))
+        (λ found. TakesTo T.seen (is_asked (which request.entry.only) found.name)
+        (take_of request.entry.need found (bytes_or_none (payload (S.device source.old).bytes found)))
         result (payload (S.device source.old).bytes found)
         (T.takes taker.old) (T.takes taker.new)) }
     ensures given { IsTrue T.honest → IfOk result
         (λ all. GivesBy T.seen all (T.takes taker.old) (T.takes taker.new)) }
     ensures ended { OfNode (S.device source.old) blob.now room.old in_images image
-        (λ found. EndsImage (is_asked (option_map as_bytes request.only) found.name)
-        (take_of request.need found (bytes_or_none (payload (S.device source.old).bytes found)))
+        (λ found. EndsImage (is_asked (which request.entry.only) found.name)
+        (take_of request.entry.need found (bytes_or_none (payload (S.device source.old).bytes found)))
         result (payload (S.device source.old).bytes found)
         (T.begun taker.old) (T.begun taker.new)) }
 {
@@ -108,7 +107,7 @@ pub(super) fn take_images<S: Source, A: Allocator, T: Taker>(
     blob: &Blob,
     room: &mut Room<A>,
     first: Option<usize>,
-    request: Request,
+    request: Request<'_>,
     taker: &mut T,
 ) -> Result<bool, Fault>
     requires { HasNodes (S.device source.old) blob.now room.old first }
@@ -116,17 +115,17 @@ pub(super) fn take_images<S: Source, A: Allocator, T: Taker>(
     ensures place { T.place taker.new ≡ T.place taker.old }
     ensures none_claimed { IsTrue T.notes → T.claimed taker.new ≡ T.claimed taker.old }
     ensures paid { OfNodes (S.device source.old) blob.now room.old in_images first
-        (λ found. Fitting (option_map as_bytes request.only) (S.device source.old).bytes found
+        (λ found. Fitting (which request.entry.only) (S.device source.old).bytes found
         (Pays (length (S.device source.old).bytes + sum_by take_allowance found) S.device source)) }
     ensures told { IsTrue T.honest → OfNodes (S.device source.old) blob.now room.old in_images first
-        (λ found. Fitting (option_map as_bytes request.only) (S.device source.old).bytes found
-        (TakesAll T.seen (takes request.need (option_map as_bytes request.only)
+        (λ found. Fitting (which request.entry.only) (S.device source.old).bytes found
+        (TakesAll T.seen (takes request.entry.need (which request.entry.only)
         (S.device source.old).bytes found) result (T.takes taker.old) (T.takes taker.new))) }
     ensures given { IsTrue T.honest → IfOk result
         (λ all. GivesBy T.seen all (T.takes taker.old) (T.takes taker.new)) }
     ensures ended { OfNodes (S.device source.old) blob.now room.old in_images first
-        (λ found. Fitting (option_map as_bytes request.only) (S.device source.old).bytes found
-        (EndsAll (takes request.need (option_map as_bytes request.only)
+        (λ found. Fitting (which request.entry.only) (S.device source.old).bytes found
+        (EndsAll (takes request.entry.need (which request.entry.only)
         (S.device source.old).bytes found) result
         (T.begun taker.old) (T.begun taker.new))) }
 {

@@ -102,6 +102,7 @@ fn new_files_in_memory(rt: HostRuntime) -> Result<(), Fail> {
     assert!(rt; world.kind_at("moved") == Kind::File);
     assert!(rt; world.kind_at("made") == Kind::Nothing);
     assert!(rt; world.open("new").is_err());
+    assert!(rt; world.read_dir("made").is_err());
     let made = world.into_new_files();
     assert!(rt; made.bytes_at("new") == Some(b"abc".as_slice()));
     assert!(rt; made.bytes_at("moved") == Some(b"abc".as_slice()));
@@ -127,7 +128,7 @@ Entry Point:  00080000
 ";
 
 // A command line over these files, the exit status, standard output, and standard error.
-const COMMANDS: [(&str, u8, &str, &str); 9] = [
+const COMMANDS: [(&str, u8, &str, &str); 12] = [
     ("uimg verify abc", 0, "header crc32 ok\ndata crc32 ok\n", ""),
     ("uimg verify data", 1, "", "uimg: L1 too short\n"),
     ("uimg verify none", 3, "", "uimg: cannot read none\n"),
@@ -138,6 +139,14 @@ const COMMANDS: [(&str, u8, &str, &str); 9] = [
         "abc: ok 2 checksums\ndata: refused L1 too short\n",
         "",
     ),
+    (
+        "uimg check --recursive abc data",
+        1,
+        "abc: ok 2 checksums\ndata: refused L1 too short\n",
+        "",
+    ),
+    ("uimg diff abc abc", 0, "", ""),
+    ("uimg diff abc data", 1, "", "uimg: data: L1 too short\n"),
     (MAKES, 0, LISTING, ""),
     (
         "uimg mkimage -f data new",

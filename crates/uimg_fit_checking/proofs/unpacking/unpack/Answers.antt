@@ -1,9 +1,8 @@
 use Rattle.std.proofs.Common.{rules, ◌≡◌, ◌≤◌, ◌+◌, ◌∙◌, ◌++◌, ℕ, List, Option, length, refl, ap, sym, subst, arith}
 use Rattle.std.specs.Prelude.{Ok, Err}
 use Rattle.std.specs.List.{sum_by}
-use Rattle.std.specs.Option.{option_map}
 use Rattle.uimg_fit_reading.specs.Nodes.{Opened}
-use Rattle.uimg_fit_checking.specs.Unpacking.{Take, GivesBy, takes, as_bytes}
+use Rattle.uimg_fit_checking.specs.Unpacking.{Take, GivesBy, takes, which}
 use Rattle.uimg_fit_checking.specs.UnpackingParts.{ClaimsImagesBetween, TakesAll, EndsAll, Fitting, take_allowance}
 use Rattle.uimg_fit_reading.proofs.OpenedLaws.{still}
 use Rattle.uimg_fit_checking.proofs.UnpackedLaws.{unpack_is, unpack_refused, unpack_overlaps, fitting, unpack_taken, unpack_stops, unpack_within, claims_is, claims_treeless, claims_by, claims_before_fault}
@@ -19,7 +18,7 @@ returns-in_err-name-clause-takes g c = record {
     asked = λ honest.
         let d = g.S.Source.device in
         let file = (d c.args.source.now).bytes in
-        let only = option_map as_bytes c.args.only in
+        let only = which c.args.only in
         let h = c.in_ok-blob.ensures.gives honest in
         let found = c.in_ok-first.ensures.told h.nodes h.read.indexed in
         let same = c.read_tree.ensures.inspects.uses.same in
@@ -38,7 +37,7 @@ pub returns-in_err-name-clause-told : goal.returns-in_err-name-clause-told
 returns-in_err-name-clause-told g c = λ honest shelf.
     let d = g.S.Source.device in
     let file = (d c.args.source.now).bytes in
-    let only = option_map as_bytes c.args.only in
+    let only = which c.args.only in
     let h = c.in_ok-blob.ensures.gives honest in
     let found = c.in_ok-first.ensures.told h.nodes h.read.indexed in
     let same = c.read_tree.ensures.inspects.uses.same in
@@ -58,7 +57,7 @@ returns-in-Some-clause-takes g c = record {
     asked = λ honest.
         let d = g.S.Source.device in
         let file = (d c.args.source.now).bytes in
-        let only = option_map as_bytes c.args.only in
+        let only = which c.args.only in
         let h = c.in_ok-blob.ensures.gives honest in
         let found = c.in_ok-first.ensures.told h.nodes h.read.indexed in
         let same = c.read_tree.ensures.inspects.uses.same in
@@ -77,7 +76,7 @@ pub returns-in-Some-clause-told : goal.returns-in-Some-clause-told
 returns-in-Some-clause-told g c = λ honest shelf.
     let d = g.S.Source.device in
     let file = (d c.args.source.now).bytes in
-    let only = option_map as_bytes c.args.only in
+    let only = which c.args.only in
     let h = c.in_ok-blob.ensures.gives honest in
     let found = c.in_ok-first.ensures.told h.nodes h.read.indexed in
     let same = c.read_tree.ensures.inspects.uses.same in
@@ -95,7 +94,7 @@ returns-in_err-all-clause-takes g c = record {
     asked = λ honest.
         let d = g.S.Source.device in
         let file = (d c.args.source.now).bytes in
-        let only = option_map as_bytes c.args.only in
+        let only = which c.args.only in
         let h = c.in_ok-blob.ensures.gives honest in
         let found = c.in_ok-first.ensures.told h.nodes h.read.indexed in
         let same = c.read_tree.ensures.inspects.uses.same in
@@ -119,7 +118,7 @@ pub returns-in_err-all-clause-told : goal.returns-in_err-all-clause-told
 returns-in_err-all-clause-told g c = λ honest shelf.
     let d = g.S.Source.device in
     let file = (d c.args.source.now).bytes in
-    let only = option_map as_bytes c.args.only in
+    let only = which c.args.only in
     let h = c.in_ok-blob.ensures.gives honest in
     let found = c.in_ok-first.ensures.told h.nodes h.read.indexed in
     let same = c.read_tree.ensures.inspects.uses.same in
@@ -146,7 +145,7 @@ returns-clause-takes g c = record {
     asked = λ honest.
         let d = g.S.Source.device in
         let file = (d c.args.source.now).bytes in
-        let only = option_map as_bytes c.args.only in
+        let only = which c.args.only in
         let h = c.in_ok-blob.ensures.gives honest in
         let found = c.in_ok-first.ensures.told h.nodes h.read.indexed in
         let same = c.read_tree.ensures.inspects.uses.same in
@@ -170,7 +169,7 @@ pub returns-clause-told : goal.returns-clause-told
 returns-clause-told g c = λ honest shelf.
     let d = g.S.Source.device in
     let file = (d c.args.source.now).bytes in
-    let only = option_map as_bytes c.args.only in
+    let only = which c.args.only in
     let h = c.in_ok-blob.ensures.gives honest in
     let found = c.in_ok-first.ensures.told h.nodes h.read.indexed in
     let same = c.read_tree.ensures.inspects.uses.same in
@@ -198,7 +197,7 @@ pub returns-in_err-name-clause-claimed : goal.returns-in_err-name-clause-claimed
 returns-in_err-name-clause-claimed g c = λ honest known.
     let d = g.S.Source.device in
     let file = (d c.args.source.now).bytes in
-    let only = option_map as_bytes c.args.only in
+    let only = which c.args.only in
     let h = c.in_ok-blob.ensures.gives honest in
     let found = c.in_ok-first.ensures.told h.nodes h.read.indexed in
     let same = c.read_tree.ensures.inspects.uses.same in
@@ -215,7 +214,7 @@ pub returns-in-Some-clause-claimed : goal.returns-in-Some-clause-claimed
 returns-in-Some-clause-claimed g c = λ honest known.
     let d = g.S.Source.device in
     let file = (d c.args.source.now).bytes in
-    let only = option_map as_bytes c.args.only in
+    let only = which c.args.only in
     let h = c.in_ok-blob.ensures.gives honest in
     let found = c.in_ok-first.ensures.told h.nodes h.read.indexed in
     let same = c.read_tree.ensures.inspects.uses.same in
@@ -230,7 +229,7 @@ pub returns-in_err-all-clause-claimed : goal.returns-in_err-all-clause-claimed
 returns-in_err-all-clause-claimed g c = λ honest known.
     let d = g.S.Source.device in
     let file = (d c.args.source.now).bytes in
-    let only = option_map as_bytes c.args.only in
+    let only = which c.args.only in
     let h = c.in_ok-blob.ensures.gives honest in
     let found = c.in_ok-first.ensures.told h.nodes h.read.indexed in
     let same = c.read_tree.ensures.inspects.uses.same in
@@ -252,7 +251,7 @@ pub returns-clause-claimed : goal.returns-clause-claimed
 returns-clause-claimed g c = λ honest known.
     let d = g.S.Source.device in
     let file = (d c.args.source.now).bytes in
-    let only = option_map as_bytes c.args.only in
+    let only = which c.args.only in
     let h = c.in_ok-blob.ensures.gives honest in
     let found = c.in_ok-first.ensures.told h.nodes h.read.indexed in
     let same = c.read_tree.ensures.inspects.uses.same in
@@ -267,7 +266,7 @@ pub returns-in_err-name-clause-ended : goal.returns-in_err-name-clause-ended
 returns-in_err-name-clause-ended g c = λ honest.
     let d = g.S.Source.device in
     let file = (d c.args.source.now).bytes in
-    let only = option_map as_bytes c.args.only in
+    let only = which c.args.only in
     let h = c.in_ok-blob.ensures.gives honest in
     let found = c.in_ok-first.ensures.told h.nodes h.read.indexed in
     let same = c.read_tree.ensures.inspects.uses.same in
@@ -284,7 +283,7 @@ pub returns-in-Some-clause-ended : goal.returns-in-Some-clause-ended
 returns-in-Some-clause-ended g c = λ honest.
     let d = g.S.Source.device in
     let file = (d c.args.source.now).bytes in
-    let only = option_map as_bytes c.args.only in
+    let only = which c.args.only in
     let h = c.in_ok-blob.ensures.gives honest in
     let found = c.in_ok-first.ensures.told h.nodes h.read.indexed in
     let same = c.read_tree.ensures.inspects.uses.same in
@@ -299,7 +298,7 @@ pub returns-in_err-all-clause-ended : goal.returns-in_err-all-clause-ended
 returns-in_err-all-clause-ended g c = λ honest.
     let d = g.S.Source.device in
     let file = (d c.args.source.now).bytes in
-    let only = option_map as_bytes c.args.only in
+    let only = which c.args.only in
     let h = c.in_ok-blob.ensures.gives honest in
     let found = c.in_ok-first.ensures.told h.nodes h.read.indexed in
     let same = c.read_tree.ensures.inspects.uses.same in
@@ -321,7 +320,7 @@ pub returns-clause-ended : goal.returns-clause-ended
 returns-clause-ended g c = λ honest.
     let d = g.S.Source.device in
     let file = (d c.args.source.now).bytes in
-    let only = option_map as_bytes c.args.only in
+    let only = which c.args.only in
     let h = c.in_ok-blob.ensures.gives honest in
     let found = c.in_ok-first.ensures.told h.nodes h.read.indexed in
     let same = c.read_tree.ensures.inspects.uses.same in

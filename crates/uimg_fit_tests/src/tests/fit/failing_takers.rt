@@ -7,7 +7,7 @@ use std::alloc::Global;
 use std::test::Fail;
 use uimg_base::{FuseWriter, MemFiles, MemSource, PutFault, Room};
 use uimg_fit::Fault;
-use uimg_fit_checking::{MemTake, MemTaker, NodeName, Refusal, Taker, Unpacked, Vouched, unpack};
+use uimg_fit_checking::{MemTake, MemTaker, NodeName, Refusal, Taker, Unpacked, Vouched, Wanted, unpack};
 
 // A taker that answers some calls, and whose shelves accept some bytes each. It counts its shelves,
 // the payloads that it is given or that are refused, and the calls after the first one that failed.
@@ -112,7 +112,7 @@ fn ends(
 ) -> bool {
     let mut taker = FailingTaker::new(alloc, left, bytes);
     let mut source = MemSource::new(image);
-    let answer = unpack(None, None, &mut source, &mut Room::new(alloc), &mut taker);
+    let answer = unpack(Wanted::All, None, &mut source, &mut Room::new(alloc), &mut taker);
     let same = match answer {
         Ok(Unpacked::Taken(all)) => is_whole && !all,
         Err(Fault::Put) => !is_whole,
@@ -159,7 +159,7 @@ fn payloads_in_memory(rt: HostRuntime) -> Result<(), Fail> {
     let image = image(alloc)?;
     let mut taker = MemTaker::new(alloc);
     let mut source = MemSource::new(&image);
-    let answer = unpack(None, None, &mut source, &mut Room::new(alloc), &mut taker);
+    let answer = unpack(Wanted::All, None, &mut source, &mut Room::new(alloc), &mut taker);
     assert!(rt; matches!(answer, Ok(Unpacked::Taken(false))));
     let is_same = match taker.takes() {
         [

@@ -7,7 +7,7 @@ use std::alloc::Global;
 use std::test::Fail;
 use uimg_base::{Algo, FuseSource, MemSource, Room, Source, SourceFault};
 use uimg_fit::Fault;
-use uimg_fit_checking::{MemTake, MemTaker, Unpacked, unpack};
+use uimg_fit_checking::{MemTake, MemTaker, Unpacked, Wanted, unpack};
 use uimg_fit_reading::locate;
 
 // A source that returns one byte right in some reads, and wrong in the others.
@@ -69,7 +69,7 @@ const ABC: [u8; 4] = [0xba, 0x78, 0x16, 0xbf];
 fn becomes<S: Source>(alloc: Global, source: &mut S) -> u8 {
     let mut taker = MemTaker::new(alloc);
     let mut room = Room::new(alloc);
-    let answer = unpack(None, Some(Algo::Sha256), source, &mut room, &mut taker);
+    let answer = unpack(Wanted::All, Some(Algo::Sha256), source, &mut room, &mut taker);
     match (answer, taker.takes()) {
         (Ok(Unpacked::Taken(false)), [MemTake::Refused { .. }]) => 0,
         (

@@ -1,7 +1,5 @@
-use Rattle.std.proofs.Common.{◌≡◌, ◌∷◌, ℕ, List, Bool, false, IsTrue, refl, subst}
-use Rattle.std.specs.{Borrow.Bor, Io.Buffered.writer_contents}
-use Rattle.uimg_tool.specs.{OldCommands.Kept, OldMakings.{AnswersOldMaking, MakesFor}}
-use Rattle.uimg_world.specs.Deeds.{LendsReader}
+use Rattle.std.proofs.Common.{refl}
+use Rattle.uimg_tool.specs.{OldCommands.Kept}
 use Rattle.uimg_tool.proofs.OldCommandLaws.{Does, answers, does_as, run_changes, runs}
 use Rattle.uimg_tool.proofs.old_program.run_as_tool.Goals.{in-Run, in-Make, in-MakeFit, in-MakeAuto, in-Update, in-Show}
 use Rattle.uimg_tool.proofs.old_program.run_as_tool.Goals as goal

@@ -16,7 +16,7 @@ returns-then-not-is_something-clause-told g c = λ terms begun.
     let seen = g.W.World.trace c.kind_at.new.self in
     let after = g.W.World.trace c.name_file.new.world in
     let differ = apart terms.0 its begun in
-    let looks : seen ≡ Looks whole c.kind_at.result ∷ before = rw (c.as_str-whole.ensures.value) at c.kind_at.ensures in
+    let looks : seen ≡ Looks whole c.kind_at.result ∷ before = rw (c.as_str-whole.ensures.value) at c.kind_at.ensures.noted in
     let free : is_something c.kind_at.result ≡ false = search rules in
     let gives : GivesName new whole false (answer_of c.name_file.result) seen after = rw (c.as_str-new.ensures.value, c.as_str-whole.ensures.value) at c.name_file.ensures in
     names_fresh its (is_ok c.name_file.result) before seen after differ
@@ -34,7 +34,7 @@ returns-in-Ok-clause-told g c = λ terms begun.
     let middle = g.W.World.trace c.keep_as.new.world in
     let after = g.W.World.trace c.name_file-in-Ok.new.world in
     let differ = apart terms.0 its begun in
-    let looks : seen ≡ Looks whole c.kind_at.result ∷ before = rw (c.as_str-whole.ensures.value) at c.kind_at.ensures in
+    let looks : seen ≡ Looks whole c.kind_at.result ∷ before = rw (c.as_str-whole.ensures.value) at c.kind_at.ensures.noted in
     let there : is_something c.kind_at.result ≡ true = search rules in
     let keeps : Moves whole old true seen middle = rw (c.in-Ok.is, c.as_str-old.ensures.value, c.as_str-whole.ensures.value) at c.keep_as.ensures.moves in
     let gives : GivesName new whole true (answer_of c.name_file-in-Ok.result) middle after = rw (c.as_str-new.ensures.value, c.as_str-whole.ensures.value) at c.name_file-in-Ok.ensures in
@@ -50,7 +50,7 @@ returns-in-Err-clause-told g c = λ terms begun.
     let before = g.W.World.trace c.args.world.now in
     let seen = g.W.World.trace c.kind_at.new.self in
     let after = g.W.World.trace c.keep_as.new.world in
-    let looks : seen ≡ Looks whole c.kind_at.result ∷ before = rw (c.as_str-whole.ensures.value) at c.kind_at.ensures in
+    let looks : seen ≡ Looks whole c.kind_at.result ∷ before = rw (c.as_str-whole.ensures.value) at c.kind_at.ensures.noted in
     let keeps : Moves whole old false seen after = rw (c.in-Err.is, c.as_str-old.ensures.value, c.as_str-whole.ensures.value) at c.keep_as.ensures.moves in
     names_unkept its before seen after whole old (saw whole c.kind_at.result before seen looks) keeps
 
@@ -61,7 +61,7 @@ returns-then-not-is_something-clause-within g c = λ terms begun forced.
     let after = g.W.World.trace c.name_file.new.world in
     let gives : GivesName (string_bytes its.new) (string_bytes its.whole) false (answer_of c.name_file.result) seen after = rw (c.as_str-new.ensures.value, c.as_str-whole.ensures.value) at c.name_file.ensures in
     gives_within terms (string_bytes its.new) (string_bytes its.whole) false (answer_of c.name_file.result) seen after gives (begun_new terms.0 its begun) (begun_whole terms.0 its begun) (λ is. forced)
-    ◁ looks_within terms true c.as_str-whole.result.now c.kind_at.result (g.W.World.trace c.args.world.now) seen c.kind_at.ensures
+    ◁ looks_within terms true c.as_str-whole.result.now c.kind_at.result (g.W.World.trace c.args.world.now) seen c.kind_at.ensures.noted
 
 pub returns-in-Ok-clause-within : goal.returns-in-Ok-clause-within
 returns-in-Ok-clause-within g c = λ terms begun forced.
@@ -71,10 +71,10 @@ returns-in-Ok-clause-within g c = λ terms begun forced.
     let gives : GivesName (string_bytes its.new) (string_bytes its.whole) true (answer_of c.name_file-in-Ok.result) middle after = rw (c.as_str-new.ensures.value, c.as_str-whole.ensures.value) at c.name_file-in-Ok.ensures in
     gives_within terms (string_bytes its.new) (string_bytes its.whole) true (answer_of c.name_file-in-Ok.result) middle after gives (begun_new terms.0 its begun) (begun_whole terms.0 its begun) (λ is. forced)
     ◁ (rw (c.as_str-old.ensures.value, c.as_str-whole.ensures.value) at c.keep_as.ensures.within) terms forced (begun_whole terms.0 its begun) (begun_old terms.0 its begun)
-    ◁ looks_within terms true c.as_str-whole.result.now c.kind_at.result (g.W.World.trace c.args.world.now) (g.W.World.trace c.kind_at.new.self) c.kind_at.ensures
+    ◁ looks_within terms true c.as_str-whole.result.now c.kind_at.result (g.W.World.trace c.args.world.now) (g.W.World.trace c.kind_at.new.self) c.kind_at.ensures.noted
 
 pub returns-in-Err-clause-within : goal.returns-in-Err-clause-within
 returns-in-Err-clause-within g c = λ terms begun forced.
     let its = c.args.its.now in
     (rw (c.as_str-old.ensures.value, c.as_str-whole.ensures.value) at c.keep_as.ensures.within) terms forced (begun_whole terms.0 its begun) (begun_old terms.0 its begun)
-    ◁ looks_within terms true c.as_str-whole.result.now c.kind_at.result (g.W.World.trace c.args.world.now) (g.W.World.trace c.kind_at.new.self) c.kind_at.ensures
+    ◁ looks_within terms true c.as_str-whole.result.now c.kind_at.result (g.W.World.trace c.args.world.now) (g.W.World.trace c.kind_at.new.self) c.kind_at.ensures.noted

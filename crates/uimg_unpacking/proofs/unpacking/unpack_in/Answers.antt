@@ -1,7 +1,7 @@
 use Rattle.std.proofs.Common.{rules, refl, ◌≡◌, ◌∙◌, ◌||◌, ℕ, List, [], length, is_none, ap, subst, sym}
 use Rattle.std.specs.List.{list_all}
 use Rattle.std.specs.Option.{option_map}
-use Rattle.uimg_fit_checking.specs.Unpacking.{as_bytes}
+use Rattle.uimg_fit_checking.specs.Unpacking.{which}
 use Rattle.uimg_unpacking.specs.declared.folder.Folder.{Folder}
 use Rattle.uimg_unpacking.specs.{Ends.is_whole, Staged.{complete_names, names_of, staged}}
 use Rattle.uimg_fit_checking.specs.Claiming.{claims_of}
@@ -31,19 +31,19 @@ returns-clause-asked g c = λ honest. c.unpack-unpacked.ensures.takes.uses.asked
 
 pub returns-clause-ended : goal.returns-clause-ended
 returns-clause-ended g c = λ honest.
-    ends_by_file c.args.asked.now (g.S.Source.device c.args.source.now).bytes (option_map as_bytes c.in-Some.only) c.unpack-unpacked.result _ _ _ _ c.how_ended.result _ _
-    (sym (ap (option_map (option_map as_bytes)) c.in-Some.is) ∙ c.only_of.ensures) (ap (λ (ns : List (List ℕ)). length ns) c.new-taker.ensures.none) c.end-world.ensures.count (c.unpack-unpacked.ensures.ended honest) c.how_ended.ensures
+    ends_by_file c.args.asked.now (g.S.Source.device c.args.source.now).bytes (which c.in-Some.wanted) c.unpack-unpacked.result _ _ _ _ c.how_ended.result _ _
+    (sym (ap (option_map which) c.in-Some.is) ∙ c.wanted_of.ensures) (ap (λ (ns : List (List ℕ)). length ns) c.new-taker.ensures.none) c.end-world.ensures.count (c.unpack-unpacked.ensures.ended honest) c.how_ended.ensures
 
 pub returns-clause-fits : goal.returns-clause-fits
 returns-clause-fits g c = λ honest good.
     let asked = c.args.asked.now in
     let file = (g.S.Source.device c.args.source.now).bytes in
     let taker = c.unpack-unpacked.new.taker in
-    let only = option_map as_bytes c.in-Some.only in
+    let only = which c.in-Some.wanted in
     let claims = claims_by taker.claims.noted.names in
     let whole = whole_at asked c.unpack-unpacked.result _ _ c.how_ended.result _ _ c.how_ended.ensures good in
     let all : claims ≡ claims_of only file = all_claimed c.unpack-unpacked.result (claims_of only file) (claims_by c.new-taker.result.claims.noted.names) claims whole.0 c.new-taker.ensures.claims (c.unpack-unpacked.ensures.claimed honest refl) in
-    fits_for asked only file claims (sym (ap (option_map (option_map as_bytes)) c.in-Some.is) ∙ c.only_of.ensures) all
+    fits_for asked only file claims (sym (ap (option_map which) c.in-Some.is) ∙ c.wanted_of.ensures) all
     (fits_by asked.limits taker.claims.limits g.M.Task.limits claims c.requires.limits taker.limits (taker.fits (c.end-world.ensures.none (ap is_none whole.1))))
 
 pub returns-clause-filled : goal.returns-clause-filled
@@ -53,9 +53,9 @@ returns-clause-filled g c = λ honest knows.
     let before = g.W.World.trace staging.world.now in
     let noted = noted_takes taker.given.names in
     let contents = staged before staging.files.items staging.is_writing in
-    fills c.args.asked.now (g.S.Source.device c.args.source.now).bytes (option_map as_bytes c.in-Some.only) c.unpack-unpacked.result _ _ c.how_ended.result _ _
+    fills c.args.asked.now (g.S.Source.device c.args.source.now).bytes (which c.in-Some.wanted) c.unpack-unpacked.result _ _ c.how_ended.result _ _
     staging.folder.path.now noted contents _ _ (g.W.World.trace c.end-world.result.0.now)
-    (sym (ap (option_map (option_map as_bytes)) c.in-Some.is) ∙ c.only_of.ensures)
+    (sym (ap (option_map which) c.in-Some.is) ∙ c.wanted_of.ensures)
     (ap (λ (ns : List (List ℕ)). takes_given ns (staged (g.W.World.trace c.new-taker.result.staging.world.now) c.new-taker.result.staging.files.items c.new-taker.result.staging.is_writing)) c.new-taker.ensures.empty)
     (c.unpack-unpacked.ensures.place ∙ ap (λ (f : Folder). f.path.now) c.new-taker.ensures.folder)
     (c.unpack-unpacked.ensures.told honest knows) refl (as_many before staging.files.items staging.is_writing noted taker.whole) c.how_ended.ensures

@@ -14,4 +14,5 @@ returns c =
     let e2 = c.in_ok-command-4.ensures ∙ ap₂ with_command e1 c.in_ok-command-3.ensures.app in
     let e3 = c.in_ok-command-6.ensures ∙ ap₂ with_command e2 c.in_ok-command-5.ensures.app in
     let e4 = c.in_ok-command-8.ensures ∙ ap₂ with_command e3 c.in_ok-command-7.ensures.app in
-    onward app_of c.with_command-4.result _ _ c.with_command-4.ensures (ap₂ with_command e4 c.in_ok-command-9.ensures.app)
+    let e5 = c.in_ok-command-10.ensures ∙ ap₂ with_command e4 c.in_ok-command-9.ensures.app in
+    onward app_of c.with_command-5.result _ _ c.with_command-5.ensures (ap₂ with_command e5 c.in_ok-command-11.ensures.app)

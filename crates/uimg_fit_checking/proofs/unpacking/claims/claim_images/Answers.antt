@@ -1,13 +1,12 @@
 use Rattle.std.proofs.Common.{rules, ◌≡◌, ℕ, List, Option, Some, length, IfSome, refl, subst, arith}
 use Rattle.std.specs.Prelude.{Ok, Err}
-use Rattle.std.specs.Option.{option_map}
 use Rattle.uimg_blob_reading.specs.LookUps.{NodeOf}
 use Rattle.uimg_blob_reading.specs.Roles.{in_images}
 use Rattle.uimg_blob_reading.specs.Spots.{Spot}
 use Rattle.uimg_fit_base.specs.declared.fault.Fault.TheVariants.{Read, Put}
 use Rattle.uimg_fit_checking.specs.declared.unpacking.claims.Claim.{Claim}
 use Rattle.uimg_fit_reading.specs.Nodes.{AreFrom}
-use Rattle.uimg_fit_checking.specs.Unpacking.{as_bytes}
+use Rattle.uimg_fit_checking.specs.Unpacking.{which}
 use Rattle.uimg_fit_checking.specs.UnpackingParts.{IsPayloadOf, TellsFound, Claims}
 use Rattle.uimg_fit_reading.proofs.OpenedLaws.{still}
 use Rattle.uimg_fit_reading.proofs.ImageLaws.{front}
@@ -26,7 +25,7 @@ loop-next-preserved g c = record {
   told = λ t o found from.
       let d = g.S.Source.device in
       let file = (d c.args.source.now).bytes in
-      let only = option_map as_bytes c.args.only in
+      let only = which c.args.only in
       let k = c.loop-next.invariant.told t o found from in
       let same = c.loop-next.invariant.same in
       let here = still same c.loop-next.invariant.room o in
@@ -45,7 +44,7 @@ pub returns-in-Overlaps-clause-told : goal.returns-in-Overlaps-clause-told
 returns-in-Overlaps-clause-told g c = λ t o found from.
     let d = g.S.Source.device in
     let file = (d c.args.source.now).bytes in
-    let only = option_map as_bytes c.args.only in
+    let only = which c.args.only in
     let k = c.loop-next.invariant.told t o found from in
     let same = c.loop-next.invariant.same in
     let here = still same c.loop-next.invariant.room o in
@@ -59,7 +58,7 @@ returns-in-Overlaps-clause-told g c = λ t o found from.
 pub returns-in_err-found-clause-told : goal.returns-in_err-found-clause-told
 returns-in_err-found-clause-told g c = λ t o found from.
     let file = (g.S.Source.device c.args.source.now).bytes in
-    let only = option_map as_bytes c.args.only in
+    let only = which c.args.only in
     let k = c.loop-next.invariant.told t o found from in
     let same = c.loop-next.invariant.same in
     let fault = c.in_err-found.field-0.0 in
@@ -72,7 +71,7 @@ pub returns-in_err-rest-clause-told : goal.returns-in_err-rest-clause-told
 returns-in_err-rest-clause-told g c = λ t o found from.
     let d = g.S.Source.device in
     let file = (d c.args.source.now).bytes in
-    let only = option_map as_bytes c.args.only in
+    let only = which c.args.only in
     let k = c.loop-next.invariant.told t o found from in
     let same = c.loop-next.invariant.same in
     let here = still same c.loop-next.invariant.room o in
@@ -85,9 +84,9 @@ returns-in_err-rest-clause-told g c = λ t o found from.
 
 pub returns-clause-told : goal.returns-clause-told
 returns-clause-told g c = λ t o found from.
-    claims_done t _ (option_map as_bytes c.args.only) found _ _ c.loop-next.left c.loop-next.next _ _ _ (search rules) (c.loop-next.invariant.told t o found from)
+    claims_done t _ (which c.args.only) found _ _ c.loop-next.left c.loop-next.next _ _ _ (search rules) (c.loop-next.invariant.told t o found from)
 
 pub returns-in_err-left-clause-told : goal.returns-in_err-left-clause-told
 returns-in_err-left-clause-told g c = λ t o found from.
     let is : c.from_residual.result ≡ Err Read = search rules in
-    claims_unread _ (option_map as_bytes c.args.only) found _ _ c.from_residual.result _ _ _ is (omega (arith, c.size.ensures.asked)) (λ known. refl)
+    claims_unread _ (which c.args.only) found _ _ c.from_residual.result _ _ _ is (omega (arith, c.size.ensures.asked)) (λ known. refl)

@@ -1,9 +1,8 @@
 use Rattle.std.proofs.Common.{rules, ◌≡◌, ◌≤◌, ◌+◌, ◌∙◌, ℕ, List, length, true, false, refl, ap, subst, sym}
 use Rattle.std.specs.Prelude.{Ok, Err}
-use Rattle.std.specs.Option.{option_map}
 use Rattle.uimg_blob_reading.specs.Roles.{in_images}
 use Rattle.uimg_fit_base.specs.Places.{TellsPlace}
-use Rattle.uimg_fit_checking.specs.Unpacking.{is_asked, as_bytes}
+use Rattle.uimg_fit_checking.specs.Unpacking.{is_asked, as_bytes, which}
 use Rattle.uimg_fit_reading.proofs.OpenedLaws.{still}
 use Rattle.uimg_fit_checking.proofs.ClaimLaws.{found_lacks}
 use Rattle.uimg_fit_checking.proofs.unpacking.requested.find_requested.Goals as goal
@@ -11,7 +10,7 @@ use Rattle.uimg_fit_checking.proofs.unpacking.requested.find_requested.Goals as 
 pub returns-then-not-is_asked-clause-told : goal.returns-then-not-is_asked-clause-told
 returns-then-not-is_asked-clause-told g c = λ t o found n.
     let file = (g.S.Source.device c.args.source.now).bytes in
-    let only = option_map as_bytes c.args.only in
+    let only = which c.args.only in
     let named : as_bytes c.in_ok-name.name ≡ found.name = c.in_ok-name.ensures.bytes o.honest (c.name_of.ensures.short file t o.read in_images found n) ∙ c.name_of.ensures.name file t o.read in_images found n in
     let not_it : c.is_asked.result ≡ false = search rules in
     sym (ap (is_asked only) named) ∙ sym c.is_asked.ensures ∙ not_it
@@ -19,7 +18,7 @@ returns-then-not-is_asked-clause-told g c = λ t o found n.
 pub returns-in_err-span-clause-told : goal.returns-in_err-span-clause-told
 returns-in_err-span-clause-told g c = λ t o found n.
     let file = (g.S.Source.device c.args.source.now).bytes in
-    let only = option_map as_bytes c.args.only in
+    let only = which c.args.only in
     let same = c.read_name.ensures.uses.same in
     let named : as_bytes c.in_ok-name.name ≡ found.name = c.in_ok-name.ensures.bytes o.honest (c.name_of.ensures.short file t o.read in_images found n) ∙ c.name_of.ensures.name file t o.read in_images found n in
     let it : c.is_asked.result ≡ true = search rules in
@@ -38,7 +37,7 @@ returns-clause-its g c = record {
 pub returns-clause-told : goal.returns-clause-told
 returns-clause-told g c = λ t o found n.
     let file = (g.S.Source.device c.args.source.now).bytes in
-    let only = option_map as_bytes c.args.only in
+    let only = which c.args.only in
     let same = c.read_name.ensures.uses.same in
     let named : as_bytes c.in_ok-name.name ≡ found.name = c.in_ok-name.ensures.bytes o.honest (c.name_of.ensures.short file t o.read in_images found n) ∙ c.name_of.ensures.name file t o.read in_images found n in
     let it : c.is_asked.result ≡ true = search rules in

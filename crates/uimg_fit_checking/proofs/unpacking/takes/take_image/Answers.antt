@@ -1,12 +1,11 @@
 use Rattle.std.proofs.Common.{rules, ◌≡◌, ℕ, List, length, Option, true, IfSome, refl, ap, subst, sym}
 use Rattle.std.specs.Prelude.{Ok, Err}
-use Rattle.std.specs.Option.{option_map}
 use Rattle.uimg_texts.specs.Slices.{slice}
 use Rattle.uimg_blob_reading.specs.Roles.{in_images}
 use Rattle.uimg_fit_reading.specs.Nodes.{IsNode}
 use Rattle.uimg_fit_reading.specs.Values.{in_span}
 use Rattle.uimg_fit_checking.specs.declared.unpacking.requested.Requested.{Requested}
-use Rattle.uimg_fit_checking.specs.Unpacking.{as_bytes, take_of}
+use Rattle.uimg_fit_checking.specs.Unpacking.{take_of, which}
 use Rattle.uimg_fit_checking.specs.UnpackingParts.{IsPayloadOf, TellsFound, EndsImage}
 use Rattle.uimg_fit_reading.proofs.OpenedLaws.{still}
 use Rattle.uimg_fit_checking.proofs.TakeLaws.{takes_skips, takes_lacks, takes_there, take_paid}
@@ -18,18 +17,18 @@ returns-in_err-payload-clause-told g c = λ honest t o found n.
     let file = (g.S.Source.device c.args.source.now).bytes in
     let fault = c.in_err-payload.field-0.0 in
     let is : c.from_residual.result ≡ Err fault = search rules in
-    takes_lacks g.T.Taker.seen file (option_map as_bytes c.args.request.only) _ found fault c.from_residual.result _ is (c.in_err-payload.ensures.told t o found n)
+    takes_lacks g.T.Taker.seen file (which c.args.request.only) _ found fault c.from_residual.result _ is (c.in_err-payload.ensures.told t o found n)
 
 pub returns-in-None-clause-told : goal.returns-in-None-clause-told
 returns-in-None-clause-told g c = λ honest t o found n.
     let file = (g.S.Source.device c.args.source.now).bytes in
-    let only = option_map as_bytes c.args.request.only in
+    let only = which c.args.request.only in
     takes_skips g.T.Taker.seen file only _ found _ (subst (λ (x : Option Requested). TellsFound only file found (Ok x)) c.in-None.is (c.in_ok-payload.ensures.told t o found n))
 
 pub returns-in-Some-clause-paid : goal.returns-in-Some-clause-paid
 returns-in-Some-clause-paid g c = λ t o found n.
     let file = (g.S.Source.device c.args.source.now).bytes in
-    let only = option_map as_bytes c.args.request.only in
+    let only = which c.args.request.only in
     let it = c.in-Some.payload in
     let its = subst (λ (x : Option Requested). IfSome x (IsPayloadOf c.args.image (length file))) c.in-Some.is c.in_ok-payload.ensures.its in
     let finds = subst (λ (x : Option Requested). TellsFound only file found (Ok x)) c.in-Some.is (c.in_ok-payload.ensures.told t o found n) in
@@ -39,7 +38,7 @@ returns-in-Some-clause-paid g c = λ t o found n.
 pub returns-in-Some-clause-told : goal.returns-in-Some-clause-told
 returns-in-Some-clause-told g c = λ honest t o found n.
     let file = (g.S.Source.device c.args.source.now).bytes in
-    let only = option_map as_bytes c.args.request.only in
+    let only = which c.args.request.only in
     let it = c.in-Some.payload in
     let its = subst (λ (x : Option Requested). IfSome x (IsPayloadOf c.args.image (length file))) c.in-Some.is c.in_ok-payload.ensures.its in
     let finds = subst (λ (x : Option Requested). TellsFound only file found (Ok x)) c.in-Some.is (c.in_ok-payload.ensures.told t o found n) in
@@ -54,18 +53,18 @@ returns-in_err-payload-clause-ended g c = λ t o found n.
     let file = (g.S.Source.device c.args.source.now).bytes in
     let fault = c.in_err-payload.field-0.0 in
     let is : c.from_residual.result ≡ Err fault = search rules in
-    ends_lacking file (option_map as_bytes c.args.request.only) _ found fault c.from_residual.result _ _ is (c.in_err-payload.ensures.told t o found n)
+    ends_lacking file (which c.args.request.only) _ found fault c.from_residual.result _ _ is (c.in_err-payload.ensures.told t o found n)
 
 pub returns-in-None-clause-ended : goal.returns-in-None-clause-ended
 returns-in-None-clause-ended g c = λ t o found n.
     let file = (g.S.Source.device c.args.source.now).bytes in
-    let only = option_map as_bytes c.args.request.only in
+    let only = which c.args.request.only in
     ends_skipped file only _ found _ (subst (λ (x : Option Requested). TellsFound only file found (Ok x)) c.in-None.is (c.in_ok-payload.ensures.told t o found n))
 
 pub returns-in-Some-clause-ended : goal.returns-in-Some-clause-ended
 returns-in-Some-clause-ended g c = λ t o found n.
     let file = (g.S.Source.device c.args.source.now).bytes in
-    let only = option_map as_bytes c.args.request.only in
+    let only = which c.args.request.only in
     let it = c.in-Some.payload in
     let its = subst (λ (x : Option Requested). IfSome x (IsPayloadOf c.args.image (length file))) c.in-Some.is c.in_ok-payload.ensures.its in
     let finds = subst (λ (x : Option Requested). TellsFound only file found (Ok x)) c.in-Some.is (c.in_ok-payload.ensures.told t o found n) in

@@ -1,13 +1,12 @@
 use Rattle.std.proofs.Common.{rules, ◌≡◌, ◌≤◌, ◌+◌, ℕ, List, Bool, Option, Some, subst, sym}
 use Rattle.std.specs.Prelude.{Result, Ok, Err}
-use Rattle.std.specs.Option.{option_map}
 use Rattle.uimg_blob_reading.specs.LookUps.{NodeOf}
 use Rattle.uimg_blob_reading.specs.Roles.{in_images}
 use Rattle.uimg_blob_reading.specs.Spots.{Spot}
 use Rattle.uimg_fit_base.specs.Places.{payload}
 use Rattle.uimg_fit_base.specs.declared.fault.Fault.{Fault}
 use Rattle.uimg_fit_reading.specs.Nodes.{AreFrom}
-use Rattle.uimg_fit_checking.specs.Unpacking.{is_asked, as_bytes, take_of, takes, bytes_or_none}
+use Rattle.uimg_fit_checking.specs.Unpacking.{is_asked, take_of, takes, bytes_or_none, which}
 use Rattle.uimg_fit_checking.specs.UnpackingParts.{TakesTo, TakesAll, EndsImage, EndsAll, size_if, take_allowance}
 use Rattle.uimg_fit_reading.proofs.OpenedLaws.{still}
 use Rattle.uimg_fit_reading.proofs.ImageLaws.{front}
@@ -40,7 +39,7 @@ loop-next-preserved g c = record {
   paid = λ t o found from fits.
       let d = g.S.Source.device in
       let file = (d c.args.source.now).bytes in
-      let only = option_map as_bytes c.args.request.only in
+      let only = which c.args.request.only in
       let same = c.loop-next.invariant.same in
       let here = still same c.loop-next.invariant.room o in
       let k = c.loop-next.invariant.paid t o found from fits in
@@ -54,7 +53,7 @@ loop-next-preserved g c = record {
   told = λ honest t o found from fits.
       let d = g.S.Source.device in
       let file = (d c.args.source.now).bytes in
-      let only = option_map as_bytes c.args.request.only in
+      let only = which c.args.request.only in
       let same = c.loop-next.invariant.same in
       let here = still same c.loop-next.invariant.room o in
       let k = c.loop-next.invariant.told honest t o found from fits in
@@ -70,7 +69,7 @@ loop-next-preserved g c = record {
   ended = λ t o found from fits.
       let d = g.S.Source.device in
       let file = (d c.args.source.now).bytes in
-      let only = option_map as_bytes c.args.request.only in
+      let only = which c.args.request.only in
       let same = c.loop-next.invariant.same in
       let here = still same c.loop-next.invariant.room o in
       let k = c.loop-next.invariant.ended t o found from fits in
@@ -87,7 +86,7 @@ pub returns-in_err-all-clause-paid : goal.returns-in_err-all-clause-paid
 returns-in_err-all-clause-paid g c = λ t o found from fits.
     let d = g.S.Source.device in
     let file = (d c.args.source.now).bytes in
-    let only = option_map as_bytes c.args.request.only in
+    let only = which c.args.request.only in
     let same = c.loop-next.invariant.same in
     let here = still same c.loop-next.invariant.room o in
     let k = c.loop-next.invariant.paid t o found from fits in
@@ -100,7 +99,7 @@ pub returns-in_err-all-clause-told : goal.returns-in_err-all-clause-told
 returns-in_err-all-clause-told g c = λ honest t o found from fits.
     let d = g.S.Source.device in
     let file = (d c.args.source.now).bytes in
-    let only = option_map as_bytes c.args.request.only in
+    let only = which c.args.request.only in
     let same = c.loop-next.invariant.same in
     let here = still same c.loop-next.invariant.room o in
     let k = c.loop-next.invariant.told honest t o found from fits in
@@ -125,7 +124,7 @@ pub returns-in_err-all-clause-ended : goal.returns-in_err-all-clause-ended
 returns-in_err-all-clause-ended g c = λ t o found from fits.
     let d = g.S.Source.device in
     let file = (d c.args.source.now).bytes in
-    let only = option_map as_bytes c.args.request.only in
+    let only = which c.args.request.only in
     let same = c.loop-next.invariant.same in
     let here = still same c.loop-next.invariant.room o in
     let k = c.loop-next.invariant.ended t o found from fits in

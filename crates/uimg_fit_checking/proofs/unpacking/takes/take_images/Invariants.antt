@@ -1,12 +1,12 @@
 use Rattle.std.proofs.Common.{◌≡◌, ◌-◌, ◌<◌, List, length, IfSome, IsTrue}
-use Rattle.std.specs.Option.{option_map, option_map_or}
+use Rattle.std.specs.Option.{option_map_or}
 use Rattle.uimg_base.specs.Device.{SameDevice}
 use Rattle.uimg_blob_reading.specs.Grammar.{Siblings}
 use Rattle.uimg_blob_reading.specs.LookUps.{NodeOf}
 use Rattle.uimg_blob_reading.specs.Roles.{in_images}
 use Rattle.uimg_blob_reading.specs.Spots.{Spot}
 use Rattle.uimg_fit_reading.specs.Nodes.{Opened, AreFrom}
-use Rattle.uimg_fit_checking.specs.Unpacking.{as_bytes, GivesBy}
+use Rattle.uimg_fit_checking.specs.Unpacking.{GivesBy, which}
 use Rattle.uimg_fit_checking.specs.UnpackingParts.{Fitting}
 use Rattle.uimg_fit_checking.proofs.TakeLaws.{LeftToPay, LeftToTake}
 use Rattle.uimg_fit_checking.proofs.EndedLaws.{LeftToEnd}
@@ -17,7 +17,7 @@ abbrev pub invariant-loop-next : goal.invariant-loop-next
 invariant-loop-next g l =
     let device = g.S.Source.device in
     let file = (device l.fn.source).bytes in
-    let only = option_map as_bytes l.request.only in
+    let only = which l.request.only in
     record {
       same : SameDevice (device l.fn.source) (device l.source);
       failures : (device l.source).failures ≡ (device l.fn.source).failures;

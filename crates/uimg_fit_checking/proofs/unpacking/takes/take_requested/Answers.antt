@@ -1,4 +1,4 @@
-use Rattle.std.proofs.Common.{rules, ◌≡◌, ◌∙◌, ℕ, List, [], ◌∷◌, ◌++◌, Option, None, true, false, refl, ap, subst, sym, arith}
+use Rattle.std.proofs.Common.{rules, ◌≡◌, ◌∙◌, ℕ, List, Option, None, true, false, refl, ap, subst, sym, arith}
 use Rattle.std.specs.Prelude.{Ok, Err}
 use Rattle.std.specs.Option.{option_map}
 use Rattle.uimg_texts.specs.Slices.{slice}
@@ -9,7 +9,7 @@ use Rattle.uimg_fit_base.specs.Faults.{of_move}
 use Rattle.uimg_fit_base.specs.declared.fault.Fault.TheVariants as of
 use Rattle.uimg_fit_checking.specs.declared.unpacking.taker.Refusal.{Refusal}
 use Rattle.uimg_fit_checking.specs.Checks.{wrong_in, or_weak}
-use Rattle.uimg_fit_checking.specs.Unpacking.{Take, kept, refused, as_bytes, take_of, told_of, is_kept}
+use Rattle.uimg_fit_checking.specs.Unpacking.{kept, refused, as_bytes, take_of, told_of, is_kept}
 use Rattle.uimg_fit_reading.specs.Values.{in_span}
 use Rattle.uimg_fit_reading.proofs.OpenedLaws.{still}
 use Rattle.uimg_fit_checking.proofs.TakeLaws.{filled_by, kept_is, refused_is, given_none, given_one, perhaps_one}
