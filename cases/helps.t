@@ -140,21 +140,23 @@ Helps
   Usage: uimg check [OPTIONS] [image]...
   
   Arguments:
-    [image]...  The images
+    [image]...  The images, - for standard input
   
   Options:
-        --need <algo>        Require a hash by this algorithm or a stronger one
-        --strict             Require hashes, images for all names, and a tree that U-Boot reads alike
-        --key <[name=]file>  Require each configuration to be signed by the key in this file
-        --config <name>      With --key: require only this configuration to be signed
-        --allow-sha1         With --key: accept signatures over SHA-1
-        --recursive          Check the images below each folder that is given
-        --files-from <file>  Also check the images whose paths are in this file, one a line
-    -0                       Paths in that file end with NUL, not with a newline
-        --json               Print a JSON object for each image
-        --quiet              Print no line for images that are ok
-        --allow-empty        Accept a file of paths that has none
-    -h, --help               Print help
+        --need <algo>         Require a hash by this algorithm or a stronger one
+        --strict              Require hashes, images for all names, and a tree that U-Boot reads alike
+        --key <[name=]file>   Require each configuration to be signed by the key in this file
+        --config <name>       With --key: require only this configuration to be signed
+        --allow-sha1          With --key: accept signatures over SHA-1
+        --recursive           Check the images below each folder that is given
+        --files-from <file>   Also check the images whose paths are in this file, one a line
+    -0                        Paths in that file end with NUL, not with a newline
+        --json                Print a JSON object for each image
+        --junit <file>        Also write a JUnit report to this file, which is replaced
+        --quiet               Print no line for images that are ok
+        --allow-empty         Accept a file of paths that has none
+        --max-input <number>  Read at most this many bytes of standard input (4 GiB)
+    -h, --help                Print help
   
   Algorithms, from the weakest to the strongest:
     <algo>  crc32 md5 sha1 sha256 sha384 sha512
@@ -197,10 +199,16 @@ Helps
   spaces, colons and commas. --recursive takes the files below a folder that begin
   as an image does, by the order of their names, follows no symbolic link, and ends
   with a line that counts the others. --files-from - reads standard input; a file
-  without a path, or a folder without an image, is refused (--allow-empty). --json
+  without a path, or a folder without an image, is refused (--allow-empty). The image
+  - is read from standard input to a file without a name in TMPDIR or /tmp. --json
   prints path, status and verdict (the word), and depending on it format, images,
   hashes, unchecked, configurations, signed, signatures, checksums, algo, image,
   hash, configuration, property, name, node, fault, message and offset.
+  
+  --junit writes a report for CI as well: a test case an image, also with --quiet.
+  It is a failure with the word and the line, or an error if the word is failed.
+  FILE gets the report when all images are checked, and only if it does not exist,
+  is empty, or begins as a report does (<?xml).
   
   --key implies --strict. Its file has an RSA key in PEM (openssl pkey -pubout), or
   is U-Boot's control devicetree with the keys that it requires for configurations.
@@ -213,7 +221,9 @@ Helps
     uimg check --strict --need sha256 kernel.itb rescue.itb
     uimg check --key dev=dev.pem kernel.itb
     uimg check --key dev=dev.pem --config conf-1 kernel.itb
+    ssh board cat /boot/kernel.itb | uimg check --strict -
     find /srv/images -name '*.itb' -print0 | uimg check -0 --files-from -
+    uimg check --junit report.xml kernel.itb rescue.itb
   
   Exit status, the greatest of all lines:
     0  ok or unhashed

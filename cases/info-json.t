@@ -263,11 +263,12 @@ Wrong command lines:
   Usage: uimg info [OPTIONS] <image>
   
   Arguments:
-    <image>  The image
+    <image>  The image, - for standard input
   
   Options:
-        --json  Print a JSON object (the default)
-    -h, --help  Print help
+        --json                Print a JSON object (the default)
+        --max-input <number>  Read at most this many bytes of standard input (4 GiB)
+    -h, --help                Print help
   
   Prints one line, a JSON object. For a FIT image it has path, status, format, size,
   totalsize, description, timestamp, default, reservations, images and
@@ -278,7 +279,8 @@ Wrong command lines:
   arch, type and compression (each with its code), data-size and parts. What the image
   lacks is left out. An image that is refused or cannot be read has the line of check
   --json.
-  Hashes and the checksum of a legacy image's data are printed, not checked.
+  Hashes and the checksum of a legacy image's data are printed, not checked. The
+  image - is read from standard input to a file without a name in TMPDIR or /tmp.
   
   Examples:
     uimg info kernel.itb

@@ -33,8 +33,9 @@ _uimg() {
             case "$previous" in
                 --need) COMPREPLY=($(compgen -W 'crc32 md5 sha1 sha256 sha384 sha512' -- "$current")); return ;;
                 --config) return ;;
+                --max-input) return ;;
             esac
-            test "${current#-}" = "$current" || { COMPREPLY=($(compgen -W '--need --strict --key --config --allow-sha1 --recursive --files-from -0 --json --quiet --allow-empty -h --help' -- "$current")); return; }
+            test "${current#-}" = "$current" || { COMPREPLY=($(compgen -W '--need --strict --key --config --allow-sha1 --recursive --files-from -0 --json --junit --quiet --allow-empty --max-input -h --help' -- "$current")); return; }
             ;;
         unpack)
             case "$previous" in
@@ -44,14 +45,21 @@ _uimg() {
                 --need) COMPREPLY=($(compgen -W 'crc32 md5 sha1 sha256 sha384 sha512' -- "$current")); return ;;
                 --max-files) return ;;
                 --max-bytes) return ;;
+                --max-input) return ;;
             esac
-            test "${current#-}" = "$current" || { COMPREPLY=($(compgen -W '-C --only --config --need --key --allow-sha1 --force --keep-good --no-sync --max-files --max-bytes --json --clean -h --help' -- "$current")); return; }
+            test "${current#-}" = "$current" || { COMPREPLY=($(compgen -W '-C --only --config --need --key --allow-sha1 --force --keep-good --no-sync --max-files --max-bytes --max-input --json --clean -h --help' -- "$current")); return; }
             ;;
         info)
-            test "${current#-}" = "$current" || { COMPREPLY=($(compgen -W '--json -h --help' -- "$current")); return; }
+            case "$previous" in
+                --max-input) return ;;
+            esac
+            test "${current#-}" = "$current" || { COMPREPLY=($(compgen -W '--json --max-input -h --help' -- "$current")); return; }
             ;;
         map)
-            test "${current#-}" = "$current" || { COMPREPLY=($(compgen -W '--svg --force -h --help' -- "$current")); return; }
+            case "$previous" in
+                --max-input) return ;;
+            esac
+            test "${current#-}" = "$current" || { COMPREPLY=($(compgen -W '--svg --force --max-input -h --help' -- "$current")); return; }
             ;;
         diff)
             test "${current#-}" = "$current" || { COMPREPLY=($(compgen -W '--json -h --help' -- "$current")); return; }

@@ -13,3 +13,4 @@ pub mod FaultStatuses
 pub mod StrictEnds
 pub mod Verdicts
 pub mod Choices
+pub mod TestReports

@@ -1,5 +1,5 @@
 //! Checks images of both formats, over any source and in memory. The result is a status, a word, a
-//! line of text, or a JSON object. Counts the payloads of an image in memory.
+//! line of text, a JSON object, or a test case of a report. Counts the payloads of an image in memory.
 #![tactic(auto)]
 
 mod answer;
@@ -13,6 +13,7 @@ mod object;
 mod references;
 mod signatures;
 mod statuses;
+mod test_report;
 
 pub use answer::{Answer, Configurations, Format, Signed, Stop};
 pub use choosing::configuration_images;
@@ -24,3 +25,4 @@ pub use line::{Line, line_text};
 pub use object::object_text;
 pub use references::{Missing, Reference, find_missing};
 pub use statuses::status_of_fault;
+pub use test_report::TestReport;

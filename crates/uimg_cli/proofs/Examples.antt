@@ -1,10 +1,10 @@
 -- What some command lines of `uimg` ask for. SOURCE_DATE_EPOCH is 1700000000.
-use Rattle.std.proofs.Common.{◌≡◌, ◌++◌, List, [], ◌∷◌, Some, None, Result, Ok, Err, codes, false, refl, true}
-use Rattle.std.specs.Prelude.{⊤}
+use Rattle.std.proofs.Common.{◌≡◌, ◌++◌, List, [], ◌∷◌, Some, None, Result, Ok, Err, ap, codes, false, refl, true}
+use Rattle.std.specs.{Option.option_map_or, Prelude.{⊤, if◌then◌else◌}}
 use Rattle.clap.proofs.OnLiterals.{clap_on_literals}
 use Rattle.clap.specs.Walk.{Text}
 use Rattle.clap.specs.declared.error.kind.ErrorKind.TheVariants.{DisplayHelp, DisplayVersion}
-use Rattle.uimg_cli.specs.Check.{check}
+use Rattle.uimg_cli.specs.Check.{check, reads_again}
 use Rattle.uimg_cli.specs.CommandLines.{uimg, words_asked}
 use Rattle.uimg_cli.specs.Diff.{diff}
 use Rattle.uimg_cli.specs.Dumpimage.{dumpimage}
@@ -17,7 +17,7 @@ use Rattle.uimg_cli.specs.Runs.{plain_run}
 use Rattle.uimg_cli.specs.Unpack.{chosen_rules, unpack, written_rules}
 use Rattle.uimg_cli.specs.Verify.{verify}
 use Rattle.uimg_cli.specs.Wanted.{Wanted, checks, informs, makes, maps, runs, shows, unpacks}
-use Rattle.uimg_cli.specs.Wrong.{Wrong, bad_number, data_with_source, flat_dt_needs_source, no_command, no_data_or_source, no_key, no_list_or_outfile, not_number, only_with_config, unknown_algo, unknown_name}
+use Rattle.uimg_cli.specs.Wrong.{Wrong, and_then, bad_number, data_with_source, flat_dt_needs_source, input_twice, no_command, no_data_or_source, no_key, no_list_or_outfile, not_number, only_with_config, to_output, unknown_algo, unknown_name}
 use Rattle.uimg_fit_base.specs.declared.placement.Placement.TheVariants.{At}
 use Rattle.uimg_legacy.specs.{Header.padded_name, Parts.has_parts}
 use Rattle.uimg_requests.specs.declared.command.Action.TheVariants as action
@@ -112,17 +112,26 @@ a_blob_of_data = refl
 -- ---- the other commands
 
 a_check : asked (codes "check" ∷ codes "--strict" ∷ codes "a.itb" ∷ codes "--json" ∷ codes "b.itb" ∷ [])
-    ≡ Ok (checks (record { need = Some Crc32; is_strict = true; key = None; images = codes "a.itb" ∷ codes "b.itb" ∷ []; is_recursive = false; files_from = None; has_nuls = false; as_json = true; is_quiet = false; allows_none = false })) ∷ []
+    ≡ Ok (checks (record { need = Some Crc32; is_strict = true; key = None; images = codes "a.itb" ∷ codes "b.itb" ∷ []; is_recursive = false; files_from = None; has_nuls = false; as_json = true; junit = None; is_quiet = false; allows_none = false; most_input = 4294967296 })) ∷ []
 unfolding clap_on_literals uimg_on_literals
 a_check = refl
 
 by_a_key : asked (codes "check" ∷ codes "--key" ∷ codes "dev=keys/dev.pem" ∷ codes "--config=a" ∷ codes "a.itb" ∷ [])
-    ≡ Ok (checks (record { need = Some Sha256; is_strict = true; key = Some (record { path = codes "keys/dev.pem"; name = Some (codes "dev"); config = Some (codes "a"); takes_sha1 = false }); images = codes "a.itb" ∷ []; is_recursive = false; files_from = None; has_nuls = false; as_json = false; is_quiet = false; allows_none = false })) ∷ []
+    ≡ Ok (checks (record { need = Some Sha256; is_strict = true; key = Some (record { path = codes "keys/dev.pem"; name = Some (codes "dev"); config = Some (codes "a"); takes_sha1 = false }); images = codes "a.itb" ∷ []; is_recursive = false; files_from = None; has_nuls = false; as_json = false; junit = None; is_quiet = false; allows_none = false; most_input = 4294967296 })) ∷ []
 unfolding clap_on_literals uimg_on_literals
 by_a_key = refl
 
+a_report : (file image : Text) → asked (codes "check" ∷ (codes "--junit=./" ++ file) ∷ codes "--" ∷ (codes "./" ++ image) ∷ [])
+    ≡ Ok (checks (record { need = None; is_strict = false; key = None; images = (codes "./" ++ image) ∷ []; is_recursive = false; files_from = None; has_nuls = false; as_json = false; junit = Some (codes "./" ++ file); is_quiet = false; allows_none = false; most_input = 4294967296 })) ∷ []
+unfolding clap_on_literals uimg_on_literals
+a_report file image = refl
+
+a_report_to_output : asked (codes "check" ∷ codes "--junit" ∷ codes "-" ∷ codes "a.itb" ∷ []) ≡ Err (to_output (codes "junit")) ∷ []
+unfolding clap_on_literals uimg_on_literals
+a_report_to_output = refl
+
 a_path_of_keys : asked (codes "unpack" ∷ codes "--key=./a=b.pem" ∷ codes "--allow-sha1" ∷ codes "a.itb" ∷ [])
-    ≡ Ok (unpacks (record { folder = codes "."; only = None; config = None; need = Some Sha1; key = Some (record { path = codes "./a=b.pem"; name = None; config = None; takes_sha1 = true }); is_forced = false; keeps_good = false; is_synced = true; as_json = false; cleans = false; most_files = 4096; most_bytes = None; image = Some (codes "a.itb") })) ∷ []
+    ≡ Ok (unpacks (record { folder = codes "."; only = None; config = None; need = Some Sha1; key = Some (record { path = codes "./a=b.pem"; name = None; config = None; takes_sha1 = true }); is_forced = false; keeps_good = false; is_synced = true; as_json = false; cleans = false; most_files = 4096; most_bytes = None; most_input = 4294967296; image = Some (codes "a.itb") })) ∷ []
 unfolding clap_on_literals uimg_on_literals
 a_path_of_keys = refl
 
@@ -131,12 +140,12 @@ unfolding clap_on_literals uimg_on_literals
 without_a_key = refl
 
 an_unpacking : asked (codes "unpack" ∷ codes "-C" ∷ codes "out" ∷ codes "--need-hash=sha256" ∷ codes "--max-files" ∷ codes "9" ∷ codes "a.itb" ∷ [])
-    ≡ Ok (unpacks (record { folder = codes "out"; only = None; config = None; need = Some Sha256; key = None; is_forced = false; keeps_good = false; is_synced = true; as_json = false; cleans = false; most_files = 9; most_bytes = None; image = Some (codes "a.itb") })) ∷ []
+    ≡ Ok (unpacks (record { folder = codes "out"; only = None; config = None; need = Some Sha256; key = None; is_forced = false; keeps_good = false; is_synced = true; as_json = false; cleans = false; most_files = 9; most_bytes = None; most_input = 4294967296; image = Some (codes "a.itb") })) ∷ []
 unfolding clap_on_literals uimg_on_literals
 an_unpacking = refl
 
 of_a_configuration : (name image : Text) → asked (codes "unpack" ∷ (codes "--config=" ++ name) ∷ codes "--" ∷ image ∷ [])
-    ≡ Ok (unpacks (record { folder = codes "."; only = None; config = Some name; need = None; key = None; is_forced = false; keeps_good = false; is_synced = true; as_json = false; cleans = false; most_files = 4096; most_bytes = None; image = Some image })) ∷ []
+    ≡ Ok (unpacks (record { folder = codes "."; only = None; config = Some name; need = None; key = None; is_forced = false; keeps_good = false; is_synced = true; as_json = false; cleans = false; most_files = 4096; most_bytes = None; most_input = 4294967296; image = Some image })) ∷ []
 unfolding clap_on_literals uimg_on_literals
 of_a_configuration name image = refl
 
@@ -152,11 +161,11 @@ an_unknown_algorithm : asked (codes "check" ∷ codes "--need" ∷ codes "sha3" 
 unfolding clap_on_literals uimg_on_literals
 an_unknown_algorithm = refl
 
-the_map : asked (codes "map" ∷ codes "--svg" ∷ codes "m.svg" ∷ codes "a" ∷ []) ≡ Ok (maps (record { picture = Some (codes "m.svg"); is_forced = false; image = codes "a" })) ∷ []
+the_map : asked (codes "map" ∷ codes "--svg" ∷ codes "m.svg" ∷ codes "a" ∷ []) ≡ Ok (maps (record { picture = Some (codes "m.svg"); is_forced = false; most_input = 4294967296; image = codes "a" })) ∷ []
 unfolding clap_on_literals uimg_on_literals
 the_map = refl
 
-the_facts : asked (codes "info" ∷ codes "a" ∷ []) ≡ Ok (informs (codes "a")) ∷ []
+the_facts : asked (codes "info" ∷ codes "a" ∷ []) ≡ Ok (informs (record { most_input = 4294967296; image = codes "a" })) ∷ []
 unfolding clap_on_literals uimg_on_literals
 the_facts = refl
 
@@ -190,17 +199,18 @@ any_listed_image : (image : Text) → asked (codes "mkimage" ∷ codes "-l" ∷ 
 unfolding clap_on_literals uimg_on_literals
 any_listed_image image = refl
 
-any_checked_images : (one two : Text) → asked (codes "check" ∷ codes "--quiet" ∷ codes "--" ∷ one ∷ two ∷ [])
-    ≡ Ok (checks (record { need = None; is_strict = false; key = None; images = one ∷ two ∷ []; is_recursive = false; files_from = None; has_nuls = false; as_json = false; is_quiet = true; allows_none = false })) ∷ []
+any_checked_images : (one two : Text) → reads_again false (one ∷ two ∷ []) ≡ false → asked (codes "check" ∷ codes "--quiet" ∷ codes "--" ∷ one ∷ two ∷ [])
+    ≡ Ok (checks (record { need = None; is_strict = false; key = None; images = one ∷ two ∷ []; is_recursive = false; files_from = None; has_nuls = false; as_json = false; junit = None; is_quiet = true; allows_none = false; most_input = 4294967296 })) ∷ []
 unfolding clap_on_literals uimg_on_literals
-any_checked_images one two = refl
+any_checked_images one two once =
+    ap (λ twice. and_then (option_map_or (λ wrong. Err wrong) (if twice then Some input_twice else None) (Ok (record { need = None; is_strict = false; key = None; images = one ∷ two ∷ []; is_recursive = false; files_from = None; has_nuls = false; as_json = false; junit = None; is_quiet = true; allows_none = false; most_input = 4294967296 }))) (λ it. Ok (checks it)) ∷ []) once
 
 any_list_of_images : (file : Text) → asked (codes "check" ∷ (codes "--files-from=" ++ file) ∷ [])
-    ≡ Ok (checks (record { need = None; is_strict = false; key = None; images = []; is_recursive = false; files_from = Some file; has_nuls = false; as_json = false; is_quiet = false; allows_none = false })) ∷ []
+    ≡ Ok (checks (record { need = None; is_strict = false; key = None; images = []; is_recursive = false; files_from = Some file; has_nuls = false; as_json = false; junit = None; is_quiet = false; allows_none = false; most_input = 4294967296 })) ∷ []
 unfolding clap_on_literals uimg_on_literals
 any_list_of_images file = refl
 
 any_one_payload : (name image : Text) → asked (codes "unpack" ∷ (codes "--only=" ++ name) ∷ codes "--" ∷ image ∷ [])
-    ≡ Ok (unpacks (record { folder = codes "."; only = Some name; config = None; need = None; key = None; is_forced = false; keeps_good = false; is_synced = true; as_json = false; cleans = false; most_files = 4096; most_bytes = None; image = Some image })) ∷ []
+    ≡ Ok (unpacks (record { folder = codes "."; only = Some name; config = None; need = None; key = None; is_forced = false; keeps_good = false; is_synced = true; as_json = false; cleans = false; most_files = 4096; most_bytes = None; most_input = 4294967296; image = Some image })) ∷ []
 unfolding clap_on_literals uimg_on_literals
 any_one_payload name image = refl

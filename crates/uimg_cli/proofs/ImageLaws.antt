@@ -1,5 +1,6 @@
 -- The images of `check` are the words after `--`, all of them and in their order.
 use Rattle.std.proofs.Common.{◌≡◌, ◌∙◌, ◌&&◌, if◌then◌else◌, ◌++◌, ℕ, suc, arith, le-ltb, ne_eqb, List, [], ◌∷◌, Option, Some, None, Result, Ok, Err, codes, false, true, refl, ap, ap₂, append-nil, append_assoc, fold, length, nat_lt}
+use Rattle.std.specs.Option.{option_map_or}
 use Rattle.clap.proofs.OnLiterals.{clap_on_literals}
 use Rattle.clap.specs.Faults.{check_fault, defaults_fault, settle_fault, walk_fault}
 use Rattle.clap.specs.Lexer.{usize_max}
@@ -7,10 +8,10 @@ use Rattle.clap.specs.Kinds.{Kinds, or_else, values_kinds}
 use Rattle.clap.specs.Simple.{Shape}
 use Rattle.clap.specs.Walk.{is_empty, Text, Walk, finished, positional, settled, walked}
 use Rattle.clap.specs.declared.builder.value_parser.ValueParser.TheVariants as vp
-use Rattle.uimg_cli.specs.Check.{Checking}
+use Rattle.uimg_cli.specs.Check.{Checking, reads_again}
 use Rattle.uimg_cli.specs.CommandLines.{answers, asked_by, words_asked}
 use Rattle.uimg_cli.specs.Wanted.{Wanted, checks}
-use Rattle.uimg_cli.specs.Wrong.{Wrong, and_then, no_images}
+use Rattle.uimg_cli.specs.Wrong.{Wrong, and_then, input_twice, no_images}
 use Rattle.uimg_cli.proofs.EnteringLaws.{by_level, by_walk, entered_walk, entering, shape_named}
 use Rattle.uimg_cli.proofs.Examples.{uimg_on_literals}
 
@@ -58,7 +59,7 @@ settles image images few = rw (few, none_below_zero (suc (length images)), all_a
 
 -- a check of images without an option
 abbrev pub check_of : List Text → Checking
-check_of images = record { need = None; is_strict = false; key = None; images = images; is_recursive = false; files_from = None; has_nuls = false; as_json = false; is_quiet = false; allows_none = false }
+check_of images = record { need = None; is_strict = false; key = None; images = images; is_recursive = false; files_from = None; has_nuls = false; as_json = false; junit = None; is_quiet = false; allows_none = false; most_input = 4294967296 }
 
 some_images : (image : Text) (images : List Text) → is_empty (image ∷ images) ≡ false
 some_images image images = ne_eqb (suc (length images)) 0 (λ none. absurd (omega (arith, none)))
@@ -71,16 +72,17 @@ by_end epoch moment images wrong =
     (check_fault shape (finished shape.rules (behind images).held) false))))) [])
 
 ending : (epoch : Option Text) (moment : ℕ) (image : Text) (images : List Text) → nat_lt usize_max (length (image ∷ images)) ≡ false
-    → by_level epoch moment (codes "check") (behind (image ∷ images)) [] ≡ Ok (checks (check_of (image ∷ images))) ∷ []
+    → reads_again false (image ∷ images) ≡ false → by_level epoch moment (codes "check") (behind (image ∷ images)) [] ≡ Ok (checks (check_of (image ∷ images))) ∷ []
 unfolding clap_on_literals uimg_on_literals
-ending epoch moment image images few =
+ending epoch moment image images few once =
     ap (by_end epoch moment (image ∷ images)) (settles image images few)
-    ∙ ap (λ none. and_then (if none && true then Err no_images else Ok (check_of (image ∷ images))) (λ it. Ok (checks it)) ∷ []) (some_images image images)
+    ∙ ap₂ (λ none twice. and_then (if none && true then Err no_images else option_map_or (λ wrong. Err wrong) (if twice then Some input_twice else None) (Ok (check_of (image ∷ images)))) (λ it. Ok (checks it)) ∷ [])
+    (some_images image images) once
 
--- No image is lost, and their order stays.
+-- No image is lost, and their order stays, unless standard input is given twice.
 pub all_images : (epoch : Option Text) (moment : ℕ) (image : Text) (images : List Text) → nat_lt usize_max (length (image ∷ images)) ≡ false
-    → words_asked epoch moment (codes "uimg" ∷ codes "check" ∷ codes "--" ∷ image ∷ images)
+    → reads_again false (image ∷ images) ≡ false → words_asked epoch moment (codes "uimg" ∷ codes "check" ∷ codes "--" ∷ image ∷ images)
     ≡ Ok (checks (check_of (image ∷ images))) ∷ []
 unfolding clap_on_literals uimg_on_literals
-all_images epoch moment image images few =
-    entering epoch moment (codes "check") (codes "--" ∷ image ∷ images) refl refl ∙ checking epoch moment image images ∙ ending epoch moment image images few
+all_images epoch moment image images few once =
+    entering epoch moment (codes "check") (codes "--" ∷ image ∷ images) refl refl ∙ checking epoch moment image images ∙ ending epoch moment image images few once

@@ -14,13 +14,14 @@ text_of fault.NoSubcommand = codes "no command"
 text_of fault.NoListOrOutfile = codes "no -l or -o"
 text_of fault.NoDataOrSource = codes "no -d or -f"
 text_of fault.NoImages = codes "no image"
+text_of fault.InputTwice = codes "- is given twice, but standard input is read once"
 text_of fault.NoFolder = codes "-C: no folder"
 text_of (fault.UnknownAlgo name) = codes "--need: unknown algorithm '" ++ string_bytes name
     ++ codes "'; use crc32, md5, sha1, sha256, sha384 or sha512"
 text_of (fault.NotNumber option text) =
     codes "--" ++ option.now ++ codes ": " ++ not_number (string_bytes text)
-text_of fault.PictureToOutput =
-    codes "--svg -: standard output is not supported; for a file of that name use ./-"
+text_of (fault.ToOutput option) = codes "--" ++ option.now
+    ++ codes " -: standard output is not supported; for a file of that name use ./-"
 text_of fault.CleansWithJson = codes "--clean with --json"
 text_of fault.OnlyWithConfig = codes "--only with --config"
 text_of (fault.WithoutKey option) = codes "--" ++ option.now ++ codes " without --key"

@@ -1,5 +1,6 @@
 pub mod Check
 pub mod CommandLines
+pub mod Counts
 pub mod Diff
 pub mod Dumpimage
 pub mod FaultTexts

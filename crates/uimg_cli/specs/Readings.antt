@@ -19,6 +19,10 @@ abbrev pub is_set : Text → List Row → Bool
 is_set id rows =
     option_map_or (λ text. bytes_eq text (codes "true")) (first_of id rows) false
 
+-- `-` would be standard output
+abbrev pub is_output : Option Text → Bool
+is_output path = option_map_or (λ text. bytes_eq text (codes "-")) path false
+
 -- the text of an option or operand, or another one if it was not given
 abbrev pub text_or : Text → List Row → Text → Text
 text_or id rows default = unwrap_or (first_of id rows) default

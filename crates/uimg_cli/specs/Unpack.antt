@@ -3,11 +3,12 @@ use Rattle.std.specs.Prelude.{ℕ, Bool, not, ◌&&◌, List, [], ◌∷◌, Opt
 use Rattle.std.specs.Option.{option_map_or}
 use Rattle.clap.specs.Simple.{App, new_app, new_rule}
 use Rattle.clap.specs.Walk.{Row, Rule, Text, first_of, is_empty}
+use Rattle.uimg_cli.specs.Counts.{count_asked, most_input_asked}
 use Rattle.uimg_cli.specs.KeyRequests.{Keying, key_asked, keying_of, without_key}
 use Rattle.uimg_cli.specs.Needs.{least_need, need_asked}
-use Rattle.uimg_cli.specs.Readings.{count_of, is_set, or_wrong, text_or}
+use Rattle.uimg_cli.specs.Readings.{is_set, text_or}
 use Rattle.uimg_cli.specs.Rules.{long_rule, switch_rule, value_rule, with_rules}
-use Rattle.uimg_cli.specs.Wrong.{Wrong, and_then, cleans_with_json, no_folder, no_images, not_number, only_with_config}
+use Rattle.uimg_cli.specs.Wrong.{Wrong, and_then, cleans_with_json, no_folder, no_images, only_with_config}
 use Rattle.uimg_cli.specs.declared.command_line.unpack.UnpackRequest.{UnpackRequest}
 use Rattle.uimg_sums.specs.declared.algo.Algo.{Algo}
 
@@ -34,10 +35,12 @@ written_rules =
     ∷ switch_rule (codes "no-sync")
     ∷ long_rule (codes "max-files")
     ∷ long_rule (codes "max-bytes")
+    ∷ long_rule (codes "max-input")
     ∷ []
 
 -- unpack [-C FOLDER] [--only NAME] [--config NAME] [--need ALGO] [--key [NAME=]FILE] [--allow-sha1]
--- [--force] [--keep-good] [--no-sync] [--max-files NUMBER] [--max-bytes NUMBER] [--json] [--clean] [IMAGE]
+-- [--force] [--keep-good] [--no-sync] [--max-files NUMBER] [--max-bytes NUMBER] [--max-input NUMBER] [--json] [--clean]
+-- [IMAGE]
 unfoldable pub unpack : App
 unpack = with_rules (
     switch_rule (codes "json")
@@ -58,6 +61,7 @@ pub record Unpacking : Type 0 where
   pub cleans : Bool
   pub most_files : ℕ
   pub most_bytes : Option ℕ
+  pub most_input : ℕ
   pub image : Option Text
 
 abbrev pub unpacking_of : UnpackRequest → Unpacking
@@ -74,20 +78,12 @@ unpacking_of request = record {
   cleans = request.cleans;
   most_files = request.most_files;
   most_bytes = request.most_bytes;
+  most_input = request.most_input;
   image = option_map (λ path. path.now) request.image;
 }
 
--- a number of an option is decimal, below 2^64
-abbrev pub count_by : Text → Option Text → Result (Option ℕ) Wrong
-count_by id None = Ok None
-count_by id (Some text) =
-    and_then (or_wrong (not_number id text) (count_of text)) (λ count. Ok (Some count))
-
-abbrev pub count_asked : Text → List Row → Result (Option ℕ) Wrong
-count_asked id rows = count_by id (first_of id rows)
-
-abbrev pub unpacking_by : List Row → Option Algo → Option ℕ → Option ℕ → Unpacking
-unpacking_by rows need files bytes = record {
+abbrev pub unpacking_by : List Row → Option Algo → Option ℕ → Option ℕ → ℕ → Unpacking
+unpacking_by rows need files bytes input = record {
   folder = text_or (codes "folder") rows (codes ".");
   only = first_of (codes "only") rows;
   config = first_of (codes "config") rows;
@@ -100,6 +96,7 @@ unpacking_by rows need files bytes = record {
   cleans = is_set (codes "clean") rows;
   most_files = unwrap_or files 4096;
   most_bytes = bytes;
+  most_input = input;
   image = first_of (codes "image") rows;
 }
 
@@ -117,7 +114,8 @@ clash rows = if is_empty (text_or (codes "folder") rows (codes ".")) then Some n
 abbrev pub unpacking_limited : List Row → Option Algo → Result Unpacking Wrong
 unpacking_limited rows need = and_then (count_asked (codes "max-files") rows) (λ files.
     and_then (count_asked (codes "max-bytes") rows) (λ bytes.
-    Ok (unpacking_by rows need files bytes)))
+    and_then (most_input_asked rows) (λ input.
+    Ok (unpacking_by rows need files bytes input))))
 
 abbrev pub unpacking_with : List Row → Option Algo → Result Unpacking Wrong
 unpacking_with rows need =

@@ -1,9 +1,9 @@
 -- The request of a command line, as plain values.
 use Rattle.clap.specs.Values.{kind_of}
-use Rattle.clap.specs.Walk.{Text}
 use Rattle.clap.specs.declared.error.kind.ErrorKind.{ErrorKind}
 use Rattle.uimg_cli.specs.Check.{Checking, checking_of}
 use Rattle.uimg_cli.specs.Diff.{Comparing, comparing_of}
+use Rattle.uimg_cli.specs.Info.{Informing, informing_of}
 use Rattle.uimg_cli.specs.Makings.{Making, making_of}
 use Rattle.uimg_cli.specs.Map.{Mapping, mapping_of}
 use Rattle.uimg_cli.specs.Runs.{Run, run_of}
@@ -22,7 +22,7 @@ pub data Wanted : Type 0 where
   checks : Checking → Wanted
   unpacks : Unpacking → Wanted
   maps : Mapping → Wanted
-  informs : Text → Wanted
+  informs : Informing → Wanted
   compares : Comparing → Wanted
 
 abbrev pub wanted_by_one : Request → Wanted
@@ -35,5 +35,5 @@ wanted_of (asked.One one) = wanted_by_one one
 wanted_of (asked.Check request) = checks (checking_of request)
 wanted_of (asked.Unpack request) = unpacks (unpacking_of request)
 wanted_of (asked.Map request) = maps (mapping_of request)
-wanted_of (asked.Info request) = informs request.image.now
+wanted_of (asked.Info request) = informs (informing_of request)
 wanted_of (asked.Diff request) = compares (comparing_of request)

@@ -12,10 +12,11 @@ pub data Wrong : Type 0 where
   no_list_or_outfile : Wrong
   no_data_or_source : Wrong
   no_images : Wrong
+  input_twice : Wrong
   no_folder : Wrong
   unknown_algo : Text → Wrong
   not_number : Text → Text → Wrong
-  picture_to_output : Wrong
+  to_output : Text → Wrong
   cleans_with_json : Wrong
   only_with_config : Wrong
   no_key : Text → Wrong
@@ -32,10 +33,11 @@ wrong_of fault.NoSubcommand = no_subcommand
 wrong_of fault.NoListOrOutfile = no_list_or_outfile
 wrong_of fault.NoDataOrSource = no_data_or_source
 wrong_of fault.NoImages = no_images
+wrong_of fault.InputTwice = input_twice
 wrong_of fault.NoFolder = no_folder
 wrong_of (fault.UnknownAlgo name) = unknown_algo (string_bytes name)
 wrong_of (fault.NotNumber option text) = not_number option.now (string_bytes text)
-wrong_of fault.PictureToOutput = picture_to_output
+wrong_of (fault.ToOutput option) = to_output option.now
 wrong_of fault.CleansWithJson = cleans_with_json
 wrong_of fault.OnlyWithConfig = only_with_config
 wrong_of (fault.WithoutKey option) = no_key option.now

@@ -16,6 +16,7 @@ ghost use Rattle.uimg_cli.specs.Wrong.{IsWrong, Tells, Wrong, no_command, wrong_
 mod arguments;
 mod check;
 mod complaints;
+mod counts;
 mod diff;
 mod dumpimage;
 mod help_notes;

@@ -1,5 +1,6 @@
 mod PrintingLaws
 pub mod ShownLaws
+pub mod EscapingLaws
 pub mod LineLaws
 pub mod SoundLaws
 pub mod StepLaws

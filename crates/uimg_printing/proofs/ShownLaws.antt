@@ -13,11 +13,11 @@ pub joined : (xs ys : List ℕ) → is_shown xs ≡ true → is_shown ys ≡ tru
 joined xs ys p q = list_all-append _ xs ys ∙ ap₂ (λ (a b : Bool). a && b) p q
 
 -- what holds of each number below n
-abbrev all_below : (ℕ → Bool) → ℕ → Bool
+abbrev pub all_below : (ℕ → Bool) → ℕ → Bool
 all_below p zero = true
 all_below p (suc n) = p n && all_below p n
 
-below : (p : ℕ → Bool) (n : ℕ) → all_below p n ≡ true → (x : ℕ) → x < n → p x ≡ true
+pub below : (p : ℕ → Bool) (n : ℕ) → all_below p n ≡ true → (x : ℕ) → x < n → p x ≡ true
 below p zero e x h = absurd (omega arith)
 below p (suc n) e x h =
     let q = and_parts _ _ e in
@@ -65,7 +65,7 @@ as_text : (b : ℕ) (rest : List ℕ) → is_shown (bytes_text rest) ≡ true �
 as_text b rest r = joined (byte_text b) (bytes_text rest) (byte_shown b) r
 
 -- the bytes of a letter from 128 on: each is high
-encoded_high : (p : List ℕ → Bool) → p [] ≡ true → ((b : ℕ) (rest : List ℕ) → 128 ≤ b → p rest ≡ true → p (b ∷ rest) ≡ true)
+pub encoded_high : (p : List ℕ → Bool) → p [] ≡ true → ((b : ℕ) (rest : List ℕ) → 128 ≤ b → p rest ≡ true → p (b ∷ rest) ≡ true)
     → (c : ℕ) → 128 ≤ c → p (encode c) ≡ true
 unfolding encode
 encoded_high p none more c big =
@@ -80,7 +80,7 @@ encoded_high p none more c big =
       ]
     ]
 
-encoded_low : (c : ℕ) → c < 128 → encode c ≡ c ∷ []
+pub encoded_low : (c : ℕ) → c < 128 → encode c ≡ c ∷ []
 unfolding encode
 encoded_low c small = rw (lt-ltb c 128 small) refl
 

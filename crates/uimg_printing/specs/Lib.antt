@@ -1,4 +1,5 @@
 pub mod Counting
+pub mod Escaping
 pub mod Hidden
 pub mod Printing
 pub mod Members

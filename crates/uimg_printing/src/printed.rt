@@ -96,7 +96,7 @@ fn put_letter<W: Write>(letter: char, is_word: bool, f: &mut Formatter<W>) -> fm
     }
 }
 
-fn put_bytes<W: Write>(bytes: &[u8], f: &mut Formatter<W>) -> fmt::Result
+pub(crate) fn put_bytes<W: Write>(bytes: &[u8], f: &mut Formatter<W>) -> fmt::Result
     ensures { WritesOnOk W.Write.write_str_gives f.old result (flat_map byte_text bytes.now) f.new }
 {
     for byte in bytes {

@@ -3,6 +3,7 @@
 mod folders;
 mod growths;
 mod images;
+mod inputs;
 mod listings;
 mod long_listings;
 mod making_rows;

@@ -77,7 +77,7 @@ module _ {K : Type 0} (device : K → Device) (identities : List ℕ → Option 
 
   flushed : (it : Asked) → Means device identities it files before after status told old mid → Means device identities it files before after status told old new
   flushed (One it) means = one it means
-  flushed (Check it) (keyed, is, terms, keys, (last, all, calls, ends, text)) = (keyed, is, terms, keys, (last, all, calls, ends, Keeps-trans last.text mid new text kept))
+  flushed (Check it) (keyed, seen, is, finds, terms, keys, (last, all, ends, text)) = (keyed, seen, is, finds, terms, keys, (last, all, ends, Keeps-trans last.text mid new text kept))
   flushed (Unpack it) means = means
   flushed (Map it) means = map it.image.now it.picture means
   flushed (Info it) (file, has, (silent, (text, facts, put))) = (file, has, (silent, (text, facts, Appends-kept old mid new _ put kept)))

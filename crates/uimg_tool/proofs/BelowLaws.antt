@@ -1,12 +1,13 @@
 -- The paths that are left below a folder, and the files among them that begin as images.
-use Rattle.std.proofs.Common.{◌≡◌, ◌⊎◌, ℕ, max, List, [], ◌∷◌, ◌++◌, map, reverse, length, Bool, true, false, Vec, Global, vec_items, Option, Some, None, Result, Ok, Err, IfOk, IfSome, IsTrue, refl, ap, sym, subst, subst₂, inl, inr, ◌∙◌}
+use Rattle.std.proofs.Common.{◌≡◌, ◌⊎◌, ℕ, max, List, [], ◌∷◌, ◌++◌, map, reverse, length, Bool, true, false, not, ◌&&◌, Vec, Global, vec_items, Option, Some, None, Result, Ok, Err, IfOk, IfSome, IsTrue, option_map, refl, ap, sym, subst, subst₂, inl, inr, ◌∙◌}
 use mathlib.Core.List.{map-append, reverse-append, reverse-reverse}
 use Rattle.std.proofs.lemmas.List.{nil_from_length}
 use Rattle.uimg_base.specs.{Device.Device, Named.{FileMap, Opens, SameFiles}}
-use Rattle.uimg_checks.specs.{Answers.answer_status, CheckEnds.AnswersLine}
+use Rattle.uimg_checks.specs.{Answers.answer_status, CheckEnds.AnswersLine, TestReports.reported}
 use Rattle.uimg_checks.specs.declared.answer.Answer.{Answer}
 use Rattle.std.specs.Io.KnownBytes.{Appends}
-use Rattle.uimg_tool.specs.{Below.{AnswersAt, AnswersBelow, AnswersBy, AnswersFound, AnswersGiven, AnswersTarget, Begins, Stands, all, asking, begins_as_image, more}, Checks.{Answers, AnswersFile, LooksAt, Told, text_for, told}, FolderPaths.ArePathsIn}
+use Rattle.uimg_tool.specs.{Below.{AnswersAt, AnswersBelow, AnswersBy, AnswersFound, AnswersGiven, AnswersTarget, Begins, Stands, all, asking, begins_as_image, more}, Checks.{Answers, AnswersFile, IsReported, LooksAt, Told, text_for, told}, FolderPaths.ArePathsIn}
+use Rattle.uimg_cli.specs.Check.{is_input}
 use Rattle.uimg_tool.specs.declared.checks.Checks.{Checks}
 use Rattle.uimg_tool.specs.declared.keys.Keyed.{Keyed}
 use Rattle.uimg_tool.proofs.CheckLaws.{failed_bytes, failed_file}
@@ -47,18 +48,24 @@ one_taken files then_files asked whole left within turned new path bytes cur nex
           ∙ ap (map vec_items) (reverse-append left (reverse within) ∙ ap (λ (l : List (Vec ℕ Global)). l ++ reverse left) (reverse-reverse within))
           ∙ map-append vec_items within (reverse left)
 
+-- standard input
+pub as_input : (files : FileMap) (asked : Keyed) (path : List ℕ) (old new : Told) → is_input path ≡ true → Answers files asked path old new
+    → AnswersGiven files asked path old new
+as_input files asked path old new is answers =
+    subst (λ (b : Bool). AnswersBy (not b && asked.request.now.is_recursive) files asked path old new) (sym is) answers
+
 -- an image that is given where folders stand for themselves
-pub as_given : (files : FileMap) (asked : Keyed) (path text : List ℕ) (old new : Told) → asked.request.now.is_recursive ≡ false → path ≡ text → Answers files asked path old new
+pub as_given : (files : FileMap) (asked : Keyed) (path text : List ℕ) (old new : Told) → is_input text ≡ false → asked.request.now.is_recursive ≡ false → path ≡ text → Answers files asked path old new
     → AnswersGiven files asked text old new
-as_given files asked path text old new is same answers =
-    subst (λ (b : Bool). AnswersBy b files asked text old new) (sym is) (subst (λ (p : List ℕ). Answers files asked p old new) same answers)
+as_given files asked path text old new no_input is same answers =
+    subst₂ (λ (a b : Bool). AnswersBy (not a && b) files asked text old new) (sym no_input) (sym is) (subst (λ (p : List ℕ). Answers files asked p old new) same answers)
 
 -- what was looked at
-pub found_given : (files then_files : FileMap) (asked : Keyed) (path text : List ℕ) (found kind : Kind) (checks : Checks) (known : Option (List ℕ)) (before after : List Deed) (new : Told) → asked.request.now.is_recursive ≡ true
+pub found_given : (files then_files : FileMap) (asked : Keyed) (path text : List ℕ) (found kind : Kind) (checks : Checks) (known : Option (List ℕ)) (before after : List Deed) (new : Told) → is_input text ≡ false → asked.request.now.is_recursive ≡ true
     → SameFiles files then_files → path ≡ text → found ≡ kind → after ≡ Looks text found ∷ before → AnswersFound then_files asked path kind (told checks known after) new
     → AnswersGiven files asked text (told checks known before) new
-found_given files then_files asked path text found kind checks known before after new is stay same found_is noted answers =
-    subst (λ (b : Bool). AnswersBy b files asked text (told checks known before) new) (sym is) (
+found_given files then_files asked path text found kind checks known before after new no_input is stay same found_is noted answers =
+    subst₂ (λ (a b : Bool). AnswersBy (not a && b) files asked text (told checks known before) new) (sym no_input) (sym is) (
       kind,
       found_same files then_files stay asked text kind (asking (Looks text kind) (told checks known before)) new
           (subst₂ (λ (p : List ℕ) (t : List Deed). AnswersFound then_files asked p kind (told checks known t) new) same
@@ -86,6 +93,7 @@ listed_paths files asked path names within checks known before after noted are =
 pub unlisted : (files then_files : FileMap) (asked : Keyed) (path bytes : List ℕ) (answer : Answer) (checks then_checks : Checks) (known written : Option (List ℕ)) (before after : List Deed)
     → SameFiles files then_files → bytes ≡ path → after ≡ Lists path None ∷ before → AnswersLine false answer → then_checks.greatest ≡ max checks.greatest (answer_status answer)
     → then_checks.has_checked ≡ true → then_checks.skipped ≡ checks.skipped → Appends known written (text_for asked bytes answer)
+    × IsReported bytes answer (option_map reported checks.report) (option_map reported then_checks.report)
     → AnswersAt files asked path kind.Folder [] (told checks known before) (told then_checks written after)
 unlisted files then_files asked path bytes answer checks then_checks known written before after stay same noted line greatest checked skipped put = (
   None,
@@ -99,7 +107,8 @@ unlisted files then_files asked path bytes answer checks then_checks known writt
         status = greatest;
         counted = checked;
         skipped = skipped;
-        written = subst (λ (p : List ℕ). Appends known written (text_for asked p answer)) same put;
+        reported = subst (λ (p : List ℕ). IsReported p answer (option_map reported checks.report) (option_map reported then_checks.report)) same put.1;
+        written = subst (λ (p : List ℕ). Appends known written (text_for asked p answer)) same put.0;
         looked = inr (inr noted);
       },
     ),
@@ -114,6 +123,7 @@ if_ok (Err e) f h = tt
 pub image_put : (files : FileMap) (asked : Keyed) (path bytes : List ℕ) (answer : Answer) (checks then_checks : Checks) (known written : Option (List ℕ)) (before after : List Deed)
     → AnswersFile files asked path answer → (answer_status answer ≡ 3) ⊎ Begins files path true → LooksAt path before after → then_checks.greatest ≡ max checks.greatest (answer_status answer)
     → then_checks.has_checked ≡ true → then_checks.skipped ≡ checks.skipped → bytes ≡ path → Appends known written (text_for asked bytes answer)
+    × IsReported bytes answer (option_map reported checks.report) (option_map reported then_checks.report)
     → AnswersTarget files asked path target.File (told checks known before) (told then_checks written after)
 image_put files asked path bytes answer checks then_checks known written before after file begins looked greatest checked skipped same put =
     inl (
@@ -124,7 +134,8 @@ image_put files asked path bytes answer checks then_checks known written before 
         status = greatest;
         counted = checked;
         skipped = skipped;
-        written = subst (λ (p : List ℕ). Appends known written (text_for asked p answer)) same put;
+        reported = subst (λ (p : List ℕ). IsReported p answer (option_map reported checks.report) (option_map reported then_checks.report)) same put.1;
+        written = subst (λ (p : List ℕ). Appends known written (text_for asked p answer)) same put.0;
         looked = looked;
       },
     )

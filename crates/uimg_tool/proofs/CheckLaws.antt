@@ -1,15 +1,17 @@
 -- Answers about some images, and then about others.
-use Rattle.std.proofs.Common.{◌≡◌, ◌+◌, ◌<◌, get_or, length, ℕ, List, [], ◌∷◌, ◌++◌, map, drop, Bool, true, false, ◌&&◌, ◌||◌, Option, Some, None, Result, Ok, Err, OnOk, IfSome, IsTrue, filter, inl, inr, refl, ap, ap₂, sym, subst, subst₂, ◌∙◌, true≢false}
+use Rattle.std.proofs.Common.{◌≡◌, ◌+◌, ◌<◌, get_or, length, ℕ, List, [], ◌∷◌, ◌++◌, map, drop, Bool, true, false, ◌&&◌, ◌||◌, Option, Some, None, Result, Ok, Err, OnOk, IfSome, IsTrue, filter, option_map, inl, inr, refl, ap, ap₂, sym, subst, subst₂, ◌∙◌, true≢false}
 use mathlib.Core.List.{append-nil}
 use Rattle.std.specs.{Borrow.Bor, Io.KnownBytes.{IsAtEnd}, List.list_all}
 use Rattle.std.proofs.KnownBytes.{Keeps-refl}
 use Rattle.std.proofs.lemmas.List.{drop_more}
 use Rattle.std.proofs.lemmas.List.Folds.{list_all-append}
 use Rattle.uimg_tool.specs.declared.keys.Keyed.{Keyed}
-use Rattle.uimg_tool.specs.{Answering.Comes, Below.{AnswersAllGiven, AnswersGiven}, Checking.{AnswersAll, ChecksBy, EndsWith, KeysAt, MeansCheck, keys_read, nothing_told, terms_of}}
-use Rattle.uimg_cli.specs.declared.command_line.check.CheckRequest.{CheckRequest}
+use Rattle.uimg_tool.specs.{Answering.Comes, Below.{AnswersAllGiven, AnswersGiven}, Checking.{AnswersAll, ChecksBy, EndsChecks, KeysAt, MeansCheck, ReportsIf, keys_read, nothing_told, terms_of}, Reports.FindsReportIf}
+use Rattle.uimg_cli.specs.declared.command_line.{check.CheckRequest.CheckRequest, keys.KeyRequest.KeyRequest}
 use Rattle.uimg_base.specs.{Device.Device, Named.{FileMap, Opens, SameFiles}}
-use Rattle.uimg_checks.specs.{CheckEnds.{AnswersLine, Shows}, Verdicts.verdict_of}
+use Rattle.uimg_checks.specs.{CheckEnds.{AnswersLine, Shows}, TestReports.{Reported, reported}, Verdicts.verdict_of}
+use Rattle.uimg_keys.specs.Keys.{HasKeys}
+use Rattle.uimg_verifying.specs.declared.required.Required.{Required}
 use Rattle.uimg_tool.specs.Checks.{AnswersBytes, AnswersEach, AnswersFile, AnswersNamed, AnswersFrom, AnswersUnlessEmpty, AreNames, Told, after_names, names_end, names_path, told}
 use Rattle.uimg_tool.specs.Paths.{is_name, paths_in}
 use Rattle.uimg_tool.proofs.PathLaws.{Left, left_ends}
@@ -132,22 +134,53 @@ all_same old_files new_files asked old new same all =
     (all.0, all_given_same old_files new_files asked (map (λ path. path.now) asked.request.now.images.items) old all.0 same all.1, from_same old_files new_files asked asked.request.now.files_from all.0 new same all.2)
 
 -- the end of all checks
-pub checks_told : (files : FileMap) (asked : Keyed) (checks : Checks) (before after : List Deed) (old new : Option (List ℕ)) (first : Told) (status : ℕ) (tells : Option (Option (List ℕ))) → first ≡ nothing_told old before
-    → AnswersAll files asked first (told checks new after) → EndsWith (checks.has_checked || asked.request.now.allows_none) checks.greatest status tells → Comes (ChecksBy asked files before after) status tells old new
-checks_told files asked checks before after old new first status tells begins all ends =
-    inr (told checks new after, subst (λ (it : Told). AnswersAll files asked it (told checks new after)) begins all, refl, ends, Keeps-refl new)
+-- what is written of a report does not depend on which of two equal files are meant
+reports_same : (is_enough : Bool) (old_files new_files : FileMap) (junit : Option (Bor (List ℕ))) (report : Option Reported) (before after : List Deed) → SameFiles old_files new_files → ReportsIf is_enough new_files junit report before after
+    → ReportsIf is_enough old_files junit report before after
+reports_same false old_files new_files junit report before after same written = written
+reports_same true old_files new_files None report before after same written = written
+reports_same true old_files new_files (Some path) None before after same written = written
+reports_same true old_files new_files (Some path) (Some report) before after same written =
+    (written.0, λ honest. written.1 (subst (λ (b : Bool). IsTrue b) (sym same.honest) honest))
+
+pub checks_told : (files then_files : FileMap) (asked : Keyed) (checks : Checks) (before after last : List Deed) (old new : Option (List ℕ)) (first : Told) (status : ℕ) (tells : Option (Option (List ℕ))) → first ≡ nothing_told asked.request.now.junit old before
+    → SameFiles files then_files → AnswersAll files asked first (told checks new after) → Comes (EndsChecks then_files asked (told checks None after) last) status tells None None → Comes (ChecksBy asked files before last) status tells old new
+checks_told files then_files asked checks before after last old new first status tells begins same all (inl failed) = inl failed
+checks_told files then_files asked checks before after last old new first status tells begins same all (inr ends) =
+    let is_enough : Bool = checks.has_checked || asked.request.now.allows_none in
+    inr (
+      told checks new after,
+      subst (λ (it : Told). AnswersAll files asked it (told checks new after)) begins all,
+      (ends.0, reports_same is_enough files then_files asked.request.now.junit (option_map reported checks.report) after last same ends.1),
+      Keeps-refl new,
+    )
 
 -- the same by keys that were read before
-pub keys_told : (files then_files : FileMap) (asked : CheckRequest) (keyed : Keyed) (before noted after : List Deed) (status : ℕ) (told : Option (Option (List ℕ))) (old new : Option (List ℕ)) → keyed.request.now ≡ asked
-    → keyed.terms ≡ terms_of asked keyed.terms.required → SameFiles files then_files → KeysAt files asked.key keyed.terms.required → noted ≡ keys_read asked.key before
+keys_same : (files then_files : FileMap) (asked : Option KeyRequest) (required : Option Required) → SameFiles files then_files → KeysAt then_files asked required → KeysAt files asked required
+keys_same files then_files None required same keys = keys
+keys_same files then_files (Some asked) None same keys = keys
+keys_same files then_files (Some asked) (Some required) same keys = (
+  keys.0,
+  keys.1,
+  λ honest. subst (λ (bytes : List ℕ → Option (List ℕ)). IfSome (bytes asked.path.now) (λ file. HasKeys file keys.0)) same.bytes
+      (keys.2 (subst (λ (b : Bool). IsTrue b) (sym same.honest) honest)),
+)
+
+pub keys_told : (files mid_files then_files : FileMap) (asked : CheckRequest) (keyed : Keyed) (before seen noted after : List Deed) (status : ℕ) (told : Option (Option (List ℕ))) (old new : Option (List ℕ)) → keyed.request.now ≡ asked
+    → keyed.terms ≡ terms_of asked keyed.terms.required → SameFiles files mid_files → SameFiles files then_files → FindsReportIf files asked.junit before seen → KeysAt mid_files asked.key keyed.terms.required → noted ≡ keys_read asked.key seen
     → Comes (ChecksBy keyed then_files noted after) status told old new → Comes (MeansCheck asked files before after) status told old new
-keys_told files then_files asked keyed before noted after status told old new is terms same keys read (inl failed) = inl failed
-keys_told files then_files asked keyed before noted after status told old new is terms same keys read (inr checks) =
+keys_told files mid_files then_files asked keyed before seen noted after status told old new is terms first same finds keys read (inl failed) = inl failed
+keys_told files mid_files then_files asked keyed before seen noted after status told old new is terms first same finds keys read (inr checks) =
+    let last : Told = checks.0 in
+    let junit : Option (Bor (List ℕ)) = keyed.request.now.junit in
+    let is_enough : Bool = last.has_checked || keyed.request.now.allows_none in
     inr (
       keyed,
+      seen,
       is,
+      finds,
       terms,
-      keys,
+      keys_same files mid_files asked.key keyed.terms.required first keys,
       subst (λ (t : List Deed). ChecksBy keyed files t after status told old new) read
-          (checks.0, all_same files then_files keyed (nothing_told old noted) checks.0 same checks.1, checks.2, checks.3, checks.4),
+          (last, all_same files then_files keyed (nothing_told junit old noted) last same checks.1, (checks.2.0, reports_same is_enough files then_files junit last.report last.trace after same checks.2.1), checks.3),
     )

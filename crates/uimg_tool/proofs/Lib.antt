@@ -6,6 +6,7 @@ pub mod BufferLaws
 pub mod CheckLaws
 pub mod DiffLaws
 pub mod DrawingLaws
+pub mod ReportLaws
 pub mod ExtractLaws
 pub mod FolderLaws
 pub mod FolderPathLaws

@@ -1,8 +1,9 @@
 -- The same answers about files that are the same.
-use Rattle.std.proofs.Common.{◌≡◌, ◌⊎◌, ℕ, List, [], ◌∷◌, ◌++◌, Bool, true, false, Option, Some, None, IfSome, IsTrue, inl, inr, sym, subst}
+use Rattle.std.proofs.Common.{◌≡◌, ◌⊎◌, ℕ, List, [], ◌∷◌, ◌++◌, Bool, true, false, not, ◌&&◌, Option, Some, None, IfSome, IsTrue, inl, inr, sym, subst}
 use Rattle.uimg_base.specs.Named.{FileMap, SameFiles}
 use Rattle.uimg_checks.specs.Answers.{answer_status}
 use Rattle.uimg_checks.specs.declared.answer.Answer.{Answer}
+use Rattle.uimg_cli.specs.Check.{is_input}
 use Rattle.uimg_tool.specs.{Below.{AnswersAllGiven, AnswersAt, AnswersBelow, AnswersBy, AnswersFolder, AnswersFound, AnswersGiven, AnswersImage, AnswersListed, AnswersTarget, Begins, Stands, all, asking, begins_as_image, more}, Checks.{Answers, AnswersBytes, AnswersFile, IsAnswered, Told}}
 use Rattle.uimg_tool.specs.declared.keys.Keyed.{Keyed}
 use Rattle.uimg_world.specs.Deeds.{Finds, Lists, Looks}
@@ -25,6 +26,7 @@ answered_same old_files new_files asked path answer old new same answered = reco
   status = answered.status;
   counted = answered.counted;
   skipped = answered.skipped;
+  reported = answered.reported;
   written = answered.written;
   looked = answered.looked;
 }
@@ -91,10 +93,10 @@ module _ (old_files new_files : FileMap) (same : SameFiles old_files new_files) 
 
   all_given : (paths : List (List ℕ)) (old new : Told) → AnswersAllGiven new_files asked paths old new → AnswersAllGiven old_files asked paths old new
   all_given [] old new told = told
-  all_given (path ∷ paths) old new told = (told.0, by_same asked.request.now.is_recursive path old told.0 told.1, all_given paths told.0 new told.2)
+  all_given (path ∷ paths) old new told = (told.0, by_same (not (is_input path) && asked.request.now.is_recursive) path old told.0 told.1, all_given paths told.0 new told.2)
 
 pub given_same : (old_files new_files : FileMap) (asked : Keyed) (path : List ℕ) (old new : Told) → SameFiles old_files new_files → AnswersGiven new_files asked path old new → AnswersGiven old_files asked path old new
-given_same old_files new_files asked path old new same told = by_same old_files new_files same asked asked.request.now.is_recursive path old new told
+given_same old_files new_files asked path old new same told = by_same old_files new_files same asked (not (is_input path) && asked.request.now.is_recursive) path old new told
 
 pub all_given_same : (old_files new_files : FileMap) (asked : Keyed) (paths : List (List ℕ)) (old new : Told) → SameFiles old_files new_files → AnswersAllGiven new_files asked paths old new
     → AnswersAllGiven old_files asked paths old new

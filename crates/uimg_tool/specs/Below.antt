@@ -1,9 +1,10 @@
 -- The checks of what is below folders.
-use Rattle.std.specs.Prelude.{◌≡◌, ◌⊎◌, ◌+◌, ◌-◌, ◌^◌, ◌==◌, ℕ, min, List, [], ◌∷◌, ◌++◌, codes, Option, Some, None, Bool, true, false, ◌||◌, nat_lt, length, if◌then◌else◌, IsTrue, IfSome}
+use Rattle.std.specs.Prelude.{◌≡◌, ◌⊎◌, ◌+◌, ◌-◌, ◌^◌, ◌==◌, ℕ, min, List, [], ◌∷◌, ◌++◌, codes, Option, Some, None, Bool, true, false, not, ◌&&◌, ◌||◌, nat_lt, length, if◌then◌else◌, IsTrue, IfSome}
 use Rattle.std.specs.{Io.KnownBytes.Appends, Str.IsUtf8}
 use Rattle.uimg_base.specs.Named.{FileMap}
 use Rattle.uimg_checks.specs.Answers.{answer_status}
 use Rattle.uimg_checks.specs.declared.answer.Answer.{Answer}
+use Rattle.uimg_cli.specs.Check.{is_input}
 use Rattle.uimg_printing.specs.{Counting.counted, Printing.printed}
 use Rattle.uimg_texts.specs.Numbers.{be32}
 use Rattle.uimg_tool.specs.{Checks.{Answers, IsAnswered, Told}, FolderPaths.ArePathsIn}
@@ -106,14 +107,15 @@ abbrev pub AnswersFound : FileMap → Keyed → List ℕ → Kind → Told → T
 AnswersFound files asked path kind.Folder old new = AnswersFolder files asked path old new
 AnswersFound files asked path found old new = Answers files asked path old new
 
--- an image of the command line
+-- an image of the command line; standard input stands for itself
 abbrev pub AnswersBy : Bool → FileMap → Keyed → List ℕ → Told → Told → Type 0
 AnswersBy false files asked path old new = Answers files asked path old new
 AnswersBy true files asked path old new = (found : Kind)
     × AnswersFound files asked path found (asking (Looks path found) old) new
 
 abbrev pub AnswersGiven : FileMap → Keyed → List ℕ → Told → Told → Type 0
-AnswersGiven files asked path old new = AnswersBy asked.request.now.is_recursive files asked path old new
+AnswersGiven files asked path old new =
+    AnswersBy (not (is_input path) && asked.request.now.is_recursive) files asked path old new
 
 -- each image of the command line, in order
 abbrev pub AnswersAllGiven : FileMap → Keyed → List (List ℕ) → Told → Told → Type 0

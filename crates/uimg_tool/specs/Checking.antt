@@ -2,19 +2,25 @@
 use Rattle.std.specs.Prelude.{◌≡◌, ℕ, List, ◌∷◌, Option, Some, None, IfSome, IsTrue, Bool, true, false, ◌||◌, map, option_map}
 use Rattle.std.specs.{Borrow.Bor, Io.KnownBytes.Keeps}
 use Rattle.uimg_base.specs.Named.{FileMap}
-use Rattle.uimg_checks.specs.declared.judging.Terms.{Terms}
+use Rattle.uimg_checks.specs.{TestReports.Reported, declared.judging.Terms.Terms}
 use Rattle.uimg_cli.specs.declared.command_line.{check.CheckRequest.CheckRequest, keys.KeyRequest.KeyRequest}
 use Rattle.uimg_keys.specs.{Keys.HasKeys, declared.keys.Keys.Keys}
 use Rattle.uimg_cli.specs.FaultTexts.{text_of}
 use Rattle.uimg_cli.specs.declared.command_line.words_fault.WordsFault.TheVariants.{NoImages}
-use Rattle.uimg_tool.specs.{Answering.Meant, Below.AnswersAllGiven, Checks.{AnswersFrom, Told}}
+use Rattle.uimg_tool.specs.{Answering.Meant, Below.AnswersAllGiven, Checks.{AnswersFrom, Told}, Reports.{FindsReportIf, WritesReportIf, report_before}}
 use Rattle.uimg_tool.specs.declared.keys.Keyed.{Keyed}
 use Rattle.uimg_world.specs.Deeds.{Deed, Opens}
 use Rattle.uimg_verifying.specs.{Configurations.only_of, declared.required.Required.Required}
 
-abbrev pub nothing_told : Option (List ℕ) → List Deed → Told
-nothing_told text trace =
-    record { greatest = 0; has_checked = false; skipped = 0; text = text; trace = trace }
+abbrev pub nothing_told : Option (Bor (List ℕ)) → Option (List ℕ) → List Deed → Told
+nothing_told junit text trace = record {
+  greatest = 0;
+  has_checked = false;
+  skipped = 0;
+  report = report_before junit;
+  text = text;
+  trace = trace;
+}
 
 -- the images of the command line, and then those that a file names
 abbrev pub AnswersAll : FileMap → Keyed → Told → Told → Type 0
@@ -51,11 +57,23 @@ abbrev pub EndsWith : (is_enough : Bool) → (greatest status : ℕ) → Option 
 EndsWith true greatest status told = (status ≡ greatest) × (told ≡ None)
 EndsWith false greatest status told = (status ≡ 2) × (told ≡ Some (Some (text_of NoImages)))
 
+-- A report is written if there is an image, or none is allowed.
+abbrev pub ReportsIf : Bool → FileMap → Option (Bor (List ℕ)) → Option Reported → (before after : List Deed) → Type 0
+ReportsIf true files junit report before after = WritesReportIf files junit report before after
+ReportsIf false files junit report before after = after ≡ before
+
+-- how the checks end, after which a report is written, if one is requested
+abbrev pub EndsChecks : FileMap → Keyed → Told → (after : List Deed) → Meant
+EndsChecks files asked last after status told old new =
+    let is_enough : Bool = last.has_checked || asked.request.now.allows_none in
+    EndsWith is_enough last.greatest status told
+    × ReportsIf is_enough files asked.request.now.junit last.report last.trace after
+
 -- All images are answered, each by the file at its path, and nothing else is opened but the file of names.
 abbrev pub ChecksBy : Keyed → FileMap → (before after : List Deed) → Meant
-ChecksBy asked files before after status told old new =
-    (last : Told) × AnswersAll files asked (nothing_told old before) last × (last.trace ≡ after)
-    × EndsWith (last.has_checked || asked.request.now.allows_none) last.greatest status told × Keeps last.text new
+ChecksBy asked files before after status told old new = (last : Told)
+    × AnswersAll files asked (nothing_told asked.request.now.junit old before) last
+    × EndsChecks files asked last after status told old new × Keeps last.text new
 
 -- what a request asks of an image, with these keys
 abbrev pub terms_of : CheckRequest → Option Required → Terms
@@ -67,8 +85,10 @@ terms_of asked required = record {
   lists = asked.as_json;
 }
 
--- The same with the keys of the file of keys, which is opened before, if there is one.
+-- The same with the keys of the file of keys, which is opened before, if there is one. Before that, the
+-- path of a report is looked at.
 abbrev pub MeansCheck : CheckRequest → FileMap → (before after : List Deed) → Meant
-MeansCheck asked files before after status told old new = (keyed : Keyed) × (keyed.request.now ≡ asked)
+MeansCheck asked files before after status told old new = (keyed : Keyed) × (seen : List Deed)
+    × (keyed.request.now ≡ asked) × FindsReportIf files asked.junit before seen
     × (keyed.terms ≡ terms_of asked keyed.terms.required) × KeysAt files asked.key keyed.terms.required
-    × ChecksBy keyed files (keys_read asked.key before) after status told old new
+    × ChecksBy keyed files (keys_read asked.key seen) after status told old new

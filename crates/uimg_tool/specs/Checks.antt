@@ -1,22 +1,24 @@
 -- The checks of many images: what is answered of each, in order.
-use Rattle.std.specs.Prelude.{◌≡◌, ◌⊎◌, ℕ, max, List, [], ◌∷◌, codes, Option, Some, None, Bool, true, false, ◌&&◌, if◌then◌else◌, IsTrue, IfSome}
+use Rattle.std.specs.Prelude.{◌≡◌, ◌⊎◌, ℕ, max, List, [], ◌∷◌, codes, Option, Some, None, Bool, true, false, ◌&&◌, if◌then◌else◌, IsTrue, IfSome, option_map}
 use Rattle.std.specs.{Borrow.Bor, Io.KnownBytes.Appends, List.list_all, Str.bytes_eq}
 use Rattle.uimg_base.specs.Named.{FileMap}
 use Rattle.uimg_checks.specs.Answers.{answer_status, answer_word}
 use Rattle.uimg_checks.specs.declared.answer.Answer.{Answer}
 use Rattle.uimg_tool.specs.declared.keys.Keyed.{Keyed}
-use Rattle.uimg_checks.specs.{CheckEnds.Shows, Verdicts.verdict_of}
+use Rattle.uimg_checks.specs.{CheckEnds.Shows, TestReports.{Reported, reported, with_case}, Verdicts.verdict_of}
 use Rattle.uimg_tool.specs.{AnswerTexts.answer_text, Paths.{is_name, paths_in}}
 use Rattle.uimg_tool.specs.declared.checks.Checks.{Checks}
 use Rattle.uimg_world.specs.Deeds.{Deed, Explains, Opens, Reads}
 use Rattle.uimg_world.specs.declared.call.Answer.TheVariants.{Done}
 
 -- The greatest status so far, whether any image was checked, how many files below a folder were skipped,
--- what the output has, if contracts know it, and what the world was asked.
+-- the report, if one is requested, what the output has, if contracts know it, and what the world was
+-- asked.
 pub record Told : Type 0 where
   pub greatest : ℕ
   pub has_checked : Bool
   pub skipped : ℕ
+  pub report : Option Reported
   pub text : Option (List ℕ)
   pub trace : List Deed
 
@@ -25,6 +27,7 @@ told checks text trace = record {
   greatest = checks.greatest;
   has_checked = checks.has_checked;
   skipped = checks.skipped;
+  report = option_map reported checks.report;
   text = text;
   trace = trace;
 }
@@ -52,13 +55,18 @@ abbrev pub AnswersFile : FileMap → Keyed → List ℕ → Answer → Type 0
 AnswersFile files asked path answer =
     IsTrue files.honest → AnswersBytes asked (files.bytes path) answer
 
+-- a report, if one is requested, has the test case of an answer
+abbrev pub IsReported : List ℕ → Answer → Option Reported → Option Reported → Type 0
+IsReported path answer old new = new ≡ option_map (with_case path answer) old
+
 -- The image at a path is answered: its file decides the answer, the status counts, its text is
--- written, and no other file is asked for.
+-- written, a report has its test case, and no other file is asked for.
 pub record IsAnswered (files : FileMap) (asked : Keyed) (path : List ℕ) (answer : Answer) (old new : Told) : Type 0 where
   pub file : AnswersFile files asked path answer
   pub status : new.greatest ≡ max old.greatest (answer_status answer)
   pub counted : new.has_checked ≡ true
   pub skipped : new.skipped ≡ old.skipped
+  pub reported : IsReported path answer old.report new.report
   pub written : Appends old.text new.text (text_for asked path answer)
   pub looked : LooksAt path old.trace new.trace
 

@@ -5,7 +5,7 @@ use Rattle.uimg_cli.specs.declared.command_line.Asked.{Asked}
 use Rattle.uimg_cli.specs.declared.command_line.Asked.TheVariants.{One, Check, Unpack, Map, Info, Diff}
 use Rattle.uimg_cli.specs.declared.command_line.Request.{Request}
 use Rattle.uimg_cli.specs.declared.command_line.Request.TheVariants as asked
-use Rattle.uimg_tool.specs.{Answering.{Meant, OfFile}, Checking.MeansCheck, Diffs.MeansDiff, Drawing.AsksToMap, Facts.IsFacts, Images.{CallsToRun, MeansRun}, Made.MeansMake, Maps.MeansMap, Unpacked.{GuardsUnpack, MeansUnpack}}
+use Rattle.uimg_tool.specs.{Answering.{Meant, OfFile}, Checking.MeansCheck, Diffs.MeansDiff, Drawing.AsksToMap, Facts.IsFacts, Images.{CallsToRun, MeansRun}, Made.MeansMake, Maps.MeansMap, Reports.AsksToCheck, Unpacked.{GuardsUnpack, MeansUnpack}}
 use Rattle.uimg_unpacking.specs.Places.{ChangesWithin}
 use Rattle.uimg_world.specs.Deeds.{Deed, LendsReader, LendsShelf, changes}
 use Rattle.uimg_world.specs.declared.file_id.FileId.{FileId}
@@ -37,8 +37,9 @@ Guards (Unpack it) files status before after = GuardsUnpack it files status befo
 Guards asked files status before after = ⊤
 
 -- A command on one image opens it and nothing else, and changes only the file of an extraction. A making
--- lends a reader, and a shelf in its image's file alone. A check, facts, a comparison and a map that is not
--- drawn change no file, and an unpacking only files and its temporary folder in its folder. A map that is drawn opens
+-- lends a reader, and a shelf in its image's file alone. Facts, a comparison and a map that is not drawn
+-- change no file, a check only that of its report, and an unpacking only files and its temporary folder in
+-- its folder. A map that is drawn opens
 -- its image, and changes the picture's file alone.
 abbrev pub ChangesOne : Request → List Deed → List Deed → Type 0
 ChangesOne (asked.Run it) old new = CallsToRun it it.outfile old new
@@ -47,7 +48,7 @@ ChangesOne (asked.Show text) old new = new ≡ old
 
 abbrev pub Changes : Asked → List Deed → List Deed → Type 0
 Changes (One it) old new = ChangesOne it old new
-Changes (Check it) old new = changes new ≡ changes old
+Changes (Check it) old new = AsksToCheck it.junit old new
 Changes (Unpack it) old new = ChangesWithin it.folder.now true old new
 Changes (Map it) old new = AsksToMap it it.picture old new
 Changes (Info it) old new = changes new ≡ changes old

@@ -33,6 +33,8 @@ request_text (request.Exists path) =
     Some (printed false path.0.now ++ codes " exists; use --force to replace it")
 request_text (request.WritesWhatIsRead path) = writes_over path
 request_text (request.DrawsOverWhatIsRead path) = Some (draws_over path.0.now)
+request_text (request.IsNoReport path) =
+    Some (printed false path.0.now ++ codes " is no report, and is not replaced")
 request_text (request.NoRoom path) = Some (codes "-x: " ++ path.now
     ++ codes " does not begin with 64 bytes 0xff, which the header replaces")
 request_text request.OutOfMemory = Some (codes "out of memory")

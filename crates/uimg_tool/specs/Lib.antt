@@ -30,6 +30,7 @@ pub mod OldMakings
 pub mod OldTexts
 pub mod Paths
 pub mod Programs
+pub mod Reports
 pub mod RequestEnds
 pub mod SearchedNames
 pub mod SourceStatuses

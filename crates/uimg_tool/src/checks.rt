@@ -1,10 +1,10 @@
 //! Checks many images, with a line for each.
 
-ghost use Rattle.std.specs.Prelude.{◌≡◌, ◌≤◌, ◌||◌, max, true, IfErr, IfOk, IsTrue, OnOk};
+ghost use Rattle.std.specs.Prelude.{◌≡◌, ◌≤◌, ◌||◌, None, max, option_map, true, IfErr, IfOk, IsTrue, OnOk};
 ghost use Rattle.std.specs.Io.KnownBytes.{Appends, Keeps};
 ghost use Rattle.uimg_base.specs.Named.{SameFiles};
-ghost use Rattle.uimg_checks.specs.Answers.{answer_status};
-ghost use Rattle.uimg_tool.specs.{AnswerTexts.{answer_text, object_line, text_line}, Answering.Comes, Checking.{AnswersAll, ChecksBy, EndsWith, MeansCheck}, Checks.{AnswersFile, LooksAt, names_end, names_path}, FaultTexts.told_of_exit, Statuses.{Grows, exit_status, request_status}};
+ghost use Rattle.uimg_checks.specs.{Answers.answer_status, TestReports.reported};
+ghost use Rattle.uimg_tool.specs.{AnswerTexts.{answer_text, object_line, text_line}, Answering.Comes, Checking.{AnswersAll, ChecksBy, EndsChecks, EndsWith, MeansCheck}, Checks.{AnswersFile, LooksAt, names_end, names_path, told}, FaultTexts.told_of_exit, Reports.{AsksToCheck, AsksToReport, FindsReportIf, WritesReportIf, report_before}, Statuses.{Grows, exit_status, request_status}};
 ghost use Rattle.uimg_world.specs.Deeds.{changes};
 
 mod below;
@@ -14,13 +14,16 @@ use crate::complaints::unprinted;
 use crate::json_lines::put_json;
 use crate::keys::{Keyed, keys_of};
 use crate::path_list::paths_in;
+use crate::reports::{find_report, write_report};
 use crate::request_fault::{DONE, RequestFault};
 use crate::unread::answer_of_unread;
 use std::alloc::Global;
 use std::io;
 use std::io::{ErrorKind, Write};
 use uimg_base::Room;
-use uimg_checks::{Answer, NOT_UTF8, Names, Terms, answer_of_source, line_text, object_text};
+use uimg_checks::{
+    Answer, NOT_UTF8, Names, Terms, TestReport, answer_of_source, line_text, object_text,
+};
 use uimg_cli::CheckRequest;
 use uimg_printing::Printed;
 use uimg_world::World;
@@ -29,22 +32,24 @@ use uimg_world::World;
 const STANDARD_INPUT: &str = "/dev/stdin";
 
 /// Checks the requested images, those of the command line first, and writes a line for each on
-/// `out`, even after one that is not right. Changes no file. Returns the greatest status. Without an
-/// image the command line is wrong, unless none is allowed.
+/// `out`, even after one that is not right. Returns the greatest status. Without an image the command
+/// line is wrong, unless none is allowed. Changes no file but that of a report, which is written at the
+/// end, if one is requested.
 ///
 /// A file of keys or of names that cannot be read, a line that cannot be written and refused memory
-/// end the check.
+/// end the check, without a report.
 pub(crate) fn check_images<'a, D: World, W: Write>(
     world: &mut D,
     request: &CheckRequest<'a>,
     out: &mut W,
 ) -> Result<u8, RequestFault<'a>>
     ensures most { IfOk result (λ status. status ≤ 3) }
-    ensures changes { changes (D.trace world.new) ≡ changes (D.trace world.old) }
+    ensures asks { AsksToCheck request.now.junit (D.trace world.old) (D.trace world.new) }
     ensures means { Comes (MeansCheck request.now (D.map world.old) (D.trace world.old)
         (D.trace world.new)) (exit_status result) (told_of_exit result) (W.contents out.old)
         (W.contents out.new) }
 {
+    find_report_if(world, request.junit)?;
     let required = match keys_of(world, request.key) {
         Ok(required) => required,
         Err(fault) => return Err(fault),
@@ -59,13 +64,30 @@ pub(crate) fn check_images<'a, D: World, W: Write>(
     check_by(world, &Keyed { request, terms }, out)
 }
 
+fn find_report_if<'a, D: World>(
+    world: &mut D,
+    path: Option<&'a str>,
+) -> Result<(), RequestFault<'a>>
+    ensures fails { IfErr result (λ fault. request_status fault ≡ 3) }
+    ensures finds { OnOk result (FindsReportIf (D.map world.old) path.entry (D.trace world.old)
+        (D.trace world.new)) }
+    ensures same { SameFiles (D.map world.old) (D.map world.new) }
+    ensures changes { changes (D.trace world.new) ≡ changes (D.trace world.old) }
+{
+    match path {
+        Some(path) => find_report(world, path),
+        None => Ok(()),
+    }
+}
+
 fn check_by<'a, D: World, W: Write>(
     world: &mut D,
     asked: &Keyed<'_, 'a>,
     out: &mut W,
 ) -> Result<u8, RequestFault<'a>>
     ensures most { IfOk result (λ status. status ≤ 3) }
-    ensures changes { changes (D.trace world.new) ≡ changes (D.trace world.old) }
+    ensures asks { AsksToCheck asked.now.request.now.junit (D.trace world.old)
+        (D.trace world.new) }
     ensures means { Comes (ChecksBy asked.now (D.map world.old) (D.trace world.old)
         (D.trace world.new)) (exit_status result) (told_of_exit result) (W.contents out.old)
         (W.contents out.new) }
@@ -75,14 +97,61 @@ fn check_by<'a, D: World, W: Write>(
         greatest: DONE,
         has_checked: false,
         skipped: 0,
+        report: report_for(world.alloc(), asked.request.junit),
     };
     match checks.check_all(world, asked, out) {
-        Ok(()) => end_of(
-            checks.has_checked,
-            asked.request.allows_none,
-            checks.greatest,
-        ),
+        Ok(()) => end_checks(world, asked, &checks),
         Err(fault) => Err(fault),
+    }
+}
+
+fn report_for(alloc: Global, path: Option<&str>) -> Option<TestReport>
+    ensures { option_map reported result ≡ report_before path.entry }
+{
+    match path {
+        Some(_) => Some(TestReport::new(alloc)),
+        None => None,
+    }
+}
+
+// Writes the report, if one is requested and the check has not failed.
+fn end_checks<'a, D: World>(
+    world: &mut D,
+    asked: &Keyed<'_, 'a>,
+    checks: &Checks,
+) -> Result<u8, RequestFault<'a>>
+    requires { checks.now.greatest ≤ 3 }
+    ensures most { IfOk result (λ status. status ≤ 3) }
+    ensures asks { AsksToReport asked.now.request.now.junit (D.trace world.old)
+        (D.trace world.new) }
+    ensures ends { Comes (EndsChecks (D.map world.old) asked.now (told checks.now None
+        (D.trace world.old)) (D.trace world.new)) (exit_status result) (told_of_exit result) None None }
+{
+    let status = end_of(
+        checks.has_checked,
+        asked.request.allows_none,
+        checks.greatest,
+    )?;
+    write_report_if(world, asked.request.junit, &checks.report)?;
+    Ok(status)
+}
+
+fn write_report_if<'a, D: World>(
+    world: &mut D,
+    path: Option<&'a str>,
+    report: &Option<TestReport>,
+) -> Result<(), RequestFault<'a>>
+    ensures fails { IfErr result (λ fault. request_status fault ≡ 3) }
+    ensures asks { AsksToReport path.entry (D.trace world.old) (D.trace world.new) }
+    ensures writes { OnOk result (WritesReportIf (D.map world.old) path.entry
+        (option_map reported report.now) (D.trace world.old) (D.trace world.new)) }
+{
+    match path {
+        Some(path) => match report {
+            Some(report) => write_report(world, path, report),
+            None => Ok(()),
+        },
+        None => Ok(()),
     }
 }
 
@@ -100,17 +169,18 @@ fn end_of<'a>(has_checked: bool, allows_none: bool, greatest: u8) -> Result<u8, 
 }
 
 // The checks so far: their shared room, the greatest status, whether there was one, and how many files
-// below a folder were skipped.
+// below a folder were skipped, and the report of all, if one is requested.
 #[derive(Drop)]
 struct Checks {
     room: Room<Global>,
     greatest: u8,
     has_checked: bool,
     skipped: u64,
+    report: Option<TestReport>,
 }
 
 impl Checks {
-    ghost use Rattle.uimg_tool.specs.Checks.{Answers, AnswersNamed, AnswersUnlessEmpty, text_for, told};
+    ghost use Rattle.uimg_tool.specs.Checks.{Answers, AnswersNamed, AnswersUnlessEmpty, IsReported, text_for};
 
     fn check_all<'b, D: World, W: Write>(
         &mut self,
@@ -208,7 +278,27 @@ impl Checks {
         self.put(world.alloc(), asked, path, &answer, out)
     }
 
-    // Notes an answer, and writes its line.
+    fn check_input<'b, D: World, W: Write>(
+        &mut self,
+        world: &mut D,
+        asked: &Keyed<'_, 'b>,
+        path: &str,
+        out: &mut W,
+    ) -> Result<(), RequestFault<'b>>
+        ensures grows { Grows self.old.greatest self.new.greatest }
+        ensures told { OnOk result (Answers (D.map world.old) asked.now path.now
+            (told self.old (W.contents out.old) (D.trace world.old))
+            (told self.new (W.contents out.new) (D.trace world.new))) }
+        ensures same { SameFiles (D.map world.old) (D.map world.new) }
+        ensures changes { changes (D.trace world.new) ≡ changes (D.trace world.old) }
+        ensures fails { IfErr result (λ fault. request_status fault ≡ 3) }
+    {
+        let mut names = Names::new(world.alloc());
+        let answer = answer_input(world, asked, path, &mut self.room, &mut names);
+        self.put(world.alloc(), asked, path.as_bytes(), &answer, out)
+    }
+
+    // Notes an answer, also in the report, and writes its line.
     fn put<'b, W: Write>(
         &mut self,
         alloc: Global,
@@ -222,15 +312,62 @@ impl Checks {
         ensures checked { self.new.has_checked ≡ true }
         ensures skipped { self.new.skipped ≡ self.old.skipped }
         ensures put { OnOk result (Appends (W.contents out.old) (W.contents out.new)
-            (text_for asked.now path.now answer.now)) }
+            (text_for asked.now path.now answer.now) × IsReported path.now answer.now
+            (option_map reported self.old.report) (option_map reported self.new.report)) }
         ensures fails { IfErr result (λ fault. request_status fault ≡ 3) }
     {
         self.greatest = u8::max(self.greatest, answer.status());
         self.has_checked = true;
+        self.add_to_report(alloc, path, answer)?;
         if asked.request.is_quiet && answer.word() == "ok" {
             return Ok(());
         }
         put_answer(alloc, asked.request.as_json, path, answer, out)
+    }
+
+    // Adds an answer to the report, if one is requested.
+    fn add_to_report<'b>(
+        &mut self,
+        alloc: Global,
+        path: &[u8],
+        answer: &Answer<'_>,
+    ) -> Result<(), RequestFault<'b>>
+        ensures greatest { self.new.greatest ≡ self.old.greatest }
+        ensures checked { self.new.has_checked ≡ self.old.has_checked }
+        ensures skipped { self.new.skipped ≡ self.old.skipped }
+        ensures report { OnOk result (IsReported path.now answer.now
+            (option_map reported self.old.report) (option_map reported self.new.report)) }
+        ensures fails { IfErr result (λ fault. request_status fault ≡ 3) }
+    {
+        let Some(report) = &mut self.report else {
+            return Ok(());
+        };
+        match report.add(alloc, path, answer) {
+            Ok(()) => Ok(()),
+            Err(_) => Err(RequestFault::OutOfMemory),
+        }
+    }
+}
+
+// What arrives on standard input is the file at the path.
+#[tactic(auto, using(crate::proofs::CheckLaws::file_answered, crate::proofs::CheckLaws::failed_file))]
+fn answer_input<'n, D: World>(
+    world: &mut D,
+    asked: &'n Keyed<'_, '_>,
+    path: &str,
+    room: &mut Room<Global>,
+    names: &'n mut Names,
+) -> Answer<'n>
+    ensures file { AnswersFile (D.map world.old) asked.now path.now result }
+    ensures looked { LooksAt path.now (D.trace world.old) (D.trace world.new) }
+    ensures same { SameFiles (D.map world.old) (D.map world.new) }
+    ensures changes { changes (D.trace world.new) ≡ changes (D.trace world.old) }
+{
+    match world.open_input(path, None, asked.request.most_input) {
+        Ok(mut source) => {
+            answer_of_source(world.alloc(), &asked.terms, &mut source, room, names)
+        }
+        Err(_) => answer_of_unread(world, path, names),
     }
 }
 

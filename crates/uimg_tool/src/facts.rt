@@ -11,6 +11,7 @@ ghost use Rattle.uimg_world.specs.Deeds.{changes};
 
 use crate::complaints::unprinted;
 use crate::json_lines::put_json;
+use crate::opening::open_image;
 use crate::request_fault::{DONE, RequestFault};
 use crate::unread::answer_of_unread;
 use std::alloc::{AllocError, Global};
@@ -37,7 +38,7 @@ pub(crate) fn tell_facts<'a, D: World, W: Write>(
         request.now.image.now (IsFacts request.now.image.now)) (exit_status result)
         (told_of_exit result) (W.contents out.old) (W.contents out.new) }
 {
-    match object_of(world, request.image) {
+    match object_of(world, request.image, request.most_input) {
         Ok((text, status)) => put_object(text.as_slice(), status, out),
         Err(_) => Err(RequestFault::OutOfMemory),
     }
@@ -102,13 +103,17 @@ impl From<PartsFault> for Stop {
 }
 
 #[tactic(auto, using(crate::proofs::InfoLaws::object_told, crate::proofs::InfoLaws::unread_told))]
-fn object_of<D: World>(world: &mut D, path: &str) -> Result<(Vec<u8>, u8), AllocError>
+fn object_of<D: World>(
+    world: &mut D,
+    path: &str,
+    most_input: u64,
+) -> Result<(Vec<u8>, u8), AllocError>
     ensures most { IfOk result (λ found. found.1 ≤ 3) }
     ensures told { IsTrue (D.map world.old).honest → IfOk result (λ found.
         IsObjectOf (D.map world.old) path.now found.1 found.0.items) }
     ensures reads { changes (D.trace world.new) ≡ changes (D.trace world.old) }
 {
-    let Ok(mut source) = world.open(path) else {
+    let Ok(mut source) = open_image(world, path, None, most_input) else {
         let mut names = Names::new(world.alloc());
         let answer = answer_of_unread(world, path, &mut names);
         return object_with(world.alloc(), path, &answer);

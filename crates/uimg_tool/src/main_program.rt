@@ -12,6 +12,7 @@ use crate::old_program::run_as_tool;
 use crate::old_tools::Tool;
 use crate::request_fault::{FAILED, WRONG_LINE};
 use std::alloc::Global;
+use std::env::Env;
 use std::io::{BufWriter, Write};
 use std::rt::Files;
 use uimg_cli::{Asked, WordsFault, read_words};
@@ -22,10 +23,11 @@ use uimg_world::{DiskWorld, MakingWorld, World};
 /// takes the arguments of U-Boot 2023.01's tool of that name.
 ///
 /// `epoch` is the text of SOURCE_DATE_EPOCH if it is set, and `now` the current time in seconds
-/// since 1970; they give the time of a new image. Listings, reports and help go to `out`, buffered,
+/// since 1970; they give the time of a new image. Of the runtime's environment only TMPDIR is read,
+/// for an image on standard input. Listings, reports and help go to `out`, buffered,
 /// and are written before a fault is reported. A fault is one line on `err`; failed writes to `err`
 /// are ignored.
-pub fn program<R: Files + AllocGlobal, W: Write, V: Write>(
+pub fn program<R: Files + Env + AllocGlobal, W: Write, V: Write>(
     rt: &R,
     words: &[&str],
     epoch: Option<&str>,

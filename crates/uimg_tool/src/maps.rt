@@ -6,6 +6,7 @@ ghost use Rattle.uimg_tool.specs.{Answering.{Comes, OfFile}, Drawing.AsksToMap, 
 ghost use Rattle.uimg_world.specs.Deeds.{changes};
 
 use crate::complaints::unread;
+use crate::opening::open_image;
 use crate::pictures::draw_map;
 use crate::request_fault::{DONE, RequestFault};
 use std::alloc::Global;
@@ -32,13 +33,14 @@ pub(crate) fn map_image<'a, D: World, W: Write>(
 {
     match request.picture {
         Some(path) => draw_map(world, request, path),
-        None => print_map(world, request.image, out),
+        None => print_map(world, request.image, request.most_input, out),
     }
 }
 
 fn print_map<'a, D: World, W: Write>(
     world: &mut D,
     path: &'a str,
+    most_input: u64,
     out: &mut W,
 ) -> Result<u8, RequestFault<'a>>
     ensures most { IfOk result (λ status. status ≤ 3) }
@@ -47,7 +49,7 @@ fn print_map<'a, D: World, W: Write>(
         IsMapped) (exit_status result) (told_of_exit result) (W.contents out.old)
         (W.contents out.new) }
 {
-    let Ok(mut source) = world.open(path) else {
+    let Ok(mut source) = open_image(world, path, None, most_input) else {
         return Err(unread(world, path));
     };
     print_source(world.alloc(), &mut source, out)

@@ -1,13 +1,16 @@
 //! Maps of an image's file, as pictures.
 
-ghost use Rattle.std.specs.Prelude.{◌≡◌, ◌≤◌, ℕ, List, IfErr, IfOk, IsTrue, Option, string_bytes};
+ghost use Rattle.std.specs.Prelude.{◌≡◌, ◌≤◌, ℕ, List, IfErr, IfOk, IsOk, IsTrue, OnOk, Option, string_bytes};
 ghost use Rattle.uimg_map.specs.Maps.{IsMapOf};
 ghost use Rattle.uimg_tool.specs.{Answering.Comes, FaultTexts.told_of_exit, Maps.{MeansPicture, mapped_status, mapped_told}, Statuses.{exit_status, request_status}};
 ghost use Rattle.uimg_tool.specs.Drawing.{Draws, DrawsTo, DrawsUnlessTaken, Fills, LooksTaken, NamesPicture, Overwrites};
+ghost use Rattle.uimg_unpacking.specs.Naming.{GivesName};
+ghost use Rattle.uimg_world.specs.declared.call.Answer.TheVariants.{Done};
 
 use crate::complaints::unread;
 use crate::images::is_same_file;
 use crate::maps::{end_of, stopped};
+use crate::opening::open_image;
 use crate::reasons::reason_of_code;
 use crate::request_fault::RequestFault;
 use crate::safe_path::{SafePath, Writing};
@@ -34,7 +37,7 @@ pub(crate) fn draw_map<'a, D: World>(
         request.now.image.now path.now (D.map world.old)) (exit_status result)
         (told_of_exit result) known known }
 {
-    let Ok(mut source) = world.open(request.image) else {
+    let Ok(mut source) = open_image(world, request.image, None, request.most_input) else {
         return Err(unread(world, request.image));
     };
     let map = match map_of(world.alloc(), &mut source) {
@@ -99,7 +102,7 @@ fn draw<'a, D: World, S: Source>(
         Ok(Writing::Beside(file, safe)) => {
             let paths = (path, safe.new.as_str());
             let drawn = draw_into(world, request, paths, file, source, map);
-            name_picture(world, path, &safe, request.is_forced, drawn)
+            name_written(world, path, &safe, request.is_forced, drawn)
         }
         Ok(Writing::InPlace) => draw_in_place(world, request, path, source, map),
         Ok(Writing::Pipe) => draw_in_place(world, request, path, source, map),
@@ -125,9 +128,9 @@ fn draw_in_place<'a, D: World, S: Source>(
     }
 }
 
-// Moves a complete picture to its path. Removes one that is incomplete, or whose path is taken
-// meanwhile.
-fn name_picture<'a, D: World>(
+/// Moves a complete picture or report to its path. Removes one that is incomplete, or whose path is
+/// taken meanwhile.
+pub(crate) fn name_written<'a, D: World>(
     world: &mut D,
     path: &'a str,
     safe: &SafePath,
@@ -138,6 +141,8 @@ fn name_picture<'a, D: World>(
     ensures fails { IfErr result (λ fault. request_status fault ≡ 3) }
     ensures asks { NamesPicture (string_bytes safe.now.new) (string_bytes safe.now.whole) is_forced
         (D.trace world.old) (D.trace world.new) }
+    ensures named { OnOk result (IsOk drawn.entry × GivesName (string_bytes safe.now.new)
+        (string_bytes safe.now.whole) is_forced Done (D.trace world.old) (D.trace world.new)) }
 {
     let (new, whole) = (safe.new.as_str(), safe.whole.as_str());
     match drawn {
@@ -193,7 +198,8 @@ fn draw_into<'a, D: World, S: Source>(
     }
 }
 
-fn unwritten<'a>(path: &'a str, reason: io::Error) -> RequestFault<'a>
+/// Returns why a picture or a report is not written.
+pub(crate) fn unwritten<'a>(path: &'a str, reason: io::Error) -> RequestFault<'a>
     ensures { request_status result ≡ 3 }
 {
     RequestFault::Unwritten(Printed(path.as_bytes()), reason)

@@ -60,6 +60,9 @@ pub(crate) enum RequestFault<'a> {
     // By the other commands.
     DrawsOverWhatIsRead(Printed<'a>),
 
+    // What is at the path of a report.
+    IsNoReport(Printed<'a>),
+
     NoRoom(&'a str),
 
     OutOfMemory,
@@ -106,6 +109,9 @@ impl<'a> Display for RequestFault<'a> {
             }
             RequestFault::DrawsOverWhatIsRead(path) => {
                 write!(f, "{path} would be written while it is read")
+            }
+            RequestFault::IsNoReport(path) => {
+                write!(f, "{path} is no report, and is not replaced")
             }
             RequestFault::NoRoom(path) => write!(
                 f,

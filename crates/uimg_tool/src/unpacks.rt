@@ -14,6 +14,7 @@ ghost use Rattle.uimg_unpacking.specs.Places.{ChangesWithin, Obeys, terms_of};
 use crate::complaint::Complaint;
 use crate::json_lines::JsonOut;
 use crate::keys::keys_of;
+use crate::opening::open_image;
 use crate::request_fault::DONE;
 use crate::unpack_answers::Ending;
 use crate::unpack_ends::{end_of, troubled};
@@ -219,7 +220,7 @@ fn unpack_at<'a, 'n, D: World, W: Write + Drop>(
     ensures ended { IsTrue (D.map world.old).honest → EndsAsked (D.map world.old)
         request.now terms.now.required path.entry result }
 {
-    let Ok(mut source) = world.open(path) else {
+    let Ok(mut source) = open_image(world, path, Some(request.folder), request.most_input) else {
         return Ending::Unread;
     };
     let (lacking, names) = names;

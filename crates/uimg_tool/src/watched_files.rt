@@ -2,6 +2,7 @@
 
 use crate::progress::Meter;
 use std::alloc::{Alloc, Allocator, Global};
+use std::env::{Env, FillError};
 use std::fs::{Metadata, OpenFile, OpenOptions};
 use std::io;
 use std::io::{Read, Seek, SeekFrom, Write};
@@ -113,6 +114,20 @@ impl<'a, R: Files + Clock + Alloc<A = Global>, V: Write + Copy> Alloc for Watche
 
     fn alloc(&self) -> Global {
         self.rt.alloc()
+    }
+}
+
+impl<'a, R: Files + Clock + Env, V: Write + Copy> Env for WatchedFiles<'a, R, V> {
+    fn arg(&self, i: usize, buf: &mut [u8]) -> Result<usize, FillError> {
+        self.rt.arg(i, buf)
+    }
+
+    fn var(&self, name: &str, buf: &mut [u8]) -> Result<usize, FillError> {
+        self.rt.var(name, buf)
+    }
+
+    fn var_at(&self, i: usize, buf: &mut [u8]) -> Result<usize, FillError> {
+        self.rt.var_at(i, buf)
     }
 }
 

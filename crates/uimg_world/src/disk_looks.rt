@@ -6,11 +6,13 @@ ghost use Rattle.uimg_base.specs.Device.{IsFresh};
 ghost use Rattle.uimg_world.specs.Deeds.{IsKindOf};
 
 use crate::kind::{Kind, Target};
+use crate::opened_file::{OpenedSource, source_of};
+use std::fs::OpenFile;
 use std::io::Read;
 use std::os::unix::fs::FileTypeExt;
 use std::rt::Files;
 use std::{fs, io};
-use uimg_base::{FileSource, Source, SourceFault};
+use uimg_base::{Source, SourceFault};
 
 /// The error of a path that leads to a folder (`EISDIR`).
 const IS_A_FOLDER: i32 = 21;
@@ -22,16 +24,22 @@ const SOME_NAMES: usize = 8192;
 /// The error of a file system that cannot wait for a folder (`EINVAL`).
 const INVALID: i32 = 22;
 
-/// Does not open a pipe, which would wait for a writer.
+/// Does not open a pipe, which would wait for a writer. A folder is no source.
 pub(crate) fn open_source<R: Files + AllocGlobal>(
     rt: &R,
     path: &str,
-) -> Result<FileSource<R::File>, SourceFault>
-    ensures { IfOk result (λ source. IsFresh (⟦<FileSource<R::File> as Source>⟧.device source)) }
+) -> Result<OpenedSource<R::File>, SourceFault>
+    ensures { IfOk result (λ source. IsFresh (⟦<OpenedSource<R::File> as Source>⟧.device source)) }
 {
-    match target_at(rt, path) {
-        Target::Pipe => Err(SourceFault),
-        _ => FileSource::open(rt, path),
+    if matches!(target_at(rt, path), Target::Pipe) {
+        return Err(SourceFault);
+    }
+    let Ok(file) = fs::open(rt, path) else {
+        return Err(SourceFault);
+    };
+    match file.metadata() {
+        Ok(found) if !found.is_dir() => source_of(rt.alloc(), file),
+        _ => Err(SourceFault),
     }
 }
 
@@ -85,7 +93,7 @@ pub(crate) fn names_at<R: Files + AllocGlobal>(rt: &R, path: &str) -> io::Result
 /// Waits until the names in a folder are on the disk, if its file system can wait for a folder.
 pub(crate) fn sync_folder<R: Files>(rt: &R, path: &str) -> io::Result<()> {
     let folder = fs::open(rt, path)?;
-    unless_unable(fs::OpenFile::sync_all(&folder))
+    unless_unable(OpenFile::sync_all(&folder))
 }
 
 // Returns the answer of a wait. A file system that cannot wait counts as done.

@@ -8,9 +8,11 @@ use crate::disk_world::DiskWorld;
 use crate::file_id::FileId;
 use crate::making_world::{MakingWorld, Reader};
 use crate::new_shelf::NewShelf;
+use crate::opened_file::OpenedSource;
 use std::alloc::AllocError;
+use std::env::Env;
 use std::rt::Files;
-use uimg_base::{FileShelf, FileSource, SourceFault};
+use uimg_base::{FileShelf, SourceFault};
 
 /// What opens the files of the operating system. No contract says what they have, so it is not
 /// claimed to be honest.
@@ -20,7 +22,7 @@ pub struct DiskReader<'a, R: Files + AllocGlobal> {
 }
 
 impl<'a, R: Files + AllocGlobal> Reader for DiskReader<'a, R> {
-    type Opened = FileSource<R::File>;
+    type Opened = OpenedSource<R::File>;
 
     ghost map = { λ _. record {
       bytes = λ _. None;
@@ -32,7 +34,7 @@ impl<'a, R: Files + AllocGlobal> Reader for DiskReader<'a, R> {
 
     ghost identities = { λ _ _. None };
 
-    fn open(&mut self, path: &str) -> Result<FileSource<R::File>, SourceFault> {
+    fn open(&mut self, path: &str) -> Result<OpenedSource<R::File>, SourceFault> {
         open_source(self.rt, path)
     }
 
@@ -41,7 +43,7 @@ impl<'a, R: Files + AllocGlobal> Reader for DiskReader<'a, R> {
     }
 }
 
-impl<'a, R: Files + AllocGlobal> MakingWorld<'a> for DiskWorld<'a, R> {
+impl<'a, R: Files + Env + AllocGlobal> MakingWorld<'a> for DiskWorld<'a, R> {
     type Reader = DiskReader<'a, R>;
 
     type Shelf = FileShelf<'a, R>;

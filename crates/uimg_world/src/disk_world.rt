@@ -1,31 +1,38 @@
 //! The files of the operating system. Each method makes one call, of the standard library or of
 //! `disk_looks`, notes it, and returns the answer.
 
-ghost use Rattle.std.specs.Prelude.{◌≡◌, [], None, false};
+ghost use Rattle.std.specs.Prelude.{◌≡◌, ◌∷◌, [], None, false, is_err, is_ok};
+ghost use Rattle.uimg_base.specs.Device.{RisesIf};
+ghost use Rattle.uimg_world.specs.Deeds.{Deed};
 
 use crate::call::{Call, answer_of};
+use crate::disk_input::open_input;
 use crate::disk_looks::{kind_of, names_at, open_source, reason_at, sync_folder, target_at};
 use crate::file_id::FileId;
 use crate::kind::{Kind, Target};
+use crate::opened_file::OpenedSource;
 use crate::record::Record;
 use crate::world::World;
 use std::alloc::Global;
+use std::env::Env;
 use std::fs::OpenFile;
 use std::path::PathBuf;
 use std::rt::Files;
 use std::{fs, io};
-use uimg_base::{FileSource, SourceFault};
+use uimg_base::SourceFault;
 
 /// The files of the operating system. No contract says what they have, so it is not claimed to be
 /// honest.
 #[derive(Drop)]
-pub struct DiskWorld<'a, R: Files + AllocGlobal> {
+pub struct DiskWorld<'a, R: Files + Env + AllocGlobal> {
     pub(crate) rt: &'a R,
     pub(crate) record: Record,
     refusals: u64,
+    // Why standard input could not be opened, until that is told.
+    input_reason: Option<io::Error>,
 }
 
-impl<'a, R: Files + AllocGlobal> DiskWorld<'a, R> {
+impl<'a, R: Files + Env + AllocGlobal> DiskWorld<'a, R> {
     /// Returns the files of a system, none of them requested yet.
     pub fn new(rt: &'a R) -> DiskWorld<'a, R>
         ensures { ⟦<DiskWorld<'a, R> as World>⟧.trace result ≡ [] }
@@ -34,14 +41,34 @@ impl<'a, R: Files + AllocGlobal> DiskWorld<'a, R> {
             rt,
             record: Record::new(),
             refusals: 0,
+            input_reason: None,
         }
+    }
+
+    // Notes that a source was opened, and counts it if it was not.
+    fn note_opened<X>(
+        &mut self,
+        path: &str,
+        opened: Result<X, SourceFault>,
+    ) -> Result<X, SourceFault>
+        ensures is { result ≡ opened }
+        ensures noted { self.new.record.deeds
+            ≡ Deed.Opens path.now (is_ok opened) ∷ self.old.record.deeds }
+        ensures refusals { RisesIf (is_err opened) self.old.refusals self.new.refusals }
+    {
+        let call = Call::Opens(opened.is_ok());
+        self.record.note(&call, path.as_bytes(), b"");
+        if opened.is_err() {
+            self.refusals = self.refusals.saturating_add(1);
+        }
+        opened
     }
 }
 
-impl<'a, R: Files + AllocGlobal> World for DiskWorld<'a, R> {
+impl<'a, R: Files + Env + AllocGlobal> World for DiskWorld<'a, R> {
     type File = R::File;
 
-    type Opened = FileSource<R::File>;
+    type Opened = OpenedSource<R::File>;
 
     ghost trace = { λ world. world.record.deeds };
 
@@ -59,19 +86,33 @@ impl<'a, R: Files + AllocGlobal> World for DiskWorld<'a, R> {
         self.rt.alloc()
     }
 
-    fn open(&mut self, path: &str) -> Result<FileSource<R::File>, SourceFault> {
+    fn open(&mut self, path: &str) -> Result<OpenedSource<R::File>, SourceFault> {
         let opened = open_source(self.rt, path);
-        let call = Call::Opens(opened.is_ok());
-        self.record.note(&call, path.as_bytes(), b"");
-        if opened.is_err() {
-            self.refusals = self.refusals.saturating_add(1);
-        }
-        opened
+        self.note_opened(path, opened)
+    }
+
+    fn open_input(
+        &mut self,
+        path: &str,
+        folder: Option<&str>,
+        most: u64,
+    ) -> Result<OpenedSource<R::File>, SourceFault> {
+        let opened = match open_input(self.rt, folder, most) {
+            Ok(source) => Ok(source),
+            Err(reason) => {
+                self.input_reason = Some(reason);
+                Err(SourceFault)
+            }
+        };
+        self.note_opened(path, opened)
     }
 
     fn reason_unread(&mut self, path: &str) -> Option<io::Error> {
         self.record.note(&Call::Explains, path.as_bytes(), b"");
-        reason_at(self.rt, path)
+        match self.input_reason.take() {
+            Some(reason) => Some(reason),
+            None => reason_at(self.rt, path),
+        }
     }
 
     fn read(&mut self, path: &str) -> io::Result<R::File> {

@@ -3,6 +3,7 @@
 #![tactic(auto)]
 
 mod call;
+mod disk_input;
 mod disk_looks;
 mod disk_making;
 mod disk_world;
@@ -14,6 +15,7 @@ mod memory_making;
 mod memory_world;
 mod new_files;
 mod new_shelf;
+mod opened_file;
 mod record;
 mod world;
 

@@ -1,9 +1,9 @@
 //! Files in memory, which can be opened and read, and new ones beside them.
 
-ghost use Rattle.std.specs.Prelude.{◌≡◌, ◌∷◌, [], true};
+ghost use Rattle.std.specs.Prelude.{◌≡◌, ◌∷◌, [], false, true};
 ghost use Rattle.std.specs.Option.{option_map};
-ghost use Rattle.uimg_base.specs.Named.{bytes_named};
-ghost use Rattle.uimg_world.specs.{Deeds.{answer_of, deed_of}, Kinds.target_of_kind};
+ghost use Rattle.uimg_base.specs.{Device.Rose, Named.bytes_named};
+ghost use Rattle.uimg_world.specs.{Deeds.{Deed, answer_of, deed_of}, Kinds.target_of_kind};
 ghost use Rattle.uimg_world.specs.declared.call.Answer.TheVariants.{Failed};
 
 use crate::call::{Answer, Call, answer_of};
@@ -17,14 +17,15 @@ use std::alloc::Global;
 use std::io;
 use std::io::ErrorKind;
 use std::path::PathBuf;
-use uimg_base::{MemSource, SourceFault};
+use uimg_base::{MemSource, Source, SourceFault};
 
 /// Files in memory: pairs of a path and its bytes. Of equal paths, the first counts.
 ///
-/// They are honest and complete, and never change. New files and folders are beside them: they are
-/// created, closed, linked, renamed and removed as on a disk, but are not opened again. What is
-/// written to a file of `create` is at its path once the file is closed. Calls that resolve a path, list
-/// a folder or remove one with all in it fail, and no file is found by which it is (`file_at`).
+/// They are honest and complete, and never change. Standard input has the bytes of the file at the path
+/// that stands for it. New files and folders are beside them: they are created, closed, linked, renamed
+/// and removed as on a disk, but are not opened again. What is written to a file of `create` is at its
+/// path once the file is closed. Calls that resolve a path, list a folder or remove one with all in it
+/// fail, and no file is found by which it is (`file_at`).
 #[derive(Drop)]
 pub struct MemoryWorld<'a> {
     pub(crate) alloc: Global,
@@ -73,6 +74,33 @@ impl<'a> MemoryWorld<'a> {
         Err(read_only())
     }
 
+    // Notes that a file was opened.
+    fn opened(&mut self, path: &str, bytes: &'a [u8]) -> MemSource<'a>
+        ensures device { ⟦<MemSource<'a> as Source>⟧.device result ≡ record {
+          bytes = bytes.now;
+          honest = true;
+          asked = 0;
+          failures = 0;
+        } }
+        ensures noted { self.new.record.deeds ≡ Deed.Opens path.now true ∷ self.old.record.deeds }
+        ensures files { self.new.files ≡ self.old.files }
+        ensures refusals { self.new.refusals ≡ self.old.refusals }
+    {
+        self.record.note(&Call::Opens(true), path.as_bytes(), b"");
+        MemSource::new(bytes)
+    }
+
+    // Notes that a file was not opened.
+    fn unopened(&mut self, path: &str) -> SourceFault
+        ensures noted { self.new.record.deeds ≡ Deed.Opens path.now false ∷ self.old.record.deeds }
+        ensures files { self.new.files ≡ self.old.files }
+        ensures refusals { Rose self.old.refusals self.new.refusals }
+    {
+        self.record.note(&Call::Opens(false), path.as_bytes(), b"");
+        self.refusals = self.refusals.saturating_add(1);
+        SourceFault
+    }
+
     // Puts a new, empty file, or a folder, at a path where nothing is.
     fn make(&mut self, path: &str, bytes: Option<&[u8]>) -> io::Result<()>
         ensures deeds { self.new.record ≡ self.old.record }
@@ -110,15 +138,25 @@ impl<'a> World for MemoryWorld<'a> {
 
     fn open(&mut self, path: &str) -> Result<MemSource<'a>, SourceFault> {
         match bytes_at(self.files, path) {
+            Some(bytes) => Ok(self.opened(path, bytes)),
+            None => Err(self.unopened(path)),
+        }
+    }
+
+    fn open_input(
+        &mut self,
+        path: &str,
+        _folder: Option<&str>,
+        most: u64,
+    ) -> Result<MemSource<'a>, SourceFault> {
+        match bytes_at(self.files, path) {
             Some(bytes) => {
-                self.record.note(&Call::Opens(true), path.as_bytes(), b"");
-                Ok(MemSource::new(bytes))
+                if bytes.len() as u64 > most {
+                    return Err(self.unopened(path));
+                }
+                Ok(self.opened(path, bytes))
             }
-            None => {
-                self.record.note(&Call::Opens(false), path.as_bytes(), b"");
-                self.refusals = self.refusals.saturating_add(1);
-                Err(SourceFault)
-            }
+            None => Err(self.unopened(path)),
         }
     }
 

@@ -16,7 +16,7 @@ use uimg_base::{Source, SourceFault};
 /// honest sources of the bytes that it has at a path. Where contracts know what new files hold, each
 /// call that closes one says it.
 pub trait World: Drop {
-    ghost use Rattle.std.specs.Prelude.{◌≡◌, List, [], ◌∷◌, Bool, None, Some, false, IfOk, IsTrue, OnErr, is_err, is_ok};
+    ghost use Rattle.std.specs.Prelude.{◌≡◌, ◌≤◌, ◌<◌, List, [], ◌∷◌, Bool, None, Some, false, length, IfOk, IfSome, IsTrue, OnErr, is_err, is_ok};
     ghost use Rattle.uimg_base.specs.{Device.RisesIf, Named.{FileMap, SameFiles, Opens}};
     ghost use Rattle.uimg_world.specs.Deeds.{ClosesFile, Deed, answer_of, listed, resolved};
 
@@ -29,7 +29,8 @@ pub trait World: Drop {
     /// The calls that were made.
     ghost trace: { Self → List Deed };
 
-    /// The bytes at each path.
+    /// The bytes at each path. At the path that stands for standard input they are those that arrive
+    /// there.
     ghost map: { Self → FileMap };
 
     /// Whether contracts know what new files hold.
@@ -54,7 +55,30 @@ pub trait World: Drop {
         ensures opened { IfOk result (λ opened.
             Opens (map self.old) path.now (Self.Opened.device opened)) };
 
-    /// Returns why the file at a path could not be opened, if another look at it shows that.
+    /// Reads standard input to its end and opens what arrived as a source, as the file at `path`. It
+    /// is kept in a file that has no name, on the file system of a folder, or without one on that for
+    /// temporary files.
+    ///
+    /// Returns `SourceFault` if standard input cannot be read or has more bytes than `most`, or if
+    /// that file cannot be written.
+    fn open_input(
+        &mut self,
+        path: &str,
+        folder: Option<&str>,
+        most: u64,
+    ) -> Result<Self::Opened, SourceFault>
+        ensures noted { trace self.new ≡ Deed.Opens path.now (is_ok result) ∷ trace self.old }
+        ensures same { SameFiles (map self.old) (map self.new) }
+        ensures missing { IsTrue (map self.old).complete →
+            OnErr result (IfSome ((map self.old).bytes path.now) (λ file. most < length file)) }
+        ensures refusals { RisesIf (is_err result) (map self.old).refusals (map self.new).refusals }
+        ensures opened { IfOk result (λ opened.
+            Opens (map self.old) path.now (Self.Opened.device opened)) }
+        ensures most { IsTrue (map self.old).honest → IfOk result (λ opened.
+            length (Self.Opened.device opened).bytes ≤ most) };
+
+    /// Returns why the file at a path could not be opened, if another look at it shows that; or why
+    /// standard input could not, if that failed before.
     fn reason_unread(&mut self, path: &str) -> Option<io::Error>
         ensures noted { trace self.new ≡ Deed.Explains path.now ∷ trace self.old }
         ensures same { SameFiles (map self.old) (map self.new) };

@@ -104,10 +104,16 @@ In paths and names, control characters and \\ are printed as \\xNN, in names als
 spaces, colons and commas. --recursive takes the files below a folder that begin
 as an image does, by the order of their names, follows no symbolic link, and ends
 with a line that counts the others. --files-from - reads standard input; a file
-without a path, or a folder without an image, is refused (--allow-empty). --json
+without a path, or a folder without an image, is refused (--allow-empty). The image
+- is read from standard input to a file without a name in TMPDIR or /tmp. --json
 prints path, status and verdict (the word), and depending on it format, images,
 hashes, unchecked, configurations, signed, signatures, checksums, algo, image,
 hash, configuration, property, name, node, fault, message and offset.
+
+--junit writes a report for CI as well: a test case an image, also with --quiet.
+It is a failure with the word and the line, or an error if the word is failed.
+FILE gets the report when all images are checked, and only if it does not exist,
+is empty, or begins as a report does (<?xml).
 
 --key implies --strict. Its file has an RSA key in PEM (openssl pkey -pubout), or
 is U-Boot's control devicetree with the keys that it requires for configurations.
@@ -120,7 +126,9 @@ Examples:
   uimg check --strict --need sha256 kernel.itb rescue.itb
   uimg check --key dev=dev.pem kernel.itb
   uimg check --key dev=dev.pem --config conf-1 kernel.itb
+  ssh board cat /boot/kernel.itb | uimg check --strict -
   find /srv/images -name '*.itb' -print0 | uimg check -0 --files-from -
+  uimg check --junit report.xml kernel.itb rescue.itb
 
 Exit status, the greatest of all lines:
   0  ok or unhashed
@@ -154,6 +162,7 @@ Signatures are checked with --key alone: if check --key refuses the image, or no
 configuration names one of its images, nothing is written. Of an image with more
 files or bytes than allowed nothing is written. --clean removes what stopped
 commands left, .uimg-new1 to .uimg-new10000; no other command may be at work there.
+The image - is read from standard input to a file without a name in the folder.
 --json prints path, status and verdict (ok for a kept payload, or a word as above),
 and depending on it format, image, file, size, algo, digest, data-crc, hash, fault,
 message and offset; of what --key refuses, what check --json --key prints.
@@ -169,6 +178,7 @@ Examples:
   uimg unpack --config default kernel.itb
   uimg unpack --only image-1 uImage
   uimg unpack --clean -C /srv/tftp
+  curl -s https://example.com/kernel.itb | uimg unpack -C new --need sha256 -
 
 Exit status:
   0  All requested payloads or parts are kept
@@ -190,7 +200,8 @@ hexadecimal, size, a bar of the file, and what it is.
 A refused image has a map too, of what its header says. The reservation block
 ends with its entry of zeros; without one it ends outside the file. Payloads and
 data are not read: verify checks them. In names, control characters, \\, spaces,
-colons and commas are printed as \\xNN.
+colons and commas are printed as \\xNN. The image - is read from standard input to
+a file without a name in TMPDIR or /tmp.
 
 Examples:
   uimg map kernel.itb
@@ -214,7 +225,8 @@ has path, status, format, size, name, time, load, entry, header-crc, data-crc, o
 arch, type and compression (each with its code), data-size and parts. What the image
 lacks is left out. An image that is refused or cannot be read has the line of check
 --json.
-Hashes and the checksum of a legacy image's data are printed, not checked.
+Hashes and the checksum of a legacy image's data are printed, not checked. The
+image - is read from standard input to a file without a name in TMPDIR or /tmp.
 
 Examples:
   uimg info kernel.itb

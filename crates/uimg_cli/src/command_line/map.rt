@@ -1,18 +1,17 @@
 //! The arguments of `map`.
 
-ghost use Rattle.std.specs.Prelude.{◌≡◌, IfOk, codes, false, option_map};
-ghost use Rattle.std.specs.Option.{option_map_or};
-ghost use Rattle.std.specs.Str.{bytes_eq};
+ghost use Rattle.std.specs.Prelude.{◌≡◌, IfOk, codes, false};
 ghost use Rattle.clap.specs.Simple.{app_of};
 ghost use Rattle.clap.specs.declared.builder.command.Command.TheViews.{out-Command as fields_of};
-ghost use Rattle.uimg_cli.specs.Map.{is_output, map_asked, map_command, mapping_of};
+ghost use Rattle.uimg_cli.specs.Map.{map_asked, map_command, mapping_of};
 ghost use Rattle.uimg_cli.specs.Readings.{given};
-ghost use Rattle.uimg_cli.specs.Wrong.{told};
+ghost use Rattle.uimg_cli.specs.Wrong.{Tells};
 
 use super::WordsFault;
 use super::arguments::{titled, with_image, with_long, with_switch};
+use super::counts::{MAX_INPUT, most_input};
 use super::help_notes::MAP_NOTES;
-use super::readings::{is_set, text_of, text_or};
+use super::readings::{is_output, is_set, text_of, text_or};
 use clap::ArgMatches;
 use std::alloc::{AllocError, Global};
 
@@ -25,7 +24,10 @@ pub struct MapRequest<'a> {
     /// Whether an existing file is replaced by the picture.
     pub is_forced: bool,
 
-    /// The path of the image.
+    /// The most bytes that are read of standard input.
+    pub most_input: u64,
+
+    /// The path of the image, `-` for standard input.
     pub image: &'a str,
 }
 
@@ -43,29 +45,25 @@ pub(super) fn command<'a>(alloc: Global) -> Result<clap::Command<'a>, AllocError
     let command = titled(alloc, "map", ABOUT, MAP_NOTES);
     let command = with_long(command, alloc, "svg", "file", SVG)?;
     let command = with_switch(command, alloc, "force", FORCE)?;
-    with_image(command, alloc, "The image")
+    let command = with_long(command, alloc, "max-input", "number", MAX_INPUT)?;
+    with_image(command, alloc, "The image, - for standard input")
 }
 
-pub(super) fn request<'a>(matches: &ArgMatches<'a>) -> Result<MapRequest<'a>, WordsFault>
-    ensures { told mapping_of result ≡ map_asked (given matches.now) }
+pub(super) fn request<'a>(
+    alloc: Global,
+    matches: &ArgMatches<'a>,
+) -> Result<MapRequest<'a>, WordsFault>
+    ensures { Tells mapping_of (map_asked (given matches.now)) result }
 {
     let picture = text_of(matches, "svg");
     if is_output(picture) {
-        return Err(WordsFault::PictureToOutput);
+        return Err(WordsFault::ToOutput("svg"));
     }
+    let most_input = most_input(alloc, matches)?;
     Ok(MapRequest {
         picture,
         is_forced: is_set(matches, "force"),
+        most_input,
         image: text_or(matches, "image", ""),
     })
-}
-
-// Returns whether a path would be standard output.
-fn is_output(path: Option<&str>) -> bool
-    ensures { result ≡ is_output (option_map (λ text. text.now) path.entry) }
-{
-    match path {
-        Some(path) => path == "-",
-        None => false,
-    }
 }

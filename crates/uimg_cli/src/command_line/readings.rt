@@ -3,7 +3,7 @@
 ghost use Rattle.std.specs.Prelude.{◌≡◌, is_none, option_map};
 ghost use Rattle.clap.specs.Walk.{all_of, first_of, texts};
 ghost use Rattle.uimg_cli.specs.Readings.{IsCount, count_of, decimal_of, given};
-ghost use Rattle.uimg_cli.specs.Readings.{hexadecimal_of, is_set, text_or};
+ghost use Rattle.uimg_cli.specs.Readings.{hexadecimal_of, is_output, is_set, text_or};
 
 use clap::ArgMatches;
 
@@ -33,6 +33,16 @@ pub(super) fn is_missing(text: Option<&str>) -> bool
     ensures { result ≡ is_none (option_map (λ word. word.now) text.entry) }
 {
     text.is_none()
+}
+
+// Returns whether a path would be standard output.
+pub(super) fn is_output(path: Option<&str>) -> bool
+    ensures { result ≡ is_output (option_map (λ text. text.now) path.entry) }
+{
+    match path {
+        Some(path) => path == "-",
+        None => false,
+    }
 }
 
 pub(super) fn is_set(matches: &ArgMatches<'_>, id: &str) -> bool

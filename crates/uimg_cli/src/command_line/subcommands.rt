@@ -7,12 +7,13 @@ ghost use Rattle.uimg_cli.specs.Check.{check_asked};
 ghost use Rattle.uimg_cli.specs.CommandLines.{asked_by, bare_program, program, uimg};
 ghost use Rattle.uimg_cli.specs.CommandLines.{with_command};
 ghost use Rattle.uimg_cli.specs.Dumpimage.{dumpimage, dumpimage_asked};
+ghost use Rattle.uimg_cli.specs.Info.{info_asked};
 ghost use Rattle.uimg_cli.specs.Map.{map_asked};
 ghost use Rattle.uimg_cli.specs.Mkimage.{mkimage, mkimage_asked};
 ghost use Rattle.uimg_cli.specs.Readings.{given};
 ghost use Rattle.uimg_cli.specs.Unpack.{unpack_asked};
 ghost use Rattle.uimg_cli.specs.Verify.{verify};
-ghost use Rattle.uimg_cli.specs.Wanted.{checks, maps, runs, unpacks, wanted_of};
+ghost use Rattle.uimg_cli.specs.Wanted.{checks, informs, maps, runs, unpacks, wanted_of};
 ghost use Rattle.uimg_cli.specs.Wrong.{Tells, and_then};
 
 use super::arguments::{titled, with};
@@ -91,9 +92,9 @@ pub(super) fn request_by<'a>(
     } else if name == "unpack" {
         unpacked(alloc, own)
     } else if name == "map" {
-        mapped(own)
+        mapped(alloc, own)
     } else if name == "info" {
-        Ok(Asked::Info(info::request(own)))
+        informed(alloc, own)
     } else if name == "diff" {
         Ok(Asked::Diff(diff::request(own)))
     } else if name == "dumpimage" {
@@ -126,11 +127,20 @@ fn unpacked<'a>(alloc: Global, own: &ArgMatches<'a>) -> Result<Asked<'a>, WordsF
     }
 }
 
-fn mapped<'a>(own: &ArgMatches<'a>) -> Result<Asked<'a>, WordsFault>
+fn mapped<'a>(alloc: Global, own: &ArgMatches<'a>) -> Result<Asked<'a>, WordsFault>
     ensures { Tells wanted_of (and_then (map_asked (given own.now)) (λ it. Ok (maps it))) result }
 {
-    match map::request(own) {
+    match map::request(alloc, own) {
         Ok(request) => Ok(Asked::Map(request)),
+        Err(fault) => Err(fault),
+    }
+}
+
+fn informed<'a>(alloc: Global, own: &ArgMatches<'a>) -> Result<Asked<'a>, WordsFault>
+    ensures { Tells wanted_of (and_then (info_asked (given own.now)) (λ it. Ok (informs it))) result }
+{
+    match info::request(alloc, own) {
+        Ok(request) => Ok(Asked::Info(request)),
         Err(fault) => Err(fault),
     }
 }

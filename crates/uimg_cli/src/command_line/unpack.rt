@@ -1,21 +1,22 @@
 //! The arguments of `unpack`.
 
-ghost use Rattle.std.specs.Prelude.{◌≡◌, Err, IfOk, Option, Result, codes, false, option_map, ℕ};
+ghost use Rattle.std.specs.Prelude.{◌≡◌, IfOk, codes, false, option_map};
 ghost use Rattle.clap.specs.Simple.{app_of, new_rule};
 ghost use Rattle.clap.specs.Walk.{rule_of};
 ghost use Rattle.clap.specs.declared.builder.command.Command.TheViews.{out-Command as fields_of};
 ghost use Rattle.uimg_cli.specs.Readings.{given};
 ghost use Rattle.uimg_cli.specs.Rules.{with_rules};
-ghost use Rattle.uimg_cli.specs.Unpack.{chosen_rules, clash, count_asked, need_rule, unpack};
+ghost use Rattle.uimg_cli.specs.Unpack.{chosen_rules, clash, need_rule, unpack};
 ghost use Rattle.uimg_cli.specs.Unpack.{unpack_asked, unpacking_limited, unpacking_of};
 ghost use Rattle.uimg_cli.specs.Unpack.{unpacking_with, written_rules};
-ghost use Rattle.uimg_cli.specs.Wrong.{IsWrong, Tells, Wrong, not_number, wrong_of};
+ghost use Rattle.uimg_cli.specs.Wrong.{Tells, wrong_of};
 
 use super::arguments::{titled, with, with_long, with_switch, with_value};
+use super::counts::{MAX_INPUT, most_input, number_of};
 use super::help_notes::UNPACK_NOTES;
 use super::keys::{key_of, without_key};
 use super::needs::{least_need, need_of};
-use super::readings::{count, is_missing, is_set, text_of, text_or};
+use super::readings::{is_missing, is_set, text_of, text_or};
 use super::{KeyRequest, WordsFault};
 use clap::{Arg, ArgAction, ArgMatches};
 use std::alloc::{AllocError, Global};
@@ -60,7 +61,10 @@ pub struct UnpackRequest<'a> {
     /// The greatest number of bytes, if there is one.
     pub most_bytes: Option<u64>,
 
-    /// The path of the image, if it is unpacked.
+    /// The most bytes that are read of standard input.
+    pub most_input: u64,
+
+    /// The path of the image, `-` for standard input, if it is unpacked.
     pub image: Option<&'a str>,
 }
 
@@ -113,7 +117,7 @@ fn image<'a>(alloc: Global) -> Arg<'a>
     ensures rule { rule_of result ≡ new_rule (codes "image") }
     ensures local { result.global ≡ false }
 {
-    Arg::new(alloc, "image").help("The image")
+    Arg::new(alloc, "image").help("The image, - for standard input")
 }
 
 #[tactic(auto, unfolding(crate::specs::Unpack::chosen_rules))]
@@ -145,7 +149,8 @@ fn written_options<'a>(
     let command = with_switch(command, alloc, "keep-good", KEEP_GOOD)?;
     let command = with_switch(command, alloc, "no-sync", NO_SYNC)?;
     let command = with_long(command, alloc, "max-files", "number", MAX_FILES)?;
-    with_long(command, alloc, "max-bytes", "number", MAX_BYTES)
+    let command = with_long(command, alloc, "max-bytes", "number", MAX_BYTES)?;
+    with_long(command, alloc, "max-input", "number", MAX_INPUT)
 }
 
 // The option has two names.
@@ -209,6 +214,7 @@ fn limited<'a>(
 {
     let files = number_of(alloc, matches, "max-files")?;
     let bytes = number_of(alloc, matches, "max-bytes")?;
+    let most_input = most_input(alloc, matches)?;
     Ok(UnpackRequest {
         folder: text_or(matches, "folder", "."),
         only: text_of(matches, "only"),
@@ -222,33 +228,7 @@ fn limited<'a>(
         cleans: is_set(matches, "clean"),
         most_files: files.unwrap_or(MOST_FILES),
         most_bytes: bytes,
+        most_input,
         image: text_of(matches, "image"),
     })
-}
-
-// Reads decimal digits of a number below 2^64.
-fn number_of(
-    alloc: Global,
-    matches: &ArgMatches<'_>,
-    id: &'static str,
-) -> Result<Option<u64>, WordsFault>
-    ensures { Tells (λ number. number) (count_asked id.now (given matches.now)) result }
-{
-    let Some(text) = text_of(matches, id) else {
-        return Ok(None);
-    };
-    match count(text) {
-        Some(number) => Ok(Some(number)),
-        None => Err(not_number(alloc, id, text)),
-    }
-}
-
-fn not_number(alloc: Global, id: &'static str, text: &str) -> WordsFault
-    ensures { (any : Result (Option ℕ) Wrong) → any ≡ Err (not_number id.now text.now)
-        → IsWrong any (wrong_of result) }
-{
-    match String::from_str(alloc, text) {
-        Ok(text) => WordsFault::NotNumber(id, text),
-        Err(_) => WordsFault::OutOfMemory,
-    }
 }

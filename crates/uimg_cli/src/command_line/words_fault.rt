@@ -27,6 +27,9 @@ pub enum WordsFault {
     /// No image to check or to unpack is named.
     NoImages,
 
+    /// Standard input would be read twice.
+    InputTwice,
+
     /// The name of a folder is empty.
     NoFolder,
 
@@ -36,8 +39,8 @@ pub enum WordsFault {
     /// The argument of this option is not a decimal number of 64 bits.
     NotNumber(&'static str, String),
 
-    /// A picture would be written to standard output.
-    PictureToOutput,
+    /// The file of this option would be written to standard output.
+    ToOutput(&'static str),
 
     /// The lines of --clean are no JSON.
     CleansWithJson,
@@ -89,6 +92,9 @@ impl Display for WordsFault {
             WordsFault::NoListOrOutfile => f.write_str("no -l or -o"),
             WordsFault::NoDataOrSource => f.write_str("no -d or -f"),
             WordsFault::NoImages => f.write_str("no image"),
+            WordsFault::InputTwice => {
+                f.write_str("- is given twice, but standard input is read once")
+            }
             WordsFault::NoFolder => f.write_str("-C: no folder"),
             WordsFault::UnknownAlgo(name) => write!(
                 f,
@@ -97,8 +103,9 @@ impl Display for WordsFault {
             WordsFault::NotNumber(option, text) => {
                 write!(f, "--{option}: {}", NotNumber(text.as_str()))
             }
-            WordsFault::PictureToOutput => f.write_str(
-                "--svg -: standard output is not supported; for a file of that name use ./-",
+            WordsFault::ToOutput(option) => write!(
+                f,
+                "--{option} -: standard output is not supported; for a file of that name use ./-"
             ),
             WordsFault::CleansWithJson => f.write_str("--clean with --json"),
             WordsFault::OnlyWithConfig => f.write_str("--only with --config"),

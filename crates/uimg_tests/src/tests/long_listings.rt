@@ -1,6 +1,7 @@
 //! A listing of 220 KB on streams that take it in pieces, or fail.
 use super::runs::shown;
 use super::streams::{ran, writer_of};
+use std::env::Env;
 use std::fs;
 use std::process::Abort;
 use std::rt::Files;
@@ -52,7 +53,7 @@ const LENGTH: usize = 224_112;
 
 const LINE: &str = "uimg dumpimage -l long.img";
 
-fn prints<R: Files + AllocGlobal>(
+fn prints<R: Files + Env + AllocGlobal>(
     rt: &R,
     listing: &[u8],
     row: (usize, usize, bool, u8, &str),

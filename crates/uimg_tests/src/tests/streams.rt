@@ -1,6 +1,7 @@
 //! The program on streams that fail.
 use super::images::image_named;
 use super::runs::shown;
+use std::env::Env;
 use std::io::{ErrorKind, Write};
 use std::process::Abort;
 use std::rt::Files;
@@ -54,7 +55,7 @@ pub(super) fn writer_of<R: AllocGlobal>(rt: &R, room: usize, most: usize, flushe
 }
 
 /// The arguments are those of a line. Returns the exit status.
-pub(super) fn ran<R: Files + AllocGlobal>(
+pub(super) fn ran<R: Files + Env + AllocGlobal>(
     rt: &R,
     line: &str,
     out: &mut Meter,
@@ -124,7 +125,10 @@ const ROWS: [(&str, &str, usize, usize, u8, &str, &str); 9] = [
 ];
 
 // Returns whether the streams of a row take what it says, with its status.
-fn takes<R: Files + AllocGlobal>(rt: &R, row: (&str, &str, usize, usize, u8, &str, &str)) -> bool {
+fn takes<R: Files + Env + AllocGlobal>(
+    rt: &R,
+    row: (&str, &str, usize, usize, u8, &str, &str),
+) -> bool {
     let (line, _, room, told, status, printed, fault) = row;
     let mut out = writer_of(rt, room, usize::MAX, true);
     let mut err = writer_of(rt, told, usize::MAX, true);

@@ -1,4 +1,5 @@
 //! The time of a new image.
+use std::env::Env;
 use std::fs;
 use std::process::Abort;
 use std::rt::Files;
@@ -17,7 +18,7 @@ const ROWS: [(&str, u32, u32); 7] = [
 ];
 
 // Makes an image, and returns the exit status.
-fn status_of<R: Files + AllocGlobal>(rt: &R, epoch: &str, now: u32) -> u8 {
+fn status_of<R: Files + Env + AllocGlobal>(rt: &R, epoch: &str, now: u32) -> u8 {
     let epoch = if epoch.is_empty() { None } else { Some(epoch) };
     let words = ["uimg", "mkimage", "-d", "times.bin", "times.img"];
     let mut out = Vec::new(rt.alloc());
@@ -25,7 +26,7 @@ fn status_of<R: Files + AllocGlobal>(rt: &R, epoch: &str, now: u32) -> u8 {
     program(rt, &words, epoch, now, &mut out, &mut err)
 }
 
-fn has_time<R: Files + AllocGlobal>(rt: &R, time: u32) -> bool {
+fn has_time<R: Files + Env + AllocGlobal>(rt: &R, time: u32) -> bool {
     match fs::read(rt, "times.img") {
         Ok(image) => image.get(8..12) == Some(time.to_be_bytes().as_slice()),
         Err(_) => false,

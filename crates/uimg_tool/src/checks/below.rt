@@ -11,6 +11,7 @@ use super::folder_paths::sorted_paths;
 use super::{Checks, flush};
 use crate::complaints::unprinted;
 use crate::keys::Keyed;
+use crate::opening::is_input;
 use crate::request_fault::RequestFault;
 use crate::unread::{Unread, answer_of_unread};
 use std::alloc::{AllocError, Global};
@@ -26,7 +27,8 @@ const BLOB_MAGIC: u32 = 0xd00d_feed;
 const LEGACY_MAGIC: u32 = 0x2705_1956;
 
 impl Checks {
-    // Checks an image of the command line, or those below it if it is a folder.
+    // Checks an image of the command line, or those below it if it is a folder. `-` is no folder.
+    #[tactic(auto, using(crate::proofs::BelowLaws::as_input, crate::proofs::BelowLaws::as_given))]
     pub(super) fn check_given<'b, D: World, W: Write>(
         &mut self,
         world: &mut D,
@@ -42,6 +44,9 @@ impl Checks {
         ensures changes { changes (D.trace world.new) ≡ changes (D.trace world.old) }
         ensures fails { IfErr result (λ fault. request_status fault ≡ 3) }
     {
+        if is_input(path) {
+            return self.check_input(world, asked, path, out);
+        }
         if !asked.request.is_recursive {
             return self.check(world, asked, path.as_bytes(), out);
         }
@@ -170,6 +175,7 @@ impl Checks {
         ensures skipped { self.new.skipped ≡ min (self.old.skipped + 1) (2 ^ 64 - 1) }
         ensures greatest { self.new.greatest ≡ self.old.greatest }
         ensures checked { self.new.has_checked ≡ self.old.has_checked }
+        ensures report { self.new.report ≡ self.old.report }
     {
         self.skipped = self.skipped.saturating_add(1);
     }

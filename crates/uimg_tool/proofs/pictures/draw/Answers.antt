@@ -4,8 +4,8 @@ use Rattle.uimg_tool.proofs.pictures.draw.Goals as goal
 
 pub returns-in-Ok-Beside : goal.returns-in-Ok-Beside
 returns-in-Ok-Beside g c = record {
-  fails = c.name_picture.ensures.fails;
-  asks = drawn_beside c.args.path.now c.args.request.now.is_forced c.writing_of.result c.in-Ok-Beside.file c.in-Ok-Beside.safe _ _ _ _ _ (c.in-Ok-Beside.is ∙ ap (λ w. Ok w) c.in-Ok-Beside.field-0-is) c.as_str.ensures.value c.writing_of.ensures.writes c.draw_into-drawn.ensures.fills c.name_picture.ensures.asks;
+  fails = c.name_written.ensures.fails;
+  asks = drawn_beside c.args.path.now c.args.request.now.is_forced c.writing_of.result c.in-Ok-Beside.file c.in-Ok-Beside.safe _ _ _ _ _ (c.in-Ok-Beside.is ∙ ap (λ w. Ok w) c.in-Ok-Beside.field-0-is) c.as_str.ensures.value c.writing_of.ensures.writes c.draw_into-drawn.ensures.fills c.name_written.ensures.asks;
 }
 
 pub returns-in-Ok-InPlace : goal.returns-in-Ok-InPlace

@@ -19,8 +19,10 @@ returns-clause-app c =
     let e9 = c.in_ok-command-9.ensures.rules ∙ next _ e8 in
     let e10 = c.in_ok-command-10.ensures.rules ∙ next _ e9 in
     let e11 = c.in_ok-command-11.ensures.rules ∙ next _ e10 in
-    onward app_of c.with.result _ _ c.with.ensures.rules (ap₂ with_rule e11 c.images.ensures.rule)
+    let e12 = c.in_ok-command-12.ensures.rules ∙ next _ e11 in
+    let e13 = c.in_ok-command-13.ensures.rules ∙ next _ e12 in
+    onward app_of c.with.result _ _ c.with.ensures.rules (ap₂ with_rule e13 c.images.ensures.rule)
 
 pub returns-clause-local : goal.returns-clause-local
 returns-clause-local c =
-    onward (λ it. (fields_of it).has_globals) c.with.result _ _ c.with.ensures.local (c.in_ok-command-11.ensures.local ∙ c.in_ok-command-10.ensures.local ∙ c.in_ok-command-9.ensures.local ∙ c.in_ok-command-8.ensures.local ∙ c.in_ok-command-7.ensures.local ∙ c.in_ok-command-6.ensures.local ∙ c.in_ok-command-5.ensures.local ∙ c.in_ok-command-4.ensures.local ∙ c.in_ok-command-3.ensures.local ∙ c.in_ok-command-2.ensures.local ∙ c.in_ok-command.ensures.local ∙ c.titled-command.ensures.local)
+    onward (λ it. (fields_of it).has_globals) c.with.result _ _ c.with.ensures.local (c.in_ok-command-13.ensures.local ∙ c.in_ok-command-12.ensures.local ∙ c.in_ok-command-11.ensures.local ∙ c.in_ok-command-10.ensures.local ∙ c.in_ok-command-9.ensures.local ∙ c.in_ok-command-8.ensures.local ∙ c.in_ok-command-7.ensures.local ∙ c.in_ok-command-6.ensures.local ∙ c.in_ok-command-5.ensures.local ∙ c.in_ok-command-4.ensures.local ∙ c.in_ok-command-3.ensures.local ∙ c.in_ok-command-2.ensures.local ∙ c.in_ok-command.ensures.local ∙ c.titled-command.ensures.local)

@@ -10,8 +10,9 @@ unfolding map_command
 returns-clause-app c =
     let e1 = c.in_ok-command.ensures.rules ∙ next _ c.titled-command.ensures.app in
     let e2 = c.in_ok-command-2.ensures.rules ∙ next _ e1 in
-    onward app_of c.with_image.result _ _ c.with_image.ensures.rules (next _ e2)
+    let e3 = c.in_ok-command-3.ensures.rules ∙ next _ e2 in
+    onward app_of c.with_image.result _ _ c.with_image.ensures.rules (next _ e3)
 
 pub returns-clause-local : goal.returns-clause-local
 returns-clause-local c =
-    onward (λ it. (fields_of it).has_globals) c.with_image.result _ _ c.with_image.ensures.local (c.in_ok-command-2.ensures.local ∙ c.in_ok-command.ensures.local ∙ c.titled-command.ensures.local)
+    onward (λ it. (fields_of it).has_globals) c.with_image.result _ _ c.with_image.ensures.local (c.in_ok-command-3.ensures.local ∙ c.in_ok-command-2.ensures.local ∙ c.in_ok-command.ensures.local ∙ c.titled-command.ensures.local)

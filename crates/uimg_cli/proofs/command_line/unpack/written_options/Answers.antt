@@ -12,8 +12,9 @@ returns-clause-app c =
     let e2 = c.in_ok-command-2.ensures.rules ∙ next _ e1 in
     let e3 = c.in_ok-command-3.ensures.rules ∙ next _ e2 in
     let e4 = c.in_ok-command-4.ensures.rules ∙ next _ e3 in
-    onward app_of c.with_long-2.result _ _ c.with_long-2.ensures.rules (next _ e4)
+    let e5 = c.in_ok-command-5.ensures.rules ∙ next _ e4 in
+    onward app_of c.with_long-3.result _ _ c.with_long-3.ensures.rules (next _ e5)
 
 pub returns-clause-local : goal.returns-clause-local
 returns-clause-local c =
-    onward (λ it. (fields_of it).has_globals) c.with_long-2.result _ _ c.with_long-2.ensures.local (c.in_ok-command-4.ensures.local ∙ c.in_ok-command-3.ensures.local ∙ c.in_ok-command-2.ensures.local ∙ c.in_ok-command.ensures.local)
+    onward (λ it. (fields_of it).has_globals) c.with_long-3.result _ _ c.with_long-3.ensures.local (c.in_ok-command-5.ensures.local ∙ c.in_ok-command-4.ensures.local ∙ c.in_ok-command-3.ensures.local ∙ c.in_ok-command-2.ensures.local ∙ c.in_ok-command.ensures.local)
